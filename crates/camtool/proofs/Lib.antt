@@ -1,0 +1,5 @@
+pub mod Shown
+pub mod Works
+pub mod Answering
+pub mod Outcomes
+pub mod Taking

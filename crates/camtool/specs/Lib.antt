@@ -1,0 +1,7 @@
+pub mod Words
+pub mod Printed
+pub mod Answers
+pub mod Headline
+pub mod Statuses
+pub mod Loads
+pub mod Shows

@@ -1,0 +1,102 @@
+-- What reading one of the three files comes to, by its text, and what reading all three comes to.
+use Rattle.std.specs.Prelude.{◌≡◌, ◌≤◌, ◌<◌, ℕ, ℤ, ◌<ℤ◌, pos, List, length, Option, Some, None, Result, Ok, Err}
+use Rattle.std.specs.Global.{Vec}
+use Rattle.mill_base.specs.declared.points.Tri.{Tri}
+use Rattle.mill_base.specs.declared.motion.Move.{Move}
+use Rattle.mill_base.specs.Motion.{Follow}
+use Rattle.mill_base.specs.Ranges.{MovesInRange}
+use Rattle.mill_base.specs.Covers.{IsUnder}
+use Rattle.mill_decimal.specs.declared.snap.Snap.TheVariants.{Nearest}
+use Rattle.mill_stl.specs.Parts.{part_of}
+use Rattle.mill_stl.specs.declared.fault.StlFault.{StlFault}
+use Rattle.mill_ngc.specs.Programs.{program_of}
+use Rattle.mill_part.specs.Tops.{IsTop}
+use Rattle.mill_part.specs.declared.part.Part.{Part}
+use Rattle.mill_job.specs.declared.job.Job.{Job}
+use Rattle.mill_job.specs.declared.fault.JobFault.{JobFault}
+use Rattle.mill_job.specs.Columns.{home}
+use Rattle.mill_job.specs.Jobs.{IsJob}
+use Rattle.mill_job.specs.Documents.{IsJobOf}
+use Rattle.camtool.specs.declared.file.File.{File}
+use Rattle.camtool.specs.declared.file.File.TheVariants.{Job as JobFile, Part as PartFile, Program as ProgramFile}
+use Rattle.camtool.specs.declared.ending.End.{End}
+use Rattle.camtool.specs.declared.ending.End.TheVariants as end
+use Rattle.camtool.specs.declared.load.Loaded.{Loaded}
+use Rattle.camtool.specs.Answers.{Texts, Reads, longest, Fits, RefusesJob, LongPart, RefusesPart, HighPart, LongProgram, RefusesProgram}
+use Rattle.camtool.specs.Headline.{ReadsBefore}
+
+-- the bytes of a file, or why there are none
+abbrev pub ReadsFile : List ℕ → File → Result (Vec ℕ) End → Type 0
+ReadsFile text file (Ok v) = (v.items ≡ text) × Fits text
+ReadsFile text file (Err (end.TooLong f)) = (f ≡ file) × (longest < length text)
+ReadsFile text file (Err (end.ReadFault f)) = f ≡ file
+ReadsFile text file (Err end.Memory) = Unit {0}
+ReadsFile text file (Err _) = ⊥
+
+pub record JobFails (text : List ℕ) : Type 0 where
+  pub fits : Fits text
+  pub fault : JobFault
+  pub refused : IsJobOf text (Err fault)
+
+-- the job of a text, or why there is none
+abbrev pub LoadsJob : List ℕ → Result Job End → Type 0
+LoadsJob text (Ok job) = Fits text × IsJobOf text (Ok job)
+LoadsJob text (Err (end.TooLong JobFile)) = longest < length text
+LoadsJob text (Err (end.Refused JobFile)) = JobFails text
+LoadsJob text (Err (end.ReadFault JobFile)) = Unit {0}
+LoadsJob text (Err end.Memory) = Unit {0}
+LoadsJob text (Err _) = ⊥
+
+pub record PartFails (text : List ℕ) : Type 0 where
+  pub fits : Fits text
+  pub fault : StlFault
+  pub refused : part_of Nearest text ≡ Err fault
+
+-- the part of a text, or why there is none
+abbrev pub LoadsPart : List ℕ → Result Part End → Type 0
+LoadsPart text (Ok part) = Fits text × (part_of Nearest text ≡ Ok part)
+LoadsPart text (Err (end.TooLong PartFile)) = longest < length text
+LoadsPart text (Err (end.Refused PartFile)) = PartFails text
+LoadsPart text (Err (end.ReadFault PartFile)) = Unit {0}
+LoadsPart text (Err end.Memory) = Unit {0}
+LoadsPart text (Err _) = ⊥
+
+-- the moves of a text, or why there are none
+abbrev pub LoadsProgram : Job → List ℕ → Result (Vec Move) End → Type 0
+LoadsProgram job text (Ok moves) = Fits text × (program_of (home job) text ≡ Some moves.items)
+LoadsProgram job text (Err (end.TooLong ProgramFile)) = longest < length text
+LoadsProgram job text (Err (end.Refused ProgramFile)) = Fits text × (program_of (home job) text ≡ None)
+LoadsProgram job text (Err (end.ReadFault ProgramFile)) = Unit {0}
+LoadsProgram job text (Err end.Memory) = Unit {0}
+LoadsProgram job text (Err _) = ⊥
+
+-- what the end of the work says of the three texts
+abbrev pub EndsAt : Texts → End → Type 0
+EndsAt texts (end.ReadFault file) = ReadsBefore texts file
+EndsAt texts (end.TooLong JobFile) = longest < length texts.job
+EndsAt texts (end.TooLong PartFile) = LongPart texts
+EndsAt texts (end.TooLong ProgramFile) = LongProgram texts
+EndsAt texts (end.Refused JobFile) = RefusesJob texts
+EndsAt texts (end.Refused PartFile) = RefusesPart texts
+EndsAt texts (end.Refused ProgramFile) = RefusesProgram texts
+EndsAt texts (end.PartTop height top) = HighPart texts height top
+EndsAt texts end.Memory = Unit {0}
+
+-- what reading all three says of their texts
+abbrev pub Loads : Texts → Result Loaded End → Type 0
+Loads texts (Ok l) = Reads texts l.job l.part l.moves.items
+Loads texts (Err e) = EndsAt texts e
+
+-- what was read is within the ranges that the verifier asks for
+pub record IsReady (l : Loaded) : Type 0 where
+  pub job_ok : IsJob l.job
+  pub no_band : l.job.band ≡ pos 0
+  pub moves_ok : MovesInRange l.moves.items
+  pub under : IsUnder l.part l.job.top
+  pub follow : Follow (home l.job) l.moves.items
+  pub few : length l.moves.items ≤ 1000000
+
+-- the answer is the part's greatest height, where that is over the job's top, and none where the part is under it
+abbrev pub IsLow : Job → List Tri → Option ℤ → Type 0
+IsLow job part None = IsUnder part job.top
+IsLow job part (Some height) = IsTop part height × (job.top <ℤ height)

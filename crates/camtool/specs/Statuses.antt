@@ -1,0 +1,37 @@
+-- The exit statuses, and what ends the work before there is a verdict.
+use Rattle.std.specs.Prelude.{ℕ}
+use Rattle.camtool.specs.declared.file.File.TheVariants.{Job as JobFile, Part as PartFile, Program as ProgramFile}
+use Rattle.camtool.specs.declared.ending.Status.{Status}
+use Rattle.camtool.specs.declared.ending.Status.TheVariants as status
+use Rattle.camtool.specs.declared.ending.End.{End}
+use Rattle.camtool.specs.declared.ending.End.TheVariants as end
+use Rattle.camtool.specs.Answers.{Answer, long_job, refused_job, long_part, refused_part, high_part, long_program, refused_program}
+use Rattle.camtool.specs.Headline.{Ending, no_memory, read_fault, answered}
+
+abbrev pub status_code : Status → ℕ
+status_code status.Done = 0
+status_code status.Words = 2
+status_code status.Rejected = 3
+status_code status.Refused = 4
+status_code status.Memory = 5
+status_code status.ReadFault = 6
+status_code status.WriteFault = 7
+
+abbrev pub end_status : End → Status
+end_status (end.ReadFault file) = status.ReadFault
+end_status (end.TooLong file) = status.Refused
+end_status (end.Refused file) = status.Refused
+end_status (end.PartTop height top) = status.Refused
+end_status end.Memory = status.Memory
+
+-- the ending that the run then comes to
+abbrev pub ending_of : End → Ending
+ending_of (end.ReadFault file) = read_fault file
+ending_of (end.TooLong JobFile) = answered long_job
+ending_of (end.TooLong PartFile) = answered long_part
+ending_of (end.TooLong ProgramFile) = answered long_program
+ending_of (end.Refused JobFile) = answered refused_job
+ending_of (end.Refused PartFile) = answered refused_part
+ending_of (end.Refused ProgramFile) = answered refused_program
+ending_of (end.PartTop height top) = answered (high_part height top)
+ending_of end.Memory = no_memory

@@ -1,0 +1,47 @@
+//! `camtool verify JOB PART PROGRAM`: verifies a program for a three-axis mill against a part, a
+//! cutter and a stock.
+//!
+//! `run` is all that the program does, over any store of files and any sink. Its contract goes
+//! from bytes to bytes: `specs/Answers` says which answer three texts have, `specs/Headline` what
+//! the answer means.
+#![tactic(auto)]
+
+mod ending;
+mod file;
+mod load;
+mod print;
+mod run;
+#[cfg(test)]
+mod tests;
+
+use ending::Status;
+use mill_base::WantOfMemory;
+use mill_io::{FileShelf, StdSink};
+use run::run;
+use std::env;
+use std::env::Env;
+use std::process::ExitCode;
+
+fn main(rt: HostRuntime) -> ExitCode {
+    let alloc = rt.alloc();
+    let status = match words_of(&rt) {
+        Ok(words) => {
+            let mut shelf = FileShelf::new(&rt);
+            let mut sink = StdSink::new(&rt);
+            run(&rt, alloc, &words, &mut shelf, &mut sink)
+        }
+        Err(WantOfMemory) => Status::Memory,
+    };
+    ExitCode::from(status.code())
+}
+
+// The words after the program's name; none where they aren't UTF-8, so that they are refused.
+fn words_of<R: Env + AllocGlobal>(rt: &R) -> Result<Vec<String>, WantOfMemory> {
+    let mut words = Vec::new(rt.alloc());
+    if let Ok(args) = env::args(rt) {
+        for word in args.skip(1) {
+            words.push(word)?;
+        }
+    }
+    Ok(words)
+}

@@ -1,0 +1,60 @@
+-- The sizes that a cutter may have, and the height to which it lowers a column.
+use Rattle.std.specs.Prelude.{◌/◌, Bool, if◌then◌else◌, ℤ, pos, ◌+ℤ◌, ◌-ℤ◌, ◌*ℤ◌, ◌<ℤ◌, ◌≤ℤ◌, nat_abs, int_lt, Option, Some, None}
+use Rattle.mill_base.specs.Numbers.{square, floor_root_of, ceil_root_of}
+use Rattle.mill_base.specs.Points.{point_at}
+use Rattle.mill_base.specs.Contact.{Holds}
+use Rattle.mill_base.specs.declared.points.Pt3.{Pt3}
+use Rattle.mill_base.specs.declared.cutter.Cutter.{Cutter}
+use Rattle.mill_base.specs.declared.cutter.Cutter.TheVariants.{Flat, Ball, Cone}
+
+-- the radius of the shank
+abbrev pub radius_of : Cutter → ℤ
+radius_of (Flat r) = r
+radius_of (Ball r) = r
+radius_of (Cone r a b) = r
+
+-- the radius is from 1 to most
+pub record HasRadius (r most : ℤ) : Type 0 where
+  pub least : (pos 1) ≤ℤ r
+  pub within : r ≤ℤ most
+
+-- a cone's slope: rise a and run b from 1 to 100, and a at most 16*b
+pub record IsSlope (a b : ℤ) : Type 0 where
+  pub rise : (pos 1) ≤ℤ a
+  pub rise_most : a ≤ℤ pos 100
+  pub run : (pos 1) ≤ℤ b
+  pub run_most : b ≤ℤ pos 100
+  pub steepest : a ≤ℤ (pos 16 *ℤ b)
+
+-- the radius, up to a limit, and the slope are in their ranges
+abbrev pub IsCutterUpTo : ℤ → Cutter → Type 0
+IsCutterUpTo limit (Flat r) = HasRadius r limit
+IsCutterUpTo limit (Ball r) = HasRadius r limit
+IsCutterUpTo limit (Cone r a b) = HasRadius r limit × IsSlope a b
+
+-- a cutter of a job
+abbrev pub IsCutter : Cutter → Type 0
+IsCutter cutter = IsCutterUpTo (pos 10000) cutter
+
+-- a cutter of a contact test, which may be a job's widened by up to 1,024
+abbrev pub IsWideCutter : Cutter → Type 0
+IsWideCutter cutter = IsCutterUpTo (pos 11024) cutter
+
+-- the whole (x, y) lies strictly within the cutter's radius
+abbrev pub is_within : Cutter → Pt3 → ℤ → ℤ → Bool
+is_within cutter tip x y = int_lt (square (x -ℤ tip.x) +ℤ square (y -ℤ tip.y)) (square (radius_of cutter))
+
+-- the rise of the cutter's surface over its tip where the square of the distance from the axis is s, rounded down
+abbrev pub surface : Cutter → ℤ → ℤ
+surface (Flat r) s = pos 0
+surface (Ball r) s = r -ℤ pos (ceil_root_of (nat_abs (square r -ℤ s)))
+surface (Cone r a b) s = pos (floor_root_of (nat_abs (square a *ℤ s) / nat_abs (square b)))
+
+-- the height to which the cutter cuts a column, none where the column isn't strictly within its radius
+abbrev pub cut_height_of : Cutter → Pt3 → ℤ → ℤ → Option ℤ
+cut_height_of cutter tip x y = if is_within cutter tip x y then Some (tip.z +ℤ surface cutter (square (x -ℤ tip.x) +ℤ square (y -ℤ tip.y))) else None
+
+-- h is the greatest whole height of the column that isn't strictly inside the cutter
+pub record IsCutHeight (cutter : Cutter) (tip : Pt3) (x y h : ℤ) : Type 0 where
+  pub free : ¬ Holds cutter (pos 1) tip (pos 1) (point_at x y h)
+  pub greatest : (higher : ℤ) → h <ℤ higher → Holds cutter (pos 1) tip (pos 1) (point_at x y higher)

@@ -1,0 +1,25 @@
+//! Points, triangles, moves and cutters on the grid of 0.01 mm, and exact whole-number arithmetic.
+//!
+//! It stands on nothing but std, and every other crate stands on it. Its definitions say what a
+//! point of a triangle is, which points a cutter strictly holds, what a move gouges and removes,
+//! and which heights of a column are covered: `specs/`, one module a subject. `proofs/` has the
+//! prover of polynomial facts over the integers that the geometry crates share.
+#![tactic(auto)]
+
+mod arithmetic;
+mod cutter;
+mod memory;
+mod motion;
+mod points;
+mod roots;
+mod steps;
+#[cfg(test)]
+mod tests;
+
+pub use arithmetic::{offset, product, square, square_sum};
+pub use cutter::Cutter;
+pub use memory::WantOfMemory;
+pub use motion::{Kind, Move};
+pub use points::{Box2, Pt3, Tri};
+pub use roots::{ceil_root, floor_root};
+pub use steps::Steps;

@@ -1,0 +1,82 @@
+-- Runs of decimal digits: where they end, and the number that they stand for.
+use Rattle.std.proofs.Common.{◌≡◌, ℕ, ◌+◌, ◌*◌, ◌≤◌, ◌<◌, ◌^◌, suc, List, [], ◌∷◌, ◌++◌, length, take, drop, get_or, arith, true, false, Bool, cond, refl, sym, ◌∙◌, one-add, add-one, drop-cons}
+use Rattle.std.specs.Prelude.{decimal}
+use Rattle.std.specs.List.{prefix_len}
+use Rattle.std.specs.Char.{is_ascii_digit, digit_value}
+use Rattle.std.specs.Str.Parse.{AllDigits, digits_value, digits_value_after}
+use Rattle.std.proofs.Math.ListN.{drop_of_length-le}
+use Rattle.std.proofs.Math.Nat.{pow-le-pow_right, pow-succ'}
+use Rattle.std.proofs.Math.Seq.{take-append_seam}
+use Rattle.std.proofs.lemmas.Bool.Decides.{nat_tests}
+use Rattle.std.proofs.lemmas.Fmt.{length-decimal-le}
+use Rattle.mill_decimal.specs.Decimals.{digits_of, after_digits}
+
+-- the whole millimetres of a number of units take at most eight digits
+pub short_decimal : (n : ℕ) → n ≤ 42949672 → length (decimal n) ≤ 8
+short_decimal n small = length-decimal-le 8 n (omega arith) (omega arith) (omega arith)
+
+-- ---- where they end
+
+is_digit : (b : ℕ) → is_ascii_digit b ≡ true → digit_value b < 10
+is_digit b h = grind (arith, nat_tests)
+
+front_of : (b : ℕ) (text : List ℕ) (d : Bool) → AllDigits 10 (take (prefix_len is_ascii_digit text) text) → is_ascii_digit b ≡ d
+    → AllDigits 10 (take (cond d (1 + prefix_len is_ascii_digit text) 0) (b ∷ text))
+front_of b text true rest h = rw one-add (is_digit b h, rest)
+front_of b text false rest h = tt
+
+-- what a text begins with up to the first byte that is no digit is digits
+pub digits_front : (text : List ℕ) → AllDigits 10 (take (prefix_len is_ascii_digit text) text)
+digits_front [] = tt
+digits_front (b ∷ text) = front_of b text (is_ascii_digit b) (digits_front text) refl
+
+is_ascii : (d : ℕ) → digit_value d < 10 → is_ascii_digit d ≡ true
+is_ascii d h = grind (arith, nat_tests)
+
+-- digits before a byte that is none are all the digits in front
+pub prefix_len-digits : (ds : List ℕ) (b : ℕ) (rest : List ℕ) → AllDigits 10 ds → is_ascii_digit b ≡ false → prefix_len is_ascii_digit (ds ++ b ∷ rest) ≡ length ds
+prefix_len-digits [] b rest all none = rw none refl
+prefix_len-digits (d ∷ ds) b rest all none = rw (is_ascii d all.0, prefix_len-digits ds b rest all.1 none, one-add) refl
+
+drop_seam : (xs ys : List ℕ) → drop (length xs) (xs ++ ys) ≡ ys
+drop_seam [] ys = refl
+drop_seam (x ∷ xs) ys = drop_seam xs ys
+
+pub digits_of-append : (ds : List ℕ) (b : ℕ) (rest : List ℕ) → AllDigits 10 ds → is_ascii_digit b ≡ false → digits_of (ds ++ b ∷ rest) ≡ ds
+unfolding digits_of
+digits_of-append ds b rest all none = rw (prefix_len-digits ds b rest all none) (take-append_seam ds (b ∷ rest))
+
+pub after_digits-append : (ds : List ℕ) (b : ℕ) (rest : List ℕ) → AllDigits 10 ds → is_ascii_digit b ≡ false → after_digits (ds ++ b ∷ rest) ≡ b ∷ rest
+unfolding after_digits
+after_digits-append ds b rest all none = rw (prefix_len-digits ds b rest all none) (drop_seam ds (b ∷ rest))
+
+-- ---- what they stand for
+
+-- the step of a loop that reads digits: the value of what is left, behind the value so far, stays the same
+pub goes_on : (digits : List ℕ) (i v w total : ℕ) → i < length digits → w ≡ v * 10 + digit_value (get_or digits i 0)
+    → digits_value_after 10 v (drop i digits) ≡ total → digits_value_after 10 w (drop (i + 1) digits) ≡ total
+goes_on digits i v w total lt e so_far =
+    let one : digits_value_after 10 v (drop i digits) ≡ digits_value_after 10 w (drop (i + 1) digits) = rw (add-one i, drop-cons digits i 0 lt, e) refl in
+    sym one ∙ so_far
+
+-- the end of such a loop
+pub is_done : (digits : List ℕ) (i v total : ℕ) → length digits ≤ i → digits_value_after 10 v (drop i digits) ≡ total → v ≡ total
+is_done digits i v total le so_far =
+    let one : digits_value_after 10 v (drop i digits) ≡ v = rw (drop_of_length-le digits le) refl in
+    sym one ∙ so_far
+
+-- a power of ten is at most a greater one
+pub ten : (k most : ℕ) → k ≤ most → 10 ^ k ≤ 10 ^ most
+ten k most le = pow-le-pow_right {n = 10} (omega arith) {i = k} {j = most} le
+
+-- one more digit multiplies the bound by ten
+pub one_more : (j k v d : ℕ) → j ≡ suc k → v < 10 ^ k → d < 10 → 10 * v + d < 10 ^ j
+one_more j k v d e lt digit = rw (e, pow-succ' 10 k) (omega arith)
+
+after-append : (n : ℕ) (xs ys : List ℕ) → digits_value_after 10 n (xs ++ ys) ≡ digits_value_after 10 (digits_value_after 10 n xs) ys
+after-append n [] ys = refl
+after-append n (x ∷ xs) ys = after-append (n * 10 + digit_value x) xs ys
+
+-- digits behind digits go on from their value
+pub digits_value-append : (xs ys : List ℕ) → digits_value 10 (xs ++ ys) ≡ digits_value_after 10 (digits_value 10 xs) ys
+digits_value-append xs ys = after-append 0 xs ys

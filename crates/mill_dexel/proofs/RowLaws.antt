@@ -1,0 +1,92 @@
+-- The tops of a row after a list of moves: its entries, and one move more.
+use Rattle.std.proofs.Common.{◌≡◌, ℕ, zero, suc, ◌+◌, ◌<◌, refl, ap, ◌∙◌, length, get_or, arith}
+use Rattle.std.specs.Prelude.{ℤ, pos, ◌≤ℤ◌, List, [], ◌∷◌, ◌++◌, map, replicate}
+use Rattle.std.specs.List.{range_with_len}
+use Rattle.std.proofs.lemmas.List.Sums.{fold-append}
+use Rattle.std.proofs.lemmas.List.FromFn.{length-map-range_with_len, get_or-map-range_with_len}
+use Rattle.std.proofs.lemmas.List.Elements.{All-from_get_or, All-get_or}
+use Rattle.mill_base.specs.declared.motion.Move.{Move}
+use Rattle.mill_job.specs.declared.job.Job.{Job}
+use Rattle.mill_job.specs.Columns.{row_count, column_count, column_x, column_y}
+use Rattle.mill_job.specs.Jobs.{IsFrom}
+use Rattle.mill_dexel.specs.Tops.{top_after_move, top_after, row_after, tops_after_move}
+use Rattle.mill_dexel.specs.Rows.{RowState, IsRowOf}
+use Rattle.mill_dexel.proofs.TopLaws.{move_stays, top_after_stays}
+
+-- the top of column i of row j after the moves
+abbrev column_top : Job → ℕ → List Move → ℕ → ℤ
+column_top job j moves i = top_after job (column_x job i) (column_y job j) moves
+
+-- a row has a top for each column
+pub length-row_after : (job : Job) (j : ℕ) (moves : List Move) → length (row_after job j moves) ≡ column_count job
+length-row_after job j moves = length-map-range_with_len (column_top job j moves) 0 (column_count job)
+
+-- entry i is the top of column i
+pub row_after-at : (job : Job) (j : ℕ) (moves : List Move) (i : ℕ) (d : ℤ) → i < column_count job
+    → get_or (row_after job j moves) i d ≡ top_after job (column_x job i) (column_y job j) moves
+row_after-at job j moves i d there = get_or-map-range_with_len (column_top job j moves) 0 (column_count job) i i d there (omega arith)
+
+-- with no move, each top is the uncut stock's
+same_tops : (top : ℤ) (start n : ℕ) → map (λ (i : ℕ). top) (range_with_len start n) ≡ replicate n top
+same_tops top start zero = refl
+same_tops top start (suc n) = ap (λ (ts : List ℤ). top ∷ ts) (same_tops top (start + 1) n)
+
+pub row_after_none : (job : Job) (j : ℕ) → row_after job j [] ≡ replicate (column_count job) job.top
+row_after_none job j = same_tops job.top 0 (column_count job)
+
+-- one move more lowers each top by that move
+pub top_after_more : (job : Job) (x y : ℤ) (moves : List Move) (m : Move) → top_after job x y (moves ++ m ∷ []) ≡ top_after_move job x y (top_after job x y moves) m
+top_after_more job x y moves m = fold-append (top_after_move job x y) job.top moves (m ∷ [])
+
+from_column : (job : Job) (j : ℕ) (moves : List Move) (m : Move) (start n : ℕ)
+    → map (column_top job j (moves ++ m ∷ [])) (range_with_len start n) ≡ tops_after_move job j start m (map (column_top job j moves) (range_with_len start n))
+from_column job j moves m start zero = refl
+from_column job j moves m start (suc n) =
+    ap (λ (t : ℤ). t ∷ map (column_top job j (moves ++ m ∷ [])) (range_with_len (start + 1) n)) (top_after_more job (column_x job start) (column_y job j) moves m)
+    ∙ ap (λ (ts : List ℤ). top_after_move job (column_x job start) (column_y job j) (column_top job j moves start) m ∷ ts) (from_column job j moves m (start + 1) n)
+
+pub row_after_more : (job : Job) (j : ℕ) (moves : List Move) (m : Move) → row_after job j (moves ++ m ∷ []) ≡ tops_after_move job j 0 m (row_after job j moves)
+row_after_more job j moves m = from_column job j moves m 0 (column_count job)
+
+-- the tops after a move, as many as before, column by column
+pub length-tops_after_move : (job : Job) (j start : ℕ) (m : Move) (tops : List ℤ) → length (tops_after_move job j start m tops) ≡ length tops
+length-tops_after_move job j start m [] = refl
+length-tops_after_move job j start m (t ∷ tops) = ap suc (length-tops_after_move job j (start + 1) m tops)
+
+pub tops_after_move-at : (job : Job) (j start : ℕ) (m : Move) (tops : List ℤ) (i : ℕ) (d : ℤ) → i < length tops
+    → get_or (tops_after_move job j start m tops) i d ≡ top_after_move job (column_x job (start + i)) (column_y job j) (get_or tops i d) m
+tops_after_move-at job j start m [] i d there = absurd (omega arith)
+tops_after_move-at job j start m (t ∷ tops) zero d there = ap (λ (k : ℕ). top_after_move job (column_x job k) (column_y job j) t m) (omega arith)
+tops_after_move-at job j start m (t ∷ tops) (suc i) d there =
+    tops_after_move-at job j (start + 1) m tops i d (omega arith)
+    ∙ ap (λ (k : ℕ). top_after_move job (column_x job k) (column_y job j) (get_or tops i d) m) (omega arith)
+
+-- a row of the job is one after a move, too
+pub row_stays : (job : Job) (r : RowState) (m : Move) → IsRowOf job r → IsRowOf job (record { row = r.row; tops = tops_after_move job r.row 0 m r.tops })
+row_stays job r m is_row = record {
+  there = is_row.there;
+  columns = length-tops_after_move job r.row 0 m r.tops ∙ is_row.columns;
+  in_stock = All-from_get_or (IsFrom job.floor job.top) (tops_after_move job r.row 0 m r.tops) (pos 0) each;
+}
+  where
+    each : (i : ℕ) → i < length (tops_after_move job r.row 0 m r.tops) → IsFrom job.floor job.top (get_or (tops_after_move job r.row 0 m r.tops) i (pos 0))
+    each i there =
+        let within : i < length r.tops = rw (← length-tops_after_move job r.row 0 m r.tops) there in
+        rw (tops_after_move-at job r.row 0 m r.tops i (pos 0) within)
+        (move_stays job (column_x job (0 + i)) (column_y job r.row) (get_or r.tops i (pos 0)) m (All-get_or (IsFrom job.floor job.top) r.tops i (pos 0) within is_row.in_stock))
+
+pub turned_is_row : (job : Job) (r turned : RowState) (m : Move) → turned ≡ record { row = r.row; tops = tops_after_move job r.row 0 m r.tops } → IsRowOf job r → IsRowOf job turned
+turned_is_row job r turned m e is_row = rw e (row_stays job r m is_row)
+
+-- the tops of a row of the job after a list of moves make a row of the job
+pub row_after_is_row : (job : Job) (j : ℕ) (moves : List Move) → j < row_count job → job.floor ≤ℤ job.top → IsRowOf job (record { row = j; tops = row_after job j moves })
+row_after_is_row job j moves there order = record {
+  there = there;
+  columns = length-row_after job j moves;
+  in_stock = All-from_get_or (IsFrom job.floor job.top) (row_after job j moves) (pos 0) each;
+}
+  where
+    each : (i : ℕ) → i < length (row_after job j moves) → IsFrom job.floor job.top (get_or (row_after job j moves) i (pos 0))
+    each i within =
+        let column : i < column_count job = rw (← length-row_after job j moves) within in
+        rw (row_after-at job j moves i (pos 0) column) (top_after_stays job (column_x job i) (column_y job j) moves order)

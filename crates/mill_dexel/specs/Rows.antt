@@ -1,0 +1,52 @@
+-- A row of columns, and the first of its columns at which a rapid would cut.
+use Rattle.std.specs.Prelude.{◌≡◌, ℕ, ◌<◌, ℤ, pos, List, length, All, slice_index_or}
+use Rattle.mill_base.specs.Points.{point_at, point_tri}
+use Rattle.mill_base.specs.declared.points.Pt3.{Pt3}
+use Rattle.mill_base.specs.declared.points.Tri.{Tri}
+use Rattle.mill_base.specs.declared.motion.Move.{Move}
+use Rattle.mill_job.specs.declared.job.Job.{Job}
+use Rattle.mill_job.specs.Columns.{row_count, column_count, column_x, column_y}
+use Rattle.mill_job.specs.Jobs.{IsFrom}
+use Rattle.mill_sweep.specs.Passes.{PassesPoint, FailsAt}
+use Rattle.mill_sweep.specs.declared.leaf.Leaf.{Leaf}
+
+-- the number of a row, and the tops of its columns
+pub record RowState : Type 0 where
+  pub row : ℕ
+  pub tops : List ℤ
+
+-- the top of column i
+abbrev pub top_at : List ℤ → ℕ → ℤ
+top_at tops i = slice_index_or tops i (pos 0)
+
+-- the row is one of the job's, with a top for each column, from the floor to the uncut stock's top
+pub record IsRowOf (job : Job) (r : RowState) : Type 0 where
+  pub there : r.row < row_count job
+  pub columns : length r.tops ≡ column_count job
+  pub in_stock : All (IsFrom job.floor job.top) r.tops
+
+-- the point at the top of column i
+abbrev pub row_point : Job → RowState → ℕ → Pt3
+row_point job r i = point_at (column_x job i) (column_y job r.row) (top_at r.tops i)
+
+-- the uncut row as a flat triangle, from its least x to its greatest
+abbrev pub uncut_tri : Job → ℕ → Tri
+uncut_tri job j = record {
+  a = point_at job.area.x0 (column_y job j) job.top;
+  b = point_at job.area.x1 (column_y job j) job.top;
+  c = point_at job.area.x1 (column_y job j) job.top;
+}
+
+-- the move passes the point at the top of column i
+abbrev pub PassesTop : Job → RowState → Move → ℕ → Type 0
+PassesTop job r m i = PassesPoint job.cutter m (row_point job r i)
+
+-- the move passes each column of the row
+abbrev pub PassesRow : Job → RowState → Move → Type 0
+PassesRow job r m = (i : ℕ) → i < column_count job → PassesTop job r m i
+
+-- column i is the first that the move doesn't pass, and the test fails at this segment
+pub record IsFirstStop (job : Job) (r : RowState) (m : Move) (i : ℕ) (leaf : Leaf) : Type 0 where
+  pub column : i < column_count job
+  pub before : (k : ℕ) → k < i → PassesTop job r m k
+  pub fails : FailsAt job.cutter m (point_tri (row_point job r i)) leaf

@@ -1,0 +1,106 @@
+// Whole reads and writes over each shelf and sink, with ample memory and with a call that fails.
+use crate::{
+    Failed, FileShelf, MemFile, MemShelf, MemSink, ReadEnd, Shelf, StdSink, read_whole, write_whole,
+};
+use std::alloc::{AllocError, Global};
+use std::test::Fail;
+use std::{env, fs, process};
+
+fn file(alloc: Global, name: &str, bytes: &[u8]) -> Result<MemFile, AllocError> {
+    Ok(MemFile {
+        name: Vec::from_slice(alloc, name.as_bytes())?,
+        bytes: Vec::from_slice(alloc, bytes)?,
+    })
+}
+
+// Two files of one name and one that is empty. The first can hold 3 bytes.
+fn shelf(alloc: Global, fails: &[u64]) -> Result<MemShelf, Fail> {
+    let mut files = Vec::new(alloc);
+    files.push(file(alloc, "a", b"one")?)?;
+    files.push(file(alloc, "a", b"two")?)?;
+    files.push(file(alloc, "b", b"")?)?;
+    Ok(MemShelf::new(alloc, files, "out", 3, fails)?)
+}
+
+#[test]
+fn reads_whole_files_in_memory(rt: HostRuntime) -> Result<(), Fail> {
+    let none: &[u64] = &[];
+    let rows: [(&str, u64, &[u64], Result<&[u8], ReadEnd>); 7] = [
+        ("a", 3, none, Ok(b"one")),
+        ("a", 2, none, Err(ReadEnd::TooLong)),
+        ("b", 0, none, Ok(b"")),
+        ("c", 9, none, Err(ReadEnd::ReadFault)),
+        ("a", 3, &[0], Err(ReadEnd::ReadFault)),
+        ("a", 3, &[1], Err(ReadEnd::ReadFault)),
+        ("a", 3, &[2], Ok(b"one")),
+    ];
+    for (name, limit, fails, want) in rows {
+        let mut shelf = shelf(rt.alloc(), fails)?;
+        let read = read_whole(rt.alloc(), &mut shelf, name, limit);
+        match (&read, want) {
+            (Ok(bytes), Ok(wanted)) => assert_eq!(rt; bytes.as_slice(), wanted, "{name}"),
+            (Err(end), Err(wanted)) => assert_eq!(rt; *end, wanted, "{name} {limit}"),
+            _ => assert!(rt; false, "{name} {limit}"),
+        }
+    }
+    Ok(())
+}
+
+#[test]
+fn writes_one_file_in_memory(rt: HostRuntime) -> Result<(), Fail> {
+    let mut shelf = shelf(rt.alloc(), &[3])?;
+    assert_eq!(rt; shelf.create("a"), Err(Failed));
+    assert_eq!(rt; shelf.create("out"), Ok(()));
+    assert_eq!(rt; shelf.append("out", b"12"), Ok(2));
+    assert_eq!(rt; shelf.append("out", b"3"), Err(Failed));
+    assert_eq!(rt; shelf.append("out", b"345"), Ok(1));
+    assert_eq!(rt; shelf.append("out", b"45"), Err(Failed));
+    assert_eq!(rt;
+        read_whole(rt.alloc(), &mut shelf, "out", 9)?.as_slice(),
+        b"123".as_slice()
+    );
+    Ok(())
+}
+
+#[test]
+fn writes_to_memory(rt: HostRuntime) -> Result<(), Fail> {
+    let rows: [(usize, &[u64], Result<(), Failed>, &[u8]); 3] = [
+        (5, &[1], Ok(()), b"hello"),
+        (3, &[], Err(Failed), b"hel"),
+        (5, &[0], Err(Failed), b""),
+    ];
+    for (room, fails, want, written) in rows {
+        let mut sink = MemSink::new(rt.alloc(), room, fails)?;
+        assert_eq!(rt; write_whole(&mut sink, b"hello"), want);
+        assert_eq!(rt; sink.written(), written);
+    }
+    Ok(())
+}
+
+#[test]
+fn reads_and_writes_a_real_file(rt: HostRuntime) -> Result<(), Fail> {
+    let name = format!(in rt.alloc(); "mill-io-{}", process::id(rt.process()))?;
+    let path = env::temp_dir(&rt)?.join(rt.alloc(), name.as_str())?;
+    let path = path.to_str().ok_or("a path that is not text")?;
+    let long = vec![in rt.alloc(); 7u8; 70000]?;
+    let mut shelf = FileShelf::new(&rt);
+    let missing = read_whole(rt.alloc(), &mut shelf, path, 9);
+    assert!(rt; matches!(missing, Err(ReadEnd::ReadFault)));
+    let created = shelf.create(path);
+    let appended = shelf.append(path, &long);
+    let read = read_whole(rt.alloc(), &mut shelf, path, 70000);
+    let short = read_whole(rt.alloc(), &mut shelf, path, 69999);
+    fs::remove_file(&rt, path)?;
+    assert_eq!(rt; (created, appended), (Ok(()), Ok(70000)));
+    assert!(rt; read?.as_slice() == long.as_slice());
+    assert!(rt; matches!(short, Err(ReadEnd::TooLong)));
+    Ok(())
+}
+
+#[test]
+fn writes_to_standard_output(rt: HostRuntime) {
+    assert_eq!(rt;
+        write_whole(&mut StdSink::new(&rt), b"a line on standard output\n"),
+        Ok(())
+    );
+}

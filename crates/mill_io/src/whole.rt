@@ -1,0 +1,102 @@
+ghost use Rattle.std.specs.Prelude.{◌≡◌, ◌+◌, ◌<◌, ◌≤◌, ◌++◌, length, take, IfSome, IsOk, OnOk, OnErr};
+ghost use Rattle.mill_io.specs.Causes.{HasCause};
+ghost use Rattle.mill_io.specs.Contents.{Stay, Appended, AppendedPart};
+ghost use Rattle.mill_io.specs.Whole.{IsWhole, EndsBy};
+ghost use Rattle.mill_io.specs.declared.whole.ReadEnd.TheVariants.{WantOfMemory};
+
+use crate::{Failed, Shelf, Sink};
+use std::alloc::{AllocError, Global};
+use thiserror::Error;
+
+/// How many bytes one read of a whole file asks for.
+const PIECE: usize = 65536;
+
+/// Why a whole read ended without the contents.
+#[derive(Clone, Copy, Debug, PartialEq, Eq, Error)]
+pub enum ReadEnd {
+    /// A read failed: the count of read faults rose.
+    #[error("a read failed")]
+    ReadFault,
+    /// The contents are longer than the limit.
+    #[error("too long")]
+    TooLong,
+    /// There was not enough memory.
+    #[error("out of memory")]
+    WantOfMemory,
+}
+
+impl From<AllocError> for ReadEnd {
+    ghost from_gives = { λ _ e. e ≡ WantOfMemory };
+
+    fn from(_: AllocError) -> Self {
+        ReadEnd::WantOfMemory
+    }
+}
+
+/// All the bytes under a name, if they are at most `limit`.
+///
+/// It is `ReadFault` where a read failed, `TooLong` where none did and more than `limit` bytes were
+/// given, and `WantOfMemory` where there was no memory for them. It makes at most `limit + 2`
+/// reads.
+pub fn read_whole<S: Shelf>(
+    alloc: Global,
+    shelf: &mut S,
+    name: &str,
+    limit: u64,
+) -> Result<Vec<u8>, ReadEnd>
+    ensures whole { IsWhole (S.contents shelf.old name.now) limit result }
+    ensures cause { EndsBy (S.read_faults shelf.old) (S.read_faults shelf.new) result }
+    ensures stay { Stay (S.contents shelf.old) (S.contents shelf.new) }
+    ensures other_count { S.write_faults shelf.new ≡ S.write_faults shelf.old }
+    ensures few { S.reads shelf.new ≤ S.reads shelf.old + limit + 2 }
+{
+    let mut piece = vec![in alloc; 0u8; PIECE]?;
+    read_pieces(alloc, shelf, name, limit, &mut piece)
+}
+
+// The same, piece by piece through a buffer.
+fn read_pieces<S: Shelf>(
+    alloc: Global,
+    shelf: &mut S,
+    name: &str,
+    limit: u64,
+    buf: &mut [u8],
+) -> Result<Vec<u8>, ReadEnd>
+    requires { 0 < length buf.old }
+    ensures whole { IsWhole (S.contents shelf.old name.now) limit result }
+    ensures cause { EndsBy (S.read_faults shelf.old) (S.read_faults shelf.new) result }
+    ensures stay { Stay (S.contents shelf.old) (S.contents shelf.new) }
+    ensures other_count { S.write_faults shelf.new ≡ S.write_faults shelf.old }
+    ensures few { S.reads shelf.new ≤ S.reads shelf.old + limit + 2 }
+{
+    let mut all = Vec::new(alloc);
+    while all.len() as u64 <= limit {
+        let count = match shelf.read(name, all.len() as u64, buf) {
+            Ok(count) => count,
+            Err(Failed) => return Err(ReadEnd::ReadFault),
+        };
+        if count == 0 {
+            return Ok(all);
+        }
+        all.extend_from_slice(&buf[..count])?;
+    }
+    Err(ReadEnd::TooLong)
+}
+
+/// Writes all the bytes.
+///
+/// After a failure a prefix of them was written, which may be empty.
+pub fn write_whole<O: Sink>(sink: &mut O, bytes: &[u8]) -> Result<(), Failed>
+    ensures whole { OnOk result (Appended bytes.now (O.written sink.old) (O.written sink.new)) }
+    ensures part { OnErr result (AppendedPart bytes.now (O.written sink.old) (O.written sink.new)) }
+    ensures cause { HasCause (O.faults sink.old) (O.faults sink.new) result }
+{
+    let mut done = 0;
+    while done < bytes.len() {
+        match sink.write(&bytes[done..]) {
+            Ok(count) => done += count,
+            Err(failed) => return Err(failed),
+        }
+    }
+    Ok(())
+}

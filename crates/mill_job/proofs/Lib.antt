@@ -1,0 +1,5 @@
+mod Faults
+mod Meaning
+mod Numbers
+pub mod OneAnswer
+mod UnknownKeys

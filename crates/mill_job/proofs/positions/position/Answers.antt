@@ -1,0 +1,12 @@
+-- The position lies between the first and the last, so the sum keeps its value and its range.
+use Rattle.std.proofs.Common.{◌∙◌, ap, arith}
+use Rattle.std.proofs.lemmas.Int.{ints}
+use Rattle.std.specs.Prelude.{ℤ, pos, ◌+ℤ◌, ◌*ℤ◌}
+use Rattle.mill_job.proofs.positions.position.Goals as goal
+
+pub returns-clause-value : goal.returns-clause-value
+returns-clause-value c =
+    omega (arith, ints) ∙ ap (λ (t : ℤ). c.args.first +ℤ t) (c.steps.ensures.value ∙ ap (λ (t : ℤ). pos c.args.index *ℤ t) (omega (arith, ints)))
+
+pub returns-clause-in_range : goal.returns-clause-in_range
+returns-clause-in_range c = record { within = omega (arith, ints) }

@@ -1,0 +1,9 @@
+use Rattle.std.proofs.Common.{◌∙◌, ap, ℕ, List}
+use Rattle.toml.proofs.Views.{table_get}
+use Rattle.toml.specs.Data.{get_member}
+use Rattle.toml.specs.View.{table_view}
+use Rattle.mill_job.proofs.values.find.Goals as goal
+
+pub returns : goal.returns
+returns c =
+    table_get c.get.result c.name.result.now c.args.table.now.entries c.get.ensures.value ∙ ap (λ (text : List ℕ). get_member text (table_view c.args.table.now)) c.name.ensures

@@ -1,0 +1,78 @@
+-- What a job's text means: the document, then the keys, then the relations between them.
+use Rattle.std.specs.Prelude.{◌≡◌, ◌⊎◌, IsUtf8, ℕ, ◌*◌, nat_lt, codes, Bool, if◌then◌else◌, pos, int_lt, List, [], ◌∷◌, ◌++◌, Option, Some, None, option_map, Result, Err}
+use Rattle.toml.specs.Data.{Members}
+use Rattle.toml.specs.Parse.{parse_document}
+use Rattle.mill_base.specs.declared.cutter.Cutter.TheVariants.{Flat}
+use Rattle.mill_base.specs.Sizes.{radius_of}
+use Rattle.mill_job.specs.Columns.{row_count, column_count}
+use Rattle.mill_job.specs.Keys.{unknown_in}
+use Rattle.mill_job.specs.Tables.{text_fault, number_fault, coordinate_fault, array_fault, is_area, is_place, number_at, numbers_at, area_of, place_of, first, checked}
+use Rattle.mill_job.specs.declared.job.Job.{Job}
+use Rattle.mill_job.specs.declared.key.Key.TheVariants as key
+use Rattle.mill_job.specs.declared.fault.JobFault.{JobFault}
+use Rattle.mill_job.specs.declared.fault.JobFault.TheVariants.{Syntax, Unknown, Relation, WantOfMemory}
+
+-- what is wrong with each key, in the format's order
+abbrev pub key_faults : Members → List (Option JobFault)
+key_faults ms =
+    text_fault key.Cutter (codes "flat" ∷ []) ms
+    ∷ number_fault key.Radius (pos 1) (pos 10000) ms
+    ∷ coordinate_fault key.Floor ms
+    ∷ coordinate_fault key.Top ms
+    ∷ coordinate_fault key.Clear ms
+    ∷ array_fault key.Area is_area ms
+    ∷ array_fault key.Home is_place ms
+    ∷ number_fault key.Pitch (pos 1) (pos 10000) ms
+    ∷ number_fault key.Sample (pos 1) (pos 10000) ms
+    ∷ number_fault key.Allowance (pos 0) (pos 10000) ms
+    ∷ number_fault key.Band (pos 0) (pos 0) ms
+    ∷ []
+
+-- the job of a document with whose keys nothing is wrong
+abbrev pub job_from : Members → Job
+job_from ms = record {
+  cutter = Flat (number_at key.Radius ms);
+  floor = number_at key.Floor ms;
+  top = number_at key.Top ms;
+  clear = number_at key.Clear ms;
+  area = area_of (numbers_at key.Area ms);
+  home_x = (place_of (numbers_at key.Home ms)).0;
+  home_y = (place_of (numbers_at key.Home ms)).1;
+  pitch = number_at key.Pitch ms;
+  sample = number_at key.Sample ms;
+  allowance = number_at key.Allowance ms;
+  band = number_at key.Band ms;
+}
+
+abbrev pub fault_if : Bool → JobFault → Option JobFault
+fault_if fails f = if fails then Some f else None
+
+-- what is wrong between the keys, in order
+abbrev pub relation_faults : Job → List (Option JobFault)
+relation_faults job =
+    fault_if (int_lt job.top job.floor) (Relation key.Floor key.Top)
+    ∷ fault_if (int_lt job.clear job.top) (Relation key.Top key.Clear)
+    ∷ fault_if (nat_lt 4000000 (row_count job * column_count job)) (Relation key.Area key.Pitch)
+    ∷ fault_if (int_lt (radius_of job.cutter) job.band) (Relation key.Band key.Radius)
+    ∷ []
+
+-- the document's first fault: an unknown key, a key's own fault, a relation's
+abbrev pub document_fault : Members → Option JobFault
+document_fault ms = first (option_map Unknown (unknown_in ms) ∷ key_faults ms ++ relation_faults (job_from ms))
+
+abbrev pub job_in : Option Members → Result Job JobFault
+job_in None = Err Syntax
+job_in (Some ms) = checked (document_fault ms) (job_from ms)
+
+-- what a text of UTF-8 means as a job, or its first fault
+abbrev pub job_of : List ℕ → Result Job JobFault
+job_of text = job_in (parse_document text)
+
+-- what a text means as a job; the definition of a document allows any bytes in a comment, so a text that isn't UTF-8 is refused here
+abbrev pub IsJobOf : List ℕ → Result Job JobFault → Type 0
+IsJobOf text answer = (IsUtf8 text × (answer ≡ job_of text)) ⊎ ((¬ IsUtf8 text) × (answer ≡ Err Syntax))
+
+-- the answer is what the text means, or there was not enough memory
+abbrev pub Gives : List ℕ → Result Job JobFault → Type 0
+Gives text (Err WantOfMemory) = Unit {0}
+Gives text answer = IsJobOf text answer

@@ -1,0 +1,34 @@
+-- The ranges and relations that a job keeps.
+use Rattle.std.specs.Prelude.{◌*◌, ◌≤◌, ℤ, pos, ◌≤ℤ◌}
+use Rattle.mill_base.specs.Numbers.{Within, greatest}
+use Rattle.mill_base.specs.Sizes.{IsCutter, radius_of}
+use Rattle.mill_job.specs.Columns.{row_count, column_count}
+use Rattle.mill_job.specs.declared.job.Job.{Job}
+
+-- z is from lo to hi
+pub record IsFrom (lo hi z : ℤ) : Type 0 where
+  pub low : lo ≤ℤ z
+  pub high : z ≤ℤ hi
+
+-- every number of the job is in its range, and the relations between them hold
+pub record IsJob (job : Job) : Type 0 where
+  pub cutter_ok : IsCutter job.cutter
+  pub floor_ok : Within greatest job.floor
+  pub top_ok : Within greatest job.top
+  pub clear_ok : Within greatest job.clear
+  pub x0_ok : Within greatest job.area.x0
+  pub y0_ok : Within greatest job.area.y0
+  pub x1_ok : Within greatest job.area.x1
+  pub y1_ok : Within greatest job.area.y1
+  pub home_x_ok : Within greatest job.home_x
+  pub home_y_ok : Within greatest job.home_y
+  pub pitch_ok : IsFrom (pos 1) (pos 10000) job.pitch
+  pub sample_ok : IsFrom (pos 1) (pos 10000) job.sample
+  pub allowance_ok : IsFrom (pos 0) (pos 10000) job.allowance
+  pub band_ok : IsFrom (pos 0) (pos 10000) job.band
+  pub x_order : job.area.x0 ≤ℤ job.area.x1
+  pub y_order : job.area.y0 ≤ℤ job.area.y1
+  pub stock : job.floor ≤ℤ job.top
+  pub over_stock : job.top ≤ℤ job.clear
+  pub few : (row_count job * column_count job) ≤ 4000000
+  pub narrow : job.band ≤ℤ radius_of job.cutter

@@ -1,0 +1,37 @@
+-- The keys of a job's document.
+use Rattle.std.specs.Prelude.{ℕ, codes, bytes_eq, Bool, if◌then◌else◌, List, [], ◌∷◌, map, Option, Some, None}
+use Rattle.std.specs.List.{list_any}
+use Rattle.toml.specs.Data.{Members, no_members, member}
+use Rattle.mill_job.specs.declared.key.Key.{Key}
+use Rattle.mill_job.specs.declared.key.Key.TheVariants as key
+
+-- a key's text
+abbrev pub name_of : Key → List ℕ
+name_of key.Cutter = codes "cutter"
+name_of key.Radius = codes "radius"
+name_of key.Floor = codes "floor"
+name_of key.Top = codes "top"
+name_of key.Clear = codes "clear"
+name_of key.Area = codes "area"
+name_of key.Home = codes "home"
+name_of key.Pitch = codes "pitch"
+name_of key.Sample = codes "sample"
+name_of key.Allowance = codes "allowance"
+name_of key.Band = codes "band"
+
+-- every key, in the format's order
+abbrev pub every_key : List Key
+every_key = key.Cutter ∷ key.Radius ∷ key.Floor ∷ key.Top ∷ key.Clear ∷ key.Area ∷ key.Home ∷ key.Pitch ∷ key.Sample ∷ key.Allowance ∷ key.Band ∷ []
+
+-- the text is one of these
+abbrev pub is_one_of : List (List ℕ) → List ℕ → Bool
+is_one_of texts text = list_any (bytes_eq text) texts
+
+-- the text is that of a key
+unfoldable pub is_known : List ℕ → Bool
+is_known text = is_one_of (map name_of every_key) text
+
+-- the first member whose key is no key of a job; the members stand in the order of their keys' bytes
+abbrev pub unknown_in : Members → Option (List ℕ)
+unknown_in no_members = None
+unknown_in (member text value ms) = if is_known text then unknown_in ms else Some text

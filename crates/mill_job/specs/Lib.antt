@@ -1,0 +1,5 @@
+pub mod Columns
+pub mod Jobs
+pub mod Keys
+pub mod Tables
+pub mod Documents

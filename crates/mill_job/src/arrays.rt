@@ -1,0 +1,146 @@
+ghost use Rattle.std.specs.Prelude.{◌≡◌, ◌&&◌, ◌≤ℤ◌, IsTrue, int_le, [], ◌∷◌, IfOk, IfErr, Some, None, is_some, option_map};
+ghost use Rattle.mill_base.specs.Numbers.{Within, greatest};
+ghost use Rattle.toml.specs.View.{table_view, view, items_view};
+ghost use Rattle.mill_job.specs.Tables.{IsArea, area_of, array_fault, checked, integers, is_area, is_place, kind_fault, misfit_of, numbers_at, place_of};
+
+use crate::fault::JobFault;
+use crate::key::Key;
+use crate::values::{as_coordinate, find};
+use mill_base::Box2;
+use toml::{Table, Value};
+
+/// Whether each value is a whole number.
+fn are_integers(values: &[Value]) -> bool
+    ensures { result ≡ is_some (integers (items_view values.now)) }
+{
+    for value in values {
+        if !value.is_integer() {
+            return false;
+        }
+    }
+    true
+}
+
+/// What is wrong with an array that hasn't the right length.
+fn misfit(values: &[Value], key: Key) -> JobFault
+    ensures { result ≡ misfit_of key (integers (items_view values.now)) }
+{
+    if are_integers(values) {
+        JobFault::Range(key)
+    } else {
+        JobFault::WrongKind(key)
+    }
+}
+
+/// Whether the corners are in their order.
+fn is_ordered(area: Box2) -> bool
+    ensures value { result ≡ (int_le area.x0 area.x1 && int_le area.y0 area.y1) }
+    ensures x_order { IsTrue result → area.x0 ≤ℤ area.x1 }
+    ensures y_order { IsTrue result → area.y0 ≤ℤ area.y1 }
+{
+    area.x0 <= area.x1 && area.y0 <= area.y1
+}
+
+/// The rectangle with these corners.
+fn corners(x0: i64, y0: i64, x1: i64, y1: i64) -> Result<Box2, JobFault>
+    ensures value { result ≡ checked (kind_fault Key.Area is_area (Some (x0 ∷ y0 ∷ x1 ∷ y1 ∷ []))) (record { x0 = x0; y0 = y0; x1 = x1; y1 = y1 }) }
+    ensures in_range { IfOk result IsArea }
+{
+    let area = Box2 {
+        x0: as_coordinate(x0, Key::Area)?,
+        y0: as_coordinate(y0, Key::Area)?,
+        x1: as_coordinate(x1, Key::Area)?,
+        y1: as_coordinate(y1, Key::Area)?,
+    };
+    if !is_ordered(area) {
+        return Err(JobFault::Range(Key::Area));
+    }
+    Ok(area)
+}
+
+/// The four whole numbers that the values are.
+fn four(a: &Value, b: &Value, c: &Value, d: &Value) -> Option<(i64, i64, i64, i64)>
+    ensures { option_map (λ z. z.0 ∷ z.1 ∷ z.2 ∷ z.3 ∷ []) result ≡ integers (items_view (a.now ∷ b.now ∷ c.now ∷ d.now ∷ [])) }
+{
+    Some((
+        a.as_integer()?,
+        b.as_integer()?,
+        c.as_integer()?,
+        d.as_integer()?,
+    ))
+}
+
+/// The rectangle whose corners the values are, in the order x0, y0, x1, y1.
+fn area_in(values: &[Value]) -> Result<Box2, JobFault>
+    ensures value { result ≡ checked (kind_fault Key.Area is_area (integers (items_view values.now))) (area_of (integers (items_view values.now))) }
+    ensures in_range { IfOk result IsArea }
+{
+    if values.len() != 4 {
+        return Err(misfit(values, Key::Area));
+    }
+    let Some((x0, y0, x1, y1)) = four(&values[0], &values[1], &values[2], &values[3]) else {
+        return Err(JobFault::WrongKind(Key::Area));
+    };
+    corners(x0, y0, x1, y1)
+}
+
+/// The rectangle at `area`.
+#[tactic(auto, unfolding(crate::specs::Tables::array_fault, crate::specs::Tables::numbers_at))]
+pub fn area(table: &Table) -> Result<Box2, JobFault>
+    ensures ok { IfOk result (λ area. (array_fault Key.Area is_area (table_view table.now) ≡ None) × (area ≡ area_of (numbers_at Key.Area (table_view table.now)))) }
+    ensures err { IfErr result (λ fault. array_fault Key.Area is_area (table_view table.now) ≡ Some fault) }
+    ensures in_range { IfOk result IsArea }
+{
+    let Some(value) = find(table, Key::Area) else {
+        return Err(JobFault::Missing(Key::Area));
+    };
+    let Some(values) = value.as_array() else {
+        return Err(JobFault::WrongKind(Key::Area));
+    };
+    area_in(values)
+}
+
+/// The place with these coordinates.
+fn place(x: i64, y: i64) -> Result<(i32, i32), JobFault>
+    ensures value { result ≡ checked (kind_fault Key.Home is_place (Some (x ∷ y ∷ []))) (x, y) }
+    ensures in_range { IfOk result (λ at. Within greatest at.0 × Within greatest at.1) }
+{
+    Ok((as_coordinate(x, Key::Home)?, as_coordinate(y, Key::Home)?))
+}
+
+/// The two whole numbers that the values are.
+fn two(a: &Value, b: &Value) -> Option<(i64, i64)>
+    ensures { option_map (λ z. z.0 ∷ z.1 ∷ []) result ≡ integers (items_view (a.now ∷ b.now ∷ [])) }
+{
+    Some((a.as_integer()?, b.as_integer()?))
+}
+
+/// The place whose coordinates the values are.
+fn place_in(values: &[Value]) -> Result<(i32, i32), JobFault>
+    ensures value { result ≡ checked (kind_fault Key.Home is_place (integers (items_view values.now))) (place_of (integers (items_view values.now))) }
+    ensures in_range { IfOk result (λ at. Within greatest at.0 × Within greatest at.1) }
+{
+    if values.len() != 2 {
+        return Err(misfit(values, Key::Home));
+    }
+    let Some((x, y)) = two(&values[0], &values[1]) else {
+        return Err(JobFault::WrongKind(Key::Home));
+    };
+    place(x, y)
+}
+
+/// The place at `home`.
+#[tactic(auto, unfolding(crate::specs::Tables::array_fault, crate::specs::Tables::numbers_at))]
+pub fn home(table: &Table) -> Result<(i32, i32), JobFault>
+    ensures ok { IfOk result (λ at. (array_fault Key.Home is_place (table_view table.now) ≡ None) × (at ≡ place_of (numbers_at Key.Home (table_view table.now)))) }
+    ensures err { IfErr result (λ fault. array_fault Key.Home is_place (table_view table.now) ≡ Some fault) }
+    ensures in_range { IfOk result (λ at. Within greatest at.0 × Within greatest at.1) }
+{
+    let Some(value) = find(table, Key::Home) else {
+        return Err(JobFault::Missing(Key::Home));
+    };
+    let Some(values) = value.as_array() else {
+        return Err(JobFault::WrongKind(Key::Home));
+    };
+    place_in(values)
+}

@@ -1,0 +1,98 @@
+ghost use Rattle.std.specs.Prelude.{◌≡◌, ◌<◌, ◌≤◌, ◌*◌};
+ghost use Rattle.mill_base.specs.Numbers.{Within, greatest};
+ghost use Rattle.mill_base.specs.Ranges.{IsInRange};
+
+use crate::positions::{count, position};
+use mill_base::{Box2, Cutter, Pt3};
+
+/// What is cut, with which cutter, and how exactly. Lengths and places are in units of 0.01 mm.
+#[derive(Clone, Copy, Debug, PartialEq, Eq)]
+pub struct Job {
+    pub cutter: Cutter,
+    /// The height of the machine's table under the stock; no tip goes lower.
+    pub floor: i32,
+    /// The height of the uncut stock.
+    pub top: i32,
+    /// The height at which a program starts, and at which the cutter travels over everything.
+    pub clear: i32,
+    /// The rectangle over which the columns of the stock stand.
+    pub area: Box2,
+    pub home_x: i32,
+    pub home_y: i32,
+    /// The distance of neighbouring columns.
+    pub pitch: i32,
+    /// The greatest distance of neighbouring samples of a move, from 1 to 10,000.
+    pub sample: i32,
+    /// How much a column may stand over what covers it.
+    pub allowance: i32,
+    /// How near a part point covers a column.
+    pub band: i32,
+}
+
+impl Job {
+    ghost use Rattle.mill_job.specs.Columns.{row_count, column_count, column_x as x_of_column, column_y, home as home_of};
+    ghost use Rattle.mill_job.specs.Jobs.{IsJob};
+
+    /// How many rows of columns the stock has.
+    pub fn rows(&self) -> u32
+        requires { IsJob self.now }
+        ensures value { result ≡ row_count self.now }
+        ensures some { 1 ≤ result }
+        ensures bound { result ≤ 262143 }
+    {
+        count(self.area.y0, self.area.y1, self.pitch)
+    }
+
+    /// How many columns each row has.
+    pub fn columns(&self) -> u32
+        requires { IsJob self.now }
+        ensures value { result ≡ column_count self.now }
+        ensures some { 1 ≤ result }
+        ensures bound { result ≤ 262143 }
+    {
+        count(self.area.x0, self.area.x1, self.pitch)
+    }
+
+    /// How many columns the stock has in all, at most 4,000,000.
+    pub fn column_total(&self) -> u64
+        requires { IsJob self.now }
+        ensures value { result ≡ row_count self.now * column_count self.now }
+        ensures some { 1 ≤ result }
+        ensures bound { result ≤ 4000000 }
+    {
+        u64::from(self.rows()) * u64::from(self.columns())
+    }
+
+    /// Where the columns of number `i` in their rows stand, in units of 0.01 mm.
+    pub fn column_x(&self, i: u32) -> i32
+        requires job { IsJob self.now }
+        requires column { i < column_count self.now }
+        ensures value { result ≡ x_of_column self.now i }
+        ensures in_range { Within greatest result }
+    {
+        position(self.area.x0, self.area.x1, self.pitch, i)
+    }
+
+    /// Where the columns of row `j` stand, in units of 0.01 mm.
+    pub fn row_y(&self, j: u32) -> i32
+        requires job { IsJob self.now }
+        requires row { j < row_count self.now }
+        ensures value { result ≡ column_y self.now j }
+        ensures in_range { Within greatest result }
+    {
+        position(self.area.y0, self.area.y1, self.pitch, j)
+    }
+
+    /// Where a program starts: over home, at the clear height.
+    pub fn home(&self) -> Pt3
+        requires { IsJob self.now }
+        ensures value { result ≡ home_of self.now }
+        ensures in_range { IsInRange result }
+    {
+        Pt3 {
+            x: self.home_x,
+            y: self.home_y,
+            z: self.clear,
+        }
+    }
+}

@@ -1,0 +1,112 @@
+ghost use Rattle.std.specs.Prelude.{◌≡◌, ◌≤◌, ◌*◌, ◌≤ℤ◌, ◌++◌, pos, IfOk, None};
+ghost use Rattle.mill_base.specs.Sizes.{radius_of};
+ghost use Rattle.toml.specs.View.{table_view};
+ghost use Rattle.mill_job.specs.Columns.{row_count, column_count};
+ghost use Rattle.mill_job.specs.Documents.{Gives, job_from, key_faults, relation_faults};
+ghost use Rattle.mill_job.specs.Jobs.{IsFrom, IsJob};
+ghost use Rattle.mill_job.specs.Tables.{IsArea, checked, first};
+
+use crate::arrays::{area, home};
+use crate::document::{document, first_unknown, unknown};
+use crate::fault::JobFault;
+use crate::job::Job;
+use crate::key::Key;
+use crate::positions::column_total;
+use crate::values::{coordinate, cutter_shape, number};
+use std::alloc::Global;
+use toml::Table;
+
+/// The most columns that a job may have.
+const MOST_COLUMNS: u64 = 4_000_000;
+
+/// The first relation between the values of a job that fails.
+fn relation_fault(job: &Job) -> Option<JobFault>
+    requires area_ok { IsArea job.now.area }
+    requires pitch_ok { IsFrom (pos 1) (pos 10000) job.now.pitch }
+    ensures value { result ≡ first (relation_faults job.now) }
+    ensures stock { result ≡ None → job.now.floor ≤ℤ job.now.top }
+    ensures over_stock { result ≡ None → job.now.top ≤ℤ job.now.clear }
+    ensures few { result ≡ None → row_count job.now * column_count job.now ≤ 4000000 }
+    ensures narrow { result ≡ None → job.now.band ≤ℤ radius_of job.now.cutter }
+{
+    if job.top < job.floor {
+        return Some(JobFault::Relation(Key::Floor, Key::Top));
+    }
+    if job.clear < job.top {
+        return Some(JobFault::Relation(Key::Top, Key::Clear));
+    }
+    if MOST_COLUMNS < column_total(job.area, job.pitch) {
+        return Some(JobFault::Relation(Key::Area, Key::Pitch));
+    }
+    if job.cutter.radius() < job.band {
+        return Some(JobFault::Relation(Key::Band, Key::Radius));
+    }
+    None
+}
+
+/// The job, or the fault if there is one.
+fn unless(fault: Option<JobFault>, job: Job) -> Result<Job, JobFault>
+    ensures { result ≡ checked fault job }
+{
+    match fault {
+        Some(fault) => Err(fault),
+        None => Ok(job),
+    }
+}
+
+/// The job of a document that has no unknown key.
+fn job(table: &Table) -> Result<Job, JobFault>
+    ensures value { result ≡ checked (first (key_faults (table_view table.now) ++ relation_faults (job_from (table_view table.now)))) (job_from (table_view table.now)) }
+    ensures in_range { IfOk result IsJob }
+    ensures no_band { IfOk result (λ job. job.band ≡ pos 0) }
+{
+    let shape = cutter_shape(table)?;
+    let radius = number(table, Key::Radius, 1, 10_000)?;
+    let floor = coordinate(table, Key::Floor)?;
+    let top = coordinate(table, Key::Top)?;
+    let clear = coordinate(table, Key::Clear)?;
+    let area = area(table)?;
+    let (home_x, home_y) = home(table)?;
+    let pitch = number(table, Key::Pitch, 1, 10_000)?;
+    let sample = number(table, Key::Sample, 1, 10_000)?;
+    let allowance = number(table, Key::Allowance, 0, 10_000)?;
+    let band = number(table, Key::Band, 0, 0)?;
+    let job = Job {
+        cutter: shape.with_radius(radius),
+        floor,
+        top,
+        clear,
+        area,
+        home_x,
+        home_y,
+        pitch,
+        sample,
+        allowance,
+        band,
+    };
+    unless(relation_fault(&job), job)
+}
+
+/// Reads a job: a TOML 1.0 document with each key of [`Key`] and no other.
+///
+/// Numbers are whole, in units of 0.01 mm. `cutter` is a text, and only `flat` is in range.
+/// `radius`, `pitch` and `sample` are from 1 to 10,000, `allowance` from 0 to 10,000, and `band` is
+/// 0. `floor`, `top`, `clear` and the members of `area` and `home` are coordinates, of a magnitude
+/// of at most 131,071. `area` has x0, y0, x1, y1, with x0 at most x1 and y0 at most y1; `home` has
+/// x, y. The relations are: floor is at most top, top at most clear, there are at most 4,000,000
+/// columns, and band is at most radius.
+///
+/// A fault is the first in this order: the document's syntax; an unknown key, the first by its
+/// bytes; for each key in the order of [`Key`], that it is missing, of a wrong kind or out of
+/// range; a relation that fails.
+pub fn read_job(alloc: Global, text: &[u8]) -> Result<Job, JobFault>
+    ensures gives { Gives text.now result }
+    ensures in_range { IfOk result IsJob }
+    ensures no_band { IfOk result (λ job. job.band ≡ pos 0) }
+{
+    let table = document(alloc, text)?;
+    match first_unknown(&table) {
+        Some(name) => Err(unknown(alloc, name.as_str())),
+        None => job(&table),
+    }
+}

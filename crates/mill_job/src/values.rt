@@ -1,0 +1,102 @@
+ghost use Rattle.std.specs.Prelude.{◌≡◌, codes, neg_ℤ, pos, true, false, IfOk, IfErr, OnOk, None, Some, [], ◌∷◌, option_map};
+ghost use Rattle.mill_base.specs.Numbers.{Within, greatest};
+ghost use Rattle.toml.specs.Data.{get_member};
+ghost use Rattle.toml.specs.View.{table_view, view};
+ghost use Rattle.mill_job.specs.Jobs.{IsFrom};
+ghost use Rattle.mill_job.specs.Keys.{name_of};
+ghost use Rattle.mill_job.specs.Tables.{coordinate_fault, is_coordinate, is_from, number_at, number_fault, text_fault};
+
+use crate::fault::JobFault;
+use crate::key::Key;
+use mill_base::Cutter;
+use toml::{Table, Value};
+
+/// The greatest magnitude of a coordinate, in units of 0.01 mm.
+const GREATEST: i32 = 131_071;
+
+/// A kind of cutter.
+#[derive(Clone, Copy)]
+pub enum Shape {
+    Flat,
+}
+
+impl Shape {
+    /// The cutter of this kind and radius.
+    pub fn with_radius(self, radius: i32) -> Cutter
+        ensures { result ≡ Cutter.Flat radius }
+    {
+        match self {
+            Shape::Flat => Cutter::Flat { radius },
+        }
+    }
+}
+
+/// The value at a key.
+pub fn find<'a>(table: &'a Table, key: Key) -> Option<&'a Value>
+    ensures { option_map (λ v. view v.now) result ≡ get_member (name_of key) (table_view table.now) }
+{
+    table.get(key.name())
+}
+
+/// The number, which must be from `low` to `high`.
+fn in_range(number: i64, key: Key, low: i32, high: i32) -> Result<i32, JobFault>
+    ensures ok { IfOk result (λ z. (is_from low high number ≡ true) × (z ≡ number)) }
+    ensures err { IfErr result (λ fault. (is_from low high number ≡ false) × (fault ≡ JobFault.Range key)) }
+    ensures in_range { IfOk result (IsFrom low high) }
+{
+    if number < i64::from(low) || i64::from(high) < number {
+        return Err(JobFault::Range(key));
+    }
+    Ok(number as i32)
+}
+
+/// The number, which must be a coordinate.
+#[tactic(auto, unfolding(crate::specs::Tables::is_coordinate))]
+pub fn as_coordinate(number: i64, key: Key) -> Result<i32, JobFault>
+    ensures ok { IfOk result (λ z. (is_coordinate number ≡ true) × (z ≡ number)) }
+    ensures err { IfErr result (λ fault. (is_coordinate number ≡ false) × (fault ≡ JobFault.Range key)) }
+    ensures in_range { IfOk result (Within greatest) }
+{
+    in_range(number, key, -GREATEST, GREATEST)
+}
+
+/// The whole number from `low` to `high` at a key.
+#[tactic(auto, unfolding(crate::specs::Tables::number_fault, crate::specs::Tables::number_at))]
+pub fn number(table: &Table, key: Key, low: i32, high: i32) -> Result<i32, JobFault>
+    ensures ok { IfOk result (λ n. (number_fault key low high (table_view table.now) ≡ None) × (n ≡ number_at key (table_view table.now))) }
+    ensures err { IfErr result (λ fault. number_fault key low high (table_view table.now) ≡ Some fault) }
+    ensures in_range { IfOk result (IsFrom low high) }
+{
+    let Some(value) = find(table, key) else {
+        return Err(JobFault::Missing(key));
+    };
+    let Some(number) = value.as_integer() else {
+        return Err(JobFault::WrongKind(key));
+    };
+    in_range(number, key, low, high)
+}
+
+/// The coordinate at a key.
+pub fn coordinate(table: &Table, key: Key) -> Result<i32, JobFault>
+    ensures ok { IfOk result (λ n. (coordinate_fault key (table_view table.now) ≡ None) × (n ≡ number_at key (table_view table.now))) }
+    ensures err { IfErr result (λ fault. coordinate_fault key (table_view table.now) ≡ Some fault) }
+    ensures in_range { IfOk result (Within greatest) }
+{
+    number(table, key, -GREATEST, GREATEST)
+}
+
+/// The kind of cutter that the document names.
+#[tactic(auto, unfolding(crate::specs::Tables::text_fault))]
+pub fn cutter_shape(table: &Table) -> Result<Shape, JobFault>
+    ensures ok { OnOk result (text_fault Key.Cutter (codes "flat" ∷ []) (table_view table.now) ≡ None) }
+    ensures err { IfErr result (λ fault. text_fault Key.Cutter (codes "flat" ∷ []) (table_view table.now) ≡ Some fault) }
+{
+    let Some(value) = find(table, Key::Cutter) else {
+        return Err(JobFault::Missing(Key::Cutter));
+    };
+    match value.as_str() {
+        None => Err(JobFault::WrongKind(Key::Cutter)),
+        Some("flat") => Ok(Shape::Flat),
+        Some(_) => Err(JobFault::Range(Key::Cutter)),
+    }
+}

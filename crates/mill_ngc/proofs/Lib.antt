@@ -1,0 +1,4 @@
+pub mod Parts
+pub mod WordLemmas
+pub mod Moves
+mod Examples

@@ -1,0 +1,13 @@
+pub mod AxisLemmas
+pub mod Below
+pub mod ColumnCerts
+pub mod CoverLemmas
+pub mod EdgeLemmas
+pub mod FaceLemmas
+pub mod FloorLemmas
+pub mod Greatest
+pub mod LineCerts
+pub mod LineLemmas
+pub mod Ranges
+pub mod Stored
+pub mod TopLemmas

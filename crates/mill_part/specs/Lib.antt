@@ -1,0 +1,4 @@
+pub mod Parts
+pub mod Tops
+pub mod Columns
+pub mod Lines

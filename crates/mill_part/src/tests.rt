@@ -1,0 +1,140 @@
+ghost use Rattle.std.specs.Prelude.{IsTrue, ◌<◌, ◌^◌, length};
+ghost use Rattle.mill_base.specs.Numbers.{Within, greatest};
+ghost use Rattle.mill_base.specs.Ranges.{IsInRange, TriInRange};
+
+use super::{Part, covered_below};
+use mill_base::{Pt3, Tri};
+use std::process::Abort;
+use std::test::Fail;
+
+fn tri(a: (i32, i32, i32), b: (i32, i32, i32), c: (i32, i32, i32)) -> Tri {
+    Tri {
+        a: Pt3 {
+            x: a.0,
+            y: a.1,
+            z: a.2,
+        },
+        b: Pt3 {
+            x: b.0,
+            y: b.1,
+            z: b.2,
+        },
+        c: Pt3 {
+            x: c.0,
+            y: c.1,
+            z: c.2,
+        },
+    }
+}
+
+fn fits(number: i32) -> bool
+    ensures { IsTrue result → Within greatest number }
+{
+    if number < -131_071 {
+        return false;
+    }
+    number <= 131_071
+}
+
+fn point_fits(point: &Pt3) -> bool
+    ensures { IsTrue result → IsInRange point.now }
+{
+    if !fits(point.x) {
+        return false;
+    }
+    if !fits(point.y) {
+        return false;
+    }
+    fits(point.z)
+}
+
+fn tri_fits(tri: &Tri) -> bool
+    ensures { IsTrue result → TriInRange tri.now }
+{
+    if !point_fits(&tri.a) {
+        return false;
+    }
+    if !point_fits(&tri.b) {
+        return false;
+    }
+    point_fits(&tri.c)
+}
+
+fn part_of<R: Abort + AllocGlobal>(rt: &R, tris: &[Tri]) -> Result<Part, Fail>
+    requires { length tris.now < 2 ^ 32 }
+{
+    let mut kept = Vec::new(rt.alloc());
+    for tri in tris {
+        assert!(rt; tri_fits(tri));
+        kept.push(*tri)?;
+    }
+    Ok(Part::new(kept))
+}
+
+#[test]
+fn covers_columns(rt: HostRuntime) -> Result<(), Fail> {
+    let plate = [
+        tri((0, 0, 200), (200, 0, 200), (200, 200, 200)),
+        tri((0, 0, 200), (200, 200, 200), (0, 200, 200)),
+    ];
+    let plate = part_of(&rt, plate.as_slice())?;
+    let table = [
+        (0, 100, 100, 200),
+        (0, 0, 0, 200),
+        (0, 200, 200, 200),
+        (0, 50, 150, 200),
+        (0, 201, 0, 0),
+        (0, -1, 100, 0),
+        (300, 100, 100, 300),
+    ];
+    for (floor, x, y, want) in table {
+        assert!(rt; fits(floor));
+        assert!(rt; fits(x));
+        assert!(rt; fits(y));
+        assert_eq!(rt; plate.covered_height(floor, x, y), want, "at {x}, {y}");
+    }
+    covered_below();
+    Ok(())
+}
+
+#[test]
+fn stands_over_columns(rt: HostRuntime) -> Result<(), Fail> {
+    let slanted = tri((0, 0, 0), (3, 0, 10), (0, 3, 0));
+    let sunken = tri((0, 0, 0), (0, 3, 0), (3, 0, -10));
+    let point = tri((5, 5, 7), (5, 5, 7), (5, 5, 7));
+    let upright = tri((0, 0, 0), (10, 0, 0), (5, 0, 20));
+    let along = tri((0, 0, 0), (0, 10, 10), (0, 4, 9));
+    let diagonal = tri((0, 0, 5), (10, 10, 5), (4, 4, 9));
+    let table = [
+        (slanted, 1, 1, 3),
+        (slanted, 2, 0, 6),
+        (slanted, 3, 1, -50),
+        (sunken, 1, 1, -4),
+        (point, 5, 5, 7),
+        (point, 5, 6, -50),
+        (upright, 5, 0, 20),
+        (upright, 2, 0, 8),
+        (upright, 5, 1, -50),
+        (along, 0, 2, 4),
+        (along, 0, 7, 9),
+        (diagonal, 5, 5, 8),
+        (diagonal, 5, 6, -50),
+    ];
+    for (tri, x, y, want) in table {
+        assert!(rt; fits(x));
+        assert!(rt; fits(y));
+        let part = part_of(&rt, [tri].as_slice())?;
+        assert_eq!(rt; part.covered_height(-50, x, y), want, "at {x}, {y}");
+    }
+    Ok(())
+}
+
+#[test]
+fn has_a_top(rt: HostRuntime) -> Result<(), Fail> {
+    let none: [Tri; 0] = [];
+    assert_eq!(rt; part_of(&rt, none.as_slice())?.top(), None);
+    let roof = part_of(&rt, [tri((0, 0, 3), (4, 0, 9), (0, 4, -5))].as_slice())?;
+    assert_eq!(rt; roof.top(), Some(9));
+    assert_eq!(rt; roof.tris().len(), 1);
+    Ok(())
+}

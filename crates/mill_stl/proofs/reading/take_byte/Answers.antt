@@ -1,0 +1,7 @@
+use Rattle.std.proofs.Common.{rules}
+use Rattle.mill_stl.proofs.Steps.{after_byte-in_word}
+use Rattle.mill_stl.proofs.reading.take_byte.Goals as goal
+
+pub returns-then-not-is_space-clause-ok : goal.returns-then-not-is_space-clause-ok
+returns-then-not-is_space-clause-ok c =
+    after_byte-in_word c.args.snap c.args.text.now c.args.place c.args.cursor.now c.args.tris.now.items c.requires.from c.requires.place (search rules)

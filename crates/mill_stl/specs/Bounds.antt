@@ -1,0 +1,58 @@
+-- What stays true from word to word while a part is read.
+use Rattle.std.specs.Prelude.{◌≡◌, ℕ, ◌+◌, ◌-◌, ◌≤◌, ◌<◌, ℤ, List, length, take, drop, Option, Some, None, IfSome, Result, slice_index}
+use Rattle.std.specs.List.{All}
+use Rattle.mill_base.specs.Numbers.{Within, greatest}
+use Rattle.mill_base.specs.Ranges.{TriInRange}
+use Rattle.mill_base.specs.declared.points.Tri.{Tri}
+use Rattle.mill_decimal.specs.declared.snap.Snap.{Snap}
+use Rattle.mill_stl.specs.declared.fault.StlFault.{StlFault}
+use Rattle.mill_stl.specs.declared.state.Stage.{Stage}
+use Rattle.mill_stl.specs.declared.state.Stage.TheVariants as stage
+use Rattle.mill_stl.specs.declared.state.Progress.{Progress}
+use Rattle.mill_stl.specs.declared.state.Step.{Step}
+use Rattle.mill_stl.specs.declared.state.Cursor.{Cursor}
+use Rattle.mill_stl.specs.Parts.{Scan, reached_at, after_byte}
+
+-- the stage's number is one of its few, and within a facet there is room for it
+abbrev pub FitsStage : Stage → ℕ → Type 0
+FitsStage stage.Solid facets = facets ≤ 200000
+FitsStage stage.FacetOrEnd facets = facets ≤ 200000
+FitsStage stage.Nothing facets = facets ≤ 200000
+FitsStage (stage.Ignored n) facets = (facets < 200000) × (n ≤ 2)
+FitsStage (stage.Vertex n) facets = (facets < 200000) × (n ≤ 6)
+FitsStage (stage.Coord n) facets = (facets < 200000) × (n ≤ 8)
+FitsStage _ facets = facets < 200000
+
+-- the coordinates are in range
+abbrev pub CoordsInRange : List ℤ → Type 0
+CoordsInRange coords = All (λ z. Within greatest z) coords
+
+-- the stage and the coordinates fit
+pub record Fits (p : Progress) : Type 0 where
+  pub stage_ok : FitsStage p.stage p.facets
+  pub coords_ok : CoordsInRange p.coords
+
+-- the facets and one more, if a triangle has ended
+abbrev pub count_after : ℕ → Option Tri → ℕ
+count_after facets None = facets
+count_after facets (Some tri) = facets + 1
+
+-- a step keeps what fits, counts its triangle, and has it in range
+pub record IsStep (p : Progress) (s : Step) : Type 0 where
+  pub fits : Fits s.progress
+  pub count : s.progress.facets ≡ count_after p.facets s.tri
+  pub tri_ok : IfSome s.tri TriInRange
+
+-- the progress fits, and the triangles so far are as many as the facets and in range
+pub record IsSound (p : Progress) (tris : List Tri) : Type 0 where
+  pub fits : Fits p
+  pub count : length tris ≡ p.facets
+  pub tris_ok : All TriInRange tris
+
+-- where a cursor stands before the byte at a place of the text
+abbrev pub scan_at : List ℕ → ℕ → Cursor → List Tri → Scan
+scan_at text place c tris = record { reached = reached_at c.progress tris; line = c.line; word = take (place - c.from) (drop c.from text) }
+
+-- and where the byte leads from there
+abbrev pub scan_after : Snap → List ℕ → ℕ → Cursor → List Tri → Result Scan StlFault
+scan_after snap text place c tris = after_byte snap (scan_at text place c tris) (slice_index text place)

@@ -1,0 +1,289 @@
+//! What a word does.
+
+ghost use Rattle.std.specs.Prelude.{◌≡◌, ◌≤◌, ◌<◌, IfOk, ℕ};
+ghost use Rattle.mill_base.specs.Numbers.{Within, greatest};
+ghost use Rattle.mill_base.specs.Ranges.{TriInRange};
+ghost use Rattle.mill_stl.specs.Facets.{is_keyword as is_keyword_of, moved_to, with_name, after_keyword, after_solid, begun_facet, after_facet_or_end, stage_after_ignored as stage_after_ignored_of, stage_after_coord as stage_after_coord_of, with_coord as with_coord_of, after_coord, tri_of as tri_of_coords, after_end_facet, at_stage as at_stage_of, after_word};
+ghost use Rattle.mill_stl.specs.Bounds.{FitsStage, CoordsInRange, Fits, IsStep};
+
+use crate::fault::{StlFault, What};
+use crate::state::{Progress, Stage, Step};
+use mill_base::{Pt3, Tri};
+use mill_decimal::{Snap, read_decimal};
+
+/// The most triangles of a part.
+const MOST_TRIANGLES: u64 = 200_000;
+
+fn is_keyword(word: &[u8], keyword: &[u8]) -> bool
+    ensures { result ≡ is_keyword_of word.now keyword.now }
+{
+    word == keyword
+}
+
+fn move_to(progress: Progress, next: Stage) -> Step
+    requires fits { Fits progress }
+    requires next_fits { FitsStage next progress.facets }
+    ensures value { result ≡ moved_to progress next }
+    ensures step { IsStep progress result }
+{
+    Step {
+        progress: Progress {
+            stage: next,
+            ..progress
+        },
+        tri: None,
+    }
+}
+
+fn begin_name(progress: Progress, line: u64, next: Stage) -> Step
+    requires fits { Fits progress }
+    requires next_fits { FitsStage next progress.facets }
+    ensures value { result ≡ with_name progress line next }
+    ensures step { IsStep progress result }
+{
+    Step {
+        progress: Progress {
+            stage: next,
+            name_line: line,
+            ..progress
+        },
+        tri: None,
+    }
+}
+
+fn expect(
+    progress: Progress,
+    line: u64,
+    word: &[u8],
+    keyword: &[u8],
+    what: What,
+    next: Stage,
+) -> Result<Step, StlFault>
+    requires fits { Fits progress }
+    requires next_fits { FitsStage next progress.facets }
+    ensures value { result ≡ after_keyword progress line word.now keyword.now what next }
+    ensures step { IfOk result (λ s. IsStep progress s) }
+{
+    if is_keyword(word, keyword) {
+        return Ok(move_to(progress, next));
+    }
+    Err(StlFault::Expected { line, what })
+}
+
+fn begin_solid(progress: Progress, line: u64, word: &[u8]) -> Result<Step, StlFault>
+    requires fits { Fits progress }
+    requires room { progress.facets ≤ 200000 }
+    ensures value { result ≡ after_solid progress line word.now }
+    ensures step { IfOk result (λ s. IsStep progress s) }
+{
+    if is_keyword(word, b"solid") {
+        return Ok(begin_name(progress, line, Stage::FacetOrEnd));
+    }
+    Err(StlFault::Expected {
+        line,
+        what: What::Solid,
+    })
+}
+
+fn begin_facet(progress: Progress, line: u64) -> Result<Step, StlFault>
+    requires { Fits progress }
+    ensures value { result ≡ begun_facet progress line }
+    ensures step { IfOk result (λ s. IsStep progress s) }
+{
+    if progress.facets >= MOST_TRIANGLES {
+        return Err(StlFault::TooManyTriangles { line });
+    }
+    Ok(move_to(progress, Stage::Normal))
+}
+
+fn facet_or_end(progress: Progress, line: u64, word: &[u8]) -> Result<Step, StlFault>
+    requires fits { Fits progress }
+    requires room { progress.facets ≤ 200000 }
+    ensures value { result ≡ after_facet_or_end progress line word.now }
+    ensures step { IfOk result (λ s. IsStep progress s) }
+{
+    if is_keyword(word, b"facet") {
+        return begin_facet(progress, line);
+    }
+    if is_keyword(word, b"endsolid") {
+        return Ok(begin_name(progress, line, Stage::Nothing));
+    }
+    Err(StlFault::Expected {
+        line,
+        what: What::FacetOrEnd,
+    })
+}
+
+fn stage_after_ignored(number: u8) -> Stage
+    requires { number ≤ 2 }
+    ensures value { result ≡ stage_after_ignored_of number }
+    ensures fits { (facets : ℕ) → facets < 200000 → FitsStage result facets }
+{
+    if number < 2 {
+        return Stage::Ignored(number + 1);
+    }
+    Stage::Outer
+}
+
+fn stage_after_coord(number: u8) -> Stage
+    requires { number ≤ 8 }
+    ensures value { result ≡ stage_after_coord_of number }
+    ensures fits { (facets : ℕ) → facets < 200000 → FitsStage result facets }
+{
+    if number == 2 {
+        return Stage::Vertex(3);
+    }
+    if number == 5 {
+        return Stage::Vertex(6);
+    }
+    if number < 8 {
+        return Stage::Coord(number + 1);
+    }
+    Stage::EndLoop
+}
+
+fn with_coord(progress: Progress, number: u8, coord: i32) -> Step
+    requires fits { Fits progress }
+    requires number { number ≤ 8 }
+    requires room { progress.facets < 200000 }
+    requires coord { Within greatest coord }
+    ensures value { result ≡ with_coord_of progress number coord }
+    ensures step { IsStep progress result }
+{
+    let mut coords = progress.coords;
+    coords[usize::from(number)] = coord;
+    Step {
+        progress: Progress {
+            stage: stage_after_coord(number),
+            coords,
+            ..progress
+        },
+        tri: None,
+    }
+}
+
+fn take_coord(
+    snap: Snap,
+    progress: Progress,
+    line: u64,
+    number: u8,
+    word: &[u8],
+) -> Result<Step, StlFault>
+    requires fits { Fits progress }
+    requires number { number ≤ 8 }
+    requires room { progress.facets < 200000 }
+    ensures value { result ≡ after_coord snap progress line number word.now }
+    ensures step { IfOk result (λ s. IsStep progress s) }
+{
+    match read_decimal(word, snap) {
+        Ok(coord) => Ok(with_coord(progress, number, coord)),
+        Err(fault) => Err(StlFault::Coord { line, fault }),
+    }
+}
+
+fn tri_of(coords: [i32; 9]) -> Tri
+    requires { CoordsInRange coords }
+    ensures value { result ≡ tri_of_coords coords }
+    ensures in_range { TriInRange result }
+{
+    let [ax, ay, az, bx, by, bz, cx, cy, cz] = coords;
+    Tri {
+        a: Pt3 {
+            x: ax,
+            y: ay,
+            z: az,
+        },
+        b: Pt3 {
+            x: bx,
+            y: by,
+            z: bz,
+        },
+        c: Pt3 {
+            x: cx,
+            y: cy,
+            z: cz,
+        },
+    }
+}
+
+fn end_facet(progress: Progress, line: u64, word: &[u8]) -> Result<Step, StlFault>
+    requires fits { Fits progress }
+    requires room { progress.facets < 200000 }
+    ensures value { result ≡ after_end_facet progress line word.now }
+    ensures step { IfOk result (λ s. IsStep progress s) }
+{
+    if !is_keyword(word, b"endfacet") {
+        return Err(StlFault::Expected {
+            line,
+            what: What::EndFacet,
+        });
+    }
+    Ok(Step {
+        progress: Progress {
+            stage: Stage::FacetOrEnd,
+            facets: progress.facets + 1,
+            ..progress
+        },
+        tri: Some(tri_of(progress.coords)),
+    })
+}
+
+fn at_stage(
+    snap: Snap,
+    stage: Stage,
+    progress: Progress,
+    line: u64,
+    word: &[u8],
+) -> Result<Step, StlFault>
+    requires fits { Fits progress }
+    requires stage { stage ≡ progress.stage }
+    ensures value { result ≡ at_stage_of snap stage progress line word.now }
+    ensures step { IfOk result (λ s. IsStep progress s) }
+{
+    match stage {
+        Stage::Solid => begin_solid(progress, line, word),
+        Stage::FacetOrEnd => facet_or_end(progress, line, word),
+        Stage::Normal => {
+            let next = Stage::Ignored(0);
+            expect(progress, line, word, b"normal", What::Normal, next)
+        }
+        Stage::Ignored(number) => Ok(move_to(progress, stage_after_ignored(number))),
+        Stage::Outer => expect(progress, line, word, b"outer", What::Outer, Stage::Loop),
+        Stage::Loop => expect(progress, line, word, b"loop", What::Loop, Stage::Vertex(0)),
+        Stage::Vertex(number) => {
+            let next = Stage::Coord(number);
+            expect(progress, line, word, b"vertex", What::Vertex, next)
+        }
+        Stage::Coord(number) => take_coord(snap, progress, line, number, word),
+        Stage::EndLoop => {
+            let next = Stage::EndFacet;
+            expect(progress, line, word, b"endloop", What::EndLoop, next)
+        }
+        Stage::EndFacet => end_facet(progress, line, word),
+        Stage::Nothing => Err(StlFault::Expected {
+            line,
+            what: What::Nothing,
+        }),
+    }
+}
+
+/// What a word of a line does.
+#[tactic(auto, unfolding(crate::specs::Facets::after_word))]
+pub(crate) fn take_word(
+    snap: Snap,
+    progress: Progress,
+    line: u64,
+    word: &[u8],
+) -> Result<Step, StlFault>
+    requires { Fits progress }
+    ensures value { result ≡ after_word snap progress line word.now }
+    ensures step { IfOk result (λ s. IsStep progress s) }
+{
+    if line == progress.name_line {
+        return Ok(Step {
+            progress,
+            tri: None,
+        });
+    }
+    at_stage(snap, progress.stage, progress, line, word)
+}

@@ -1,0 +1,59 @@
+//! Where a reading stands.
+use mill_base::Tri;
+
+/// What the next word has to be.
+#[derive(Clone, Copy, Debug, PartialEq, Eq)]
+pub(crate) enum Stage {
+    /// `solid`.
+    Solid,
+    /// `facet` or `endsolid`.
+    FacetOrEnd,
+    /// `normal`.
+    Normal,
+    /// Any word: the normal's, from 0 to 2.
+    Ignored(u8),
+    /// `outer`.
+    Outer,
+    /// `loop`.
+    Loop,
+    /// `vertex`, before the coordinate of this number: 0, 3 or 6.
+    Vertex(u8),
+    /// A decimal: the facet's coordinate of this number, from 0 to 8.
+    Coord(u8),
+    /// `endloop`.
+    EndLoop,
+    /// `endfacet`.
+    EndFacet,
+    /// No word, since the solid has ended.
+    Nothing,
+}
+
+/// How far the words are read.
+#[derive(Clone, Copy, Debug, PartialEq, Eq)]
+pub(crate) struct Progress {
+    pub stage: Stage,
+    /// The line of the last `solid` or `endsolid`, 0 before the first: a further word on it is its name's.
+    pub name_line: u64,
+    /// The coordinates of the facet so far, in 0.01 mm.
+    pub coords: [i32; 9],
+    /// How many facets have ended.
+    pub facets: u64,
+}
+
+/// What a word has done.
+#[derive(Clone, Copy, Debug, PartialEq, Eq)]
+pub(crate) struct Step {
+    pub progress: Progress,
+    /// The triangle of the facet that has ended with the word.
+    pub tri: Option<Tri>,
+}
+
+/// How far the bytes are read.
+#[derive(Clone, Copy, Debug, PartialEq, Eq)]
+pub(crate) struct Cursor {
+    pub progress: Progress,
+    /// The line of the next byte, from 1.
+    pub line: u64,
+    /// Where the word that goes on begins.
+    pub from: usize,
+}

@@ -1,0 +1,3 @@
+mod BetweenCerts
+mod Between
+pub mod Passing

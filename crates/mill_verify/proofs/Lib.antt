@@ -1,0 +1,10 @@
+mod ReadLemmas
+mod StockLemmas
+mod Ranges
+mod Most
+mod Left
+mod Stops
+mod Stored
+mod Unique
+mod Safe
+mod Accepted

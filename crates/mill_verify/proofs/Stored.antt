@@ -1,0 +1,76 @@
+-- What the code reads of a column is what the tests speak of: numbers in range are stored as they are.
+use Rattle.std.specs.Prelude.{◌≡◌, ℕ, ◌<◌, ℤ, pos, ◌-ℤ◌, ◌≤ℤ◌, List, length, slice_index_or, refl}
+use Rattle.std.proofs.Common.{sym, ◌∙◌, ap, subst}
+use mir.Syntax.{w32}
+use Rattle.mill_base.specs.Numbers.{Within, greatest}
+use Rattle.mill_base.specs.Covers.{Covered}
+use Rattle.mill_base.specs.declared.points.Tri.{Tri}
+use Rattle.mill_base.specs.declared.motion.Move.{Move}
+use Rattle.mill_base.proofs.Machine.{stored, kept}
+use Rattle.mill_job.specs.declared.job.Job.{Job}
+use Rattle.mill_job.specs.Jobs.{IsJob}
+use Rattle.mill_job.specs.Columns.{column_x, column_y, column_count}
+use Rattle.mill_dexel.specs.Tops.{top_after}
+use Rattle.mill_dexel.specs.Rows.{RowState}
+use Rattle.mill_verify.specs.Stock.{IsRow}
+use Rattle.mill_verify.specs.Tests.{IsCut}
+use Rattle.mill_verify.specs.Firsts.{IsCutTo, IsRowUncut}
+use Rattle.mill_verify.proofs.Ranges.{top_within}
+use Rattle.mill_verify.proofs.Left.{IsCover}
+use Rattle.mill_dexel.proofs.RowLaws.{row_after-at, length-row_after}
+
+-- the tops of row j of the stock
+pub record AreTops (job : Job) (moves : List Move) (j : ℕ) (tops : List ℤ) : Type 0 where
+  pub count : length tops ≡ column_count job
+  pub top : (i : ℕ) (other : ℤ) → i < column_count job → slice_index_or tops i other ≡ top_after job (column_x job i) (column_y job j) moves
+
+pub tops_read : {job : Job} {moves : List Move} {j : ℕ} {row : RowState} {tops : List ℤ} → IsRow job moves j row → tops ≡ row.tops → AreTops job moves j tops
+tops_read {job} {moves} {j} row same =
+    let is = same ∙ row.after in
+    record { count = ap length is ∙ length-row_after job j moves; top = λ i other h. ap (λ (v : List ℤ). slice_index_or v i other) is ∙ row_after-at job j moves i other h }
+
+kept_in : (z : ℤ) → Within greatest z → stored w32 z ≡ z
+kept_in z h = kept w32 z greatest h.within refl
+
+kept_to : (v z : ℤ) → v ≡ z → Within greatest v → stored w32 v ≡ z
+kept_to v z e h = kept_in v h ∙ e
+
+-- a fact of three numbers that were stored
+at_stored : (P : ℤ → ℤ → ℤ → Type 0) (x y t a b c : ℤ) → x ≡ a → y ≡ b → t ≡ c → P x y t → P a b c
+at_stored P x y t a b c ex ey et p = subst (λ (v : ℤ). P a b v) et (subst (λ (v : ℤ). P a v t) ey (subst (λ (v : ℤ). P v y t) ex p))
+
+pub cover_stored : {part : List Tri} {floor x y covered : ℤ} → Within greatest floor → Within greatest x → Within greatest y
+    → ((h : ℤ) → (Covered part (stored w32 floor) (pos 0) (stored w32 x) (stored w32 y) h → h ≤ℤ covered) × (h ≤ℤ covered → Covered part (stored w32 floor) (pos 0) (stored w32 x) (stored w32 y) h))
+    → IsCover part floor x y covered
+cover_stored {part} {floor} {x} {y} {covered} f_ok x_ok y_ok h =
+    at_stored (λ (a b c : ℤ). IsCover part a b c covered) _ _ _ floor x y (kept_in floor f_ok) (kept_in x x_ok) (kept_in y y_ok) (record { height = h })
+
+-- where and how high column i of row j stands, as the code has it
+pub record IsAt (job : Job) (moves : List Move) (j i : ℕ) (x y top : ℤ) : Type 0 where
+  pub x_is : stored w32 x ≡ column_x job i
+  pub y_is : stored w32 y ≡ column_y job j
+  pub top_is : stored w32 top ≡ top_after job (column_x job i) (column_y job j) moves
+
+pub is_at : {job : Job} {moves : List Move} {j i : ℕ} {x y : ℤ} {tops : List ℤ} → IsJob job → AreTops job moves j tops → i < column_count job → x ≡ column_x job i → Within greatest x → y ≡ column_y job j
+    → Within greatest y → IsAt job moves j i x y (slice_index_or tops i (pos 0))
+is_at {job} {moves} {j} {i} {x} {y} ok tops h ex x_ok ey y_ok = record {
+  x_is = kept_to x _ ex x_ok;
+  y_is = kept_to y _ ey y_ok;
+  top_is = ap (stored w32) (tops.top i (pos 0) h) ∙ kept_in (top_after job (column_x job i) (column_y job j) moves) (top_within _ _ moves ok);
+}
+
+pub top_stored : {job : Job} {moves : List Move} {j i : ℕ} {x y top : ℤ} → IsJob job → IsAt job moves j i x y top → Within greatest (stored w32 top)
+top_stored {moves} ok at = subst (Within greatest) (sym at.top_is) (top_within _ _ moves ok)
+
+pub cut_stored : {job : Job} {part : List Tri} {moves : List Move} {j i : ℕ} {x y top left : ℤ} → IsAt job moves j i x y top → IsCutTo job part (stored w32 x) (stored w32 y) (stored w32 top) left
+    → IsCutTo job part (column_x job i) (column_y job j) (top_after job (column_x job i) (column_y job j) moves) left
+cut_stored {job} {part} {left} at h = at_stored (λ (a b c : ℤ). IsCutTo job part a b c left) _ _ _ _ _ _ at.x_is at.y_is at.top_is h
+
+pub uncut_stored : {job : Job} {part : List Tri} {moves : List Move} {j i : ℕ} {x y top : ℤ} → i < column_count job → ((e : ℕ) → e < i → IsCut job part moves j e) → IsAt job moves j i x y top
+    → ¬ Covered part job.floor job.band (stored w32 x) (stored w32 y) (stored w32 top -ℤ job.allowance) → IsRowUncut job part moves j i (stored w32 top)
+uncut_stored {job} {part} there first at h = record {
+  column = there;
+  first = first;
+  fails = at_stored (λ (a b c : ℤ). ¬ Covered part job.floor job.band a b (c -ℤ job.allowance)) _ _ _ _ _ _ at.x_is at.y_is at.top_is h;
+  shown = at.top_is;
+}

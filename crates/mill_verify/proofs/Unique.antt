@@ -1,0 +1,135 @@
+-- There is at most one verdict.
+use Rattle.std.specs.Prelude.{◌≡◌, ℕ, ◌<◌, ℤ, ◌≤ℤ◌, List, length}
+use Rattle.std.proofs.Common.{sym, ◌∙◌, ap, subst, inl, inr, arith}
+use Rattle.std.proofs.lemmas.Int.{ints}
+use Rattle.mill_base.specs.declared.points.Tri.{Tri}
+use Rattle.mill_base.specs.declared.motion.Move.{Move}
+use Rattle.mill_base.specs.declared.cutter.Cutter.{Cutter}
+use Rattle.mill_sweep.specs.declared.leaf.Leaf.{Leaf}
+use Rattle.mill_sweep.specs.Passes.{FailsAt}
+use Rattle.mill_job.specs.declared.job.Job.{Job}
+use Rattle.mill_job.specs.Columns.{IsBefore}
+use Rattle.mill_verify.specs.Tests.{IsOverFloor, ClearsPart, IsGood, GoodBefore}
+use Rattle.mill_verify.specs.Verdicts.{FailsFloor, FailsPart, FailsStock, FailsCut, Accepts, IsRejection, IsVerdict}
+use Rattle.mill_verify.specs.declared.verdict.Verdict.{Verdict}
+use Rattle.mill_verify.specs.declared.verdict.Verdict.TheVariants.{Accept, Reject}
+use Rattle.mill_verify.specs.declared.verdict.Reason.{Reason}
+use Rattle.mill_verify.specs.declared.verdict.Reason.TheVariants.{Floor, Gouge, Rapid as RapidCut, Left}
+
+same_number : (a b : ℕ) → ¬ (a < b) → ¬ (b < a) → a ≡ b
+same_number a b h k = omega (h, k, arith)
+
+same_leaf : (a b : Leaf) → a.d ≡ b.d → a.k ≡ b.k → a ≡ b
+same_leaf a b p q = ap (λ d. record { d = d; k = a.k }) p ∙ ap (λ k. record { d = b.d; k = k }) q
+
+-- the failing leaf is one: the whole move
+fails_same : {cutter : Cutter} {m : Move} {tri : Tri} (a b : Leaf) → FailsAt cutter m tri a → FailsAt cutter m tri b → a ≡ b
+fails_same a b h g = same_leaf a b (h.depth ∙ sym g.depth) (h.place ∙ sym g.place)
+
+not_before : (j i a b : ℕ) → ¬ IsBefore j i a b → ¬ IsBefore a b j i → (j ≡ a) × (i ≡ b)
+not_before j i a b h g =
+    let row : j ≡ a = same_number j a (λ x. h (inl x)) (λ x. g (inl x)) in
+    (row, same_number i b (λ x. h (inr (row, x))) (λ x. g (inr (sym row, x))))
+
+module _ (job : Job) (part : List Tri) (moves : List Move) where
+  -- the first bad move
+  record Stops (k : ℕ) : Type 0 where
+    there : k < length moves
+    before : GoodBefore job part moves k
+    bad : ¬ IsGood job part moves k
+
+  stops_floor : (k : ℕ) → FailsFloor job part moves k → Stops k
+  stops_floor k h = record { there = h.there; before = h.before; bad = λ g. h.fails g.floor }
+
+  stops_part : (k t : ℕ) (leaf : Leaf) → FailsPart job part moves k t leaf → Stops k
+  stops_part k t leaf h = record { there = h.there; before = h.before; bad = λ g. h.fails.fails (g.clears t h.tri) }
+
+  stops_stock : (k j i : ℕ) (leaf : Leaf) → FailsStock job part moves k j i leaf → Stops k
+  stops_stock k j i leaf h = record { there = h.there; before = h.before; bad = λ g. h.fails.fails (g.stock h.rapid j i h.column) }
+
+  one_stop : (a b : ℕ) → Stops a → Stops b → a ≡ b
+  one_stop a b h g = same_number a b (λ x. h.bad (g.before a x)) (λ x. g.bad (h.before b x))
+
+  no_stop : (k : ℕ) → Stops k → GoodBefore job part moves (length moves) → ⊥
+  no_stop k h g = h.bad (g k h.there)
+
+  one_gouge : (k t u : ℕ) (a b : Leaf) → FailsPart job part moves k t a → FailsPart job part moves k u b → t ≡ u
+  one_gouge k t u a b h g = same_number t u (λ x. h.fails.fails (g.first t x)) (λ x. g.fails.fails (h.first u x))
+
+  one_column : (k j i c d : ℕ) (a b : Leaf) → FailsStock job part moves k j i a → FailsStock job part moves k c d b → (j ≡ c) × (i ≡ d)
+  one_column k j i c d a b h g = not_before j i c d (λ x. h.fails.fails (g.first j i h.column x)) (λ x. g.fails.fails (h.first c d g.column x))
+
+  one_uncut : (j i c d : ℕ) (s t : ℤ) → FailsCut job part moves j i s → FailsCut job part moves c d t → (j ≡ c) × (i ≡ d)
+  one_uncut j i c d s t h g = not_before j i c d (λ x. h.fails (g.first j i h.column x)) (λ x. g.fails (h.first c d g.column x))
+
+  same_gouge : (k l t u : ℕ) (a b : Leaf) → k ≡ l → FailsPart job part moves k t a → FailsPart job part moves l u b → Gouge k t a ≡ Gouge l u b
+  same_gouge k l t u a b e h g =
+      let g2 : FailsPart job part moves k u b = subst (λ (n : ℕ). FailsPart job part moves n u b) (sym e) g in
+      let f : t ≡ u = one_gouge k t u a b h g2 in
+      let g3 : FailsPart job part moves k t b = subst (λ (n : ℕ). FailsPart job part moves k n b) (sym f) g2 in
+      let q : a ≡ b = fails_same a b h.fails g3.fails in
+      ap (λ (n : ℕ). Gouge n t a) e ∙ ap (λ (n : ℕ). Gouge l n a) f ∙ ap (λ (x : Leaf). Gouge l u x) q
+
+  same_rapid : (k l j i c d : ℕ) (a b : Leaf) → k ≡ l → FailsStock job part moves k j i a → FailsStock job part moves l c d b → RapidCut k j i a ≡ RapidCut l c d b
+  same_rapid k l j i c d a b e h g =
+      let g2 : FailsStock job part moves k c d b = subst (λ (n : ℕ). FailsStock job part moves n c d b) (sym e) g in
+      let f = one_column k j i c d a b h g2 in
+      let g3 : FailsStock job part moves k j d b = subst (λ (n : ℕ). FailsStock job part moves k n d b) (sym f.0) g2 in
+      let g4 : FailsStock job part moves k j i b = subst (λ (n : ℕ). FailsStock job part moves k j n b) (sym f.1) g3 in
+      let q : a ≡ b = fails_same a b h.fails g4.fails in
+      ap (λ (n : ℕ). RapidCut n j i a) e ∙ ap (λ (n : ℕ). RapidCut l n i a) f.0 ∙ ap (λ (n : ℕ). RapidCut l c n a) f.1 ∙ ap (λ (x : Leaf). RapidCut l c d x) q
+
+  same_left : (j i c d : ℕ) (s t : ℤ) → FailsCut job part moves j i s → FailsCut job part moves c d t → Left j i s ≡ Left c d t
+  same_left j i c d s t h g =
+      let f = one_uncut j i c d s t h g in
+      let g3 : FailsCut job part moves j d t = subst (λ (n : ℕ). FailsCut job part moves n d t) (sym f.0) g in
+      let g4 : FailsCut job part moves j i t = subst (λ (n : ℕ). FailsCut job part moves j n t) (sym f.1) g3 in
+      ap (λ (n : ℕ). Left n i s) f.0 ∙ ap (λ (n : ℕ). Left c n s) f.1 ∙ ap (λ (x : ℤ). Left c d x) (h.shown ∙ sym g4.shown)
+
+  floor_part : (k l t : ℕ) (b : Leaf) → FailsFloor job part moves k → FailsPart job part moves l t b → ⊥
+  floor_part k l t b h g = h.fails (subst (λ (n : ℕ). IsOverFloor job moves n) (one_stop l k (stops_part l t b g) (stops_floor k h)) g.floor)
+
+  floor_stock : (k l j i : ℕ) (b : Leaf) → FailsFloor job part moves k → FailsStock job part moves l j i b → ⊥
+  floor_stock k l j i b h g = h.fails (subst (λ (n : ℕ). IsOverFloor job moves n) (one_stop l k (stops_stock l j i b g) (stops_floor k h)) g.floor)
+
+  part_stock : (k l t j i : ℕ) (a b : Leaf) → FailsPart job part moves k t a → FailsStock job part moves l j i b → ⊥
+  part_stock k l t j i a b h g = h.fails.fails (subst (λ (n : ℕ). ClearsPart job part moves n) (one_stop l k (stops_stock l j i b g) (stops_part k t a h)) g.clears t h.tri)
+
+  one_reason : (r s : Reason) → IsRejection job part moves r → IsRejection job part moves s → r ≡ s
+  one_reason (Floor k) (Floor l) h g = ap (λ (n : ℕ). Floor n) (one_stop k l (stops_floor k h) (stops_floor l g))
+  one_reason (Floor k) (Gouge l t b) h g = absurd (floor_part k l t b h g)
+  one_reason (Floor k) (RapidCut l j i b) h g = absurd (floor_stock k l j i b h g)
+  one_reason (Floor k) (Left j i s) h g = absurd (no_stop k (stops_floor k h) g.before)
+  one_reason (Gouge l t b) (Floor k) h g = absurd (floor_part k l t b g h)
+  one_reason (Gouge k t a) (Gouge l u b) h g = same_gouge k l t u a b (one_stop k l (stops_part k t a h) (stops_part l u b g)) h g
+  one_reason (Gouge k t a) (RapidCut l j i b) h g = absurd (part_stock k l t j i a b h g)
+  one_reason (Gouge k t a) (Left j i s) h g = absurd (no_stop k (stops_part k t a h) g.before)
+  one_reason (RapidCut l j i b) (Floor k) h g = absurd (floor_stock k l j i b g h)
+  one_reason (RapidCut l j i b) (Gouge k t a) h g = absurd (part_stock k l t j i a b g h)
+  one_reason (RapidCut k j i a) (RapidCut l c d b) h g = same_rapid k l j i c d a b (one_stop k l (stops_stock k j i a h) (stops_stock l c d b g)) h g
+  one_reason (RapidCut k j i a) (Left c d s) h g = absurd (no_stop k (stops_stock k j i a h) g.before)
+  one_reason (Left j i s) (Floor k) h g = absurd (no_stop k (stops_floor k g) h.before)
+  one_reason (Left j i s) (Gouge k t a) h g = absurd (no_stop k (stops_part k t a g) h.before)
+  one_reason (Left c d s) (RapidCut k j i a) h g = absurd (no_stop k (stops_stock k j i a g) h.before)
+  one_reason (Left j i s) (Left c d t) h g = same_left j i c d s t h g
+
+  not_both : (count columns : ℕ) (left : ℤ) (r : Reason) → Accepts job part moves count columns left → IsRejection job part moves r → ⊥
+  not_both count columns left (Floor k) h g = no_stop k (stops_floor k g) h.good
+  not_both count columns left (Gouge k t a) h g = no_stop k (stops_part k t a g) h.good
+  not_both count columns left (RapidCut k j i a) h g = no_stop k (stops_stock k j i a g) h.good
+  not_both count columns left (Left j i s) h g = g.fails (h.cut j i g.column)
+
+  same_most : (x y : ℤ) → x ≤ℤ y → y ≤ℤ x → x ≡ y
+  same_most x y h k = omega (h, k, arith, ints)
+
+  one_accept : (n m c d : ℕ) (x y : ℤ) → Accepts job part moves n c x → Accepts job part moves m d y → Accept n c x ≡ Accept m d y
+  one_accept n m c d x y h g =
+      let e : x ≡ y = same_most x y (g.most.most h.most.row h.most.col x h.most.column h.most.there) (h.most.most g.most.row g.most.col y g.most.column g.most.there) in
+      ap (λ (z : ℕ). Accept z c x) (h.all_moves ∙ sym g.all_moves) ∙ ap (λ (z : ℕ). Accept m z x) (h.all_columns ∙ sym g.all_columns) ∙ ap (λ (z : ℤ). Accept m d z) e
+
+  -- two verdicts on the same moves are equal
+  pub one_verdict : (v w : Verdict) → IsVerdict job part moves v → IsVerdict job part moves w → v ≡ w
+  one_verdict (Accept n c x) (Accept m d y) h g = one_accept n m c d x y h g
+  one_verdict (Accept n c x) (Reject r) h g = absurd (not_both n c x r h g)
+  one_verdict (Reject r) (Accept n c x) h g = absurd (not_both n c x r g h)
+  one_verdict (Reject r) (Reject s) h g = ap (λ (z : Reason). Reject z) (one_reason r s h g)

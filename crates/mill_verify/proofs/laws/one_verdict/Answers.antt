@@ -1,0 +1,5 @@
+use Rattle.mill_verify.proofs.Unique.{one_verdict}
+use Rattle.mill_verify.proofs.laws.one_verdict.Goals as goal
+
+pub returns : goal.returns
+returns c = one_verdict

@@ -1,0 +1,48 @@
+-- What an accepted program does, at every fraction of every move.
+use Rattle.std.specs.Prelude.{◌≡◌, ℕ, ◌<◌, ℤ, pos, ◌-ℤ◌, ◌≤ℤ◌, List, Contains, length, take}
+use Rattle.mill_base.specs.declared.points.Tri.{Tri}
+use Rattle.mill_base.specs.declared.motion.Move.{Move}
+use Rattle.mill_base.specs.declared.motion.Kind.TheVariants.{Rapid}
+use Rattle.mill_base.specs.Points.{point_at}
+use Rattle.mill_base.specs.Contact.{GougesOn, Removes, IsLeft}
+use Rattle.mill_base.specs.Covers.{Covered, HasPointOver}
+use Rattle.mill_job.specs.declared.job.Job.{Job}
+use Rattle.mill_job.specs.Columns.{IsColumn, column_x, column_y}
+use Rattle.mill_verify.specs.Tests.{move_at}
+
+-- h is a whole height of the column (j, i), from the floor to the top
+pub record IsColumnPoint (job : Job) (j i : ℕ) (h : ℤ) : Type 0 where
+  pub column : IsColumn job j i
+  pub floor : job.floor ≤ℤ h
+  pub top : h ≤ℤ job.top
+
+-- the moves leave the column point (j, i, h)
+abbrev pub LeavesPoint : Job → List Move → ℕ → ℕ → ℤ → Type 0
+LeavesPoint job moves j i h = IsLeft job.cutter moves (point_at (column_x job i) (column_y job j) h)
+
+-- at no fraction of any move is a part point strictly inside the cutter
+abbrev pub NeverGouges : Job → List Tri → List Move → Type 0
+NeverGouges job part moves = (m : Move) → Contains moves m → ¬ GougesOn job.cutter m part
+
+-- no Rapid removes a column point that the moves before it left
+abbrev pub RapidsMissStock : Job → List Move → Type 0
+RapidsMissStock job moves = (k j i : ℕ) (h : ℤ) → k < length moves → (move_at moves k).kind ≡ Rapid
+    → IsColumnPoint job j i h → LeavesPoint job (take k moves) j i h
+    → ¬ Removes job.cutter (move_at moves k) (pos 1) (point_at (column_x job i) (column_y job j) h)
+
+-- every column point left is covered within allowance and band
+abbrev pub LeftIsCovered : Job → List Tri → List Move → Type 0
+LeftIsCovered job part moves = (j i : ℕ) (h : ℤ) → IsColumnPoint job j i h → LeavesPoint job moves j i h
+    → Covered part job.floor job.band (column_x job i) (column_y job j) (h -ℤ job.allowance)
+
+-- every column point at or under the part is left
+abbrev pub PartIsLeft : Job → List Tri → List Move → Type 0
+PartIsLeft job part moves = (j i : ℕ) (h : ℤ) → IsColumnPoint job j i h
+    → HasPointOver part (pos 0) (column_x job i) (column_y job j) h → LeavesPoint job moves j i h
+
+-- what an accepted program does: all four
+pub record CutsSafely (job : Job) (part : List Tri) (moves : List Move) : Type 0 where
+  pub gouges : NeverGouges job part moves
+  pub rapids : RapidsMissStock job moves
+  pub covered : LeftIsCovered job part moves
+  pub kept : PartIsLeft job part moves

@@ -1,0 +1,5 @@
+pub mod Tests
+pub mod Verdicts
+pub mod Claims
+pub mod Stock
+pub mod Firsts

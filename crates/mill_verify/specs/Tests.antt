@@ -1,0 +1,53 @@
+-- The written tests of a program against a job and a part.
+use Rattle.std.specs.Prelude.{◌≡◌, ℕ, ◌<◌, pos, ◌-ℤ◌, ◌≤ℤ◌, List, length, take, slice_index_or}
+use Rattle.mill_base.specs.declared.points.Tri.{Tri}
+use Rattle.mill_base.specs.declared.motion.Move.{Move}
+use Rattle.mill_base.specs.declared.motion.Kind.TheVariants.{Rapid, Feed}
+use Rattle.mill_base.specs.Points.{point_tri, point_at}
+use Rattle.mill_sweep.specs.Passes.{Passes, PassesPoint}
+use Rattle.mill_base.specs.Covers.{Covered}
+use Rattle.mill_job.specs.declared.job.Job.{Job}
+use Rattle.mill_job.specs.Columns.{IsColumn, column_x, column_y}
+use Rattle.mill_dexel.specs.Tops.{top_after, top_point}
+
+-- move k and triangle t; there is none past the end, so what stands there is never looked at
+abbrev pub move_at : List Move → ℕ → Move
+move_at moves k = slice_index_or moves k (record { kind = Feed; from = point_at (pos 0) (pos 0) (pos 0); to = point_at (pos 0) (pos 0) (pos 0) })
+
+abbrev pub tri_at : List Tri → ℕ → Tri
+tri_at part t = slice_index_or part t (point_tri (point_at (pos 0) (pos 0) (pos 0)))
+
+-- test (i): both ends of move k are at or over the floor
+pub record IsOverFloor (job : Job) (moves : List Move) (k : ℕ) : Type 0 where
+  pub start : job.floor ≤ℤ (move_at moves k).from.z
+  pub «end» : job.floor ≤ℤ (move_at moves k).to.z
+
+-- test (ii) of one triangle: move k passes it
+abbrev pub PassesTri : Job → List Tri → List Move → ℕ → ℕ → Type 0
+PassesTri job part moves k t = Passes job.cutter (move_at moves k) (tri_at part t)
+
+-- test (ii): move k passes each triangle
+abbrev pub ClearsPart : Job → List Tri → List Move → ℕ → Type 0
+ClearsPart job part moves k = (t : ℕ) → t < length part → PassesTri job part moves k t
+
+-- test (iii) of one column: move k passes the point at the top that the moves before it left
+abbrev pub PassesColumn : Job → List Move → ℕ → ℕ → ℕ → Type 0
+PassesColumn job moves k j i = PassesPoint job.cutter (move_at moves k) (top_point job (take k moves) j i)
+
+-- test (iii): where move k is a Rapid, it passes each column
+abbrev pub ClearsStock : Job → List Move → ℕ → Type 0
+ClearsStock job moves k = (move_at moves k).kind ≡ Rapid → (j i : ℕ) → IsColumn job j i → PassesColumn job moves k j i
+
+-- move k passes all three
+pub record IsGood (job : Job) (part : List Tri) (moves : List Move) (k : ℕ) : Type 0 where
+  pub floor : IsOverFloor job moves k
+  pub clears : ClearsPart job part moves k
+  pub stock : ClearsStock job moves k
+
+-- test (iv) of one column: its top less the allowance is covered
+abbrev pub IsCut : Job → List Tri → List Move → ℕ → ℕ → Type 0
+IsCut job part moves j i = Covered part job.floor job.band (column_x job i) (column_y job j) (top_after job (column_x job i) (column_y job j) moves -ℤ job.allowance)
+
+-- every move before k is good
+abbrev pub GoodBefore : Job → List Tri → List Move → ℕ → Type 0
+GoodBefore job part moves k = (e : ℕ) → e < k → IsGood job part moves e

@@ -1,0 +1,88 @@
+-- The verdict: the first failing test, or that there is none.
+use Rattle.std.specs.Prelude.{◌≡◌, ℕ, ◌<◌, ◌*◌, ℤ, ◌-ℤ◌, ◌≤ℤ◌, List, length, take}
+use Rattle.mill_base.specs.declared.points.Tri.{Tri}
+use Rattle.mill_base.specs.declared.motion.Move.{Move}
+use Rattle.mill_base.specs.declared.motion.Kind.TheVariants.{Rapid}
+use Rattle.mill_sweep.specs.Passes.{FailsAt}
+use Rattle.mill_sweep.specs.declared.leaf.Leaf.{Leaf}
+use Rattle.mill_base.specs.Points.{point_tri}
+use Rattle.mill_base.specs.Covers.{IsHighestCovered}
+use Rattle.mill_job.specs.declared.job.Job.{Job}
+use Rattle.mill_job.specs.Columns.{IsColumn, IsBefore, column_x, column_y, row_count, column_count}
+use Rattle.mill_dexel.specs.Tops.{top_after, top_point}
+use Rattle.mill_verify.specs.Tests.{move_at, tri_at, IsOverFloor, PassesTri, ClearsPart, PassesColumn, IsCut, GoodBefore}
+use Rattle.mill_verify.specs.declared.verdict.Verdict.{Verdict}
+use Rattle.mill_verify.specs.declared.verdict.Verdict.TheVariants.{Accept, Reject}
+use Rattle.mill_verify.specs.declared.verdict.Reason.{Reason}
+use Rattle.mill_verify.specs.declared.verdict.Reason.TheVariants.{Floor, Gouge, Rapid as RapidCut, Left}
+
+-- move k, all before it being good, fails test (i)
+pub record FailsFloor (job : Job) (part : List Tri) (moves : List Move) (k : ℕ) : Type 0 where
+  pub there : k < length moves
+  pub before : GoodBefore job part moves k
+  pub fails : ¬ IsOverFloor job moves k
+
+-- move k, all before it being good, passes test (i), and fails test (ii) first at triangle t, at this leaf
+pub record FailsPart (job : Job) (part : List Tri) (moves : List Move) (k t : ℕ) (leaf : Leaf) : Type 0 where
+  pub there : k < length moves
+  pub before : GoodBefore job part moves k
+  pub floor : IsOverFloor job moves k
+  pub tri : t < length part
+  pub first : (e : ℕ) → e < t → PassesTri job part moves k e
+  pub fails : FailsAt job.cutter (move_at moves k) (tri_at part t) leaf
+
+-- move k, all before it being good, passes tests (i) and (ii), is a Rapid, and fails test (iii) first at column (j, i), at this leaf
+pub record FailsStock (job : Job) (part : List Tri) (moves : List Move) (k j i : ℕ) (leaf : Leaf) : Type 0 where
+  pub there : k < length moves
+  pub before : GoodBefore job part moves k
+  pub floor : IsOverFloor job moves k
+  pub clears : ClearsPart job part moves k
+  pub rapid : (move_at moves k).kind ≡ Rapid
+  pub column : IsColumn job j i
+  pub first : (a b : ℕ) → IsColumn job a b → IsBefore a b j i → PassesColumn job moves k a b
+  pub fails : FailsAt job.cutter (move_at moves k) (point_tri (top_point job (take k moves) j i)) leaf
+
+-- every move is good, and test (iv) fails first at column (j, i), with this top
+pub record FailsCut (job : Job) (part : List Tri) (moves : List Move) (j i : ℕ) (top : ℤ) : Type 0 where
+  pub before : GoodBefore job part moves (length moves)
+  pub column : IsColumn job j i
+  pub first : (a b : ℕ) → IsColumn job a b → IsBefore a b j i → IsCut job part moves a b
+  pub fails : ¬ IsCut job part moves j i
+  pub shown : top ≡ top_after job (column_x job i) (column_y job j) moves
+
+-- the column (j, i) is left this much over its greatest covered whole height
+pub record IsLeftOver (job : Job) (part : List Tri) (moves : List Move) (j i : ℕ) (left : ℤ) : Type 0 where
+  pub height : ℤ
+  pub highest : IsHighestCovered part job.floor job.band (column_x job i) (column_y job j) (top_after job (column_x job i) (column_y job j) moves) height
+  pub difference : left ≡ top_after job (column_x job i) (column_y job j) moves -ℤ height
+
+-- the greatest of these over all columns
+pub record IsMostLeft (job : Job) (part : List Tri) (moves : List Move) (left : ℤ) : Type 0 where
+  pub row : ℕ
+  pub col : ℕ
+  pub column : IsColumn job row col
+  pub there : IsLeftOver job part moves row col left
+  pub most : (j i : ℕ) (other : ℤ) → IsColumn job j i → IsLeftOver job part moves j i other → other ≤ℤ left
+
+-- every move is good, every column is cut, and these are the numbers of moves and columns and what is left at most
+pub record Accepts (job : Job) (part : List Tri) (moves : List Move) (count columns : ℕ) (left : ℤ) : Type 0 where
+  pub good : GoodBefore job part moves (length moves)
+  pub cut : (j i : ℕ) → IsColumn job j i → IsCut job part moves j i
+  pub all_moves : count ≡ length moves
+  pub all_columns : columns ≡ row_count job * column_count job
+  pub most : IsMostLeft job part moves left
+
+abbrev pub IsRejection : Job → List Tri → List Move → Reason → Type 0
+IsRejection job part moves (Floor k) = FailsFloor job part moves k
+IsRejection job part moves (Gouge k t leaf) = FailsPart job part moves k t leaf
+IsRejection job part moves (RapidCut k j i leaf) = FailsStock job part moves k j i leaf
+IsRejection job part moves (Left j i top) = FailsCut job part moves j i top
+
+-- the verdict on the moves: their first failing test, or their acceptance
+abbrev pub IsVerdict : Job → List Tri → List Move → Verdict → Type 0
+IsVerdict job part moves (Accept count columns left) = Accepts job part moves count columns left
+IsVerdict job part moves (Reject reason) = IsRejection job part moves reason
+
+-- a job, a part and a list of moves have at most one verdict
+abbrev pub OneVerdict : Type 0
+OneVerdict = (job : Job) (part : List Tri) (moves : List Move) (v w : Verdict) → IsVerdict job part moves v → IsVerdict job part moves w → v ≡ w

@@ -1,0 +1,45 @@
+use mill_sweep::Leaf;
+
+/// The first written test that fails. Moves, triangles, rows and columns are counted from 0.
+#[derive(Clone, Copy, Debug, PartialEq, Eq)]
+pub enum Reason {
+    /// An end of the move is under the floor.
+    Floor {
+        at: u64,
+    },
+    /// The move doesn't pass the triangle; the segment at which the test fails.
+    Gouge {
+        at: u64,
+        tri: u32,
+        leaf: Leaf,
+    },
+    /// The rapid doesn't pass the point at the top of the column; the segment at which the test
+    /// fails.
+    Rapid {
+        at: u64,
+        row: u32,
+        col: u32,
+        leaf: Leaf,
+    },
+    /// After all moves the column's top, in units of 0.01 mm, is more than the allowance over what
+    /// covers it.
+    Left {
+        row: u32,
+        col: u32,
+        top: i32,
+    },
+}
+
+/// What is said of a program.
+#[derive(Clone, Copy, Debug, PartialEq, Eq)]
+pub enum Verdict {
+    /// Every test passes. `most_left` is the most that any column's top stands over its greatest
+    /// covered height, in units of 0.01 mm.
+    Accept {
+        moves: u64,
+        columns: u64,
+        most_left: i32,
+    },
+    /// A test fails, and this is the first.
+    Reject(Reason),
+}
