@@ -5,26 +5,20 @@ use Rattle.std.proofs.lemmas.Int.{ints}
 use Rattle.mill_base.specs.declared.points.Tri.{Tri}
 use Rattle.mill_base.specs.declared.motion.Move.{Move}
 use Rattle.mill_base.specs.Covers.{IsUnder}
-use Rattle.mill_decimal.specs.declared.snap.Snap.TheVariants.{Nearest}
 use Rattle.mill_part.specs.Tops.{IsTop, HasCornerAt}
-use Rattle.mill_stl.specs.Parts.{part_of}
+use Rattle.mill_stl.specs.Parts.{Part, part_of}
 use Rattle.mill_stl.specs.declared.fault.StlFault.{StlFault}
 use Rattle.mill_ngc.specs.Programs.{program_of}
 use Rattle.mill_job.specs.declared.job.Job.{Job}
 use Rattle.mill_job.specs.declared.fault.JobFault.{JobFault}
 use Rattle.mill_job.specs.Columns.{home}
 use Rattle.mill_job.specs.Documents.{IsJobOf}
+use Rattle.mill_job.proofs.OneAnswer.{one_answer}
 use Rattle.mill_verify.specs.Verdicts.{IsVerdict, IsRejection, OneVerdict}
 use Rattle.mill_verify.specs.declared.verdict.Verdict.{Verdict}
 use Rattle.mill_verify.specs.declared.verdict.Verdict.TheVariants.{Accept, Reject}
 use Rattle.mill_verify.specs.declared.verdict.Reason.{Reason}
 use Rattle.camtool.specs.Answers.{Texts, Reads, ReadsJob, ReadsPart, ReadsProgram, Answer, IsAnswer, answer_status, long_job, refused_job, long_part, refused_part, high_part, long_program, refused_program, judged}
-
-one_job_answer : (text : List ℕ) (a b : Result Job JobFault) → IsJobOf text a → IsJobOf text b → a ≡ b
-one_job_answer text a b (inl p) (inl q) = p.1 ∙ sym q.1
-one_job_answer text a b (inl p) (inr q) = absurd (q.0 p.0)
-one_job_answer text a b (inr p) (inl q) = absurd (p.0 q.0)
-one_job_answer text a b (inr p) (inr q) = p.1 ∙ sym q.1
 
 ok_is : {A E : Type 0} (a b : A) → (let r : Result A E = Ok a in r) ≡ Ok b → a ≡ b
 ok_is a b e = cc
@@ -32,23 +26,18 @@ ok_is a b e = cc
 ok_err : {A E : Type 0} (a : A) (f : E) → (let r : Result A E = Ok a in r) ≡ Err f → ⊥
 ok_err a f e = cc
 
-some_is : {A : Type 0} (a b : A) → Some a ≡ Some b → a ≡ b
-some_is a b e = cc
-
-none_some : {A : Type 0} (o : Option A) (a : A) → o ≡ None → o ≡ Some a → ⊥
-none_some o a e h = cc
-
 pub same_job : (texts : Texts) (a b : Job) → ReadsJob texts a → ReadsJob texts b → a ≡ b
-same_job texts a b r s = ok_is a b (one_job_answer texts.job (Ok a) (Ok b) r.reads s.reads)
+same_job texts a b r s = ok_is a b (one_answer texts.job (Ok a) (Ok b) r.reads s.reads)
 
-pub same_part : (texts : Texts) (a b : List Tri) → ReadsPart texts a → ReadsPart texts b → a ≡ b
-same_part texts a b r s = ok_is a b (sym r.reads ∙ s.reads)
+pub same_part : (texts : Texts) (job : Job) (a b : List Tri) → ReadsPart texts job a → ReadsPart texts job b → a ≡ b
+same_part texts job a b r s =
+    ap (λ (p : Part). p.tris) (ok_is (record { tris = a; rounded = r.rounded }) (record { tris = b; rounded = s.rounded }) (sym r.reads ∙ s.reads))
 
 pub same_moves : (texts : Texts) (job : Job) (a b : List Move) → ReadsProgram texts job a → ReadsProgram texts job b → a ≡ b
-same_moves texts job a b r s = some_is a b (sym r.reads ∙ s.reads)
+same_moves texts job a b r s = ok_is a b (sym r.reads ∙ s.reads)
 
 not_refused_job : (texts : Texts) (job : Job) (f : JobFault) → ReadsJob texts job → IsJobOf texts.job (Err f) → ⊥
-not_refused_job texts job f r refused = ok_err job f (one_job_answer texts.job (Ok job) (Err f) r.reads refused)
+not_refused_job texts job f r refused = ok_err job f (one_answer texts.job (Ok job) (Err f) r.reads refused)
 
 corner_under : (tri : Tri) (z top : ℤ) → (tri.a.z ≤ℤ top) × (tri.b.z ≤ℤ top) × (tri.c.z ≤ℤ top) → HasCornerAt tri z → z ≤ℤ top
 corner_under tri z top u (inl e) = subst (λ (h : ℤ). h ≤ℤ top) e u.0
@@ -70,19 +59,22 @@ too_long a b h k = omega (h, k, arith)
 pub is_judged : (texts : Texts) (job : Job) (part : List Tri) (moves : List Move) (a : Answer) → Reads texts job part moves → IsAnswer texts a
     → (v : Verdict) × IsVerdict job part moves v × (answer_status a ≡ answer_status (judged job part moves v))
 is_judged texts job part moves long_job r h = absurd (too_long _ _ h r.job_is.fits)
-is_judged texts job part moves refused_job r h = absurd (not_refused_job texts job h.fault r.job_is h.refused)
+is_judged texts job part moves (refused_job fault) r h = absurd (not_refused_job texts job fault r.job_is h.refused)
 is_judged texts job part moves long_part r h = absurd (too_long _ _ h.long r.part_is.fits)
-is_judged texts job part moves refused_part r h = absurd (ok_err part h.fault (sym r.part_is.reads ∙ h.refused))
+is_judged texts job part moves (refused_part fault) r h =
+    absurd (ok_err (record { tris = part; rounded = r.part_is.rounded }) fault
+    (sym r.part_is.reads ∙ subst (λ (j : Job). part_of j.snap texts.part ≡ Err fault) (same_job texts h.job job h.job_is r.job_is) h.refused))
 is_judged texts job part moves (high_part height top) r h =
-    absurd (not_high part job.top height top r.under (subst (λ (p : List Tri). IsTop p height) (same_part texts h.part part h.part_is r.part_is) h.greatest)
-    (h.limit ∙ ap (λ (j : Job). j.top) (same_job texts h.job job h.job_is r.job_is)) h.over)
+    let e : h.job ≡ job = same_job texts h.job job h.job_is r.job_is in
+    let p : h.part ≡ part = same_part texts job h.part part (subst (λ (j : Job). ReadsPart texts j h.part) e h.part_is) r.part_is in
+    absurd (not_high part job.top height top r.under (subst (λ (q : List Tri). IsTop q height) p h.greatest) (h.limit ∙ ap (λ (j : Job). j.top) e) h.over)
 is_judged texts job part moves long_program r h = absurd (too_long _ _ h.long r.moves_are.fits)
-is_judged texts job part moves refused_program r h =
-    absurd (none_some (program_of (home job) texts.program) moves
-    (subst (λ (j : Job). program_of (home j) texts.program ≡ None) (same_job texts h.job job h.job_is r.job_is) h.refused) r.moves_are.reads)
+is_judged texts job part moves (refused_program fault) r h =
+    absurd (ok_err moves fault
+    (sym r.moves_are.reads ∙ subst (λ (j : Job). program_of (home j) texts.program ≡ Err fault) (same_job texts h.job job h.job_is r.job_is) h.refused))
 is_judged texts job part moves (judged j p m v) r h =
     let e : j ≡ job = same_job texts j job h.all_read.job_is r.job_is in
-    let f : p ≡ part = same_part texts p part h.all_read.part_is r.part_is in
+    let f : p ≡ part = same_part texts job p part (subst (λ (x : Job). ReadsPart texts x p) e h.all_read.part_is) r.part_is in
     let g : m ≡ moves = same_moves texts job m moves (subst (λ (x : Job). ReadsProgram texts x m) e h.all_read.moves_are) r.moves_are in
     (v, subst (λ (x : List Move). IsVerdict job part x v) g (subst (λ (x : List Tri). IsVerdict job x m v) f (subst (λ (x : Job). IsVerdict x p m v) e h.is)), refl)
 

@@ -103,7 +103,7 @@ pub data Ending : Type 0 where
 abbrev pub ReadsBefore : Texts → File → Type 0
 ReadsBefore texts JobFile = Unit {0}
 ReadsBefore texts PartFile = (job : Job) × ReadsJob texts job
-ReadsBefore texts ProgramFile = (job : Job) × (part : List Tri) × ReadsJob texts job × ReadsPart texts part × IsUnder part job.top
+ReadsBefore texts ProgramFile = (job : Job) × (part : List Tri) × ReadsJob texts job × ReadsPart texts job part × IsUnder part job.top
 
 -- the call comes to this ending: the words aren't taken; or memory was short; or a file couldn't be read, and all before it could;
 -- or the three texts, where the store tells them, have this answer

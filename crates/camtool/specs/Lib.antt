@@ -1,5 +1,6 @@
 pub mod Words
 pub mod Printed
+pub mod Faults
 pub mod Answers
 pub mod Headline
 pub mod Statuses

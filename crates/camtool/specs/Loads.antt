@@ -6,14 +6,12 @@ use Rattle.mill_base.specs.declared.motion.Move.{Move}
 use Rattle.mill_base.specs.Motion.{Follow}
 use Rattle.mill_base.specs.Ranges.{MovesInRange}
 use Rattle.mill_base.specs.Covers.{IsUnder}
-use Rattle.mill_decimal.specs.declared.snap.Snap.TheVariants.{Nearest}
+use Rattle.mill_decimal.specs.declared.snap.Snap.{Snap}
 use Rattle.mill_stl.specs.Parts.{part_of}
-use Rattle.mill_stl.specs.declared.fault.StlFault.{StlFault}
 use Rattle.mill_ngc.specs.Programs.{program_of}
 use Rattle.mill_part.specs.Tops.{IsTop}
 use Rattle.mill_part.specs.declared.part.Part.{Part}
 use Rattle.mill_job.specs.declared.job.Job.{Job}
-use Rattle.mill_job.specs.declared.fault.JobFault.{JobFault}
 use Rattle.mill_job.specs.Columns.{home}
 use Rattle.mill_job.specs.Jobs.{IsJob}
 use Rattle.mill_job.specs.Documents.{IsJobOf}
@@ -33,39 +31,34 @@ ReadsFile text file (Err (end.ReadFault f)) = f ≡ file
 ReadsFile text file (Err end.Memory) = Unit {0}
 ReadsFile text file (Err _) = ⊥
 
-pub record JobFails (text : List ℕ) : Type 0 where
-  pub fits : Fits text
-  pub fault : JobFault
-  pub refused : IsJobOf text (Err fault)
-
 -- the job of a text, or why there is none
 abbrev pub LoadsJob : List ℕ → Result Job End → Type 0
 LoadsJob text (Ok job) = Fits text × IsJobOf text (Ok job)
 LoadsJob text (Err (end.TooLong JobFile)) = longest < length text
-LoadsJob text (Err (end.Refused JobFile)) = JobFails text
+LoadsJob text (Err (end.JobRefused fault)) = Fits text × IsJobOf text (Err fault)
 LoadsJob text (Err (end.ReadFault JobFile)) = Unit {0}
 LoadsJob text (Err end.Memory) = Unit {0}
 LoadsJob text (Err _) = ⊥
 
-pub record PartFails (text : List ℕ) : Type 0 where
-  pub fits : Fits text
-  pub fault : StlFault
-  pub refused : part_of Nearest text ≡ Err fault
+-- the text reads as these triangles, some of whose coordinates were rounded
+pub record IsPartText (snap : Snap) (text : List ℕ) (part : List Tri) : Type 0 where
+  pub rounded : ℕ
+  pub reads : part_of snap text ≡ Ok (record { tris = part; rounded = rounded })
 
 -- the part of a text, or why there is none
-abbrev pub LoadsPart : List ℕ → Result Part End → Type 0
-LoadsPart text (Ok part) = Fits text × (part_of Nearest text ≡ Ok part)
-LoadsPart text (Err (end.TooLong PartFile)) = longest < length text
-LoadsPart text (Err (end.Refused PartFile)) = PartFails text
-LoadsPart text (Err (end.ReadFault PartFile)) = Unit {0}
-LoadsPart text (Err end.Memory) = Unit {0}
-LoadsPart text (Err _) = ⊥
+abbrev pub LoadsPart : Snap → List ℕ → Result Part End → Type 0
+LoadsPart snap text (Ok part) = Fits text × IsPartText snap text part
+LoadsPart snap text (Err (end.TooLong PartFile)) = longest < length text
+LoadsPart snap text (Err (end.PartRefused fault)) = Fits text × (part_of snap text ≡ Err fault)
+LoadsPart snap text (Err (end.ReadFault PartFile)) = Unit {0}
+LoadsPart snap text (Err end.Memory) = Unit {0}
+LoadsPart snap text (Err _) = ⊥
 
 -- the moves of a text, or why there are none
 abbrev pub LoadsProgram : Job → List ℕ → Result (Vec Move) End → Type 0
-LoadsProgram job text (Ok moves) = Fits text × (program_of (home job) text ≡ Some moves.items)
+LoadsProgram job text (Ok moves) = Fits text × (program_of (home job) text ≡ Ok moves.items)
 LoadsProgram job text (Err (end.TooLong ProgramFile)) = longest < length text
-LoadsProgram job text (Err (end.Refused ProgramFile)) = Fits text × (program_of (home job) text ≡ None)
+LoadsProgram job text (Err (end.ProgramRefused fault)) = Fits text × (program_of (home job) text ≡ Err fault)
 LoadsProgram job text (Err (end.ReadFault ProgramFile)) = Unit {0}
 LoadsProgram job text (Err end.Memory) = Unit {0}
 LoadsProgram job text (Err _) = ⊥
@@ -76,9 +69,9 @@ EndsAt texts (end.ReadFault file) = ReadsBefore texts file
 EndsAt texts (end.TooLong JobFile) = longest < length texts.job
 EndsAt texts (end.TooLong PartFile) = LongPart texts
 EndsAt texts (end.TooLong ProgramFile) = LongProgram texts
-EndsAt texts (end.Refused JobFile) = RefusesJob texts
-EndsAt texts (end.Refused PartFile) = RefusesPart texts
-EndsAt texts (end.Refused ProgramFile) = RefusesProgram texts
+EndsAt texts (end.JobRefused fault) = RefusesJob texts fault
+EndsAt texts (end.PartRefused fault) = RefusesPart texts fault
+EndsAt texts (end.ProgramRefused fault) = RefusesProgram texts fault
 EndsAt texts (end.PartTop height top) = HighPart texts height top
 EndsAt texts end.Memory = Unit {0}
 

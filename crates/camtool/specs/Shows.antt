@@ -7,6 +7,8 @@ use Rattle.camtool.specs.Words.{Files}
 use Rattle.camtool.specs.Answers.{Texts, IsAnswer, judged}
 use Rattle.camtool.specs.Headline.{Tells, ReadsBefore, Ending, bad_words, no_memory, read_fault, answered, Came, IsSafe}
 use Rattle.camtool.specs.declared.file.File.{File}
+use Rattle.std.specs.Global.{Vec}
+use Rattle.mill_base.specs.declared.memory.WantOfMemory.{WantOfMemory}
 use Rattle.mill_io.specs.Causes.{Rose}
 use Rattle.mill_io.specs.Contents.{Appended, AppendedPart}
 use Rattle.camtool.specs.declared.ending.Status.{Status}
@@ -24,7 +26,9 @@ abbrev pub EndsBy : {T : Type 0} → ℕ → ℕ → Result T End → Type 0
 EndsBy before now (Ok _) = now ≡ before
 EndsBy before now (Err (end.ReadFault file)) = Rose before now
 EndsBy before now (Err (end.TooLong file)) = now ≡ before
-EndsBy before now (Err (end.Refused file)) = now ≡ before
+EndsBy before now (Err (end.JobRefused fault)) = now ≡ before
+EndsBy before now (Err (end.PartRefused fault)) = now ≡ before
+EndsBy before now (Err (end.ProgramRefused fault)) = now ≡ before
 EndsBy before now (Err (end.PartTop height top)) = now ≡ before
 EndsBy before now (Err end.Memory) = now ≡ before
 
@@ -50,6 +54,12 @@ pub record Works (contents : List ℕ → Option (List ℕ)) (files : Files) (re
 -- an ending is shown, or that memory was short
 abbrev pub CameOr : Ending → ℕ → Option (List ℕ) → Option (List ℕ) → Type 0
 CameOr ending result before after = Came ending result before after ⊎ Came no_memory result before after
+
+-- the line that was made is shown with the status of a refusal, or that memory was short
+abbrev pub CameMade : Result (Vec ℕ) WantOfMemory → ℕ → Option (List ℕ) → Option (List ℕ) → Type 0
+CameMade (Ok line) result before after =
+    (((result ≡ 4) × Appended line.items before after) ⊎ ((result ≡ 7) × AppendedPart line.items before after))
+CameMade (Err failed) result before after = Came no_memory result before after
 
 -- the verdict on what was read, and it is shown, or that memory was short
 pub record TellsVerdict (l : Loaded) (result : ℕ) (before after : Option (List ℕ)) : Type 0 where

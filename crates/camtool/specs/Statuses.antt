@@ -17,21 +17,14 @@ status_code status.Memory = 5
 status_code status.ReadFault = 6
 status_code status.WriteFault = 7
 
-abbrev pub end_status : End → Status
-end_status (end.ReadFault file) = status.ReadFault
-end_status (end.TooLong file) = status.Refused
-end_status (end.Refused file) = status.Refused
-end_status (end.PartTop height top) = status.Refused
-end_status end.Memory = status.Memory
-
 -- the ending that the run then comes to
 abbrev pub ending_of : End → Ending
 ending_of (end.ReadFault file) = read_fault file
 ending_of (end.TooLong JobFile) = answered long_job
 ending_of (end.TooLong PartFile) = answered long_part
 ending_of (end.TooLong ProgramFile) = answered long_program
-ending_of (end.Refused JobFile) = answered refused_job
-ending_of (end.Refused PartFile) = answered refused_part
-ending_of (end.Refused ProgramFile) = answered refused_program
+ending_of (end.JobRefused fault) = answered (refused_job fault)
+ending_of (end.PartRefused fault) = answered (refused_part fault)
+ending_of (end.ProgramRefused fault) = answered (refused_program fault)
 ending_of (end.PartTop height top) = answered (high_part height top)
 ending_of end.Memory = no_memory

@@ -1,9 +1,12 @@
 ghost use Rattle.std.specs.Prelude.{◌≡◌};
-ghost use Rattle.camtool.specs.Statuses.{status_code, end_status};
+ghost use Rattle.camtool.specs.Statuses.{status_code};
 ghost use Rattle.camtool.specs.declared.ending.End.TheVariants as end;
 
 use crate::file::File;
 use mill_base::WantOfMemory;
+use mill_job::JobFault;
+use mill_ngc::NgcFault;
+use mill_stl::StlFault;
 
 /// How a run ends.
 #[derive(Clone, Copy, Debug, PartialEq, Eq)]
@@ -42,31 +45,22 @@ impl Status {
 }
 
 /// What ends the work before there is a verdict.
-#[derive(Clone, Copy, Debug, PartialEq, Eq)]
+#[derive(Debug, Drop)]
 pub enum End {
     /// The file could not be read.
     ReadFault(File),
     /// The file has too many bytes.
     TooLong(File),
-    /// The text isn't of its form.
-    Refused(File),
+    /// The job's text is refused.
+    JobRefused(JobFault),
+    /// The part's text is refused.
+    PartRefused(StlFault),
+    /// The program's text is refused.
+    ProgramRefused(NgcFault),
     /// The part's greatest height is over the job's top.
     PartTop { height: i32, top: i32 },
     /// There was not enough memory.
     Memory,
-}
-
-impl End {
-    /// The status that the run ends with, unless its line can't be printed.
-    pub fn status(self) -> Status
-        ensures { result ≡ end_status self }
-    {
-        match self {
-            End::ReadFault(_) => Status::ReadFault,
-            End::TooLong(_) | End::Refused(_) | End::PartTop { .. } => Status::Refused,
-            End::Memory => Status::Memory,
-        }
-    }
 }
 
 impl From<WantOfMemory> for End {

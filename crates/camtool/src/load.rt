@@ -52,7 +52,7 @@ pub fn load<S: Shelf>(
         Ok(job) => job,
         Err(end) => return Err(end),
     };
-    let part = match load_part(alloc, shelf, part) {
+    let part = match load_part(alloc, shelf, part, job.snap) {
         Ok(part) => part,
         Err(end) => return Err(end),
     };
@@ -93,14 +93,14 @@ fn load_job<S: Shelf>(alloc: Global, shelf: &mut S, name: &str) -> Result<Job, E
     }
 }
 
-fn load_part<S: Shelf>(alloc: Global, shelf: &mut S, name: &str) -> Result<Part, End>
-    ensures told { IfSome (S.contents shelf.old name.now) (λ text. LoadsPart text result) }
+fn load_part<S: Shelf>(alloc: Global, shelf: &mut S, name: &str, snap: Snap) -> Result<Part, End>
+    ensures told { IfSome (S.contents shelf.old name.now) (λ text. LoadsPart snap text result) }
     ensures cause { EndsBy (S.read_faults shelf.old) (S.read_faults shelf.new) result }
     ensures stay { Stay (S.contents shelf.old) (S.contents shelf.new) }
     ensures kept { S.write_faults shelf.new ≡ S.write_faults shelf.old }
 {
     match read_file(alloc, shelf, name, File::Part) {
-        Ok(text) => part_from(alloc, &text),
+        Ok(text) => part_from(alloc, &text, snap),
         Err(end) => Err(end),
     }
 }
@@ -152,19 +152,19 @@ fn job_from(alloc: Global, text: &[u8]) -> Result<Job, End>
     match read_job(alloc, text) {
         Ok(job) => Ok(job),
         Err(JobFault::WantOfMemory) => Err(End::Memory),
-        Err(_) => Err(End::Refused(File::Job)),
+        Err(fault) => Err(End::JobRefused(fault)),
     }
 }
 
-fn part_from(alloc: Global, text: &[u8]) -> Result<Part, End>
+fn part_from(alloc: Global, text: &[u8], snap: Snap) -> Result<Part, End>
     requires { Fits text.now }
-    ensures told { LoadsPart text.now result }
+    ensures told { LoadsPart snap text.now result }
     ensures cause { EndsBy 0 0 result }
 {
-    match read_stl(alloc, text, Snap::Nearest) {
-        Ok(tris) => Ok(Part::new(tris)),
+    match read_stl(alloc, text, snap) {
+        Ok(read) => Ok(Part::new(read.tris)),
         Err(StlFault::WantOfMemory) => Err(End::Memory),
-        Err(_) => Err(End::Refused(File::Part)),
+        Err(fault) => Err(End::PartRefused(fault)),
     }
 }
 
@@ -180,6 +180,6 @@ fn program_from(alloc: Global, text: &[u8], job: &Job) -> Result<Vec<Move>, End>
     match read_program(alloc, text, job.home()) {
         Ok(moves) => Ok(moves),
         Err(NgcFault::WantOfMemory) => Err(End::Memory),
-        Err(NgcFault::Form) => Err(End::Refused(File::Program)),
+        Err(fault) => Err(End::ProgramRefused(fault)),
     }
 }

@@ -7,6 +7,7 @@
 #![tactic(auto)]
 
 mod ending;
+mod faults;
 mod file;
 mod load;
 mod print;

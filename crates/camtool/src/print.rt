@@ -1,12 +1,7 @@
 ghost use Rattle.std.specs.Prelude.{◌≡◌, ◌<◌, ◌++◌, ℤ, decimal, length, OnOk, IfOk};
 ghost use Rattle.mill_decimal.specs.Decimals.{canonical};
-ghost use Rattle.camtool.specs.Answers.{answer_line, high_part};
-ghost use Rattle.camtool.specs.Headline.{ending_line, read_fault};
-ghost use Rattle.camtool.specs.Statuses.{ending_of};
 ghost use Rattle.camtool.specs.Printed.{verdict_line, rejection_line, leaf_end, tolerances_end, NamesMove};
 
-use crate::ending::End;
-use crate::file::File;
 use itoa::Buffer;
 use mill_base::{Move, WantOfMemory};
 use mill_decimal::{NumText, write_decimal};
@@ -149,19 +144,6 @@ fn line_of_left(
     Ok(line)
 }
 
-/// The line of a part whose greatest height is over the job's top.
-pub fn line_of_high_part(alloc: Global, height: i32, top: i32) -> Result<Vec<u8>, WantOfMemory>
-    ensures { IfOk result (λ line. line.items ≡ answer_line (high_part height top)) }
-{
-    let mut line = Vec::new(alloc);
-    add_text(&mut line, b"refused part-top ")?;
-    add_length(&mut line, height)?;
-    add_text(&mut line, b" top ")?;
-    add_length(&mut line, top)?;
-    add_text(&mut line, b"\n")?;
-    Ok(line)
-}
-
 // The words of a segment of a move, and the line's end.
 fn add_leaf(line: &mut Vec<u8>, leaf: Leaf) -> Result<(), WantOfMemory>
     ensures { OnOk result (line.new.items ≡ line.old.items ++ leaf_end leaf) }
@@ -173,57 +155,24 @@ fn add_leaf(line: &mut Vec<u8>, leaf: Leaf) -> Result<(), WantOfMemory>
     add_text(line, b"\n")
 }
 
-fn add_text(line: &mut Vec<u8>, text: &[u8]) -> Result<(), WantOfMemory>
+pub fn add_text(line: &mut Vec<u8>, text: &[u8]) -> Result<(), WantOfMemory>
     ensures { OnOk result (line.new.items ≡ line.old.items ++ text.now) }
 {
     line.extend_from_slice(text)?;
     Ok(())
 }
 
-fn add_number(line: &mut Vec<u8>, number: u64) -> Result<(), WantOfMemory>
+pub fn add_number(line: &mut Vec<u8>, number: u64) -> Result<(), WantOfMemory>
     ensures { OnOk result (line.new.items ≡ line.old.items ++ decimal number) }
 {
     let mut buffer = Buffer::new();
     add_text(line, buffer.format(number).as_bytes())
 }
 
-fn add_length(line: &mut Vec<u8>, units: i32) -> Result<(), WantOfMemory>
+pub fn add_length(line: &mut Vec<u8>, units: i32) -> Result<(), WantOfMemory>
     ensures { OnOk result (line.new.items ≡ line.old.items ++ canonical units) }
 {
     let mut text = NumText::new();
     write_decimal(units, &mut text);
     add_text(line, text.as_bytes())
-}
-
-/// The line of a file that couldn't be read.
-pub fn line_of_read_fault(file: File) -> &'static [u8]
-    ensures { result.now ≡ ending_line (read_fault file) }
-{
-    match file {
-        File::Job => b"read fault job\n",
-        File::Part => b"read fault part\n",
-        File::Program => b"read fault program\n",
-    }
-}
-
-/// The line of a file with too many bytes.
-pub fn line_of_long(file: File) -> &'static [u8]
-    ensures { result.now ≡ ending_line (ending_of (End.TooLong file)) }
-{
-    match file {
-        File::Job => b"refused too-long job\n",
-        File::Part => b"refused too-long part\n",
-        File::Program => b"refused too-long program\n",
-    }
-}
-
-/// The line of a text that isn't of its form.
-pub fn line_of_refused(file: File) -> &'static [u8]
-    ensures { result.now ≡ ending_line (ending_of (End.Refused file)) }
-{
-    match file {
-        File::Job => b"refused job\n",
-        File::Part => b"refused part\n",
-        File::Program => b"refused program\n",
-    }
 }

@@ -1,17 +1,19 @@
 ghost use Rattle.std.specs.Prelude.{◌≡◌, ◌≢◌, ◌⊎◌, ◌+◌, ◌-◌, ◌^◌, ◌<◌, ◌↔◌, ℕ, List, map, string_bytes};
 ghost use Rattle.mill_io.specs.Contents.{Stay};
-ghost use Rattle.camtool.specs.Answers.{judged, high_part, verdict_status};
+ghost use Rattle.camtool.specs.Answers.{judged, verdict_status};
 ghost use Rattle.camtool.specs.Headline.{Ends, Outcome, Headline, call_of, answered};
 ghost use Rattle.camtool.specs.Loads.{IsReady};
 ghost use Rattle.camtool.specs.Printed.{NamesMove};
-ghost use Rattle.camtool.specs.Shows.{Shown, Works, Tries, CameOr, EndsAsRead};
+ghost use Rattle.camtool.specs.Shows.{Shown, Works, Tries, CameOr, CameMade, EndsAsRead};
 ghost use Rattle.camtool.specs.Statuses.{status_code, ending_of};
 
 use crate::ending::{End, Status};
-use crate::load::{Loaded, load};
-use crate::print::{
-    line_of_high_part, line_of_long, line_of_read_fault, line_of_refused, line_of_verdict,
+use crate::faults::{
+    line_of_high_part, line_of_job_fault, line_of_long, line_of_part_fault, line_of_program_fault,
+    line_of_read_fault,
 };
+use crate::load::{Loaded, load};
+use crate::print::line_of_verdict;
 use mill_base::WantOfMemory;
 use mill_io::{Failed, Shelf, Sink, write_whole};
 use mill_verify::{Verdict, one_verdict, verify};
@@ -147,21 +149,23 @@ fn tell_end<O: Sink>(alloc: Global, end: End, out: &mut O) -> Status
     match end {
         End::ReadFault(file) => tell(out, line_of_read_fault(file), Status::ReadFault),
         End::TooLong(file) => tell(out, line_of_long(file), Status::Refused),
-        End::Refused(file) => tell(out, line_of_refused(file), Status::Refused),
-        End::PartTop { height, top } => tell_high_part(alloc, height, top, out),
+        End::JobRefused(fault) => tell_made(line_of_job_fault(alloc, &fault), out),
+        End::PartRefused(fault) => tell_made(line_of_part_fault(alloc, fault), out),
+        End::ProgramRefused(fault) => tell_made(line_of_program_fault(alloc, fault), out),
+        End::PartTop { height, top } => tell_made(line_of_high_part(alloc, height, top), out),
         End::Memory => tell(out, b"out of memory\n", Status::Memory),
     }
 }
 
-/// Prints that the part is too high.
-fn tell_high_part<O: Sink>(alloc: Global, height: i32, top: i32, out: &mut O) -> Status
+/// Prints the line of a refusal, or that there was no memory for it.
+fn tell_made<O: Sink>(line: Result<Vec<u8>, WantOfMemory>, out: &mut O) -> Status
     requires { O.faults out.old < 2 ^ 64 - 1 }
-    ensures came { CameOr (answered (high_part height top)) (status_code result) (O.written out.old) (O.written out.new) }
+    ensures came { CameMade line (status_code result) (O.written out.old) (O.written out.new) }
     ensures write { (result ≡ Status.WriteFault) ↔ (O.faults out.old < O.faults out.new) }
     ensures no_read { result ≢ Status.ReadFault }
     ensures other { result ≢ Status.WriteFault → O.faults out.new ≡ O.faults out.old }
 {
-    match line_of_high_part(alloc, height, top) {
+    match line {
         Ok(line) => tell(out, &line, Status::Refused),
         Err(WantOfMemory) => tell(out, b"out of memory\n", Status::Memory),
     }

@@ -16,6 +16,9 @@ const WIDE_JOB: &[u8] =
 const FLAT_JOB: &[u8] =
     b"cutter = \"flat\"\nradius = 150\nfloor = 0\ntop = 0\nclear = 0\narea = [0, 0, 0, 0]\nhome = [0, 0]\npitch = 100\nsample = 50\nallowance = 0\nband = 0\n";
 
+const LOW_CLEAR_JOB: &[u8] =
+    b"cutter = \"flat\"\nradius = 150\nfloor = 0\ntop = 300\nclear = 200\narea = [0, 0, 200, 200]\nhome = [100, 100]\npitch = 100\nsample = 50\nallowance = 0\nband = 0\n";
+
 const PLATE: &[u8] =
     b"solid plate\nfacet normal 0 0 1\nouter loop\nvertex 0 0 2\nvertex 2 0 2\nvertex 2 2 2\nendloop\nendfacet\nfacet normal 0 0 1\nouter loop\nvertex 0 0 2\nvertex 2 2 2\nvertex 0 2 2\nendloop\nendfacet\nendsolid plate\n";
 
@@ -56,7 +59,7 @@ fn words(alloc: Global, words: &[&str]) -> Result<Vec<String>, Fail> {
 #[test]
 fn prints_each_answer(rt: HostRuntime) -> Result<(), Fail> {
     let alloc = rt.alloc();
-    let table: [((&[u8], &[u8], &[u8]), Status, &[u8]); 12] = [
+    let table: [((&[u8], &[u8], &[u8]), Status, &[u8]); 18] = [
         (
             (JOB, PLATE, b"G21 G90\nG1 Z2\nG0 Z4\nM2\n"),
             Status::Done,
@@ -92,8 +95,36 @@ fn prints_each_answer(rt: HostRuntime) -> Result<(), Fail> {
             Status::Rejected,
             b"rejected left row 0 column 0 top 4.00\n",
         ),
-        ((b"\xff", PLATE, b"M2"), Status::Refused, b"refused job\n"),
-        ((JOB, b"solid", b"M2"), Status::Refused, b"refused part\n"),
+        (
+            (b"\xff", PLATE, b"M2"),
+            Status::Refused,
+            b"refused job syntax\n",
+        ),
+        (
+            (b"depth = 1\n", PLATE, b"M2"),
+            Status::Refused,
+            b"refused job unknown depth\n",
+        ),
+        (
+            (b"cutter = \"flat\"\n", PLATE, b"M2"),
+            Status::Refused,
+            b"refused job missing radius\n",
+        ),
+        (
+            (LOW_CLEAR_JOB, PLATE, b"M2"),
+            Status::Refused,
+            b"refused job relation top clear\n",
+        ),
+        (
+            (JOB, b"solid\nfacet abnormal", b"M2"),
+            Status::Refused,
+            b"refused part line 2 expected\n",
+        ),
+        (
+            (JOB, b"solid\n", b"M2"),
+            Status::Refused,
+            b"refused part line 2 cut-short\n",
+        ),
         (
             (JOB, HIGH, b"M3"),
             Status::Refused,
@@ -102,12 +133,22 @@ fn prints_each_answer(rt: HostRuntime) -> Result<(), Fail> {
         (
             (JOB, PLATE, b"G64\n"),
             Status::Refused,
-            b"refused program\n",
+            b"refused program line 1 not-in-profile\n",
         ),
         (
-            (JOB, PLATE, b"G21 G90\nG1  Z2\nM2\n"),
+            (JOB, PLATE, b"G21 G90\nG1 Z2.001\nM2\n"),
             Status::Refused,
-            b"refused program\n",
+            b"refused program line 2 off-grid\n",
+        ),
+        (
+            (JOB, PLATE, b"G21 G90\nG1 X1\n"),
+            Status::Refused,
+            b"refused program line 3 no-end\n",
+        ),
+        (
+            (JOB, PLATE, b"%\nn10 g21 g90 (down) g1 z+2. 0\n%\n"),
+            Status::Done,
+            b"accepted moves 1 columns 9 left 0.00 band 0.00 allowance 0.00\n",
         ),
     ];
     for (texts, status, line) in table {

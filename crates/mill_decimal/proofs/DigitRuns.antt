@@ -1,15 +1,14 @@
 -- Runs of decimal digits: where they end, and the number that they stand for.
-use Rattle.std.proofs.Common.{◌≡◌, ℕ, ◌+◌, ◌*◌, ◌≤◌, ◌<◌, ◌^◌, suc, List, [], ◌∷◌, ◌++◌, length, take, drop, get_or, arith, true, false, Bool, cond, refl, sym, ◌∙◌, one-add, add-one, drop-cons}
+use Rattle.std.proofs.Common.{◌≡◌, ℕ, ◌+◌, ◌*◌, ◌≤◌, ◌<◌, List, [], ◌∷◌, ◌++◌, length, take, drop, get_or, arith, true, false, Bool, cond, refl, sym, ◌∙◌, one-add, add-one, drop-cons}
 use Rattle.std.specs.Prelude.{decimal}
 use Rattle.std.specs.List.{prefix_len}
 use Rattle.std.specs.Char.{is_ascii_digit, digit_value}
 use Rattle.std.specs.Str.Parse.{AllDigits, digits_value, digits_value_after}
 use Rattle.std.proofs.Math.ListN.{drop_of_length-le}
-use Rattle.std.proofs.Math.Nat.{pow-le-pow_right, pow-succ'}
 use Rattle.std.proofs.Math.Seq.{take-append_seam}
 use Rattle.std.proofs.lemmas.Bool.Decides.{nat_tests}
 use Rattle.std.proofs.lemmas.Fmt.{length-decimal-le}
-use Rattle.mill_decimal.specs.Decimals.{digits_of, after_digits}
+use Rattle.mill_decimal.specs.Spelling.{digits_of, after_digits}
 
 -- the whole millimetres of a number of units take at most eight digits
 pub short_decimal : (n : ℕ) → n ≤ 42949672 → length (decimal n) ≤ 8
@@ -64,14 +63,6 @@ pub is_done : (digits : List ℕ) (i v total : ℕ) → length digits ≤ i → 
 is_done digits i v total le so_far =
     let one : digits_value_after 10 v (drop i digits) ≡ v = rw (drop_of_length-le digits le) refl in
     sym one ∙ so_far
-
--- a power of ten is at most a greater one
-pub ten : (k most : ℕ) → k ≤ most → 10 ^ k ≤ 10 ^ most
-ten k most le = pow-le-pow_right {n = 10} (omega arith) {i = k} {j = most} le
-
--- one more digit multiplies the bound by ten
-pub one_more : (j k v d : ℕ) → j ≡ suc k → v < 10 ^ k → d < 10 → 10 * v + d < 10 ^ j
-one_more j k v d e lt digit = rw (e, pow-succ' 10 k) (omega arith)
 
 after-append : (n : ℕ) (xs ys : List ℕ) → digits_value_after 10 n (xs ++ ys) ≡ digits_value_after 10 (digits_value_after 10 n xs) ys
 after-append n [] ys = refl

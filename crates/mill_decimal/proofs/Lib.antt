@@ -1,2 +1,3 @@
 pub mod DigitRuns
+pub mod Powers
 pub mod RoundTrip

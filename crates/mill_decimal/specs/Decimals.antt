@@ -1,80 +1,70 @@
 -- What a decimal text of millimetres means in units of 0.01 mm, and how a number of units is written.
-use Rattle.std.specs.Prelude.{ℕ, ◌+◌, ◌-◌, ◌*◌, ◌/◌, ◌%◌, ◌^◌, ◌==◌, nat_lt, nat_le, Bool, false, ◌&&◌, ◌||◌, if◌then◌else◌, ℤ, pos, neg_ℤ, nat_abs, int_lt, List, [], ◌∷◌, ◌++◌, length, take, drop, Option, Some, None, option_and_then, Result, Ok, Err, decimal}
-use Rattle.std.specs.List.{prefix_len}
-use Rattle.std.specs.Char.{is_ascii_digit}
-use Rattle.std.specs.Str.Parse.{digits_value}
+use Rattle.std.specs.Prelude.{ℕ, suc, ◌+◌, ◌*◌, ◌/◌, ◌%◌, ◌^◌, ◌==◌, nat_le, Bool, true, false, not, ◌&&◌, if◌then◌else◌, ℤ, pos, negsuc, nat_abs, int_lt, List, [], ◌∷◌, ◌++◌, Option, Some, None, Result, Ok, Err, is_ok, decimal}
 use Rattle.mill_base.specs.Numbers.{greatest}
+use Rattle.mill_decimal.specs.Spelling.{signed, scaled_of}
 use Rattle.mill_decimal.specs.declared.snap.Snap.{Snap}
+use Rattle.mill_decimal.specs.declared.snap.Snap.TheVariants.{Nearest, Exact}
 use Rattle.mill_decimal.specs.declared.fault.DecFault.{DecFault}
-use Rattle.mill_decimal.specs.declared.fault.DecFault.TheVariants.{Spelling}
-
--- ---- the spelling; 43 is `+`, 45 is `-`, 46 is the point, 48 is `0`
-
--- the text begins with a minus sign
-abbrev pub is_negative : List ℕ → Bool
-is_negative [] = false
-is_negative (b ∷ text) = b == 45
-
--- what stands behind the sign, if there is one
-abbrev pub after_sign : List ℕ → List ℕ
-after_sign [] = []
-after_sign (b ∷ text) = if (b == 45) || (b == 43) then text else b ∷ text
-
--- the digits that a text begins with
-unfoldable pub digits_of : List ℕ → List ℕ
-digits_of text = take (prefix_len is_ascii_digit text) text
-
--- what stands behind these digits
-unfoldable pub after_digits : List ℕ → List ℕ
-after_digits text = drop (prefix_len is_ascii_digit text) text
-
--- one or two digits, and nothing else
-abbrev pub is_short : List ℕ → Bool
-is_short (a ∷ []) = is_ascii_digit a
-is_short (a ∷ b ∷ []) = is_ascii_digit a && is_ascii_digit b
-is_short text = false
-
--- the digits of a fraction: nothing has none, and a point stands before one or two
-abbrev pub fraction_of : List ℕ → Option (List ℕ)
-fraction_of [] = Some []
-fraction_of (b ∷ text) = if (b == 46) && is_short text then Some text else None
+use Rattle.mill_decimal.specs.declared.fault.DecFault.TheVariants.{OffGrid, OutOfRange}
+use Rattle.mill_decimal.specs.declared.scaled.Scaled.{Scaled}
 
 -- ---- the units
 
--- the units of the digits before and behind the point, of which there are at most two behind it
-abbrev pub units_of : List ℕ → List ℕ → ℕ
-units_of whole fraction = digits_value 10 (whole ++ fraction) * 10 ^ (2 - length fraction)
+-- m times ten to a power, rounded to the nearest whole number, halves up
+unfoldable pub nearest : ℕ → ℤ → ℕ
+nearest m (pos n) = m * 10 ^ n
+nearest m (negsuc n) = (2 * m + 10 ^ suc n) / (2 * 10 ^ suc n)
 
--- at least one digit before the point, and at most 18 in all
-abbrev pub has_digits : List ℕ → List ℕ → Bool
-has_digits whole fraction = nat_lt 0 (length whole) && nat_le (length whole + length fraction) 18
+-- m times ten to a power is a whole number
+unfoldable pub is_whole : ℕ → ℤ → Bool
+is_whole m (pos n) = true
+is_whole m (negsuc n) = m % 10 ^ suc n == 0
+
+-- the units aren't whole
+abbrev pub is_between : Scaled → Bool
+is_between s = not (is_whole s.mantissa s.power)
+
+-- units that aren't whole are refused under Exact
+abbrev pub is_refused : Snap → Bool → Bool
+is_refused Nearest between = false
+is_refused Exact between = between
+
+-- the units rounded to the nearest whole number, ties away from zero, without their sign
+abbrev pub rounded : Scaled → ℕ
+rounded s = nearest s.mantissa s.power
 
 -- a number of units, if it is in range
 abbrev pub in_range : ℕ → Option ℕ
 in_range n = if nat_le n greatest then Some n else None
 
--- the units of these digits, if there are enough and not too many of them, and the units are in range
-abbrev pub taken_units : List ℕ → List ℕ → Option ℕ
-taken_units whole fraction = if has_digits whole fraction then in_range (units_of whole fraction) else None
+-- units with their sign, where they are in range
+abbrev pub or_out_of_range : Bool → Option ℕ → Result ℤ DecFault
+or_out_of_range negative None = Err OutOfRange
+or_out_of_range negative (Some n) = Ok (signed negative n)
 
--- the units of a decimal without a sign
-unfoldable pub unsigned_units : List ℕ → Option ℕ
-unsigned_units text = option_and_then (taken_units (digits_of text)) (fraction_of (after_digits text))
+-- the refusals of a text that is spelled well, in their order, and else its units
+abbrev pub units_of : Snap → Scaled → Result ℤ DecFault
+units_of snap s = if is_refused snap (is_between s) then Err OffGrid else or_out_of_range s.negative (in_range (rounded s))
 
--- a number with its sign
-abbrev pub signed : Bool → ℕ → ℤ
-signed negative n = if negative then neg_ℤ (pos n) else pos n
+-- the same, of a text that is spelled well or not
+abbrev pub units_if_spelled : Snap → Result Scaled DecFault → Result ℤ DecFault
+units_if_spelled snap (Err fault) = Err fault
+units_if_spelled snap (Ok s) = units_of snap s
 
--- units with their sign, where there are any
-abbrev pub or_spelling : Bool → Option ℕ → Result ℤ DecFault
-or_spelling negative None = Err Spelling
-or_spelling negative (Some n) = Ok (signed negative n)
-
--- what a decimal text means: its units, or the fault; no text is finer than a unit, so both snaps read the same
+-- what a decimal text means: its units, or the first fault
 unfoldable pub read_as : Snap → List ℕ → Result ℤ DecFault
-read_as snap text = or_spelling (is_negative text) (unsigned_units (after_sign text))
+read_as snap text = units_if_spelled snap (scaled_of text)
 
--- ---- the canonical form
+-- the text is spelled well, and its units aren't whole
+abbrev pub is_spelled_between : Result Scaled DecFault → Bool
+is_spelled_between (Err fault) = false
+is_spelled_between (Ok s) = is_between s
+
+-- the text reads under Nearest, and its units aren't whole
+unfoldable pub is_rounded : List ℕ → Bool
+is_rounded text = is_ok (read_as Nearest text) && is_spelled_between (scaled_of text)
+
+-- ---- the canonical form; 45 is `-`, 46 is the point, 48 is `0`
 
 -- `-` where the number is negative, the whole millimetres, a point, and two digits
 unfoldable pub canonical : ℤ → List ℕ

@@ -2,7 +2,7 @@ ghost use Rattle.std.specs.Prelude.{◌≡◌, ◌+◌, ◌<◌, ◌≤◌, ◌^
 ghost use Rattle.std.specs.Str.Parse.{digits_value_after, AllDigits};
 ghost use Rattle.std.specs.List.{prefix_len};
 ghost use Rattle.std.specs.Char.{is_ascii_digit};
-ghost use Rattle.mill_decimal.specs.Decimals.{is_negative, after_sign, digits_of, after_digits};
+ghost use Rattle.mill_decimal.specs.Spelling.{is_negative, after_sign, signed, digits_of, after_digits};
 
 /// Whether the text begins with a minus sign, and what stands behind its sign.
 pub fn split_sign(text: &[u8]) -> (bool, &[u8])
@@ -16,8 +16,17 @@ pub fn split_sign(text: &[u8]) -> (bool, &[u8])
     }
 }
 
+/// The number with its sign.
+pub fn with_sign(negative: bool, magnitude: u32) -> i32
+    requires { magnitude < 2 ^ 31 }
+    ensures { result ≡ signed negative magnitude }
+{
+    let number = magnitude as i32;
+    if negative { -number } else { number }
+}
+
 /// The digits that the text begins with, and what stands behind them.
-#[tactic(auto, unfolding(crate::specs::Decimals::digits_of, crate::specs::Decimals::after_digits))]
+#[tactic(auto, unfolding(crate::specs::Spelling::digits_of, crate::specs::Spelling::after_digits))]
 pub fn split_digits(text: &[u8]) -> (&[u8], &[u8])
     ensures front { result.0.now ≡ digits_of text.now }
     ensures rest { result.1.now ≡ after_digits text.now }
@@ -36,7 +45,7 @@ fn digits_in_front(text: &[u8]) -> usize
 pub fn value_after(front: u128, before: usize, digits: &[u8]) -> u128
     requires digits { AllDigits 10 digits.now }
     requires front { front < 10 ^ before }
-    requires few { before + length digits.now ≤ 18 }
+    requires few { before + length digits.now ≤ 24 }
     ensures value { result ≡ digits_value_after 10 front digits.now }
     ensures bound { result < 10 ^ (before + length digits.now) }
 {

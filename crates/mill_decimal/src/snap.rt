@@ -1,8 +1,8 @@
 /// How a decimal is read that lies between two units of 0.01 mm.
 #[derive(Clone, Copy, Debug, PartialEq, Eq)]
 pub enum Snap {
-    /// To the nearest unit.
+    /// It is rounded to the nearest unit, ties away from zero.
     Nearest,
-    /// Not at all.
+    /// It is refused.
     Exact,
 }

@@ -6,6 +6,7 @@ ghost use Rattle.mill_job.specs.Jobs.{IsJob};
 
 use crate::row::Row;
 use mill_base::{Box2, Cutter, Kind, Move, Pt3, WantOfMemory};
+use mill_decimal::Snap;
 use mill_job::Job;
 use mill_sweep::Leaf;
 
@@ -31,6 +32,7 @@ fn three_columns() -> Job
         sample: 100,
         allowance: 0,
         band: 0,
+        snap: Snap::Nearest,
     }
 }
 

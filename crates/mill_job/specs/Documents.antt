@@ -1,12 +1,14 @@
 -- What a job's text means: the document, then the keys, then the relations between them.
-use Rattle.std.specs.Prelude.{◌≡◌, ◌⊎◌, IsUtf8, ℕ, ◌*◌, nat_lt, codes, Bool, if◌then◌else◌, pos, int_lt, List, [], ◌∷◌, ◌++◌, Option, Some, None, option_map, Result, Err}
-use Rattle.toml.specs.Data.{Members}
+use Rattle.std.specs.Prelude.{◌≡◌, ◌⊎◌, IsUtf8, ℕ, ◌*◌, nat_lt, codes, bytes_eq, Bool, if◌then◌else◌, pos, int_lt, List, [], ◌∷◌, ◌++◌, Option, Some, None, option_and_then, option_map, Result, Err}
+use Rattle.toml.specs.Data.{Members, get_member, as_str}
 use Rattle.toml.specs.Parse.{parse_document}
 use Rattle.mill_base.specs.declared.cutter.Cutter.TheVariants.{Flat}
 use Rattle.mill_base.specs.Sizes.{radius_of}
+use Rattle.mill_decimal.specs.declared.snap.Snap.{Snap}
+use Rattle.mill_decimal.specs.declared.snap.Snap.TheVariants.{Nearest, Exact}
 use Rattle.mill_job.specs.Columns.{row_count, column_count}
-use Rattle.mill_job.specs.Keys.{unknown_in}
-use Rattle.mill_job.specs.Tables.{text_fault, number_fault, coordinate_fault, array_fault, is_area, is_place, number_at, numbers_at, area_of, place_of, first, checked}
+use Rattle.mill_job.specs.Keys.{name_of, unknown_in}
+use Rattle.mill_job.specs.Tables.{text_fault, text_fault_if_there, number_fault, coordinate_fault, array_fault, is_area, is_place, number_at, numbers_at, area_of, place_of, first, checked}
 use Rattle.mill_job.specs.declared.job.Job.{Job}
 use Rattle.mill_job.specs.declared.key.Key.TheVariants as key
 use Rattle.mill_job.specs.declared.fault.JobFault.{JobFault}
@@ -26,7 +28,17 @@ key_faults ms =
     ∷ number_fault key.Sample (pos 1) (pos 10000) ms
     ∷ number_fault key.Allowance (pos 0) (pos 10000) ms
     ∷ number_fault key.Band (pos 0) (pos 0) ms
+    ∷ text_fault_if_there key.Snap (codes "nearest" ∷ codes "exact" ∷ []) ms
     ∷ []
+
+-- the text `exact` means that finer decimals are refused, and any other, or none, that they are rounded
+abbrev pub snap_from : Option (List ℕ) → Snap
+snap_from None = Nearest
+snap_from (Some text) = if bytes_eq text (codes "exact") then Exact else Nearest
+
+-- how a document takes what is finer than a unit
+unfoldable pub snap_of : Members → Snap
+snap_of ms = snap_from (option_and_then as_str (get_member (name_of key.Snap) ms))
 
 -- the job of a document with whose keys nothing is wrong
 abbrev pub job_from : Members → Job
@@ -42,6 +54,7 @@ job_from ms = record {
   sample = number_at key.Sample ms;
   allowance = number_at key.Allowance ms;
   band = number_at key.Band ms;
+  snap = snap_of ms;
 }
 
 abbrev pub fault_if : Bool → JobFault → Option JobFault

@@ -18,10 +18,11 @@ name_of key.Pitch = codes "pitch"
 name_of key.Sample = codes "sample"
 name_of key.Allowance = codes "allowance"
 name_of key.Band = codes "band"
+name_of key.Snap = codes "snap"
 
 -- every key, in the format's order
 abbrev pub every_key : List Key
-every_key = key.Cutter ∷ key.Radius ∷ key.Floor ∷ key.Top ∷ key.Clear ∷ key.Area ∷ key.Home ∷ key.Pitch ∷ key.Sample ∷ key.Allowance ∷ key.Band ∷ []
+every_key = key.Cutter ∷ key.Radius ∷ key.Floor ∷ key.Top ∷ key.Clear ∷ key.Area ∷ key.Home ∷ key.Pitch ∷ key.Sample ∷ key.Allowance ∷ key.Band ∷ key.Snap ∷ []
 
 -- the text is one of these
 abbrev pub is_one_of : List (List ℕ) → List ℕ → Bool

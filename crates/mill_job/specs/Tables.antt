@@ -34,6 +34,11 @@ abbrev pub must_be : {V : Type 0} → Key → (Data → Option V) → (V → Boo
 must_be key read test None = Some (Missing key)
 must_be key read test (Some d) = kind_fault key test (read d)
 
+-- the same of a key that may be left out
+abbrev pub may_be : {V : Type 0} → Key → (Data → Option V) → (V → Bool) → Option Data → Option JobFault
+may_be key read test None = None
+may_be key read test (Some d) = kind_fault key test (read d)
+
 -- z is from lo to hi
 abbrev pub is_from : ℤ → ℤ → ℤ → Bool
 is_from lo hi z = int_le lo z && int_le z hi
@@ -59,6 +64,10 @@ is_place _ = false
 -- what is wrong with the text at a key, which must be one of these
 unfoldable pub text_fault : Key → List (List ℕ) → Members → Option JobFault
 text_fault key texts ms = must_be key as_str (is_one_of texts) (get_member (name_of key) ms)
+
+-- the same of a text that may be left out
+unfoldable pub text_fault_if_there : Key → List (List ℕ) → Members → Option JobFault
+text_fault_if_there key texts ms = may_be key as_str (is_one_of texts) (get_member (name_of key) ms)
 
 -- what is wrong with the whole number at a key, which must be from lo to hi, and with the coordinate
 unfoldable pub number_fault : Key → ℤ → ℤ → Members → Option JobFault

@@ -47,6 +47,7 @@ fn is_known(name: &str) -> bool
             | "sample"
             | "allowance"
             | "band"
+            | "snap"
     )
 }
 

@@ -4,6 +4,7 @@ ghost use Rattle.mill_base.specs.Ranges.{IsInRange};
 
 use crate::positions::{count, position};
 use mill_base::{Box2, Cutter, Pt3};
+use mill_decimal::Snap;
 
 /// What is cut, with which cutter, and how exactly. Lengths and places are in units of 0.01 mm.
 #[derive(Clone, Copy, Debug, PartialEq, Eq)]
@@ -27,6 +28,8 @@ pub struct Job {
     pub allowance: i32,
     /// How near a part point covers a column.
     pub band: i32,
+    /// How coordinates of the part that are finer than a unit are taken.
+    pub snap: Snap,
 }
 
 impl Job {

@@ -16,6 +16,7 @@ pub enum Key {
     Sample,
     Allowance,
     Band,
+    Snap,
 }
 
 impl Key {
@@ -37,6 +38,7 @@ impl Key {
             Key::Sample => "sample",
             Key::Allowance => "allowance",
             Key::Band => "band",
+            Key::Snap => "snap",
         }
     }
 }

@@ -1,7 +1,8 @@
 //! A job: the cutter, the stock, its columns, the tolerances, and the TOML document that tells them.
 //!
-//! It stands on `mill_base` and on the kit's `toml`. It promises that a text is read exactly as its
-//! definition says, down to which fault comes first, and that every job that was read is in range.
+//! It stands on `mill_base`, on `mill_decimal` for how decimals are taken, and on the kit's `toml`.
+//! It promises that a text is read exactly as its definition says, down to which fault comes first,
+//! and that every job that was read is in range.
 //! Definitions: `specs/Columns` says where the columns of a job stand, `specs/Jobs` which jobs are
 //! in range, `specs/Keys`, `specs/Tables` and `specs/Documents` what a text means.
 #![tactic(auto)]

@@ -12,7 +12,7 @@ use crate::fault::JobFault;
 use crate::job::Job;
 use crate::key::Key;
 use crate::positions::column_total;
-use crate::values::{coordinate, cutter_shape, number};
+use crate::values::{coordinate, cutter_shape, number, snap};
 use std::alloc::Global;
 use toml::Table;
 
@@ -71,6 +71,7 @@ fn job(table: &Table) -> Result<Job, JobFault>
     let sample = number(table, Key::Sample, 1, 10_000)?;
     let allowance = number(table, Key::Allowance, 0, 10_000)?;
     let band = number(table, Key::Band, 0, 0)?;
+    let snap = snap(table)?;
     let job = Job {
         cutter: shape.with_radius(radius),
         floor,
@@ -83,18 +84,21 @@ fn job(table: &Table) -> Result<Job, JobFault>
         sample,
         allowance,
         band,
+        snap,
     };
     unless(relation_fault(&job), job)
 }
 
-/// Reads a job: a TOML 1.0 document with each key of [`Key`] and no other.
+/// Reads a job: a TOML 1.0 document with each key of [`Key`] and no other; only `snap` may be left
+/// out.
 ///
 /// Numbers are whole, in units of 0.01 mm. `cutter` is a text, and only `flat` is in range.
 /// `radius`, `pitch` and `sample` are from 1 to 10,000, `allowance` from 0 to 10,000, and `band` is
 /// 0. `floor`, `top`, `clear` and the members of `area` and `home` are coordinates, of a magnitude
 /// of at most 131,071. `area` has x0, y0, x1, y1, with x0 at most x1 and y0 at most y1; `home` has
-/// x, y. The relations are: floor is at most top, top at most clear, there are at most 4,000,000
-/// columns, and band is at most radius.
+/// x, y. `snap` is a text, `nearest` or `exact`, and a document without it means `nearest`. The
+/// relations are: floor is at most top, top at most clear, there are at most 4,000,000 columns, and
+/// band is at most radius.
 ///
 /// A fault is the first in this order: the document's syntax; an unknown key, the first by its
 /// bytes; for each key in the order of [`Key`], that it is missing, of a wrong kind or out of

@@ -1,5 +1,6 @@
 use crate::{Job, Key, Name, read_job};
 use mill_base::{Box2, Cutter, Pt3};
+use mill_decimal::Snap;
 use std::test::Fail;
 
 const EXAMPLE: &str = "cutter = \"flat\"
@@ -32,6 +33,7 @@ const JOB: Job = Job {
     sample: 50,
     allowance: 0,
     band: 0,
+    snap: Snap::Nearest,
 };
 
 #[test]
@@ -39,6 +41,8 @@ fn reads_jobs(rt: HostRuntime) -> Result<(), Fail> {
     let alloc = rt.alloc();
     let job = read_job(alloc, EXAMPLE.as_bytes())?;
     assert_eq!(rt; job, JOB);
+    let with_snap = format!(in alloc; "{EXAMPLE}snap = \"exact\"\n")?;
+    assert_eq!(rt; read_job(alloc, with_snap.as_bytes())?.snap, Snap::Exact);
     assert_eq!(rt; (job.rows(), job.columns(), job.column_total()), (3, 3, 9));
     assert_eq!(rt;
         job.home(),
@@ -72,6 +76,9 @@ fn refuses_other_texts(rt: HostRuntime) -> Result<(), Fail> {
         ),
         ("[100, 90]", "[100, 131072]", "home out of range"),
         ("band = 0", "band = 1", "band out of range"),
+        ("band = 0", "band = 0\nsnap = \"near\"", "snap out of range"),
+        ("band = 0", "band = 0\nsnap = 1", "wrong kind of snap"),
+        ("band = 0", "snap = 1\nsnaps = 1", "unknown snaps"),
     ];
     for (old, new, want) in rows {
         let text = EXAMPLE.replace(alloc, old, new)?;

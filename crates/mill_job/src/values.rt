@@ -2,13 +2,15 @@ ghost use Rattle.std.specs.Prelude.{◌≡◌, codes, neg_ℤ, pos, true, false,
 ghost use Rattle.mill_base.specs.Numbers.{Within, greatest};
 ghost use Rattle.toml.specs.Data.{get_member};
 ghost use Rattle.toml.specs.View.{table_view, view};
+ghost use Rattle.mill_job.specs.Documents.{snap_of};
 ghost use Rattle.mill_job.specs.Jobs.{IsFrom};
 ghost use Rattle.mill_job.specs.Keys.{name_of};
-ghost use Rattle.mill_job.specs.Tables.{coordinate_fault, is_coordinate, is_from, number_at, number_fault, text_fault};
+ghost use Rattle.mill_job.specs.Tables.{coordinate_fault, is_coordinate, is_from, number_at, number_fault, text_fault, text_fault_if_there};
 
 use crate::fault::JobFault;
 use crate::key::Key;
 use mill_base::Cutter;
+use mill_decimal::Snap;
 use toml::{Table, Value};
 
 /// The greatest magnitude of a coordinate, in units of 0.01 mm.
@@ -98,5 +100,22 @@ pub fn cutter_shape(table: &Table) -> Result<Shape, JobFault>
         None => Err(JobFault::WrongKind(Key::Cutter)),
         Some("flat") => Ok(Shape::Flat),
         Some(_) => Err(JobFault::Range(Key::Cutter)),
+    }
+}
+
+/// How the document takes what is finer than a unit.
+#[tactic(auto, unfolding(crate::specs::Tables::text_fault_if_there, crate::specs::Documents::snap_of))]
+pub fn snap(table: &Table) -> Result<Snap, JobFault>
+    ensures ok { IfOk result (λ snap. (text_fault_if_there Key.Snap (codes "nearest" ∷ codes "exact" ∷ []) (table_view table.now) ≡ None) × (snap ≡ snap_of (table_view table.now))) }
+    ensures err { IfErr result (λ fault. text_fault_if_there Key.Snap (codes "nearest" ∷ codes "exact" ∷ []) (table_view table.now) ≡ Some fault) }
+{
+    let Some(value) = find(table, Key::Snap) else {
+        return Ok(Snap::Nearest);
+    };
+    match value.as_str() {
+        None => Err(JobFault::WrongKind(Key::Snap)),
+        Some("nearest") => Ok(Snap::Nearest),
+        Some("exact") => Ok(Snap::Exact),
+        Some(_) => Err(JobFault::Range(Key::Snap)),
     }
 }

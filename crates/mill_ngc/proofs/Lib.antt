@@ -1,4 +1,4 @@
-pub mod Parts
-pub mod WordLemmas
-pub mod Moves
-mod Examples
+mod LineLemmas
+mod SaidLemmas
+mod PercentLemmas
+mod ProgramLemmas

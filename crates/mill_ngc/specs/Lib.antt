@@ -1,2 +1,7 @@
+pub mod Numbers
+pub mod Profile
+pub mod Said
+pub mod Motion
 pub mod Programs
 pub mod Readings
+pub mod Bounds

@@ -1,90 +1,111 @@
--- What a program text means, as moves from a start: `M2`, or `G21 G90`, move lines and `M2`.
-use Rattle.std.specs.Prelude.{ℕ, ◌+◌, ◌==◌, nat_le, ◌&&◌, if◌then◌else◌, ℤ, List, [], ◌∷◌, length, codes, Option, Some, None, option_map, option_and_then}
-use Rattle.std.specs.Result.{result_ok}
+-- What a program's text means: its moves, or its first fault.
+use Rattle.std.specs.Prelude.{ℕ, ◌+◌, ◌==◌, nat_lt, Bool, true, false, not, ◌&&◌, if◌then◌else◌, List, [], ◌∷◌, ◌++◌, length, filter, Option, Some, None, Result, Ok, Err}
 use Rattle.std.specs.Str.{bytes_eq}
 use Rattle.mill_base.specs.declared.points.Pt3.{Pt3}
-use Rattle.mill_base.specs.declared.motion.Kind.{Kind}
-use Rattle.mill_base.specs.declared.motion.Kind.TheVariants.{Rapid, Feed}
 use Rattle.mill_base.specs.declared.motion.Move.{Move}
-use Rattle.mill_decimal.specs.Decimals.{read_as}
-use Rattle.mill_decimal.specs.declared.snap.Snap.TheVariants.{Exact}
+use Rattle.mill_words.specs.Words.{Line, is_blank as is_blank_line}
+use Rattle.mill_words.specs.Marks.{is_blank}
+use Rattle.mill_words.specs.Lines.{line_of}
+use Rattle.mill_words.specs.declared.word.WordFault.{WordFault}
+use Rattle.mill_ngc.specs.declared.fault.NgcFault.{NgcFault}
+use Rattle.mill_ngc.specs.declared.fault.NgcFault.TheVariants as fault
+use Rattle.mill_ngc.specs.declared.profile.Mode.TheVariants.{Off}
+use Rattle.mill_ngc.specs.declared.progress.Frame.{Frame}
+use Rattle.mill_ngc.specs.declared.progress.Frame.TheVariants.{Unknown, Framed, Plain}
+use Rattle.mill_ngc.specs.declared.progress.Progress.{Progress}
+use Rattle.mill_ngc.specs.Said.{◌>>=◌, said_by}
+use Rattle.mill_ngc.specs.Motion.{acted}
 
--- ---- lines and words
+-- ---- lines
 
--- a byte in front of the first part
+-- a byte in front of the first line
 abbrev pub put_first : ℕ → List (List ℕ) → List (List ℕ)
 put_first b [] = (b ∷ []) ∷ []
-put_first b (part ∷ parts) = (b ∷ part) ∷ parts
+put_first b (line ∷ lines) = (b ∷ line) ∷ lines
 
--- a byte in front of the parts: the separator begins a new part, and each other byte joins the first
-abbrev pub put_byte : ℕ → ℕ → List (List ℕ) → List (List ℕ)
-put_byte separator b parts = if b == separator then [] ∷ parts else put_first b parts
-
--- the lines of a text: a line feed, which is 10, ends each of them, the last with or without it
+-- a text cut at its line feeds, which are 10; what stands behind the last one is a line too
 abbrev pub lines_of : List ℕ → List (List ℕ)
-lines_of [] = []
-lines_of (b ∷ text) = put_byte 10 b (lines_of text)
+lines_of [] = [] ∷ []
+lines_of (b ∷ text) = if b == 10 then [] ∷ lines_of text else put_first b (lines_of text)
 
--- the words of a line, parted by single spaces, which are 32
-abbrev pub words_of : List ℕ → List (List ℕ)
-words_of [] = [] ∷ []
-words_of (b ∷ line) = put_byte 32 b (words_of line)
+-- the lines of what stands behind a line end, if there is one
+abbrev pub lines_behind : Option (List ℕ) → List (List ℕ)
+lines_behind None = []
+lines_behind (Some text) = lines_of text
 
--- ---- a move line
+-- ---- the frame
 
--- the point with one coordinate replaced, that of the letter X, Y or Z, which are 88, 89 and 90
-abbrev pub with_axis : Pt3 → ℕ → ℤ → Pt3
-with_axis p letter z = if letter == 88 then record p { x = z } else (if letter == 89 then record p { y = z } else record p { z = z })
+-- the line holds only a percent sign, which is 37, and blanks
+abbrev pub is_percent : List ℕ → Bool
+is_percent line = bytes_eq (filter (λ b. not (is_blank b)) line) (37 ∷ [])
 
--- a word's letter, from `least` to Z, and its number, a decimal right after the letter
-abbrev pub axis_word : ℕ → List ℕ → Option (ℕ × ℤ)
-axis_word least [] = None
-axis_word least (letter ∷ number) = if nat_le least letter && nat_le letter 90 then option_map (λ (z : ℤ). (letter, z)) (result_ok (read_as Exact number)) else None
+-- the same byte by byte: whether the sign has come behind this byte, where it had come or not; None where the line isn't such a line
+abbrev pub percent_step : Bool → ℕ → Option Bool
+percent_step seen b = if is_blank b then Some seen else (if (b == 37) && not seen then Some true else None)
 
--- the point with the words' coordinates replaced: each letter is later than the one before it
-abbrev pub replaced : ℕ → List (List ℕ) → Pt3 → Option Pt3
-replaced least [] p = Some p
-replaced least (word ∷ words) p = option_and_then (λ (w : ℕ × ℤ). replaced (w.0 + 1) words (with_axis p w.0 w.1)) (axis_word least word)
+-- such a line counts where the program may be framed
+abbrev pub has_frame : Frame → Bool → Bool
+has_frame Plain percent = false
+has_frame _ percent = percent
 
--- a rapid is `G0`, and a feed is `G1`
-abbrev pub kind_of : List ℕ → Option Kind
-kind_of word = if bytes_eq word (codes "G0") then Some Rapid else (if bytes_eq word (codes "G1") then Some Feed else None)
+abbrev pub in_frame : Frame → Progress → Progress
+in_frame Framed p = record p { ended = true }
+in_frame _ p = record p { frame = Framed }
 
-abbrev pub move_to : Pt3 → Kind → Pt3 → Move
-move_to from kind to = record { kind = kind; from = from; to = to }
+-- it begins the frame, or ends the program
+abbrev pub with_percent : Progress → Progress
+with_percent p = in_frame p.frame p
 
--- the move of these words: its kind, and then at least one of X, Y and Z in this order
-abbrev pub move_by : Pt3 → List (List ℕ) → Option Move
-move_by p [] = None
-move_by p (kind ∷ []) = None
-move_by p (kind ∷ word ∷ words) = option_and_then (λ (k : Kind). option_map (move_to p k) (replaced 88 (word ∷ words) p)) (kind_of kind)
+abbrev pub frame_after : Frame → Bool → Frame
+frame_after Unknown blank = if blank then Unknown else Plain
+frame_after Framed blank = Framed
+frame_after Plain blank = Plain
 
--- the move of a line, from a point
-abbrev pub move_of : Pt3 → List ℕ → Option Move
-move_of p line = move_by p (words_of line)
+-- another line shows that a program isn't framed, unless it is blank
+abbrev pub with_line : Progress → Bool → Progress
+with_line p blank = record p { frame = frame_after p.frame blank }
 
--- ---- a program
+-- ---- a line
 
--- a move before the moves that follow on it
-abbrev pub put_move : Move → Option (List Move) → Option (List Move)
-put_move move moves = option_map (λ (ms : List Move). move ∷ ms) moves
+-- what the words of a line do
+unfoldable pub after_words : Progress → Line → Result (Progress × Option Move) NgcFault
+after_words p l = said_by p.line p.positioned l >>= acted (with_line p (is_blank_line l))
 
--- the moves of the lines up to the last, which is `M2`, each from where the one before it ended
-abbrev pub moves_from : Pt3 → List (List ℕ) → Option (List Move)
-moves_from p [] = None
-moves_from p (line ∷ []) = if bytes_eq line (codes "M2") then Some [] else None
-moves_from p (line ∷ next ∷ lines) = option_and_then (λ (move : Move). put_move move (moves_from move.to (next ∷ lines))) (move_of p line)
+abbrev pub words_or_fault : ℕ → Result Line WordFault → Result Line NgcFault
+words_or_fault line (Ok l) = Ok l
+words_or_fault line (Err f) = Err (fault.Word line f)
 
--- one line alone is `M2`, and of several the first is `G21 G90`
-abbrev pub moves_by : Pt3 → List (List ℕ) → Option (List Move)
-moves_by start [] = None
-moves_by start (line ∷ []) = moves_from start (line ∷ [])
-moves_by start (line ∷ next ∷ lines) = if bytes_eq line (codes "G21 G90") then moves_from start (next ∷ lines) else None
+-- the next line begins
+abbrev pub begun : Progress → Progress
+begun p = record p { line = p.line + 1 }
 
--- a program has at most 1,000,000 moves
-abbrev pub if_few : List Move → Option (List Move)
-if_few moves = if nat_le (length moves) 1000000 then Some moves else None
+abbrev pub line_in : Progress → List ℕ → Result (Progress × Option Move) NgcFault
+line_in p line =
+    if nat_lt 256 (length line) then Err (fault.LongLine p.line) else
+    (if has_frame p.frame (is_percent line) then Ok (with_percent p, None)
+    else words_or_fault p.line (line_of line) >>= after_words p)
 
--- what a program text means from a start: its moves, or none where it isn't of the form
-abbrev pub program_of : Pt3 → List ℕ → Option (List Move)
-program_of start text = option_and_then if_few (moves_by start (lines_of text))
+-- what the next line does: the progress behind it, and its move, if it makes one
+unfoldable pub after_line : Progress → List ℕ → Result (Progress × Option Move) NgcFault
+after_line p line = line_in (begun p) line
+
+-- ---- a text
+
+-- nothing is settled yet, and the tool stands at this point
+abbrev pub start_at : Pt3 → Progress
+start_at p = record { here = p; mode = Off; millimetres = false; absolute = false; positioned = false; frame = Unknown; ended = false; moves = 0; line = 0 }
+
+abbrev pub made_list : Option Move → List Move
+made_list None = []
+made_list (Some m) = m ∷ []
+
+-- the moves so far, and those of the lines that follow up to the program's end
+unfoldable pub read_from : Progress → List Move → List (List ℕ) → Result (List Move) NgcFault
+read_from p moves [] = if p.ended then Ok moves else Err (fault.NoEnd p.line)
+read_from p moves (line ∷ lines) =
+    if p.ended then Ok moves else
+    (after_line p line >>= λ s. read_from s.0 (moves ++ made_list s.1) lines)
+
+-- what a program's text means from a start
+unfoldable pub program_of : Pt3 → List ℕ → Result (List Move) NgcFault
+program_of start text = read_from (start_at start) [] (lines_of text)

@@ -1,16 +1,24 @@
-//! Reader of program texts: which moves a text of G-codes means, from a start.
+//! Reads a program of G-codes: exactly the moves that its text means, or its first fault with the
+//! line, after a profile of NISTIR 6556 (RS274/NGC version 3).
 //!
-//! It stands on mill_base and mill_decimal. A text is `M2` alone, or `G21 G90`, lines of `G0` and
-//! `G1` with coordinates, and `M2`. [`read_program`] promises exactly the moves that the text
-//! means, or a refusal exactly where it means none. `specs/Programs` says what a text means.
+//! It stands on `mill_words` for the words of a line and on `mill_base` for the moves. A text is
+//! read line by line with no memory but that of the moves. `specs/Profile.antt` has the table of
+//! words, `specs/Said.antt` what a line's words say, `specs/Motion.antt` what that does, and
+//! `specs/Programs.antt` what a whole text means.
 #![tactic(auto)]
 
 mod fault;
+mod groups;
 mod lines;
+mod motion;
+mod numbers;
+mod profile;
 mod program;
+mod progress;
+mod reader;
+mod said;
 #[cfg(test)]
 mod tests;
-mod words;
 
 pub use fault::NgcFault;
 pub use program::read_program;

@@ -1,28 +1,29 @@
-ghost use Rattle.std.specs.Prelude.{◌≡◌, ◌≤◌, length, IfOk, codes, option_and_then};
-ghost use Rattle.std.specs.Str.{bytes_eq};
+ghost use Rattle.std.specs.Prelude.{◌≡◌, ◌++◌, ◌≤◌, length, IfOk, OnOk, IfErr};
 ghost use Rattle.mill_base.specs.Motion.{Follow};
 ghost use Rattle.mill_base.specs.Ranges.{IsInRange, MovesInRange};
-ghost use Rattle.mill_ngc.specs.Programs.{lines_of, moves_from, moves_by, if_few, program_of};
+ghost use Rattle.mill_ngc.specs.Programs.{program_of, made_list};
 ghost use Rattle.mill_ngc.specs.Readings.{Reads};
+ghost use Rattle.mill_ngc.specs.declared.fault.NgcFault.TheVariants as faults;
 
 use crate::fault::NgcFault;
 use crate::lines::split_line;
-use crate::words::read_move;
+use crate::reader::Reader;
 use mill_base::{Move, Pt3};
 use std::alloc::Global;
 
-/// The most moves that a program has.
-const MOST_MOVES: usize = 1_000_000;
-
 /// Reads a program text as moves, the first of which begins at `start`.
 ///
-/// A text is lines ended by LF, the last with or without it. The last line is `M2` (NISTIR 6556,
-/// 3.6.1). Before it stands nothing, or the line `G21 G90` (3.5.7, 3.5.17) and then at most
-/// 1,000,000 move lines: `G0` or `G1` (3.5.1, 3.5.2) and one to three words of X, Y and Z in this
-/// order, each a letter and a decimal of millimetres. Single spaces part the words.
+/// Each line feed ends a line. Where the first line that isn't blank holds only `%`, the program
+/// ends with the next such line; `M2` or `M30` ends it at the end of its line in any case (NISTIR
+/// 6556, 3.6.1). What comes behind has no meaning.
 ///
-/// A move goes to the point before it with the named coordinates replaced. Every other text is
-/// refused as `Form`, and `WantOfMemory` comes where there is no memory for the moves.
+/// A line with an axis word makes a move in the motion mode, `G0` or `G1` (3.5.1, 3.5.2), from the
+/// present point to that point with the named coordinates replaced, which are millimetres (`G21`,
+/// 3.5.7) and absolute (`G90`, 3.5.17). `F`, `S`, `T`, the other words of the profile's table and
+/// line numbers have no effect on the moves.
+///
+/// The answer is exactly those moves, or the text's first fault, which [`NgcFault`] tells with its
+/// line. `WantOfMemory` comes where there is no memory for the moves.
 pub fn read_program(alloc: Global, text: &[u8], start: Pt3) -> Result<Vec<Move>, NgcFault>
     requires { IsInRange start }
     ensures reads { Reads (program_of start text.now) result }
@@ -30,80 +31,44 @@ pub fn read_program(alloc: Global, text: &[u8], start: Pt3) -> Result<Vec<Move>,
     ensures follow { IfOk result (λ moves. Follow start moves.items) }
     ensures few { IfOk result (λ moves. length moves.items ≤ 1000000) }
 {
-    read_text(alloc, text, start)
-}
-
-// What `read_program` does. That the moves follow on each other is a law of what a text means.
-fn read_text(alloc: Global, text: &[u8], start: Pt3) -> Result<Vec<Move>, NgcFault>
-    requires { IsInRange start }
-    ensures reads { Reads (program_of start text.now) result }
-    ensures in_range { IfOk result (λ moves. MovesInRange moves.items) }
-{
-    if text.is_empty() {
-        return Err(NgcFault::Form);
-    }
-    let (line, rest) = split_line(text);
-    if rest.is_empty() {
-        return if is_end(line) {
-            Ok(Vec::new(alloc))
-        } else {
-            Err(NgcFault::Form)
-        };
-    }
-    if !is_setup(line) {
-        return Err(NgcFault::Form);
-    }
-    read_moves(alloc, rest, start)
-}
-
-// The moves of the lines behind the first.
-fn read_moves(alloc: Global, text: &[u8], start: Pt3) -> Result<Vec<Move>, NgcFault>
-    requires { IsInRange start }
-    ensures reads { Reads (option_and_then if_few (moves_from start (lines_of text.now))) result }
-    ensures in_range { IfOk result (λ moves. MovesInRange moves.items) }
-{
     let mut moves = Vec::with_capacity(alloc, room_for(text))?;
-    let mut at = start;
+    let mut reader = Reader::new(start);
     let mut rest = text;
-    while !rest.is_empty() {
+    loop {
         let (line, more) = split_line(rest);
-        if more.is_empty() {
-            return if is_end(line) {
-                Ok(moves)
-            } else {
-                Err(NgcFault::Form)
-            };
+        let made = reader.read_line(line)?;
+        add(&mut moves, made)?;
+        if reader.has_ended() {
+            return Ok(moves);
         }
-        if moves.len() == MOST_MOVES {
-            return Err(NgcFault::Form);
-        }
-        match read_move(line, at) {
-            Some(made) => {
-                moves.push(made)?;
-                at = made.to;
-                rest = more;
+        match more {
+            Some(text) => rest = text,
+            None => {
+                return Err(NgcFault::NoEnd {
+                    line: reader.line(),
+                });
             }
-            None => return Err(NgcFault::Form),
         }
     }
-    Err(NgcFault::Form)
 }
 
-// How many moves to take memory for: each ends with a line feed.
+// Adds the move of a line, if it makes one.
+fn add(moves: &mut Vec<Move>, made: Option<Move>) -> Result<(), NgcFault>
+    ensures ok { OnOk result (moves.new.items ≡ moves.old.items ++ made_list made) }
+    ensures fault { IfErr result (λ f. f ≡ faults.WantOfMemory) }
+{
+    if let Some(made) = made {
+        moves.push(made)?;
+    }
+    Ok(())
+}
+
+/// The most moves that memory is taken for beforehand.
+const MOST_MOVES: usize = 1_000_000;
+
+// How many moves to take memory for: nearly each ends with a line feed.
 fn room_for(text: &[u8]) -> usize
     ensures { result ≤ 1000000 }
 {
     text.iter().filter(|b| **b == b'\n').count().min(MOST_MOVES)
-}
-
-fn is_end(line: &[u8]) -> bool
-    ensures { result ≡ bytes_eq line.now (codes "M2") }
-{
-    line == b"M2".as_slice()
-}
-
-fn is_setup(line: &[u8]) -> bool
-    ensures { result ≡ bytes_eq line.now (codes "G21 G90") }
-{
-    line == b"G21 G90".as_slice()
 }

@@ -3,13 +3,13 @@ use Rattle.std.proofs.Common.{◌≡◌, ℕ, suc, ◌+◌, ◌-◌, ◌<◌, �
 use Rattle.std.proofs.Math.ListN.{drop_of_length-le}
 use Rattle.std.proofs.Math.Seq.{take-suc}
 use Rattle.std.proofs.lemmas.List.{get_or-drop}
-use Rattle.std.specs.Global.{Vec}
 use Rattle.mill_base.specs.declared.points.Tri.{Tri}
 use Rattle.mill_decimal.specs.declared.snap.Snap.{Snap}
 use Rattle.mill_stl.specs.declared.fault.StlFault.{StlFault}
 use Rattle.mill_stl.specs.declared.fault.StlFault.TheVariants.{Expected, Coord, TooManyTriangles, CutShort, WantOfMemory}
 use Rattle.mill_stl.specs.declared.state.Cursor.{Cursor}
-use Rattle.mill_stl.specs.Parts.{Scan, is_space, after_byte, after_text, read_from, Fails, Gives}
+use Rattle.mill_stl.specs.declared.state.StlRead.{StlRead}
+use Rattle.mill_stl.specs.Parts.{Scan, Part, is_space, after_byte, after_text, read_from, Fails, Gives}
 use Rattle.mill_stl.specs.Bounds.{scan_at}
 
 -- a word and its next byte
@@ -29,7 +29,7 @@ unfolding after_byte
 after_byte-in_word snap text place c tris le lt space = rw (space, take_word-suc text c.from place le lt) refl
 
 -- the meaning of the rest from one byte on is that from the next on
-pub read_from-next : (snap : Snap) (text : List ℕ) (i : ℕ) (s t : Scan) (total : Result (List Tri) StlFault)
+pub read_from-next : (snap : Snap) (text : List ℕ) (i : ℕ) (s t : Scan) (total : Result Part StlFault)
     → i < length text → after_byte snap s (get_or text i 0) ≡ Ok t
     → read_from snap s (drop i text) ≡ total → read_from snap t (drop (i + 1) text) ≡ total
 unfolding read_from
@@ -44,7 +44,7 @@ unfolding read_from
 read_from-err snap text i s fault lt h = rw (drop-cons text i 0 lt, h) refl
 
 -- the same of a fault that may be want of memory
-pub fails : (fault : StlFault) (snap : Snap) (text : List ℕ) (i : ℕ) (s : Scan) (total : Result (List Tri) StlFault)
+pub fails : (fault : StlFault) (snap : Snap) (text : List ℕ) (i : ℕ) (s : Scan) (total : Result Part StlFault)
     → i < length text → Fails fault (after_byte snap s (get_or text i 0))
     → read_from snap s (drop i text) ≡ total → Fails fault total
 fails WantOfMemory snap text i s total lt h so_far = tt
@@ -54,11 +54,11 @@ fails (TooManyTriangles line) snap text i s total lt h so_far = sym so_far ∙ r
 fails (CutShort line) snap text i s total lt h so_far = sym so_far ∙ read_from-err snap text i s (CutShort line) lt h
 
 -- at the end nothing is left but a last word
-pub gives : (snap : Snap) (text : List ℕ) (place : ℕ) (c : Cursor) (tris : List Tri) (r : Result (Vec Tri) StlFault) (total : Result (List Tri) StlFault)
+pub gives : (snap : Snap) (text : List ℕ) (place : ℕ) (c : Cursor) (tris : List Tri) (r : Result StlRead StlFault) (total : Result Part StlFault)
     → place ≡ length text → Gives r (after_text snap (scan_at text (length text) c tris))
     → read_from snap (scan_at text place c tris) (drop place text) ≡ total → Gives r total
 unfolding read_from
 gives snap text place c tris r total e h so_far =
     let whole = rw e at so_far in
     let one : read_from snap (scan_at text (length text) c tris) (drop (length text) text) ≡ after_text snap (scan_at text (length text) c tris) = rw (drop_of_length-le text {i = length text} (omega arith)) refl in
-    subst (λ (meaning : Result (List Tri) StlFault). Gives r meaning) (sym one ∙ whole) h
+    subst (λ (meaning : Result Part StlFault). Gives r meaning) (sym one ∙ whole) h

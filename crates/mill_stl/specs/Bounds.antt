@@ -1,5 +1,5 @@
 -- What stays true from word to word while a part is read.
-use Rattle.std.specs.Prelude.{◌≡◌, ℕ, ◌+◌, ◌-◌, ◌≤◌, ◌<◌, ℤ, List, length, take, drop, Option, Some, None, IfSome, Result, slice_index}
+use Rattle.std.specs.Prelude.{◌≡◌, ℕ, ◌+◌, ◌-◌, ◌*◌, ◌≤◌, ◌<◌, ℤ, List, length, take, drop, Option, Some, None, IfSome, Result, slice_index}
 use Rattle.std.specs.List.{All}
 use Rattle.mill_base.specs.Numbers.{Within, greatest}
 use Rattle.mill_base.specs.Ranges.{TriInRange}
@@ -13,15 +13,28 @@ use Rattle.mill_stl.specs.declared.state.Step.{Step}
 use Rattle.mill_stl.specs.declared.state.Cursor.{Cursor}
 use Rattle.mill_stl.specs.Parts.{Scan, reached_at, after_byte}
 
+-- how many coordinates of the facet the stage has behind it
+abbrev pub coords_before : Stage → ℕ
+coords_before (stage.Vertex n) = n
+coords_before (stage.Coord n) = n
+coords_before stage.EndLoop = 9
+coords_before stage.EndFacet = 9
+coords_before _ = 0
+
 -- the stage's number is one of its few, and within a facet there is room for it
-abbrev pub FitsStage : Stage → ℕ → Type 0
-FitsStage stage.Solid facets = facets ≤ 200000
-FitsStage stage.FacetOrEnd facets = facets ≤ 200000
-FitsStage stage.Nothing facets = facets ≤ 200000
-FitsStage (stage.Ignored n) facets = (facets < 200000) × (n ≤ 2)
-FitsStage (stage.Vertex n) facets = (facets < 200000) × (n ≤ 6)
-FitsStage (stage.Coord n) facets = (facets < 200000) × (n ≤ 8)
-FitsStage _ facets = facets < 200000
+abbrev pub HasRoom : Stage → ℕ → Type 0
+HasRoom stage.Solid facets = facets ≤ 200000
+HasRoom stage.SolidOrEnd facets = facets ≤ 200000
+HasRoom stage.FacetOrEnd facets = facets ≤ 200000
+HasRoom (stage.Ignored n) facets = (facets < 200000) × (n ≤ 2)
+HasRoom (stage.Vertex n) facets = (facets < 200000) × (n ≤ 6)
+HasRoom (stage.Coord n) facets = (facets < 200000) × (n ≤ 8)
+HasRoom _ facets = facets < 200000
+
+-- and no more coordinates were rounded than there were
+pub record FitsStage (s : Stage) (facets rounded : ℕ) : Type 0 where
+  pub room : HasRoom s facets
+  pub counted : rounded ≤ 9 * facets + coords_before s
 
 -- the coordinates are in range
 abbrev pub CoordsInRange : List ℤ → Type 0
@@ -29,7 +42,7 @@ CoordsInRange coords = All (λ z. Within greatest z) coords
 
 -- the stage and the coordinates fit
 pub record Fits (p : Progress) : Type 0 where
-  pub stage_ok : FitsStage p.stage p.facets
+  pub stage_ok : FitsStage p.stage p.facets p.rounded
   pub coords_ok : CoordsInRange p.coords
 
 -- the facets and one more, if a triangle has ended

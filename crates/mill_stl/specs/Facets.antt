@@ -1,11 +1,11 @@
 -- The words of a part text: what each has to be, and what it does.
 use Rattle.std.specs.Prelude.{ℕ, ◌+◌, ℤ, pos, List, Some, None, Result, Ok, Err, Bool, ◌==◌, nat_lt, nat_le, if◌then◌else◌, slice_index_or, set, codes}
-use Rattle.std.specs.Str.{bytes_eq}
+use Rattle.std.specs.Str.{str_eq_ignore_ascii_case}
 use Rattle.mill_base.specs.declared.points.Pt3.{Pt3}
 use Rattle.mill_base.specs.declared.points.Tri.{Tri}
 use Rattle.mill_decimal.specs.declared.snap.Snap.{Snap}
 use Rattle.mill_decimal.specs.declared.fault.DecFault.{DecFault}
-use Rattle.mill_decimal.specs.Decimals.{read_as}
+use Rattle.mill_decimal.specs.Decimals.{read_as, is_rounded}
 use Rattle.mill_stl.specs.declared.fault.What.{What}
 use Rattle.mill_stl.specs.declared.fault.What.TheVariants as what
 use Rattle.mill_stl.specs.declared.fault.StlFault.{StlFault}
@@ -15,9 +15,9 @@ use Rattle.mill_stl.specs.declared.state.Stage.TheVariants as stage
 use Rattle.mill_stl.specs.declared.state.Progress.{Progress}
 use Rattle.mill_stl.specs.declared.state.Step.{Step}
 
--- the word is the keyword
+-- the word is the keyword, in any letter case
 abbrev pub is_keyword : List ℕ → List ℕ → Bool
-is_keyword word keyword = bytes_eq word keyword
+is_keyword word keyword = str_eq_ignore_ascii_case word keyword
 
 -- the next word is judged at another stage
 abbrev pub moved_to : Progress → Stage → Step
@@ -33,9 +33,9 @@ after_keyword p line word keyword expected next =
     if is_keyword word keyword then Ok (moved_to p next) else Err (Expected line expected)
 
 -- a solid begins, and its name
-abbrev pub after_solid : Progress → ℕ → List ℕ → Result Step StlFault
-after_solid p line word =
-    if is_keyword word (codes "solid") then Ok (with_name p line stage.FacetOrEnd) else Err (Expected line what.Solid)
+abbrev pub after_solid : Progress → ℕ → List ℕ → What → Result Step StlFault
+after_solid p line word expected =
+    if is_keyword word (codes "solid") then Ok (with_name p line stage.FacetOrEnd) else Err (Expected line expected)
 
 -- a facet begins; the 200,001st is one too many
 abbrev pub begun_facet : Progress → ℕ → Result Step StlFault
@@ -45,7 +45,7 @@ begun_facet p line = if nat_le 200000 p.facets then Err (TooManyTriangles line) 
 abbrev pub after_facet_or_end : Progress → ℕ → List ℕ → Result Step StlFault
 after_facet_or_end p line word =
     if is_keyword word (codes "facet") then begun_facet p line else
-    (if is_keyword word (codes "endsolid") then Ok (with_name p line stage.Nothing) else Err (Expected line what.FacetOrEnd))
+    (if is_keyword word (codes "endsolid") then Ok (with_name p line stage.SolidOrEnd) else Err (Expected line what.FacetOrEnd))
 
 -- what follows the n-th of a normal's three words, which may be any words
 abbrev pub stage_after_ignored : ℕ → Stage
@@ -58,18 +58,23 @@ stage_after_coord n =
     (if n == 5 then stage.Vertex 6 else
     (if nat_lt n 8 then stage.Coord (n + 1) else stage.EndLoop))
 
--- the n-th coordinate is z
-abbrev pub with_coord : Progress → ℕ → ℤ → Step
-with_coord p n z = record { progress = record p { stage = stage_after_coord n; coords = set p.coords n z }; tri = None }
+-- one more than the count if the coordinate was rounded
+abbrev pub rounded_after : ℕ → Bool → ℕ
+rounded_after count rounded = if rounded then count + 1 else count
+
+-- the n-th coordinate is z, rounded or not
+abbrev pub with_coord : Progress → ℕ → ℤ → Bool → Step
+with_coord p n z rounded =
+    record { progress = record p { stage = stage_after_coord n; coords = set p.coords n z; rounded = rounded_after p.rounded rounded }; tri = None }
 
 -- the n-th coordinate is what its word was read as, if that is a decimal
-abbrev pub coord_or_fault : Progress → ℕ → ℕ → Result ℤ DecFault → Result Step StlFault
-coord_or_fault p line n (Ok z) = Ok (with_coord p n z)
-coord_or_fault p line n (Err fault) = Err (Coord line fault)
+abbrev pub coord_or_fault : Progress → ℕ → ℕ → Bool → Result ℤ DecFault → Result Step StlFault
+coord_or_fault p line n rounded (Ok z) = Ok (with_coord p n z rounded)
+coord_or_fault p line n rounded (Err fault) = Err (Coord line fault)
 
 -- a word in the n-th coordinate's place has to be a decimal
 abbrev pub after_coord : Snap → Progress → ℕ → ℕ → List ℕ → Result Step StlFault
-after_coord snap p line n word = coord_or_fault p line n (read_as snap word)
+after_coord snap p line n word = coord_or_fault p line n (is_rounded word) (read_as snap word)
 
 -- the corner whose coordinates begin with the n-th
 abbrev pub corner : List ℤ → ℕ → Pt3
@@ -90,7 +95,8 @@ after_end_facet p line word =
 
 -- what a word does at a stage
 abbrev pub at_stage : Snap → Stage → Progress → ℕ → List ℕ → Result Step StlFault
-at_stage snap stage.Solid p line word = after_solid p line word
+at_stage snap stage.Solid p line word = after_solid p line word what.Solid
+at_stage snap stage.SolidOrEnd p line word = after_solid p line word what.SolidOrEnd
 at_stage snap stage.FacetOrEnd p line word = after_facet_or_end p line word
 at_stage snap stage.Normal p line word = after_keyword p line word (codes "normal") what.Normal (stage.Ignored 0)
 at_stage snap (stage.Ignored n) p line word = Ok (moved_to p (stage_after_ignored n))
@@ -100,7 +106,6 @@ at_stage snap (stage.Vertex n) p line word = after_keyword p line word (codes "v
 at_stage snap (stage.Coord n) p line word = after_coord snap p line n word
 at_stage snap stage.EndLoop p line word = after_keyword p line word (codes "endloop") what.EndLoop stage.EndFacet
 at_stage snap stage.EndFacet p line word = after_end_facet p line word
-at_stage snap stage.Nothing p line word = Err (Expected line what.Nothing)
 
 -- what a word does: nothing on the line of a name, else what its stage says
 unfoldable pub after_word : Snap → Progress → ℕ → List ℕ → Result Step StlFault

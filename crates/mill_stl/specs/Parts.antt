@@ -1,10 +1,10 @@
 -- A part text, byte by byte: its words with their lines, its triangles, and its first fault.
 use Rattle.std.specs.Prelude.{◌≡◌, ℕ, ◌+◌, pos, List, [], ◌∷◌, ◌++◌, replicate, Option, Some, None, Result, Ok, Err, Bool, true, false, ◌&&◌, ◌||◌, ◌==◌, nat_le, if◌then◌else◌}
-use Rattle.std.specs.Global.{Vec}
 use Rattle.mill_base.specs.declared.points.Tri.{Tri}
 use Rattle.mill_decimal.specs.declared.snap.Snap.{Snap}
 use Rattle.mill_stl.specs.declared.fault.StlFault.{StlFault}
 use Rattle.mill_stl.specs.declared.fault.StlFault.TheVariants.{CutShort, WantOfMemory}
+use Rattle.mill_stl.specs.declared.state.StlRead.{StlRead}
 use Rattle.mill_stl.specs.declared.state.Stage.{Stage}
 use Rattle.mill_stl.specs.declared.state.Stage.TheVariants as stage
 use Rattle.mill_stl.specs.declared.state.Progress.{Progress}
@@ -60,30 +60,36 @@ after_byte snap s b =
     then and_then (with_word snap s.reached s.line s.word) (λ r. Ok (record { reached = r; line = next_line s.line b; word = [] }))
     else Ok (record s { word = s.word ++ b ∷ [] })
 
--- the solid has ended
+-- the last solid has ended
 abbrev pub is_end : Stage → Bool
-is_end stage.Nothing = true
+is_end stage.SolidOrEnd = true
 is_end _ = false
 
+-- what a part text means: its triangles in order, and how many coordinates were rounded
+pub record Part : Type 0 where
+  pub tris : List Tri
+  pub rounded : ℕ
+
 -- what was reached is a whole part
-abbrev pub whole_part : ℕ → Reached → Result (List Tri) StlFault
-whole_part line r = if is_end r.progress.stage then Ok r.tris else Err (CutShort line)
+abbrev pub whole_part : ℕ → Reached → Result Part StlFault
+whole_part line r =
+    if is_end r.progress.stage then Ok (record { tris = r.tris; rounded = r.progress.rounded }) else Err (CutShort line)
 
 -- the text ends here
-unfoldable pub after_text : Snap → Scan → Result (List Tri) StlFault
+unfoldable pub after_text : Snap → Scan → Result Part StlFault
 after_text snap s = and_then (with_word snap s.reached s.line s.word) (whole_part s.line)
 
 -- the rest of the text
-unfoldable pub read_from : Snap → Scan → List ℕ → Result (List Tri) StlFault
+unfoldable pub read_from : Snap → Scan → List ℕ → Result Part StlFault
 read_from snap s [] = after_text snap s
 read_from snap s (b ∷ bytes) = and_then (after_byte snap s b) (λ t. read_from snap t bytes)
 
 -- before the first word; no line has the number 0
 abbrev pub start : Progress
-start = record { stage = stage.Solid; name_line = 0; coords = replicate 9 (pos 0); facets = 0 }
+start = record { stage = stage.Solid; name_line = 0; coords = replicate 9 (pos 0); facets = 0; rounded = 0 }
 
--- the triangles of a part text in order, or its first fault
-unfoldable pub part_of : Snap → List ℕ → Result (List Tri) StlFault
+-- what a part text means, or its first fault
+unfoldable pub part_of : Snap → List ℕ → Result Part StlFault
 part_of snap text = read_from snap (record { reached = reached_at start []; line = 1; word = [] }) text
 
 -- the fault is the text's first, or memory ran out
@@ -92,6 +98,6 @@ Fails WantOfMemory meaning = Unit {0}
 Fails fault meaning = meaning ≡ Err fault
 
 -- the answer is what the text means, or memory ran out
-abbrev pub Gives : Result (Vec Tri) StlFault → Result (List Tri) StlFault → Type 0
-Gives (Ok tris) meaning = meaning ≡ Ok tris.items
+abbrev pub Gives : Result StlRead StlFault → Result Part StlFault → Type 0
+Gives (Ok read) meaning = meaning ≡ Ok (record { tris = read.tris.items; rounded = read.rounded })
 Gives (Err fault) meaning = Fails fault meaning

@@ -1,15 +1,15 @@
 //! What a word does.
 
-ghost use Rattle.std.specs.Prelude.{◌≡◌, ◌≤◌, ◌<◌, IfOk, ℕ};
+ghost use Rattle.std.specs.Prelude.{◌≡◌, ◌+◌, ◌*◌, ◌^◌, ◌≤◌, ◌<◌, IfOk, ℕ};
 ghost use Rattle.mill_base.specs.Numbers.{Within, greatest};
 ghost use Rattle.mill_base.specs.Ranges.{TriInRange};
-ghost use Rattle.mill_stl.specs.Facets.{is_keyword as is_keyword_of, moved_to, with_name, after_keyword, after_solid, begun_facet, after_facet_or_end, stage_after_ignored as stage_after_ignored_of, stage_after_coord as stage_after_coord_of, with_coord as with_coord_of, after_coord, tri_of as tri_of_coords, after_end_facet, at_stage as at_stage_of, after_word};
+ghost use Rattle.mill_stl.specs.Facets.{is_keyword as is_keyword_of, moved_to, with_name, after_keyword, after_solid, begun_facet, after_facet_or_end, stage_after_ignored as stage_after_ignored_of, stage_after_coord as stage_after_coord_of, rounded_after as rounded_after_of, with_coord as with_coord_of, after_coord, tri_of as tri_of_coords, after_end_facet, at_stage as at_stage_of, after_word};
 ghost use Rattle.mill_stl.specs.Bounds.{FitsStage, CoordsInRange, Fits, IsStep};
 
 use crate::fault::{StlFault, What};
 use crate::state::{Progress, Stage, Step};
 use mill_base::{Pt3, Tri};
-use mill_decimal::{Snap, read_decimal};
+use mill_decimal::{Reading, Snap, read_with_rounding};
 
 /// The most triangles of a part.
 const MOST_TRIANGLES: u64 = 200_000;
@@ -17,12 +17,12 @@ const MOST_TRIANGLES: u64 = 200_000;
 fn is_keyword(word: &[u8], keyword: &[u8]) -> bool
     ensures { result ≡ is_keyword_of word.now keyword.now }
 {
-    word == keyword
+    word.eq_ignore_ascii_case(keyword)
 }
 
 fn move_to(progress: Progress, next: Stage) -> Step
     requires fits { Fits progress }
-    requires next_fits { FitsStage next progress.facets }
+    requires next_fits { FitsStage next progress.facets progress.rounded }
     ensures value { result ≡ moved_to progress next }
     ensures step { IsStep progress result }
 {
@@ -37,7 +37,7 @@ fn move_to(progress: Progress, next: Stage) -> Step
 
 fn begin_name(progress: Progress, line: u64, next: Stage) -> Step
     requires fits { Fits progress }
-    requires next_fits { FitsStage next progress.facets }
+    requires next_fits { FitsStage next progress.facets progress.rounded }
     ensures value { result ≡ with_name progress line next }
     ensures step { IsStep progress result }
 {
@@ -60,7 +60,7 @@ fn expect(
     next: Stage,
 ) -> Result<Step, StlFault>
     requires fits { Fits progress }
-    requires next_fits { FitsStage next progress.facets }
+    requires next_fits { FitsStage next progress.facets progress.rounded }
     ensures value { result ≡ after_keyword progress line word.now keyword.now what next }
     ensures step { IfOk result (λ s. IsStep progress s) }
 {
@@ -70,23 +70,21 @@ fn expect(
     Err(StlFault::Expected { line, what })
 }
 
-fn begin_solid(progress: Progress, line: u64, word: &[u8]) -> Result<Step, StlFault>
+fn begin_solid(progress: Progress, line: u64, word: &[u8], what: What) -> Result<Step, StlFault>
     requires fits { Fits progress }
-    requires room { progress.facets ≤ 200000 }
-    ensures value { result ≡ after_solid progress line word.now }
+    requires next_fits { FitsStage Stage.FacetOrEnd progress.facets progress.rounded }
+    ensures value { result ≡ after_solid progress line word.now what }
     ensures step { IfOk result (λ s. IsStep progress s) }
 {
     if is_keyword(word, b"solid") {
         return Ok(begin_name(progress, line, Stage::FacetOrEnd));
     }
-    Err(StlFault::Expected {
-        line,
-        what: What::Solid,
-    })
+    Err(StlFault::Expected { line, what })
 }
 
 fn begin_facet(progress: Progress, line: u64) -> Result<Step, StlFault>
-    requires { Fits progress }
+    requires fits { Fits progress }
+    requires stage { progress.stage ≡ Stage.FacetOrEnd }
     ensures value { result ≡ begun_facet progress line }
     ensures step { IfOk result (λ s. IsStep progress s) }
 {
@@ -98,7 +96,7 @@ fn begin_facet(progress: Progress, line: u64) -> Result<Step, StlFault>
 
 fn facet_or_end(progress: Progress, line: u64, word: &[u8]) -> Result<Step, StlFault>
     requires fits { Fits progress }
-    requires room { progress.facets ≤ 200000 }
+    requires stage { progress.stage ≡ Stage.FacetOrEnd }
     ensures value { result ≡ after_facet_or_end progress line word.now }
     ensures step { IfOk result (λ s. IsStep progress s) }
 {
@@ -106,7 +104,7 @@ fn facet_or_end(progress: Progress, line: u64, word: &[u8]) -> Result<Step, StlF
         return begin_facet(progress, line);
     }
     if is_keyword(word, b"endsolid") {
-        return Ok(begin_name(progress, line, Stage::Nothing));
+        return Ok(begin_name(progress, line, Stage::SolidOrEnd));
     }
     Err(StlFault::Expected {
         line,
@@ -117,7 +115,8 @@ fn facet_or_end(progress: Progress, line: u64, word: &[u8]) -> Result<Step, StlF
 fn stage_after_ignored(number: u8) -> Stage
     requires { number ≤ 2 }
     ensures value { result ≡ stage_after_ignored_of number }
-    ensures fits { (facets : ℕ) → facets < 200000 → FitsStage result facets }
+    ensures fits { (facets rounded : ℕ) → facets < 200000 → rounded ≤ 9 * facets
+        → FitsStage result facets rounded }
 {
     if number < 2 {
         return Stage::Ignored(number + 1);
@@ -128,7 +127,8 @@ fn stage_after_ignored(number: u8) -> Stage
 fn stage_after_coord(number: u8) -> Stage
     requires { number ≤ 8 }
     ensures value { result ≡ stage_after_coord_of number }
-    ensures fits { (facets : ℕ) → facets < 200000 → FitsStage result facets }
+    ensures fits { (facets rounded : ℕ) → facets < 200000 → rounded ≤ 9 * facets + number + 1
+        → FitsStage result facets rounded }
 {
     if number == 2 {
         return Stage::Vertex(3);
@@ -142,20 +142,28 @@ fn stage_after_coord(number: u8) -> Stage
     Stage::EndLoop
 }
 
-fn with_coord(progress: Progress, number: u8, coord: i32) -> Step
+fn rounded_after(count: u64, rounded: bool) -> u64
+    requires { count < 2 ^ 63 }
+    ensures value { result ≡ rounded_after_of count rounded }
+    ensures small { result ≤ count + 1 }
+{
+    if rounded { count + 1 } else { count }
+}
+
+fn with_coord(progress: Progress, number: u8, reading: Reading) -> Step
     requires fits { Fits progress }
-    requires number { number ≤ 8 }
-    requires room { progress.facets < 200000 }
-    requires coord { Within greatest coord }
-    ensures value { result ≡ with_coord_of progress number coord }
+    requires stage { progress.stage ≡ Stage.Coord number }
+    requires in_range { Within greatest reading.units }
+    ensures value { result ≡ with_coord_of progress number reading.units reading.rounded }
     ensures step { IsStep progress result }
 {
     let mut coords = progress.coords;
-    coords[usize::from(number)] = coord;
+    coords[usize::from(number)] = reading.units;
     Step {
         progress: Progress {
             stage: stage_after_coord(number),
             coords,
+            rounded: rounded_after(progress.rounded, reading.rounded),
             ..progress
         },
         tri: None,
@@ -170,13 +178,12 @@ fn take_coord(
     word: &[u8],
 ) -> Result<Step, StlFault>
     requires fits { Fits progress }
-    requires number { number ≤ 8 }
-    requires room { progress.facets < 200000 }
+    requires stage { progress.stage ≡ Stage.Coord number }
     ensures value { result ≡ after_coord snap progress line number word.now }
     ensures step { IfOk result (λ s. IsStep progress s) }
 {
-    match read_decimal(word, snap) {
-        Ok(coord) => Ok(with_coord(progress, number, coord)),
+    match read_with_rounding(word, snap) {
+        Ok(reading) => Ok(with_coord(progress, number, reading)),
         Err(fault) => Err(StlFault::Coord { line, fault }),
     }
 }
@@ -208,7 +215,7 @@ fn tri_of(coords: [i32; 9]) -> Tri
 
 fn end_facet(progress: Progress, line: u64, word: &[u8]) -> Result<Step, StlFault>
     requires fits { Fits progress }
-    requires room { progress.facets < 200000 }
+    requires stage { progress.stage ≡ Stage.EndFacet }
     ensures value { result ≡ after_end_facet progress line word.now }
     ensures step { IfOk result (λ s. IsStep progress s) }
 {
@@ -241,7 +248,8 @@ fn at_stage(
     ensures step { IfOk result (λ s. IsStep progress s) }
 {
     match stage {
-        Stage::Solid => begin_solid(progress, line, word),
+        Stage::Solid => begin_solid(progress, line, word, What::Solid),
+        Stage::SolidOrEnd => begin_solid(progress, line, word, What::SolidOrEnd),
         Stage::FacetOrEnd => facet_or_end(progress, line, word),
         Stage::Normal => {
             let next = Stage::Ignored(0);
@@ -260,10 +268,6 @@ fn at_stage(
             expect(progress, line, word, b"endloop", What::EndLoop, next)
         }
         Stage::EndFacet => end_facet(progress, line, word),
-        Stage::Nothing => Err(StlFault::Expected {
-            line,
-            what: What::Nothing,
-        }),
     }
 }
 

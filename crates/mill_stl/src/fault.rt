@@ -8,6 +8,8 @@ use thiserror::Error;
 pub enum What {
     /// `solid`, the first word.
     Solid,
+    /// `solid`, or the text's end behind the line of an `endsolid`.
+    SolidOrEnd,
     /// `facet` or `endsolid`.
     FacetOrEnd,
     /// `normal`.
@@ -22,8 +24,6 @@ pub enum What {
     EndLoop,
     /// `endfacet`.
     EndFacet,
-    /// No word at all, behind the line of `endsolid`.
-    Nothing,
 }
 
 impl fmt::Display for What {
@@ -35,6 +35,7 @@ impl fmt::Display for What {
     fn fmt<W: fmt::Write>(&self, f: &mut fmt::Formatter<W>) -> fmt::Result {
         f.write_str(match self {
             What::Solid => "`solid`",
+            What::SolidOrEnd => "`solid` or the end",
             What::FacetOrEnd => "`facet` or `endsolid`",
             What::Normal => "`normal`",
             What::Outer => "`outer`",
@@ -42,7 +43,6 @@ impl fmt::Display for What {
             What::Vertex => "`vertex`",
             What::EndLoop => "`endloop`",
             What::EndFacet => "`endfacet`",
-            What::Nothing => "no further word",
         })
     }
 }
@@ -72,8 +72,8 @@ pub enum StlFault {
         /// The line of that `facet`.
         line: u64,
     },
-    /// The text ends before its solid does.
-    #[error("line {line}: the text ends within its solid")]
+    /// The text ends before its first solid, or within a solid.
+    #[error("line {line}: the text ends before its solid does")]
     CutShort {
         /// The last line: one more than the text has LF bytes.
         line: u64,

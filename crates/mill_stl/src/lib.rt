@@ -13,3 +13,4 @@ mod state;
 
 pub use fault::{StlFault, What};
 pub use reading::read_stl;
+pub use state::StlRead;

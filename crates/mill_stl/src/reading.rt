@@ -1,13 +1,13 @@
 //! Reads a whole part text.
 
-ghost use Rattle.std.specs.Prelude.{◌≡◌, ◌≤◌, ◌<◌, ◌^◌, ◌+◌, ◌-◌, [], length, IfOk, OnOk, IfErr, Ok};
+ghost use Rattle.std.specs.Prelude.{◌≡◌, ◌≤◌, ◌<◌, ◌^◌, ◌+◌, ◌-◌, ◌*◌, [], length, IfOk, OnOk, IfErr, Ok};
 ghost use Rattle.mill_base.specs.Ranges.{TrisInRange};
 ghost use Rattle.mill_stl.specs.Parts.{is_space as is_space_byte, next_line as next_line_of, is_end as is_end_stage, start, reached_at, with_tri, with_word, after_text, part_of, Fails, Gives};
 ghost use Rattle.mill_stl.specs.Bounds.{IsSound, scan_at, scan_after};
 
 use crate::facet::take_word;
 use crate::fault::StlFault;
-use crate::state::{Cursor, Progress, Stage};
+use crate::state::{Cursor, Progress, Stage, StlRead};
 use mill_base::Tri;
 use mill_decimal::Snap;
 use std::alloc::Global;
@@ -33,7 +33,7 @@ fn is_end(stage: Stage) -> bool
     ensures { result ≡ is_end_stage stage }
 {
     match stage {
-        Stage::Nothing => true,
+        Stage::SolidOrEnd => true,
         _ => false,
     }
 }
@@ -48,6 +48,7 @@ fn at_start() -> Cursor
             name_line: 0,
             coords: [0; 9],
             facets: 0,
+            rounded: 0,
         },
         line: 1,
         from: 0,
@@ -133,35 +134,41 @@ fn end_text(
     text: &[u8],
     cursor: Cursor,
     mut tris: Vec<Tri>,
-) -> Result<Vec<Tri>, StlFault>
+) -> Result<StlRead, StlFault>
     requires from { cursor.from ≤ length text.now }
     requires sound { IsSound cursor.progress tris.items }
     ensures gives { Gives result
         (after_text snap (scan_at text.now (length text.now) cursor tris.items)) }
-    ensures in_range { IfOk result (λ part. TrisInRange part.items) }
-    ensures few { IfOk result (λ part. length part.items ≤ 200000) }
+    ensures in_range { IfOk result (λ read. TrisInRange read.tris.items) }
+    ensures few { IfOk result (λ read. length read.tris.items ≤ 200000) }
+    ensures few_rounded { IfOk result (λ read. read.rounded ≤ 9 * length read.tris.items) }
 {
     let word = &text[cursor.from..];
     let progress = end_word(snap, cursor.progress, &mut tris, cursor.line, word)?;
     if !is_end(progress.stage) {
         return Err(StlFault::CutShort { line: cursor.line });
     }
-    Ok(tris)
+    Ok(StlRead {
+        tris,
+        rounded: progress.rounded,
+    })
 }
 
-/// The triangles of a part text in a narrow form of ASCII STL, in the order of the text.
+/// The triangles of a part text in ASCII STL, in the order of the text, and how many of its
+/// coordinates were rounded.
 ///
-/// The text is one solid, read as words that white space parts: `solid` and a name, facets,
-/// `endsolid` and a name. A name is the rest of its line, whatever it is. Keywords are in lower
-/// case, and a normal's three words may be any words. Coordinates are decimals of millimetres,
-/// read by `snap` to units of 0.01 mm.
+/// The text is one solid or several, read as words that white space parts: `solid` and a name,
+/// facets, `endsolid` and a name. A name is the rest of its line, whatever it is. Keywords are in
+/// any letter case, and a normal's three words may be any words. Coordinates are decimals of
+/// millimetres, read by `snap` to units of 0.01 mm.
 ///
 /// A text of another form is refused for its first bad place; [`StlFault`] says which there are.
 #[tactic(auto, unfolding(crate::specs::Parts::part_of))]
-pub fn read_stl(alloc: Global, text: &[u8], snap: Snap) -> Result<Vec<Tri>, StlFault>
+pub fn read_stl(alloc: Global, text: &[u8], snap: Snap) -> Result<StlRead, StlFault>
     ensures gives { Gives result (part_of snap text.now) }
-    ensures in_range { IfOk result (λ tris. TrisInRange tris.items) }
-    ensures few { IfOk result (λ tris. length tris.items ≤ 200000) }
+    ensures in_range { IfOk result (λ read. TrisInRange read.tris.items) }
+    ensures few { IfOk result (λ read. length read.tris.items ≤ 200000) }
+    ensures few_rounded { IfOk result (λ read. read.rounded ≤ 9 * length read.tris.items) }
 {
     let mut tris = Vec::new(alloc);
     let mut cursor = at_start();

@@ -1,11 +1,22 @@
-//! Where a reading stands.
+//! What was read, and where a reading stands.
 use mill_base::Tri;
+
+/// What a part text means.
+#[derive(Debug, Drop)]
+pub struct StlRead {
+    /// The triangles, in the order of the text.
+    pub tris: Vec<Tri>,
+    /// How many coordinates were rounded, since their units aren't whole.
+    pub rounded: u64,
+}
 
 /// What the next word has to be.
 #[derive(Clone, Copy, Debug, PartialEq, Eq)]
 pub(crate) enum Stage {
     /// `solid`.
     Solid,
+    /// `solid`, or the text's end.
+    SolidOrEnd,
     /// `facet` or `endsolid`.
     FacetOrEnd,
     /// `normal`.
@@ -24,8 +35,6 @@ pub(crate) enum Stage {
     EndLoop,
     /// `endfacet`.
     EndFacet,
-    /// No word, since the solid has ended.
-    Nothing,
 }
 
 /// How far the words are read.
@@ -38,6 +47,8 @@ pub(crate) struct Progress {
     pub coords: [i32; 9],
     /// How many facets have ended.
     pub facets: u64,
+    /// How many coordinates were rounded.
+    pub rounded: u64,
 }
 
 /// What a word has done.

@@ -3,16 +3,19 @@ use crate::fault::What;
 use mill_base::Pt3;
 use mill_decimal::DecFault;
 
+const TWO_SOLIDS: &str =
+    "SOLID a\r\nFACET NORMAL nan nan nan\r\nOUTER LOOP\r\nVERTEX 0 0 2\r\nVERTEX 1e1 0 2\r\nVERTEX 0 10.000 2\r\nENDLOOP\r\nENDFACET\r\nENDSOLID a\r\nsolid b\r\nendsolid b\r\n";
+
 const PLATE: &str = "solid plate 40 x 20\rendsolid
   facet normal 0 0 1
     outer loop
       vertex 0 0 2
       vertex 40 0 2.0
-      vertex +40 20 2.00
+      vertex +40. 20 2.00
     endloop
   endfacet
-facet normal - nan solid outer loop vertex 0 0 -0.50 vertex 40 20 2 vertex 0 20 2 endloop endfacet
-endsolid plate\t\u{b}and facet";
+Facet Normal - nan solid Outer Loop vertex 0 0 -.5 Vertex 40.004 20 2 vertex 0 20 2.000001 EndLoop EndFacet
+EndSolid plate\t\u{b}and facet";
 
 fn point(x: i32, y: i32, z: i32) -> Pt3 {
     Pt3 { x, y, z }
@@ -23,8 +26,21 @@ fn expected(line: u64, what: What) -> StlFault {
 }
 
 #[test]
-fn reads_a_plate(rt: HostRuntime) -> Result<(), StlFault> {
-    let tris = read_stl(rt.alloc(), PLATE.as_bytes(), Snap::Exact)?;
+fn reads_two_solids(rt: HostRuntime) -> Result<(), StlFault> {
+    let read = read_stl(rt.alloc(), TWO_SOLIDS.as_bytes(), Snap::Exact)?;
+    let want = Tri {
+        a: point(0, 0, 200),
+        b: point(1000, 0, 200),
+        c: point(0, 1000, 200),
+    };
+    assert_eq!(rt; read.tris.as_slice(), [want].as_slice());
+    assert_eq!(rt; read.rounded, 0);
+    Ok(())
+}
+
+#[test]
+fn counts_what_it_rounds(rt: HostRuntime) -> Result<(), StlFault> {
+    let read = read_stl(rt.alloc(), PLATE.as_bytes(), Snap::Nearest)?;
     let want = [
         Tri {
             a: point(0, 0, 200),
@@ -37,17 +53,8 @@ fn reads_a_plate(rt: HostRuntime) -> Result<(), StlFault> {
             c: point(0, 2000, 200),
         },
     ];
-    assert_eq!(rt; tris.len(), 2);
-    for (tri, wanted) in tris.iter().zip(want) {
-        assert_eq!(rt; *tri, wanted);
-    }
-    Ok(())
-}
-
-#[test]
-fn reads_a_solid_without_facets(rt: HostRuntime) -> Result<(), StlFault> {
-    let tris = read_stl(rt.alloc(), b"\x0c solid\x0b\r\nendsolid", Snap::Nearest)?;
-    assert_eq!(rt; tris.len(), 0);
+    assert_eq!(rt; read.tris.as_slice(), want.as_slice());
+    assert_eq!(rt; read.rounded, 2);
     Ok(())
 }
 
@@ -57,35 +64,68 @@ fn names_the_first_bad_place(rt: HostRuntime) {
         line: 3,
         fault: DecFault::Spelling,
     };
+    let off_grid = StlFault::Coord {
+        line: 2,
+        fault: DecFault::OffGrid,
+    };
     for (text, fault) in [
         ("", StlFault::CutShort { line: 1 }),
         ("solid endsolid\n", StlFault::CutShort { line: 2 }),
-        (
-            "solid\nfacet normal 0 0 1\nouter loop\nvertex 1 2",
-            StlFault::CutShort { line: 4 },
-        ),
-        ("\nSOLID\nendsolid", expected(2, What::Solid)),
+        ("solid\nendsolid a\nsolid b", StlFault::CutShort { line: 3 }),
+        ("\nsolids\nendsolid", expected(2, What::Solid)),
         ("solid\r\nface", expected(2, What::FacetOrEnd)),
         ("solid\nfacet\n\nnormals", expected(4, What::Normal)),
         ("solid\nfacet normal 0 0\n1\nloop", expected(4, What::Outer)),
         (
-            "solid\nfacet normal 0 0 1 outer\nvertex",
-            expected(3, What::Loop),
-        ),
-        (
-            "solid\nfacet normal 0 0 1 outer loop 0",
-            expected(2, What::Vertex),
-        ),
-        (
-            "solid\nfacet normal 0 0 1 outer loop vertex 1 2\n3e0",
+            "solid\nfacet normal 0 0 1 outer loop vertex 1 2\n3e",
             spelling,
         ),
-        ("solid\nendsolid a\nsolid b", expected(3, What::Nothing)),
+        (
+            "solid\nfacet normal 0 0 1 outer loop vertex 1 .005",
+            off_grid,
+        ),
+        (
+            "SOLID\r\nFACET NORMAL 0 0 1\r\nOUTER LOOP\r\nVERTEX 0 0 2\r\nVERTEX 1e1 0 2\r\nVERTEX 0 10.000 2\r\nENDLOOP",
+            StlFault::CutShort { line: 7 },
+        ),
+        ("solid\nendsolid a\nfacet", expected(3, What::SolidOrEnd)),
     ] {
         assert_eq!(rt;
             read_stl(rt.alloc(), text.as_bytes(), Snap::Exact).err(),
             Some(fault),
             "at {text}"
         );
+    }
+}
+
+// A text that is cut off reads only right behind an `endsolid` line, or between solids; else the
+// fault is on its last line.
+#[test]
+fn no_prefix_reads(rt: HostRuntime) {
+    let text = TWO_SOLIDS.as_bytes();
+    let mut line: u64 = 1;
+    for length in 0..text.len() {
+        let (prefix, _) = text.split_at(length);
+        let ended = prefix.ends_with(b"ENDSOLID")
+            || prefix.ends_with(b"ENDSOLID ")
+            || prefix.ends_with(b"ENDSOLID a")
+            || prefix.ends_with(b"ENDSOLID a\r")
+            || prefix.ends_with(b"ENDSOLID a\r\n")
+            || prefix.ends_with(b"endsolid")
+            || prefix.ends_with(b"endsolid ")
+            || prefix.ends_with(b"endsolid b")
+            || prefix.ends_with(b"endsolid b\r");
+        let fault = read_stl(rt.alloc(), prefix, Snap::Exact).err();
+        assert_eq!(rt; fault.is_none(), ended, "at {length}");
+        match fault {
+            Some(StlFault::Expected { line: at, .. })
+            | Some(StlFault::Coord { line: at, .. })
+            | Some(StlFault::CutShort { line: at }) => assert_eq!(rt; at, line, "at {length}"),
+            Some(_) => assert!(rt; false, "at {length}"),
+            None => {}
+        }
+        if text[length] == b'\n' {
+            line = line.saturating_add(1);
+        }
     }
 }

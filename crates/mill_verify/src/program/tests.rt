@@ -9,6 +9,7 @@ ghost use Rattle.mill_job.specs.Jobs.{IsJob};
 
 use super::*;
 use mill_base::{Box2, Cutter, Kind, Pt3, Tri};
+use mill_decimal::Snap;
 use mill_sweep::Leaf;
 
 /// A block from 0 to 300 over a square of 200, and nine columns in it.
@@ -35,6 +36,7 @@ fn block_job() -> Job
         sample: 50,
         allowance: 0,
         band: 0,
+        snap: Snap::Nearest,
     }
 }
 

@@ -9,7 +9,7 @@ use Rattle.mill_job.specs.Jobs.{IsJob}
 use Rattle.mill_job.specs.declared.job.Job.{Job}
 use Rattle.mill_job.specs.declared.fault.JobFault.{JobFault}
 use Rattle.mill_job.specs.declared.key.Key.TheVariants as key
-use Rattle.mill_job.specs.Documents.{job_from, key_faults, relation_faults}
+use Rattle.mill_job.specs.Documents.{job_from, key_faults, relation_faults, snap_of}
 use Rattle.mill_job.specs.Tables.{first, checked, number_at, numbers_at, area_of, place_of}
 use Rattle.mill_job.proofs.Faults.{first-append, if_ok}
 use Rattle.mill_job.proofs.reading.job.Goals as goal
@@ -29,9 +29,10 @@ returns-clause-value c =
     let sample : to_z w32 (of_z w32 c.in_ok-sample.sample) ≡ number_at key.Sample ms = omega (arith, ints) ∙ c.in_ok-sample.ensures.ok.1 in
     let allowance : to_z w32 (of_z w32 c.in_ok-allowance.allowance) ≡ number_at key.Allowance ms = omega (arith, ints) ∙ c.in_ok-allowance.ensures.ok.1 in
     let band : to_z w32 (of_z w32 c.in_ok-band.band) ≡ number_at key.Band ms = omega (arith, ints) ∙ c.in_ok-band.ensures.ok.1 in
+    let snap : c.in_ok-snap.snap ≡ snap_of ms = c.in_ok-snap.ensures.ok.1 in
     let keys : first (key_faults ms) ≡ None = search rules in
     let same = ap (λ (fault : Option JobFault). checked fault (job_from ms)) (sym (first-append (key_faults ms) (relation_faults (job_from ms)) keys)) in
-    c.unless.ensures ∙ rw (c.relation_fault.ensures.value, cutter, floor, top, clear, area, home_x, home_y, pitch, sample, allowance, band) same
+    c.unless.ensures ∙ rw (c.relation_fault.ensures.value, cutter, floor, top, clear, area, home_x, home_y, pitch, sample, allowance, band, snap) same
 
 pub returns-clause-in_range : goal.returns-clause-in_range
 returns-clause-in_range c = rw c.unless.ensures (if_ok c.relation_fault.result _ IsJob (λ none. record {

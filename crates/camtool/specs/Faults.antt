@@ -1,0 +1,92 @@
+-- How the line of a refused text names its first fault.
+use Rattle.std.specs.Prelude.{ℕ, codes, List, [], ◌∷◌, ◌++◌}
+use Rattle.camtool.specs.Printed.{line}
+use Rattle.mill_job.specs.declared.key.Key.{Key}
+use Rattle.mill_decimal.specs.declared.fault.DecFault.{DecFault}
+use Rattle.mill_decimal.specs.declared.fault.DecFault.TheVariants as decimal_fault
+use Rattle.mill_stl.specs.declared.fault.StlFault.{StlFault}
+use Rattle.mill_stl.specs.declared.fault.StlFault.TheVariants as part_fault
+use Rattle.mill_ngc.specs.declared.fault.NgcFault.{NgcFault}
+use Rattle.mill_ngc.specs.declared.fault.NgcFault.TheVariants as program_fault
+use Rattle.mill_job.specs.Keys.{name_of}
+use Rattle.mill_job.specs.declared.fault.JobFault.{JobFault}
+use Rattle.mill_job.specs.declared.fault.JobFault.TheVariants as job_fault
+
+-- a job's fault: what is wrong, and with which keys
+abbrev pub job_fault_words : JobFault → List (List ℕ)
+job_fault_words job_fault.Syntax = codes "syntax" ∷ []
+job_fault_words (job_fault.Unknown name) = codes "unknown" ∷ name ∷ []
+job_fault_words (job_fault.Missing key) = codes "missing" ∷ name_of key ∷ []
+job_fault_words (job_fault.WrongKind key) = codes "kind" ∷ name_of key ∷ []
+job_fault_words (job_fault.Range key) = codes "range" ∷ name_of key ∷ []
+job_fault_words (job_fault.Relation first second) = codes "relation" ∷ name_of first ∷ name_of second ∷ []
+job_fault_words job_fault.WantOfMemory = codes "memory" ∷ []
+
+-- these words and LF
+abbrev pub job_fault_end : JobFault → List ℕ
+job_fault_end fault = line (job_fault_words fault)
+
+-- a text, a key and LF
+abbrev pub one_key : List ℕ → Key → List ℕ
+one_key what key = what ++ name_of key ++ 10 ∷ []
+
+-- two keys that don't fit together, and LF
+abbrev pub two_keys : Key → Key → List ℕ
+two_keys first second = line (codes "relation" ∷ name_of first ∷ name_of second ∷ [])
+
+-- what is wrong with a decimal
+abbrev pub decimal_fault_code : DecFault → List ℕ
+decimal_fault_code decimal_fault.Spelling = codes "spelling"
+decimal_fault_code decimal_fault.TooManyDigits = codes "too-many-digits"
+decimal_fault_code decimal_fault.OffGrid = codes "off-grid"
+decimal_fault_code decimal_fault.OutOfRange = codes "out-of-range"
+
+-- the line and the code of a part's fault; want of memory is none of its text
+abbrev pub part_fault_line : StlFault → ℕ
+part_fault_line (part_fault.Expected line what) = line
+part_fault_line (part_fault.Coord line fault) = line
+part_fault_line (part_fault.TooManyTriangles line) = line
+part_fault_line (part_fault.CutShort line) = line
+part_fault_line part_fault.WantOfMemory = 0
+
+abbrev pub part_fault_code : StlFault → List ℕ
+part_fault_code (part_fault.Expected line what) = codes "expected"
+part_fault_code (part_fault.Coord line fault) = decimal_fault_code fault
+part_fault_code (part_fault.TooManyTriangles line) = codes "too-many-triangles"
+part_fault_code (part_fault.CutShort line) = codes "cut-short"
+part_fault_code part_fault.WantOfMemory = codes "memory"
+
+-- the line and the code of a program's fault
+abbrev pub program_fault_line : NgcFault → ℕ
+program_fault_line (program_fault.LongLine line) = line
+program_fault_line (program_fault.Word line fault) = line
+program_fault_line (program_fault.NotInProfile line letter number) = line
+program_fault_line (program_fault.LateTool line) = line
+program_fault_line (program_fault.Group line group) = line
+program_fault_line (program_fault.Twice line letter) = line
+program_fault_line (program_fault.NoUnits line) = line
+program_fault_line (program_fault.NoAbsolute line) = line
+program_fault_line (program_fault.NoMotion line) = line
+program_fault_line (program_fault.OffGrid line) = line
+program_fault_line (program_fault.OutOfRange line) = line
+program_fault_line (program_fault.TooManyMoves line) = line
+program_fault_line (program_fault.NoAxis line) = line
+program_fault_line (program_fault.NoEnd line) = line
+program_fault_line program_fault.WantOfMemory = 0
+
+abbrev pub program_fault_code : NgcFault → List ℕ
+program_fault_code (program_fault.LongLine line) = codes "long-line"
+program_fault_code (program_fault.Word line fault) = codes "word"
+program_fault_code (program_fault.NotInProfile line letter number) = codes "not-in-profile"
+program_fault_code (program_fault.LateTool line) = codes "late-tool"
+program_fault_code (program_fault.Group line group) = codes "group"
+program_fault_code (program_fault.Twice line letter) = codes "twice"
+program_fault_code (program_fault.NoUnits line) = codes "no-units"
+program_fault_code (program_fault.NoAbsolute line) = codes "no-absolute"
+program_fault_code (program_fault.NoMotion line) = codes "no-motion"
+program_fault_code (program_fault.OffGrid line) = codes "off-grid"
+program_fault_code (program_fault.OutOfRange line) = codes "out-of-range"
+program_fault_code (program_fault.TooManyMoves line) = codes "too-many-moves"
+program_fault_code (program_fault.NoAxis line) = codes "no-axis"
+program_fault_code (program_fault.NoEnd line) = codes "no-end"
+program_fault_code program_fault.WantOfMemory = codes "memory"

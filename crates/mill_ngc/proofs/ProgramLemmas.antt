@@ -1,0 +1,117 @@
+-- A program line by line, as the reader's loop takes it.
+use Rattle.std.proofs.Common.{◌≡◌, ℕ, ◌≤◌, List, [], ◌∷◌, ◌++◌, length, Option, Some, None, Result, Ok, Err, true, false, refl, sym, ap, ◌∙◌, arith, rules, length-append, inl, inr}
+use Rattle.std.proofs.lemmas.List.Elements.{Contains-push_cases}
+use Rattle.std.specs.Prelude.{Contains, ◌⊎◌, Vec}
+use Rattle.std.specs.declared.alloc.Global.{Global}
+use Rattle.mill_base.specs.Motion.{Follow}
+use Rattle.mill_base.specs.Ranges.{IsInRange, MoveInRange, MovesInRange}
+use Rattle.mill_base.specs.declared.points.Pt3.{Pt3}
+use Rattle.mill_base.specs.declared.motion.Move.{Move}
+use Rattle.mill_ngc.specs.declared.fault.NgcFault.{NgcFault}
+use Rattle.mill_ngc.specs.declared.fault.NgcFault.TheVariants as fault
+use Rattle.mill_ngc.specs.declared.progress.Progress.{Progress}
+use Rattle.mill_ngc.specs.Said.{◌>>=◌}
+use Rattle.mill_ngc.specs.Programs.{begun, after_line, made_list, read_from}
+use Rattle.mill_ngc.specs.Readings.{Reads}
+use Rattle.mill_ngc.specs.Bounds.{KeepsMove, MakesMove, MakesNone}
+
+-- ---- the meaning of the rest
+
+abbrev behind : List Move → List (List ℕ) → Result (Progress × Option Move) NgcFault → Result (List Move) NgcFault
+behind moves lines so_far = so_far >>= λ s. read_from s.0 (moves ++ made_list s.1) lines
+
+read_from-line : (p : Progress) (moves : List Move) (line : List ℕ) (lines : List (List ℕ)) → p.ended ≡ false
+    → read_from p moves (line ∷ lines) ≡ behind moves lines (after_line p line)
+unfolding read_from
+read_from-line p moves line lines going = rw going refl
+
+-- it is that from the next line on
+pub read_from-next : (p q : Progress) (moves : List Move) (made : Option Move) (line : List ℕ) (lines : List (List ℕ)) (total : Result (List Move) NgcFault)
+    → p.ended ≡ false → after_line p line ≡ Ok (q, made)
+    → read_from p moves (line ∷ lines) ≡ total → read_from q (moves ++ made_list made) lines ≡ total
+read_from-next p q moves made line lines total going h so_far =
+    sym (read_from-line p moves line lines going ∙ ap (behind moves lines) h) ∙ so_far
+
+-- or the line's fault
+pub read_from-fault : (p : Progress) (moves : List Move) (line : List ℕ) (lines : List (List ℕ)) (f : NgcFault) (total : Result (List Move) NgcFault)
+    → p.ended ≡ false → after_line p line ≡ Err f
+    → read_from p moves (line ∷ lines) ≡ total → total ≡ Err f
+read_from-fault p moves line lines f total going h so_far =
+    sym so_far ∙ read_from-line p moves line lines going ∙ ap (behind moves lines) h
+
+-- where the program has ended, it is the moves so far
+pub read_from-ended : (p : Progress) (moves : List Move) (lines : List (List ℕ)) → p.ended ≡ true → read_from p moves lines ≡ Ok moves
+unfolding read_from
+read_from-ended p moves [] over = rw over refl
+read_from-ended p moves (line ∷ lines) over = rw over refl
+
+-- where the lines end before the program, it is that fault
+pub read_from-end : (p : Progress) (moves : List Move) → p.ended ≡ false → read_from p moves [] ≡ Err (fault.NoEnd p.line)
+unfolding read_from
+read_from-end p moves going = rw going refl
+
+-- ---- the moves so far
+
+-- where the moves end, or the start
+abbrev pub end_of : Pt3 → List Move → Pt3
+end_of start [] = start
+end_of start (m ∷ moves) = end_of m.to moves
+
+-- what holds of the moves behind some lines
+pub record SoFar (start : Pt3) (p : Progress) (moves : List Move) : Type 0 where
+  pub here : IsInRange p.here
+  pub in_range : MovesInRange moves
+  pub follow : Follow start moves
+  pub end : end_of start moves ≡ p.here
+  pub count : length moves ≡ p.moves
+  pub few : p.moves ≤ 1000000
+
+Follow-push : (at : Pt3) (moves : List Move) (m : Move) → Follow at moves → m.from ≡ end_of at moves → Follow at (moves ++ m ∷ [])
+Follow-push at [] m follow e = (e, tt)
+Follow-push at (n ∷ moves) m follow e = (follow.0, Follow-push n.to moves m follow.1 e)
+
+end_of-push : (at : Pt3) (moves : List Move) (m : Move) → end_of at (moves ++ m ∷ []) ≡ m.to
+end_of-push at [] m = refl
+end_of-push at (n ∷ moves) m = end_of-push n.to moves m
+
+MovesInRange-push : (moves : List Move) (m : Move) → MovesInRange moves → MoveInRange m → MovesInRange (moves ++ m ∷ [])
+MovesInRange-push moves m ok made n member = which (Contains-push_cases moves m n member)
+  where
+    which : Contains moves n ⊎ (m ≡ n) → MoveInRange n
+    which (inl there) = ok n there
+    which (inr e) = rw (← e) made
+
+so_far-none : (start : Pt3) (p q : Progress) (moves : List Move) → SoFar start p moves → MakesNone p q → SoFar start q (moves ++ [])
+so_far-none start p q moves s keeps =
+    let same : moves ++ [] ≡ moves = search rules in
+    rw same (record {
+      here = rw keeps.stays s.here;
+      in_range = s.in_range;
+      follow = s.follow;
+      end = s.end ∙ sym keeps.stays;
+      count = s.count ∙ sym keeps.no_more;
+      few = omega (arith, s.few, keeps.no_more);
+    })
+
+so_far-move : (start : Pt3) (p q : Progress) (moves : List Move) (m : Move) → SoFar start p moves → MakesMove p m q → SoFar start q (moves ++ m ∷ [])
+so_far-move start p q moves m s keeps = record {
+  here = keeps.in_range;
+  in_range = MovesInRange-push moves m s.in_range (record { from_ok = rw keeps.from_here s.here; to_ok = rw keeps.to_here keeps.in_range });
+  follow = Follow-push start moves m s.follow (keeps.from_here ∙ sym s.end);
+  end = end_of-push start moves m ∙ keeps.to_here;
+  count = omega (arith, length-append moves (m ∷ []), s.count, keeps.one_more);
+  few = keeps.few;
+}
+
+-- it holds behind the next line too
+pub so_far-line : (start : Pt3) (p q : Progress) (moves : List Move) (made : Option Move) → SoFar start p moves → KeepsMove p made q → SoFar start q (moves ++ made_list made)
+so_far-line start p q moves None s keeps = so_far-none start p q moves s keeps
+so_far-line start p q moves (Some m) s keeps = so_far-move start p q moves m s keeps
+
+-- a line begins with what holds before it
+pub so_far-begun : (start : Pt3) (p : Progress) (moves : List Move) → SoFar start p moves → SoFar start (begun p) moves
+so_far-begun start p moves s = record { here = s.here; in_range = s.in_range; follow = s.follow; end = s.end; count = s.count; few = s.few }
+
+-- the answer at a fault
+pub reads-fault : (meant : Result (List Move) NgcFault) (f : NgcFault) (result : Result (Vec Move Global) NgcFault) → meant ≡ Err f → result ≡ Err f → Reads meant result
+reads-fault meant f result e told = rw told (λ _. e)

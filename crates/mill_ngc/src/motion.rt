@@ -1,0 +1,122 @@
+//! What a line does that says this.
+ghost use Rattle.std.specs.Prelude.{◌≡◌, ◌<◌, ◌≤◌, ◌+◌, OnOk, IfOk, IfErr, Ok, Err, IfSome};
+ghost use Rattle.mill_base.specs.Numbers.{Within, greatest};
+ghost use Rattle.mill_base.specs.Ranges.{IsInRange};
+ghost use Rattle.mill_words.specs.Words.{FitsNum};
+ghost use Rattle.mill_ngc.specs.Motion.{settled, coordinate as coordinate_of, target as target_of, moved_to, moved_by, moved, acted};
+ghost use Rattle.mill_ngc.specs.Bounds.{FitsSaid, Keeps};
+
+use crate::fault::NgcFault;
+use crate::numbers::units_of;
+use crate::profile::Mode;
+use crate::progress::Progress;
+use crate::said::Said;
+use mill_base::{Kind, Move, Pt3};
+use mill_words::Num;
+
+/// The most moves that a program has.
+pub(crate) const MOST_MOVES: u64 = 1_000_000;
+
+impl Progress {
+    /// Does what the line says. The answer is its move, if it makes one.
+    #[tactic(auto, unfolding(crate::specs::Motion::acted))]
+    pub fn act(&mut self, said: &Said) -> Result<Option<Move>, NgcFault>
+        requires said { FitsSaid said.now }
+        requires here { IsInRange self.old.here }
+        ensures ok { IfOk result (λ made. acted self.old said.now ≡ Ok (self.new, made)) }
+        ensures fault { IfErr result (λ f. acted self.old said.now ≡ Err f) }
+        ensures keeps { IfOk result (λ made. Keeps self.old made self.new) }
+    {
+        self.settle(said);
+        if said.has_axis() {
+            return self.make_move(said);
+        }
+        if said.has_motion() {
+            return Err(NgcFault::NoAxis { line: self.line });
+        }
+        Ok(None)
+    }
+
+    // The settings of the line take effect.
+    fn settle(&mut self, said: &Said)
+        ensures { self.new ≡ settled self.old said.now }
+    {
+        if let Some(mode) = said.mode {
+            self.mode = mode;
+        }
+        self.millimetres = self.millimetres || said.millimetres;
+        self.absolute = self.absolute || said.absolute;
+        self.ended = said.ends;
+    }
+
+    #[tactic(auto, unfolding(crate::specs::Motion::moved))]
+    fn make_move(&mut self, said: &Said) -> Result<Option<Move>, NgcFault>
+        requires said { FitsSaid said.now }
+        requires here { IsInRange self.old.here }
+        ensures ok { IfOk result (λ made. moved self.old said.now ≡ Ok (self.new, made)) }
+        ensures fault { IfErr result (λ f. moved self.old said.now ≡ Err f) }
+        ensures keeps { IfOk result (λ made. Keeps self.old made self.new) }
+    {
+        if !self.millimetres {
+            return Err(NgcFault::NoUnits { line: self.line });
+        }
+        if !self.absolute {
+            return Err(NgcFault::NoAbsolute { line: self.line });
+        }
+        match self.mode {
+            Mode::Off => Err(NgcFault::NoMotion { line: self.line }),
+            Mode::On(kind) => {
+                let to = self.target(said)?;
+                self.move_to(kind, to)
+            }
+        }
+    }
+
+    // Where the line's move ends: the named coordinates take the place of those of the present point.
+    #[tactic(auto, unfolding(crate::specs::Motion::target))]
+    fn target(&self, said: &Said) -> Result<Pt3, NgcFault>
+        requires said { FitsSaid said.now }
+        requires here { IsInRange self.now.here }
+        ensures value { result ≡ target_of self.now said.now }
+        ensures in_range { IfOk result IsInRange }
+    {
+        let x = coordinate(self.line, self.here.x, said.x)?;
+        let y = coordinate(self.line, self.here.y, said.y)?;
+        let z = coordinate(self.line, self.here.z, said.z)?;
+        Ok(Pt3 { x, y, z })
+    }
+
+    fn move_to(&mut self, kind: Kind, to: Pt3) -> Result<Option<Move>, NgcFault>
+        requires here { IsInRange self.old.here }
+        requires to { IsInRange to }
+        ensures ok { IfOk result (λ made. moved_to self.old kind to ≡ Ok (self.new, made)) }
+        ensures fault { IfErr result (λ f. moved_to self.old kind to ≡ Err f) }
+        ensures keeps { IfOk result (λ made. Keeps self.old made self.new) }
+    {
+        if self.moves >= MOST_MOVES {
+            return Err(NgcFault::TooManyMoves { line: self.line });
+        }
+        let made = Move {
+            kind,
+            from: self.here,
+            to,
+        };
+        self.here = to;
+        self.positioned = true;
+        self.moves += 1;
+        Ok(Some(made))
+    }
+}
+
+// A coordinate of the move's end: the number of its axis, or that of the present point.
+fn coordinate(line: u64, here: i32, num: Option<Num>) -> Result<i32, NgcFault>
+    requires num { IfSome num (FitsNum 18) }
+    requires here { Within greatest here }
+    ensures value { result ≡ coordinate_of line here num }
+    ensures within { IfOk result (Within greatest) }
+{
+    match num {
+        Some(num) => units_of(line, num),
+        None => Ok(here),
+    }
+}

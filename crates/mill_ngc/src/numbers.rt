@@ -1,0 +1,81 @@
+//! The values of numbers.
+ghost use Rattle.std.specs.Prelude.{◌≡◌, ◌^◌, ◌≤◌, ◌<◌, IfOk};
+ghost use Rattle.mill_words.specs.Words.{FitsNum};
+ghost use Rattle.mill_base.specs.Numbers.{Within, greatest};
+ghost use Rattle.mill_ngc.specs.Numbers.{whole_of as whole_number_of, hundredths as hundredths_of, is_on_grid as is_on_grid_number, units_of as units_by, signed as signed_by};
+
+use crate::fault::NgcFault;
+use mill_words::Num;
+
+/// The greatest magnitude of a coordinate, in 0.01 mm.
+const GREATEST: u128 = 131_071;
+
+/// The whole number that a number is, if it is one and isn't less than 0.
+#[tactic(auto, unfolding(crate::specs::Numbers::whole_of))]
+pub(crate) fn whole_of(num: Num) -> Option<u64>
+    requires { FitsNum 18 num }
+    ensures { result ≡ whole_number_of num }
+{
+    let unit = power(num.scale);
+    if num.mant % unit != 0 {
+        return None;
+    }
+    if num.neg && num.mant > 0 {
+        return None;
+    }
+    Some(num.mant / unit)
+}
+
+/// The units of 0.01 mm of an axis number, on this line.
+#[tactic(auto, unfolding(crate::specs::Numbers::units_of))]
+pub(crate) fn units_of(line: u64, num: Num) -> Result<i32, NgcFault>
+    requires { FitsNum 18 num }
+    ensures value { result ≡ units_by line num }
+    ensures within { IfOk result (Within greatest) }
+{
+    if !is_on_grid(num) {
+        return Err(NgcFault::OffGrid { line });
+    }
+    let units = hundredths(num);
+    if units > GREATEST {
+        return Err(NgcFault::OutOfRange { line });
+    }
+    Ok(signed(num.neg, units as u32))
+}
+
+fn is_on_grid(num: Num) -> bool
+    requires { FitsNum 18 num }
+    ensures { result ≡ is_on_grid_number num }
+{
+    if num.scale <= 2 {
+        return true;
+    }
+    num.mant % power(num.scale - 2) == 0
+}
+
+fn hundredths(num: Num) -> u128
+    requires { FitsNum 18 num }
+    ensures { result ≡ hundredths_of num }
+{
+    if num.scale <= 2 {
+        return u128::from(num.mant) * u128::from(power(2 - num.scale));
+    }
+    u128::from(num.mant / power(num.scale - 2))
+}
+
+fn power(scale: u8) -> u64
+    requires { scale ≤ 18 }
+    ensures value { result ≡ 10 ^ scale }
+    ensures some { 0 < result }
+{
+    10u64.pow(u32::from(scale))
+}
+
+fn signed(neg: bool, units: u32) -> i32
+    requires { units ≤ 131071 }
+    ensures value { result ≡ signed_by neg units }
+    ensures within { Within greatest result }
+{
+    let number = units as i32;
+    if neg { -number } else { number }
+}

@@ -1,0 +1,20 @@
+//! Reads one line of a program: whether a slash and a line number stand there, and its words.
+//!
+//! It stands on nothing but std, and takes no memory. [`read_line`] promises exactly what the line
+//! says, or its first fault with the place in the line, after NISTIR 6556 (RS274/NGC version 3),
+//! 3.3. `specs/Marks.antt` defines what of a line stands outside its blanks and comments, and
+//! `specs/Lines.antt` what words that makes.
+#![tactic(auto)]
+
+mod line;
+mod line_words;
+mod marks;
+mod open_word;
+mod stage;
+#[cfg(test)]
+mod tests;
+mod word;
+
+pub use line::{read_line, read_line_into};
+pub use line_words::LineWords;
+pub use word::{Num, Word, WordFault};
