@@ -1,5 +1,5 @@
 -- A text byte by byte, as a loop takes it.
-use Rattle.std.proofs.Common.{◌≡◌, ℕ, suc, ◌+◌, ◌-◌, ◌<◌, ◌≤◌, List, [], ◌∷◌, ◌++◌, length, take, drop, get_or, Result, Ok, Err, false, refl, sym, ap, subst, ◌∙◌, add-one, arith, drop-cons, length-drop}
+use Rattle.std.proofs.Common.{◌≡◌, ℕ, suc, ◌+◌, ◌-◌, ◌<◌, ◌≤◌, List, [], ◌∷◌, ◌++◌, length, take, drop, get_or, Result, Ok, Err, true, false, refl, sym, ap, subst, ◌∙◌, add-one, arith, drop-cons, length-drop}
 use Rattle.std.proofs.Math.ListN.{drop_of_length-le}
 use Rattle.std.proofs.Math.Seq.{take-suc}
 use Rattle.std.proofs.lemmas.List.{get_or-drop}
@@ -9,7 +9,7 @@ use Rattle.mill_stl.specs.declared.fault.StlFault.{StlFault}
 use Rattle.mill_stl.specs.declared.fault.StlFault.TheVariants.{Expected, Coord, TooManyTriangles, CutShort, WantOfMemory}
 use Rattle.mill_stl.specs.declared.state.Cursor.{Cursor}
 use Rattle.mill_stl.specs.declared.state.StlRead.{StlRead}
-use Rattle.mill_stl.specs.Parts.{Scan, Part, is_space, after_byte, after_text, read_from, Fails, Gives}
+use Rattle.mill_stl.specs.Parts.{Scan, Part, is_space, next_line, with_word, after_byte, after_text, read_from, Fails, Gives}
 use Rattle.mill_stl.specs.Bounds.{scan_at}
 
 -- a word and its next byte
@@ -27,6 +27,17 @@ pub after_byte-in_word : (snap : Snap) (text : List ℕ) (place : ℕ) (c : Curs
     → after_byte snap (scan_at text place c tris) (get_or text place 0) ≡ Ok (scan_at text (place + 1) c tris)
 unfolding after_byte
 after_byte-in_word snap text place c tris le lt space = rw (space, take_word-suc text c.from place le lt) refl
+
+-- white space right after white space ends no word
+pub after_byte-space_again : (snap : Snap) (text : List ℕ) (place : ℕ) (c : Cursor) (tris : List Tri) → c.from ≡ place
+    → is_space (get_or text place 0) ≡ true
+    → after_byte snap (scan_at text place c tris) (get_or text place 0)
+    ≡ Ok (scan_at text (place + 1) (record { progress = c.progress; line = next_line c.line (get_or text place 0); from = place + 1 }) tris)
+unfolding after_byte with_word
+after_byte-space_again snap text place c tris at space =
+    let before : place - c.from ≡ 0 = omega arith in
+    let after : place + 1 - (place + 1) ≡ 0 = omega arith in
+    rw (space, before, after) refl
 
 -- the meaning of the rest from one byte on is that from the next on
 pub read_from-next : (snap : Snap) (text : List ℕ) (i : ℕ) (s t : Scan) (total : Result Part StlFault)

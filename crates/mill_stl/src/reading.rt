@@ -70,31 +70,32 @@ fn add(tris: &mut Vec<Tri>, tri: Option<Tri>) -> Result<(), StlFault>
 #[tactic(auto, unfolding(crate::specs::Parts::with_word))]
 fn end_word(
     snap: Snap,
-    progress: Progress,
+    progress: &mut Progress,
     tris: &mut Vec<Tri>,
     line: u64,
     word: &[u8],
-) -> Result<Progress, StlFault>
-    requires { IsSound progress tris.old.items }
-    ensures ok { IfOk result (λ p.
-        with_word snap (reached_at progress tris.old.items) line word.now
-        ≡ Ok (reached_at p tris.new.items)) }
-    ensures sound { IfOk result (λ p. IsSound p tris.new.items) }
+) -> Result<(), StlFault>
+    requires { IsSound progress.old tris.old.items }
+    ensures ok { OnOk result (
+        with_word snap (reached_at progress.old tris.old.items) line word.now
+        ≡ Ok (reached_at progress.new tris.new.items)) }
+    ensures sound { OnOk result (IsSound progress.new tris.new.items) }
     ensures fault { IfErr result (λ f.
-        Fails f (with_word snap (reached_at progress tris.old.items) line word.now)) }
+        Fails f (with_word snap (reached_at progress.old tris.old.items) line word.now)) }
 {
     match word {
-        [] => Ok(progress),
+        [] => Ok(()),
         [_, ..] => {
-            let step = take_word(snap, progress, line, word)?;
+            let step = take_word(snap, *progress, line, word)?;
             add(tris, step.tri)?;
-            Ok(step.progress)
+            *progress = step.progress;
+            Ok(())
         }
     }
 }
 
 // Takes the byte at a place. The cursor is lent, since a loop that hands it over and back copies it
-// for each byte.
+// for each byte; white space after white space is passed over first, since indentation is long.
 #[tactic(auto, unfolding(crate::specs::Parts::after_byte))]
 fn take_byte(
     snap: Snap,
@@ -120,8 +121,13 @@ fn take_byte(
     if !is_space(byte) {
         return Ok(());
     }
+    if cursor.from == place {
+        cursor.line = next_line(cursor.line, byte);
+        cursor.from = place + 1;
+        return Ok(());
+    }
     let word = &text[cursor.from..place];
-    cursor.progress = end_word(snap, cursor.progress, tris, cursor.line, word)?;
+    end_word(snap, &mut cursor.progress, tris, cursor.line, word)?;
     cursor.line = next_line(cursor.line, byte);
     cursor.from = place + 1;
     Ok(())
@@ -132,7 +138,7 @@ fn take_byte(
 fn end_text(
     snap: Snap,
     text: &[u8],
-    cursor: Cursor,
+    mut cursor: Cursor,
     mut tris: Vec<Tri>,
 ) -> Result<StlRead, StlFault>
     requires from { cursor.from ≤ length text.now }
@@ -144,13 +150,13 @@ fn end_text(
     ensures few_rounded { IfOk result (λ read. read.rounded ≤ 9 * length read.tris.items) }
 {
     let word = &text[cursor.from..];
-    let progress = end_word(snap, cursor.progress, &mut tris, cursor.line, word)?;
-    if !is_end(progress.stage) {
+    end_word(snap, &mut cursor.progress, &mut tris, cursor.line, word)?;
+    if !is_end(cursor.progress.stage) {
         return Err(StlFault::CutShort { line: cursor.line });
     }
     Ok(StlRead {
         tris,
-        rounded: progress.rounded,
+        rounded: cursor.progress.rounded,
     })
 }
 
