@@ -1,0 +1,17 @@
+use Rattle.std.proofs.Common.{ℕ, ◌^◌, List, [], ◌∷◌, refl, w64}
+use mir.Syntax.{w32, w128}
+use lib.IntN.{ℤ, pos, negsuc}
+use Rattle.mill_base.proofs.Machine.{X, Read, Lit, Cast, Sum, Diff, Prod, Opp, exact, sum_fits, diff_fits, prod_fits}
+use Rattle.mill_base.specs.Numbers.{Within}
+use Rattle.mill_geom.specs.Offsets.{OffsetInRange}
+use Rattle.mill_geom.specs.Forms.{PairHits, form_of, cut_mid_of, cut_end_of}
+use Rattle.mill_geom.specs.Contacts.{TouchesSegment}
+use Rattle.mill_geom.proofs.segment.cut_mid.Goals as goal
+
+-- src/lib.rt:51:5
+pub overflow_add-result : goal.overflow_add-result
+overflow_add-result c = sum_fits w128 (c.args.a ∷ c.args.h ∷ c.args.z ∷ c.args.w ∷ []) ((2 ^ 40) ∷ (2 ^ 40) ∷ (524288) ∷ (524288) ∷ []) (Prod w128 (Diff w128 (Lit (pos 0)) (Cast w128 (Read w64 3))) (Read w128 0)) (Prod w128 (Cast w128 (Read w64 2)) (Read w128 1)) (c.requires.a_ok.within, (c.requires.h_ok.within, (c.requires.z_ok.within, (c.requires.w_ok.within, tt)))) refl
+
+-- src/lib.rt:44:1
+pub returns : goal.returns
+returns c = exact (c.args.a ∷ c.args.h ∷ c.args.z ∷ c.args.w ∷ []) ((2 ^ 40) ∷ (2 ^ 40) ∷ (524288) ∷ (524288) ∷ []) (Sum w128 (Prod w128 (Diff w128 (Lit (pos 0)) (Cast w128 (Read w64 3))) (Read w128 0)) (Prod w128 (Cast w128 (Read w64 2)) (Read w128 1))) (c.requires.a_ok.within, (c.requires.h_ok.within, (c.requires.z_ok.within, (c.requires.w_ok.within, tt)))) refl
