@@ -1,17 +1,16 @@
 -- Corners of a triangle as vectors with a time, and touches of segments and triangles as hits.
-use Rattle.std.proofs.Common.{◌≡◌, ◌⊎◌, inl, inr, refl, sym, ap, ◌∙◌, subst, arith}
-use lib.IntN.{ℤ, pos, ◌+ℤ◌, ◌-ℤ◌, ◌*ℤ◌}
+use Rattle.std.proofs.Common.{◌≡◌, refl, sym, ◌∙◌, subst, arith}
+use lib.IntN.{ℤ, pos, ◌+ℤ◌, ◌*ℤ◌}
 use lib.Signed.{◌<ℤ◌, ◌≤ℤ◌}
 use Rattle.std.proofs.lemmas.Int.{ints}
 use Rattle.mill_base.specs.Numbers.{square}
-use Rattle.mill_base.specs.Cutters.{InFlat, apart}
+use Rattle.mill_base.specs.Cutters.{apart}
 use Rattle.mill_base.proofs.Integers.{zero-mul-ℤ, add-mul-ℤ}
 use Rattle.mill_geom.specs.declared.offset.Offset.{Offset}
 use Rattle.mill_geom.specs.Offsets.{mean2, mean3}
 use Rattle.mill_geom.specs.Contacts.{TouchesSegment, TouchesTriangle, OnLevel, EdgesClear}
-use Rattle.mill_geom.proofs.Descend.{V4, mix, Weights, Hit}
+use Rattle.mill_geom.proofs.Descend.{V4, Hit}
 use Rattle.mill_geom.proofs.FlatTriangle.{Touch, Clear}
-use Rattle.mill_geom.proofs.Segments.{turned}
 use Rattle.mill_geom.proofs.Cut.{opens}
 use Rattle.mill_geom.proofs.CutCerts.{open_time}
 use Rattle.mill_geom.proofs.LevelCerts.{near_to, near_from, near_pair, near_same, time_ok, some_of}

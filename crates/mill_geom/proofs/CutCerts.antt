@@ -1,8 +1,8 @@
-use Rattle.std.proofs.Common.{◌≡◌, List, [], ◌∷◌, refl}
-use lib.IntN.{ℤ, pos, negsuc, neg_ℤ, ◌+ℤ◌, ◌-ℤ◌, ◌*ℤ◌}
+use Rattle.std.proofs.Common.{◌≡◌, [], ◌∷◌, refl}
+use lib.IntN.{ℤ, pos, negsuc, ◌+ℤ◌, ◌-ℤ◌, ◌*ℤ◌}
 use lib.Signed.{◌<ℤ◌, ◌≤ℤ◌}
-use Rattle.mill_base.proofs.Ring.{E, Var, Num, Add, Sub, Mul, Neg, ring}
-use Rattle.mill_base.proofs.Cert.{H, Le, Lt, Eq, C, Hyp, TimesEq, Sq, Lit, Plus, Times, refute, prove_le, prove_le_by, prove_lt_by}
+use Rattle.mill_base.proofs.Ring.{Var, Num, Add, Sub, Mul, Neg, ring}
+use Rattle.mill_base.proofs.Cert.{Le, Lt, Eq, Hyp, TimesEq, Lit, Plus, Times, refute, prove_le_by, prove_lt_by}
 
 -- vars P b c u v w p q s; hyp e: u*P == v*b+w*c; goal P*((u*p+v*q)+w*s) <= v*(b*p+P*q)+w*(c*p+P*s); eqmul e * p
 pub cut_lin : (P b c u v w p q s : ℤ) → (u *ℤ P) ≡ ((v *ℤ b) +ℤ (w *ℤ c)) → (P *ℤ (((u *ℤ p) +ℤ (v *ℤ q)) +ℤ (w *ℤ s))) ≤ℤ ((v *ℤ ((b *ℤ p) +ℤ (P *ℤ q))) +ℤ (w *ℤ ((c *ℤ p) +ℤ (P *ℤ s))))

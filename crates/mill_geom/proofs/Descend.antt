@@ -1,10 +1,10 @@
 -- A point of a triangle that is nearer than its time (x^2 + y^2 < n^2, n >= 0, l >= 0), and a direction along which only the time changes:
 -- either such a point lies on the boundary, or the direction never leaves the triangle.
-use Rattle.std.proofs.Common.{◌≡◌, ◌⊎◌, inl, inr, ℕ, List, [], ◌∷◌, refl, sym, ap, ◌∙◌, subst, arith}
-use lib.IntN.{ℤ, pos, ◌+ℤ◌, ◌-ℤ◌, ◌*ℤ◌}
+use Rattle.std.proofs.Common.{◌≡◌, ◌⊎◌, inl, inr, List, [], ◌∷◌, sym, ap, ◌∙◌, subst, arith}
+use lib.IntN.{ℤ, pos, ◌+ℤ◌, ◌*ℤ◌}
 use lib.Signed.{◌<ℤ◌, ◌≤ℤ◌}
 use Rattle.std.proofs.lemmas.Int.{ints}
-use Rattle.mill_base.proofs.Exit.{Line, then, NowFine, ThenFine, OneGone, NeverFalls, Exit, exit}
+use Rattle.mill_base.proofs.Exit.{Line, NeverFalls, Exit, exit}
 use Rattle.mill_geom.proofs.DescendCerts.{lin, later_near0, later_time, later_near}
 
 -- a corner, or any point, over its denominator: its place, its time and its side

@@ -1,8 +1,8 @@
-use Rattle.std.proofs.Common.{◌≡◌, List, [], ◌∷◌, refl}
-use lib.IntN.{ℤ, pos, negsuc, neg_ℤ, ◌+ℤ◌, ◌-ℤ◌, ◌*ℤ◌}
+use Rattle.std.proofs.Common.{◌≡◌, [], ◌∷◌, refl}
+use lib.IntN.{ℤ, pos, ◌+ℤ◌, ◌*ℤ◌}
 use lib.Signed.{◌<ℤ◌, ◌≤ℤ◌}
-use Rattle.mill_base.proofs.Ring.{E, Var, Num, Add, Sub, Mul, Neg, ring}
-use Rattle.mill_base.proofs.Cert.{H, Le, Lt, Eq, C, Hyp, TimesEq, Sq, Lit, Plus, Times, refute, prove_le, prove_le_by, prove_lt_by}
+use Rattle.mill_base.proofs.Ring.{Var, Num, Add, Mul, Neg, ring}
+use Rattle.mill_base.proofs.Cert.{Le, Lt, Eq, Hyp, TimesEq, Sq, Lit, Plus, Times, prove_le_by, prove_lt_by}
 
 -- vars q p u v w a b g x y z; hyp e: a*x+b*y+g*z == 0; goal (q*u+p*a)*x+(q*v+p*b)*y+(q*w+p*g)*z <= q*(u*x+v*y+w*z); eqmul e * p
 pub lin_zero : (q p u v w a b g x y z : ℤ) → (((a *ℤ x) +ℤ (b *ℤ y)) +ℤ (g *ℤ z)) ≡ (pos 0) → (((((q *ℤ u) +ℤ (p *ℤ a)) *ℤ x) +ℤ (((q *ℤ v) +ℤ (p *ℤ b)) *ℤ y)) +ℤ (((q *ℤ w) +ℤ (p *ℤ g)) *ℤ z)) ≤ℤ (q *ℤ (((u *ℤ x) +ℤ (v *ℤ y)) +ℤ (w *ℤ z)))

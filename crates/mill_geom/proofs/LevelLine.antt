@@ -1,21 +1,20 @@
 -- The line in which a triangle meets the level: with no touch on the edges, it comes near the axis exactly where its form is negative and it is near.
-use Rattle.std.proofs.Common.{◌≡◌, ◌⊎◌, inl, inr, refl, sym, ap, ◌∙◌, subst, arith}
+use Rattle.std.proofs.Common.{◌≡◌, ◌⊎◌, inl, inr, refl, sym, subst, arith}
 use lib.IntN.{ℤ, pos, ◌+ℤ◌, ◌-ℤ◌, ◌*ℤ◌}
 use lib.Signed.{◌<ℤ◌, ◌≤ℤ◌}
 use Rattle.std.proofs.lemmas.Int.{ints}
 use Rattle.mill_base.specs.Numbers.{square}
-use Rattle.mill_base.specs.Cutters.{apart}
 use Rattle.mill_base.proofs.Exit.{split_lt}
 use Rattle.mill_geom.specs.declared.offset.Offset.{Offset}
 use Rattle.mill_geom.specs.Offsets.{mean2, mean3}
-use Rattle.mill_geom.specs.Forms.{form_of, PairHits, level_form_of, volume_of, slope_x_of, slope_y_of, IsLineNear, IsAlone, IsOver}
-use Rattle.mill_geom.specs.Contacts.{TouchesSegment, TouchesTriangle, OnLevel, EdgesClear}
-use Rattle.mill_geom.proofs.Descend.{V4, mix, Weights, Hit}
+use Rattle.mill_geom.specs.Forms.{level_form_of, volume_of, slope_x_of, slope_y_of, IsLineNear, IsAlone, IsOver}
+use Rattle.mill_geom.specs.Contacts.{TouchesTriangle, OnLevel, EdgesClear}
+use Rattle.mill_geom.proofs.Descend.{V4, Hit}
 use Rattle.mill_geom.proofs.Segments.{turned}
 use Rattle.mill_geom.proofs.Cut.{line_form, CutHits, cut_shows, cut_found}
 use Rattle.mill_geom.proofs.CutCerts.{nonneg_sum}
-use Rattle.mill_geom.proofs.Corners.{corner, Closed, weak, at_zero, near_hit, opened, turn_touch, turn_closed, turn_level, turn_clear, gone_first, segment_opened}
-use Rattle.mill_geom.proofs.LevelCerts.{near_to, near_from, near_same, time_ok, level_up, level_down, minor_up, minor_down, minor_yes, minor_no, square_above, square_below, end_near, end_near_turned, end_level, end_level_turned, mirror_le, mirror_ge, mirror_back_le, mirror_back_ge, zero_first}
+use Rattle.mill_geom.proofs.Corners.{corner, weak, at_zero, near_hit, opened, turn_touch, turn_closed, turn_level, turn_clear, gone_first, segment_opened}
+use Rattle.mill_geom.proofs.LevelCerts.{near_to, near_from, near_same, time_ok, level_up, level_down, minor_up, minor_down, minor_yes, minor_no, square_above, square_below, end_near, end_near_turned, end_level, end_level_turned, mirror_ge, mirror_back_le, mirror_back_ge, zero_first}
 
 -- the corner with its height turned over
 abbrev mirrored : ℤ → Offset → V4

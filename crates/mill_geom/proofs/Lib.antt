@@ -18,3 +18,4 @@ pub mod Places
 pub mod SideCerts
 pub mod Sides
 pub mod Clip
+pub mod Candidates

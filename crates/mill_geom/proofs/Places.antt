@@ -1,14 +1,13 @@
 -- Touches of a triangle and of the offsets of its corners are the same; and a triangle beyond the radius on one side has none.
-use Rattle.std.proofs.Common.{◌≡◌, ◌⊎◌, ◌↔◌, inl, inr, refl, sym, ap, ◌∙◌, subst, arith}
+use Rattle.std.proofs.Common.{◌≡◌, refl, sym, ap, ◌∙◌, subst, arith}
 use lib.IntN.{ℤ, pos, ◌+ℤ◌, ◌-ℤ◌, ◌*ℤ◌}
 use lib.Signed.{◌<ℤ◌, ◌≤ℤ◌}
 use Rattle.std.proofs.lemmas.Int.{ints}
 use Rattle.mill_base.specs.declared.points.Pt3.{Pt3}
 use Rattle.mill_base.specs.declared.points.Tri.{Tri}
 use Rattle.mill_base.specs.declared.cutter.Cutter.TheVariants.{Flat}
-use Rattle.mill_base.specs.Points.{plus, times, minus, IsPointOf}
+use Rattle.mill_base.specs.Points.{plus, times}
 use Rattle.mill_base.specs.Contact.{Touches}
-use Rattle.mill_base.specs.Cutters.{InFlat}
 use Rattle.mill_base.proofs.Integers.{one-mul-ℤ}
 use Rattle.mill_geom.specs.declared.offset.Offset.{Offset}
 use Rattle.mill_geom.specs.Offsets.{mean3, IsOffset}

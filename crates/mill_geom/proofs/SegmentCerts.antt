@@ -1,8 +1,8 @@
-use Rattle.std.proofs.Common.{◌≡◌, List, [], ◌∷◌, refl}
-use lib.IntN.{ℤ, pos, negsuc, neg_ℤ, ◌+ℤ◌, ◌-ℤ◌, ◌*ℤ◌}
+use Rattle.std.proofs.Common.{◌≡◌, [], ◌∷◌, refl}
+use lib.IntN.{ℤ, pos, ◌+ℤ◌, ◌-ℤ◌, ◌*ℤ◌}
 use lib.Signed.{◌<ℤ◌, ◌≤ℤ◌}
-use Rattle.mill_base.proofs.Ring.{E, Var, Num, Add, Sub, Mul, Neg, ring}
-use Rattle.mill_base.proofs.Cert.{H, Le, Lt, Eq, C, Hyp, TimesEq, Sq, Lit, Plus, Times, refute, prove_le, prove_le_by, prove_lt_by}
+use Rattle.mill_base.proofs.Ring.{Var, Num, Add, Sub, Mul, Neg, ring}
+use Rattle.mill_base.proofs.Cert.{Le, Lt, Eq, Hyp, TimesEq, Sq, Lit, Plus, Times, refute, prove_le_by, prove_lt_by}
 
 -- vars px py qx qy r u v; hyp h: (px*px+py*py-r*r)*(u*u)+2*((px*qx+py*qy-r*r)*(u*v))+(qx*qx+qy*qy-r*r)*(v*v) < 0; goal (u*px+v*qx)*(u*px+v*qx)+(u*py+v*qy)*(u*py+v*qy) < (r*r)*((u+v)*(u+v))
 pub seg_near : (px py qx qy r u v : ℤ) → ((((((px *ℤ px) +ℤ (py *ℤ py)) -ℤ (r *ℤ r)) *ℤ (u *ℤ u)) +ℤ ((pos 2) *ℤ ((((px *ℤ qx) +ℤ (py *ℤ qy)) -ℤ (r *ℤ r)) *ℤ (u *ℤ v)))) +ℤ ((((qx *ℤ qx) +ℤ (qy *ℤ qy)) -ℤ (r *ℤ r)) *ℤ (v *ℤ v))) <ℤ (pos 0) → ((((u *ℤ px) +ℤ (v *ℤ qx)) *ℤ ((u *ℤ px) +ℤ (v *ℤ qx))) +ℤ (((u *ℤ py) +ℤ (v *ℤ qy)) *ℤ ((u *ℤ py) +ℤ (v *ℤ qy)))) <ℤ ((r *ℤ r) *ℤ ((u +ℤ v) *ℤ (u +ℤ v)))

@@ -1,8 +1,8 @@
-use Rattle.std.proofs.Common.{◌≡◌, List, [], ◌∷◌, refl}
-use lib.IntN.{ℤ, pos, negsuc, neg_ℤ, ◌+ℤ◌, ◌-ℤ◌, ◌*ℤ◌}
+use Rattle.std.proofs.Common.{◌≡◌, [], ◌∷◌, refl}
+use lib.IntN.{ℤ, pos, ◌+ℤ◌, ◌-ℤ◌, ◌*ℤ◌}
 use lib.Signed.{◌<ℤ◌, ◌≤ℤ◌}
-use Rattle.mill_base.proofs.Ring.{E, Var, Num, Add, Sub, Mul, Neg, ring}
-use Rattle.mill_base.proofs.Cert.{H, Le, Lt, Eq, C, Hyp, TimesEq, Sq, Lit, Plus, Times, refute, prove_le, prove_le_by, prove_lt_by}
+use Rattle.mill_base.proofs.Ring.{Var, Num, Add, Sub, Mul, Neg, ring}
+use Rattle.mill_base.proofs.Cert.{Le, Lt, Eq, Hyp, TimesEq, Sq, Lit, Plus, Times, prove_le_by, prove_lt_by}
 
 -- vars D Y B m s t r k; hyp h1: D*D+Y*Y < r*r*(s*s); hyp h2: B*B < r*r*(t*t); hyp hd: B*0+B*Y <= (r*t)*(r*s); hyp hm: 0 < m; hyp hk: 0 <= k; goal (m*D)*(m*D)+(k*B+m*Y)*(k*B+m*Y) < (r*r)*((k*t+m*s)*(k*t+m*s)); mul h1 * sq(m); mul h1+ * sq(m); mul h2 * sq(k); mul h2+ * sq(k); mul hd * hm * hk; mul hd * hm+ * hk; mul hm * hm; mul hm+ * hm+
 pub side_near : (D Y B m s t r k : ℤ) → ((D *ℤ D) +ℤ (Y *ℤ Y)) <ℤ ((r *ℤ r) *ℤ (s *ℤ s)) → (B *ℤ B) <ℤ ((r *ℤ r) *ℤ (t *ℤ t)) → ((B *ℤ (pos 0)) +ℤ (B *ℤ Y)) ≤ℤ ((r *ℤ t) *ℤ (r *ℤ s)) → (pos 0) <ℤ m → (pos 0) ≤ℤ k → (((m *ℤ D) *ℤ (m *ℤ D)) +ℤ (((k *ℤ B) +ℤ (m *ℤ Y)) *ℤ ((k *ℤ B) +ℤ (m *ℤ Y)))) <ℤ ((r *ℤ r) *ℤ (((k *ℤ t) +ℤ (m *ℤ s)) *ℤ ((k *ℤ t) +ℤ (m *ℤ s))))
@@ -71,3 +71,28 @@ clip_one u v w p q s P Q S hu hv hw hP hQ hS hz = prove_le_by (u ∷ v ∷ w ∷
 -- vars u v w p q s P Q S; hyp hu: 0 <= u; hyp hv: 0 <= v; hyp hw: 0 <= w; hyp hP: 0 <= P; hyp hQ: 0 <= Q; hyp hPS: 0 <= (0-s)*P+p*S; hyp hQS: 0 <= (0-s)*Q+q*S; hyp hz: 0 <= (u*p+v*q)+w*s; goal 0 <= (u*p+v*q)*((u*P+v*Q)+w*S); mul hz * hu * hP; mul hz * hv * hQ; mul hw * hu * hPS; mul hw * hv * hQS
 pub clip_two : (u v w p q s P Q S : ℤ) → (pos 0) ≤ℤ u → (pos 0) ≤ℤ v → (pos 0) ≤ℤ w → (pos 0) ≤ℤ P → (pos 0) ≤ℤ Q → (pos 0) ≤ℤ ((((pos 0) -ℤ s) *ℤ P) +ℤ (p *ℤ S)) → (pos 0) ≤ℤ ((((pos 0) -ℤ s) *ℤ Q) +ℤ (q *ℤ S)) → (pos 0) ≤ℤ (((u *ℤ p) +ℤ (v *ℤ q)) +ℤ (w *ℤ s)) → (pos 0) ≤ℤ (((u *ℤ p) +ℤ (v *ℤ q)) *ℤ (((u *ℤ P) +ℤ (v *ℤ Q)) +ℤ (w *ℤ S)))
 clip_two u v w p q s P Q S hu hv hw hP hQ hPS hQS hz = prove_le_by (u ∷ v ∷ w ∷ p ∷ q ∷ s ∷ P ∷ Q ∷ S ∷ []) (Le (Num (pos 0)) (Var 0) ∷ Le (Num (pos 0)) (Var 1) ∷ Le (Num (pos 0)) (Var 2) ∷ Le (Num (pos 0)) (Var 6) ∷ Le (Num (pos 0)) (Var 7) ∷ Le (Num (pos 0)) (Add (Mul (Sub (Num (pos 0)) (Var 5)) (Var 6)) (Mul (Var 3) (Var 8))) ∷ Le (Num (pos 0)) (Add (Mul (Sub (Num (pos 0)) (Var 5)) (Var 7)) (Mul (Var 4) (Var 8))) ∷ Le (Num (pos 0)) (Add (Add (Mul (Var 0) (Var 3)) (Mul (Var 1) (Var 4))) (Mul (Var 2) (Var 5))) ∷ []) (Num (pos 0)) (Mul (Add (Mul (Var 0) (Var 3)) (Mul (Var 1) (Var 4))) (Add (Add (Mul (Var 0) (Var 6)) (Mul (Var 1) (Var 7))) (Mul (Var 2) (Var 8)))) (Plus (Hyp 0) (Plus (Times (Times (Hyp 8) (Hyp 1)) (Hyp 4)) (Plus (Times (Times (Hyp 8) (Hyp 2)) (Hyp 5)) (Plus (Times (Times (Hyp 3) (Hyp 1)) (Hyp 6)) (Times (Times (Hyp 3) (Hyp 2)) (Hyp 7)))))) 0 (hu, (hv, (hw, (hP, (hQ, (hPS, (hQS, (hz, tt)))))))) refl
+
+pub spot_ab : (z w a b c : ℤ) → (((((pos 0) -ℤ w) *ℤ a) +ℤ (z *ℤ b)) +ℤ ((pos 0) *ℤ c)) ≡ ((((pos 0) -ℤ w) *ℤ a) +ℤ (z *ℤ b))
+spot_ab z w a b c = ring (z ∷ w ∷ a ∷ b ∷ c ∷ []) (Add (Add (Mul (Sub (Num (pos 0)) (Var 1)) (Var 2)) (Mul (Var 0) (Var 3))) (Mul (Num (pos 0)) (Var 4))) (Add (Mul (Sub (Num (pos 0)) (Var 1)) (Var 2)) (Mul (Var 0) (Var 3))) refl
+
+-- vars z w y; goal 0 <= ((0-w)*z+z*w)+0*y
+pub spot_ab_level : (z w y : ℤ) → (pos 0) ≤ℤ (((((pos 0) -ℤ w) *ℤ z) +ℤ (z *ℤ w)) +ℤ ((pos 0) *ℤ y))
+spot_ab_level z w y = prove_le_by (z ∷ w ∷ y ∷ []) ([]) (Num (pos 0)) (Add (Add (Mul (Sub (Num (pos 0)) (Var 1)) (Var 0)) (Mul (Var 0) (Var 1))) (Mul (Num (pos 0)) (Var 2))) (Hyp 0) 0 tt refl
+
+pub spot_ab_time : (z w : ℤ) → ((((pos 0) -ℤ w) +ℤ z) +ℤ (pos 0)) ≡ (z -ℤ w)
+spot_ab_time z w = ring (z ∷ w ∷ []) (Add (Add (Sub (Num (pos 0)) (Var 1)) (Var 0)) (Num (pos 0))) (Sub (Var 0) (Var 1)) refl
+
+pub spot_ba : (z w a b c : ℤ) → (((z *ℤ b) +ℤ (((pos 0) -ℤ w) *ℤ a)) +ℤ ((pos 0) *ℤ c)) ≡ ((((pos 0) -ℤ w) *ℤ a) +ℤ (z *ℤ b))
+spot_ba z w a b c = ring (z ∷ w ∷ a ∷ b ∷ c ∷ []) (Add (Add (Mul (Var 0) (Var 3)) (Mul (Sub (Num (pos 0)) (Var 1)) (Var 2))) (Mul (Num (pos 0)) (Var 4))) (Add (Mul (Sub (Num (pos 0)) (Var 1)) (Var 2)) (Mul (Var 0) (Var 3))) refl
+
+-- vars z w y; goal 0 <= (z*w+(0-w)*z)+0*y
+pub spot_ba_level : (z w y : ℤ) → (pos 0) ≤ℤ (((z *ℤ w) +ℤ (((pos 0) -ℤ w) *ℤ z)) +ℤ ((pos 0) *ℤ y))
+spot_ba_level z w y = prove_le_by (z ∷ w ∷ y ∷ []) ([]) (Num (pos 0)) (Add (Add (Mul (Var 0) (Var 1)) (Mul (Sub (Num (pos 0)) (Var 1)) (Var 0))) (Mul (Num (pos 0)) (Var 2))) (Hyp 0) 0 tt refl
+
+-- vars r z w f g; hyp h: r*(z-w) <= (0-w)*f+z*g; goal 0 <= (0-w)*(f-r)+z*(g-r)
+pub beyond_cross : (r z w f g : ℤ) → (r *ℤ (z -ℤ w)) ≤ℤ ((((pos 0) -ℤ w) *ℤ f) +ℤ (z *ℤ g)) → (pos 0) ≤ℤ ((((pos 0) -ℤ w) *ℤ (f -ℤ r)) +ℤ (z *ℤ (g -ℤ r)))
+beyond_cross r z w f g h = prove_le_by (r ∷ z ∷ w ∷ f ∷ g ∷ []) (Le (Mul (Var 0) (Sub (Var 1) (Var 2))) (Add (Mul (Sub (Num (pos 0)) (Var 2)) (Var 3)) (Mul (Var 1) (Var 4))) ∷ []) (Num (pos 0)) (Add (Mul (Sub (Num (pos 0)) (Var 2)) (Sub (Var 3) (Var 0))) (Mul (Var 1) (Sub (Var 4) (Var 0)))) (Plus (Hyp 0) (Hyp 1)) 0 (h, tt) refl
+
+-- vars u v w a b c r; hyp h: 0 <= (u*(a-r)+v*(b-r))+w*(c-r); goal r*((u+v)+w) <= (u*a+v*b)+w*c
+pub beyond_all : (u v w a b c r : ℤ) → (pos 0) ≤ℤ (((u *ℤ (a -ℤ r)) +ℤ (v *ℤ (b -ℤ r))) +ℤ (w *ℤ (c -ℤ r))) → (r *ℤ ((u +ℤ v) +ℤ w)) ≤ℤ (((u *ℤ a) +ℤ (v *ℤ b)) +ℤ (w *ℤ c))
+beyond_all u v w a b c r h = prove_le_by (u ∷ v ∷ w ∷ a ∷ b ∷ c ∷ r ∷ []) (Le (Num (pos 0)) (Add (Add (Mul (Var 0) (Sub (Var 3) (Var 6))) (Mul (Var 1) (Sub (Var 4) (Var 6)))) (Mul (Var 2) (Sub (Var 5) (Var 6)))) ∷ []) (Mul (Var 6) (Add (Add (Var 0) (Var 1)) (Var 2))) (Add (Add (Mul (Var 0) (Var 3)) (Mul (Var 1) (Var 4))) (Mul (Var 2) (Var 5))) (Plus (Hyp 0) (Hyp 1)) 0 (h, tt) refl

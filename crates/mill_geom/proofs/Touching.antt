@@ -1,15 +1,14 @@
 -- A triangle and the open cylinder over the level: the edges, the axis and the level line find each touch.
-use Rattle.std.proofs.Common.{◌≡◌, ◌⊎◌, inl, inr, refl, sym, ap, ◌∙◌, subst, arith}
+use Rattle.std.proofs.Common.{◌≡◌, inl, inr, arith}
 use lib.IntN.{ℤ, pos, ◌+ℤ◌, ◌-ℤ◌, ◌*ℤ◌}
 use lib.Signed.{◌<ℤ◌, ◌≤ℤ◌}
 use Rattle.std.proofs.lemmas.Int.{ints}
 use Rattle.mill_base.proofs.Exit.{split_lt}
 use Rattle.mill_geom.specs.declared.offset.Offset.{Offset}
-use Rattle.mill_geom.specs.Forms.{cross_of, volume_of, IsPierced, IsOver}
+use Rattle.mill_geom.specs.Forms.{cross_of, IsPierced, IsOver}
 use Rattle.mill_geom.specs.Contacts.{TouchesTriangle, OnLevel, EdgesClear}
 use Rattle.mill_geom.proofs.FlatTriangle.{Pierced, complete, pierced_touches}
-use Rattle.mill_geom.proofs.Triangles.{cross, cross_still, opposite}
-use Rattle.mill_geom.proofs.SegmentCerts.{seg_low}
+use Rattle.mill_geom.proofs.Triangles.{cross_still, opposite}
 use Rattle.mill_geom.proofs.Corners.{corner, touch_hit, hit_touch, clear_of}
 use Rattle.mill_geom.proofs.LevelCerts.{pierced_time, pierced_some, turned_over, turned_back, low_sum}
 

@@ -1,8 +1,8 @@
-use Rattle.std.proofs.Common.{◌≡◌, List, [], ◌∷◌, refl}
-use lib.IntN.{ℤ, pos, negsuc, neg_ℤ, ◌+ℤ◌, ◌-ℤ◌, ◌*ℤ◌}
+use Rattle.std.proofs.Common.{◌≡◌, [], ◌∷◌, refl}
+use lib.IntN.{ℤ, pos, negsuc, ◌+ℤ◌, ◌-ℤ◌, ◌*ℤ◌}
 use lib.Signed.{◌<ℤ◌, ◌≤ℤ◌}
-use Rattle.mill_base.proofs.Ring.{E, Var, Num, Add, Sub, Mul, Neg, ring}
-use Rattle.mill_base.proofs.Cert.{H, Le, Lt, Eq, C, Hyp, TimesEq, Sq, Lit, Plus, Times, refute, prove_le, prove_le_by, prove_lt_by}
+use Rattle.mill_base.proofs.Ring.{Var, Num, Add, Sub, Mul, Neg, ring}
+use Rattle.mill_base.proofs.Cert.{Le, Lt, Eq, Hyp, TimesEq, Sq, Lit, Plus, Times, prove_le_by, prove_lt_by}
 
 -- vars i j k x y z; hyp e: (i*x+j*y)+k*z == 0; goal ((0-i)*x+(0-j)*y)+(0-k)*z <= 0
 pub opp_zero : (i j k x y z : ℤ) → (((i *ℤ x) +ℤ (j *ℤ y)) +ℤ (k *ℤ z)) ≡ (pos 0) → (((((pos 0) -ℤ i) *ℤ x) +ℤ (((pos 0) -ℤ j) *ℤ y)) +ℤ (((pos 0) -ℤ k) *ℤ z)) ≤ℤ (pos 0)

@@ -1,10 +1,10 @@
 -- A triangle in which some point is nearer than its time: an edge, the cut, or the axis has one.
-use Rattle.std.proofs.Common.{◌≡◌, ◌⊎◌, inl, inr, List, [], ◌∷◌, refl, sym, ap, ◌∙◌, subst, arith}
+use Rattle.std.proofs.Common.{◌≡◌, ◌⊎◌, inl, inr, refl, ◌∙◌, arith}
 use lib.IntN.{ℤ, pos, ◌+ℤ◌, ◌-ℤ◌, ◌*ℤ◌}
 use lib.Signed.{◌<ℤ◌, ◌≤ℤ◌}
 use Rattle.std.proofs.lemmas.Int.{ints}
 use Rattle.mill_base.proofs.Exit.{NeverFalls, split_lt}
-use Rattle.mill_geom.proofs.Descend.{V4, mix, Weights, Hit, Boundary, Upward, lines, descend}
+use Rattle.mill_geom.proofs.Descend.{V4, mix, Weights, Hit, Boundary, lines, descend}
 use Rattle.mill_geom.proofs.TriangleCerts.{opp_zero, opp_zero2, opp_rises, cross_x, cross_y, axis_near, deg_x_le, deg_x_ge, deg_y_le, deg_y_ge, sq_zero, sq_zero2, one_x, turn_lt}
 
 -- a direction along which the place stays

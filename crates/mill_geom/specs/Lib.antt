@@ -1,3 +1,4 @@
 pub mod Offsets
 pub mod Forms
 pub mod Contacts
+pub mod Spots

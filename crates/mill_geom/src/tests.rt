@@ -1,15 +1,19 @@
-ghost use Rattle.std.specs.Prelude.{◌≡◌};
+ghost use Rattle.mill_base.specs.Ranges.{IsInRange};
+ghost use Rattle.mill_geom.specs.Offsets.{IsCentre};
 
 use crate::touches_cylinder;
 use mill_base::{Pt3, Tri};
 use std::test::Fail;
 
-fn at(x: i32, y: i32, z: i32) -> Pt3
-    ensures x { result.x ≡ x }
-    ensures y { result.y ≡ y }
-    ensures z { result.z ≡ z }
+fn at(x: i16, y: i16, z: i16) -> Pt3
+    ensures corner { IsInRange result }
+    ensures centre { IsCentre result }
 {
-    Pt3 { x, y, z }
+    Pt3 {
+        x: i32::from(x),
+        y: i32::from(y),
+        z: i32::from(z),
+    }
 }
 
 // Touches of a level triangle from its edge, its slope and its level, one unit in and one unit out.

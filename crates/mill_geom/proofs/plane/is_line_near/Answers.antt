@@ -1,6 +1,6 @@
 use Rattle.std.proofs.Common.{ℕ, ◌^◌, List, [], ◌∷◌, refl, w64}
 use mir.Syntax.{w128}
-use Rattle.mill_base.proofs.Machine.{Read, Cast, Sum, Diff, Prod, exact, stays, sum_fits, diff_fits, prod_fits, cast_fits, less}
+use Rattle.mill_base.proofs.Machine.{Read, Cast, Sum, Prod, sum_fits, prod_fits, less}
 use Rattle.mill_geom.proofs.Signs.{near_as}
 use Rattle.mill_geom.proofs.plane.is_line_near.Goals as goal
 

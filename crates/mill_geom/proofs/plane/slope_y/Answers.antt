@@ -1,6 +1,5 @@
 use Rattle.std.proofs.Common.{ℕ, ◌^◌, List, [], ◌∷◌, refl, w64}
-use mir.Syntax.{w128}
-use Rattle.mill_base.proofs.Machine.{Read, Cast, Sum, Diff, Prod, exact, stays, sum_fits, diff_fits, prod_fits, cast_fits}
+use Rattle.mill_base.proofs.Machine.{Read, Sum, Diff, Prod, exact, stays, sum_fits, diff_fits, prod_fits}
 use Rattle.mill_geom.proofs.plane.slope_y.Goals as goal
 
 -- how far each number is from 0

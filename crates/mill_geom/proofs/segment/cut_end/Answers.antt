@@ -1,11 +1,7 @@
-use Rattle.std.proofs.Common.{ℕ, ◌^◌, List, [], ◌∷◌, refl, w64}
-use mir.Syntax.{w32, w128}
-use lib.IntN.{ℤ, pos, negsuc}
-use Rattle.mill_base.proofs.Machine.{X, Read, Lit, Cast, Sum, Diff, Prod, Opp, exact, sum_fits, diff_fits, prod_fits}
-use Rattle.mill_base.specs.Numbers.{Within}
-use Rattle.mill_geom.specs.Offsets.{OffsetInRange}
-use Rattle.mill_geom.specs.Forms.{PairHits, form_of, cut_mid_of, cut_end_of}
-use Rattle.mill_geom.specs.Contacts.{TouchesSegment}
+use Rattle.std.proofs.Common.{◌^◌, [], ◌∷◌, refl, w64}
+use mir.Syntax.{w128}
+use lib.IntN.{pos}
+use Rattle.mill_base.proofs.Machine.{Read, Lit, Cast, Sum, Diff, Prod, exact, sum_fits, prod_fits}
 use Rattle.mill_geom.proofs.segment.cut_end.Goals as goal
 
 -- src/lib.rt:65:5

@@ -1,10 +1,8 @@
-use Rattle.std.proofs.Common.{ℕ, ◌^◌, List, [], ◌∷◌, refl, w64, nat_abs, ◌≤◌}
+use Rattle.std.proofs.Common.{ℕ, ◌^◌, List, [], ◌∷◌, refl, w64}
 use mir.Syntax.{w128}
 use lib.IntN.{ℤ}
 use Rattle.mill_base.specs.Numbers.{Within}
 use Rattle.mill_geom.specs.Offsets.{OffsetInRange}
-use Rattle.mill_geom.specs.Forms.{PairHits, form_of, cut_mid_of, cut_end_of}
-use Rattle.mill_geom.specs.Contacts.{TouchesSegment}
 use Rattle.mill_geom.specs.declared.offset.Offset.{Offset}
 use Rattle.mill_base.proofs.Range.{Bounded}
 use Rattle.mill_base.proofs.Machine.{X, Read, Cast, Sum, Diff, Prod, exact, sum_fits, diff_fits, stays}

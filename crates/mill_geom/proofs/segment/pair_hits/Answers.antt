@@ -1,14 +1,10 @@
-use Rattle.std.proofs.Common.{ℕ, ◌^◌, ◌↔◌, ◌≡◌, ◌⊎◌, inl, inr, List, [], ◌∷◌, refl, w64, arith, IsTrue}
+use Rattle.std.proofs.Common.{◌^◌, ◌↔◌, inl, inr, [], ◌∷◌, refl, arith}
 use mir.Syntax.{w128}
 use lib.IntN.{ℤ, pos, ◌*ℤ◌}
 use lib.Signed.{◌<ℤ◌, ◌≤ℤ◌}
 use Rattle.std.proofs.lemmas.Int.{ints}
-use Rattle.mill_base.specs.Numbers.{Within}
-use Rattle.mill_geom.specs.Offsets.{OffsetInRange}
-use Rattle.mill_geom.specs.Forms.{PairHits, form_of, cut_mid_of, cut_end_of}
-use Rattle.mill_geom.specs.Contacts.{TouchesSegment}
-use Rattle.mill_base.proofs.Range.{Bounded}
-use Rattle.mill_base.proofs.Machine.{X, Read, Lit, Cast, Sum, Diff, Prod, less}
+use Rattle.mill_geom.specs.Forms.{PairHits}
+use Rattle.mill_base.proofs.Machine.{Read, Prod, less}
 use Rattle.mill_geom.proofs.segment.pair_hits.Goals as goal
 
 -- with the first two cases out, the third decides

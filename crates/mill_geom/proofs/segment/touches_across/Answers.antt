@@ -1,19 +1,17 @@
-use Rattle.std.proofs.Common.{ℕ, ◌^◌, List, [], ◌∷◌, refl, w64}
-use mir.Syntax.{w32, w128}
-use lib.IntN.{ℤ, pos, negsuc}
-use Rattle.mill_base.proofs.Machine.{X, Read, Lit, Cast, Sum, Diff, Prod, Opp, exact, sum_fits, diff_fits, prod_fits}
-use Rattle.mill_base.specs.Numbers.{Within}
-use Rattle.mill_geom.specs.Offsets.{OffsetInRange}
-use Rattle.mill_geom.specs.Forms.{PairHits, form_of, cut_mid_of, cut_end_of}
+use Rattle.std.proofs.Common.{◌^◌, [], ◌∷◌, refl, w64}
+use mir.Syntax.{w128}
+use lib.IntN.{ℤ, pos}
+use Rattle.mill_base.proofs.Machine.{Read, Prod, prod_fits}
+use Rattle.mill_geom.specs.Forms.{form_of, cut_mid_of, cut_end_of}
 use Rattle.mill_geom.specs.Contacts.{TouchesSegment}
 use Rattle.mill_geom.proofs.segment.touches_across.Goals as goal
-use Rattle.std.proofs.Common.{◌≡◌, ◌⊎◌, ◌↔◌, inl, inr, sym, ◌∙◌, subst, ap, arith, IsTrue}
-use lib.IntN.{◌+ℤ◌, ◌-ℤ◌, ◌*ℤ◌}
+use Rattle.std.proofs.Common.{◌≡◌, ◌⊎◌, ◌↔◌, inl, inr, subst, arith}
+use lib.IntN.{◌*ℤ◌}
 use lib.Signed.{◌<ℤ◌, ◌≤ℤ◌}
 use Rattle.std.proofs.lemmas.Int.{ints}
 use Rattle.std.proofs.lemmas.Bool.{false≢true}
 use Rattle.mill_geom.specs.declared.offset.Offset.{Offset}
-use Rattle.mill_base.proofs.Machine.{kept, less, stored}
+use Rattle.mill_base.proofs.Machine.{kept, less}
 use Rattle.mill_geom.proofs.Segments.{cut_hits, cut_minor}
 
 -- the three tests, over the numbers that the calls gave

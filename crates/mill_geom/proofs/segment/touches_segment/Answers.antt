@@ -1,15 +1,13 @@
-use Rattle.std.proofs.Common.{◌≡◌, ◌⊎◌, ◌↔◌, inl, inr, sym, ◌∙◌, subst, ap, arith, IsTrue, ℕ, ◌^◌, refl, w64}
+use Rattle.std.proofs.Common.{◌≡◌, ◌↔◌, arith, ◌^◌, refl, w64}
 use mir.Syntax.{w128}
 use lib.IntN.{ℤ, pos}
 use lib.Signed.{◌<ℤ◌, ◌≤ℤ◌}
 use Rattle.std.proofs.lemmas.Int.{ints}
 use Rattle.std.proofs.lemmas.Bool.{false≢true}
 use Rattle.mill_geom.specs.declared.offset.Offset.{Offset}
-use Rattle.mill_base.specs.Numbers.{Within}
-use Rattle.mill_geom.specs.Offsets.{OffsetInRange}
-use Rattle.mill_geom.specs.Forms.{PairHits, form_of, cut_mid_of, cut_end_of}
+use Rattle.mill_geom.specs.Forms.{PairHits, form_of}
 use Rattle.mill_geom.specs.Contacts.{TouchesSegment}
-use Rattle.mill_base.proofs.Machine.{kept, stored}
+use Rattle.mill_base.proofs.Machine.{kept}
 use Rattle.mill_geom.proofs.Segments.{up_hits, down_misses, turned}
 use Rattle.mill_geom.proofs.segment.touches_segment.Goals as goal
 

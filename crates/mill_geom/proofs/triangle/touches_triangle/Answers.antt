@@ -1,4 +1,4 @@
-use Rattle.std.proofs.Common.{w64, ◌^◌, ◌≡◌, refl}
+use Rattle.std.proofs.Common.{w64, refl}
 use Rattle.mill_base.proofs.Machine.{kept}
 use Rattle.mill_geom.proofs.Touching.{pierced_touch, no_touch, under_misses}
 use Rattle.mill_geom.proofs.triangle.touches_triangle.Goals as goal
