@@ -3,6 +3,9 @@ pub mod Ring
 pub mod Cert
 pub mod Range
 pub mod Machine
+mod DivisionCerts
+pub mod Divisions
+mod Positions
 pub mod Squares
 pub mod ExitCerts
 pub mod Exit

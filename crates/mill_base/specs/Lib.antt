@@ -6,3 +6,4 @@ pub mod Contact
 pub mod Sizes
 pub mod Ranges
 pub mod Covers
+pub mod Lattices

@@ -1,6 +1,6 @@
--- The sizes that a cutter may have, and the height to which it lowers a column.
-use Rattle.std.specs.Prelude.{◌/◌, Bool, if◌then◌else◌, ℤ, pos, ◌+ℤ◌, ◌-ℤ◌, ◌*ℤ◌, ◌<ℤ◌, ◌≤ℤ◌, nat_abs, int_lt, Option, Some, None}
-use Rattle.mill_base.specs.Numbers.{square, floor_root_of, ceil_root_of}
+-- The sizes that a cutter may have, wider and narrower cutters, and the height to which a cutter lowers a column.
+use Rattle.std.specs.Prelude.{◌/◌, Bool, if◌then◌else◌, ℤ, pos, ◌+ℤ◌, ◌-ℤ◌, ◌*ℤ◌, ◌<ℤ◌, ◌≤ℤ◌, nat_abs, int_lt, int_le, Option, Some, None}
+use Rattle.mill_base.specs.Numbers.{square, floor_root_of, ceil_root_of, ceil_div}
 use Rattle.mill_base.specs.Points.{point_at}
 use Rattle.mill_base.specs.Contact.{Holds}
 use Rattle.mill_base.specs.declared.points.Pt3.{Pt3}
@@ -39,6 +39,26 @@ IsCutter cutter = IsCutterUpTo (pos 10000) cutter
 -- a cutter of a contact test, which may be a job's widened by up to 1,024
 abbrev pub IsWideCutter : Cutter → Type 0
 IsWideCutter cutter = IsCutterUpTo (pos 11024) cutter
+
+-- the same cutter with the radius s
+abbrev pub with_radius : Cutter → ℤ → Cutter
+with_radius (Flat r) s = Flat s
+with_radius (Ball r) s = Ball s
+with_radius (Cone r a b) s = Cone s a b
+
+-- how far a wider cutter is lowered, or a narrower one raised, for a change of the radius by reach: by a cone's slope, rounded up
+abbrev pub shift : Cutter → ℤ → ℤ
+shift (Flat r) reach = pos 0
+shift (Ball r) reach = reach
+shift (Cone r a b) reach = ceil_div (reach *ℤ a) (nat_abs b)
+
+-- the cutter widened by reach
+abbrev pub outer : Cutter → ℤ → Cutter
+outer cutter reach = with_radius cutter (radius_of cutter +ℤ reach)
+
+-- the cutter narrowed by 1, none at radius 1
+abbrev pub inner : Cutter → Option Cutter
+inner cutter = if int_le (radius_of cutter) (pos 1) then None else Some (with_radius cutter (radius_of cutter -ℤ pos 1))
 
 -- the whole (x, y) lies strictly within the cutter's radius
 abbrev pub is_within : Cutter → Pt3 → ℤ → ℤ → Bool

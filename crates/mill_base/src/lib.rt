@@ -8,18 +8,22 @@
 
 mod arithmetic;
 mod cutter;
+mod lattice;
 mod memory;
 mod motion;
 mod points;
 mod roots;
+mod rounding;
 mod steps;
 #[cfg(test)]
 mod tests;
 
 pub use arithmetic::{offset, product, square, square_sum};
 pub use cutter::Cutter;
+pub use lattice::Lattice;
 pub use memory::WantOfMemory;
 pub use motion::{Kind, Move};
 pub use points::{Box2, Pt3, Tri};
 pub use roots::{ceil_root, floor_root};
+pub use rounding::{power_of_two, round_half_up};
 pub use steps::Steps;

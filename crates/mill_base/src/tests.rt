@@ -1,4 +1,7 @@
-use crate::{Cutter, ceil_root, floor_root, offset, product, square, square_sum};
+use crate::{
+    Box2, Cutter, Lattice, ceil_root, floor_root, offset, product, round_half_up, square,
+    square_sum,
+};
 use std::test::Fail;
 
 #[test]
@@ -30,5 +33,42 @@ fn products_are_exact(rt: HostRuntime) -> Result<(), Fail> {
         run: 2,
     };
     assert_eq!(rt; cone.radius(), 150);
+    Ok(())
+}
+
+#[test]
+fn halves_go_up(rt: HostRuntime) -> Result<(), Fail> {
+    assert_eq!(rt; round_half_up(5, 1), 3);
+    assert_eq!(rt; round_half_up(-5, 1), -2);
+    assert_eq!(rt; round_half_up(-1, 1), 0);
+    assert_eq!(rt; round_half_up(-7, 2), -2);
+    assert_eq!(rt; round_half_up(-9, 0), -9);
+    assert_eq!(rt; round_half_up(4611686018427387904, 63), 1);
+    assert_eq!(rt; round_half_up(-4611686018427387904, 63), 0);
+    assert_eq!(rt; round_half_up(4611686018427387904, 64), 0);
+    Ok(())
+}
+
+#[test]
+fn nodes_are_counted(rt: HostRuntime) -> Result<(), Fail> {
+    let area = Box2 {
+        x0: -200,
+        y0: 7,
+        x1: 0,
+        y1: 7,
+    };
+    assert_eq!(rt; Lattice { area, step: 75 }.nodes(), 4);
+    assert_eq!(rt; Lattice { area, step: 100 }.nodes(), 3);
+    let square = Box2 {
+        x0: 0,
+        y0: 0,
+        x1: 2000,
+        y1: 2000,
+    };
+    let finest = Lattice {
+        area: square,
+        step: 1,
+    };
+    assert_eq!(rt; finest.nodes(), 4004001);
     Ok(())
 }

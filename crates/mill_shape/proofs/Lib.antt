@@ -9,3 +9,4 @@ mod HoldingCerts
 mod OverCerts
 mod CutCerts
 mod InsideCerts
+mod Resizing

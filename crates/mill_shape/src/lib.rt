@@ -9,9 +9,11 @@
 mod arithmetic;
 mod height;
 mod laws;
+mod resize;
 mod solid;
 
 pub use height::cut_height;
 pub use laws::holds_over;
 pub use mill_base::Cutter;
+pub use resize::{shrink, widen};
 pub use solid::inside;
