@@ -19,3 +19,9 @@ pub mod SideCerts
 pub mod Sides
 pub mod Clip
 pub mod Candidates
+pub mod StripCerts
+pub mod Strips
+pub mod Besides
+pub mod Along
+pub mod ReachCerts
+pub mod Reaching

@@ -8,6 +8,7 @@ use Rattle.mill_base.proofs.Integers.{mul_nonneg-ℤ}
 use Rattle.mill_geom.specs.declared.offset.Offset.{Offset}
 use Rattle.mill_geom.specs.Offsets.{mean3}
 use Rattle.mill_geom.specs.Contacts.{TouchesTriangle}
+use Rattle.mill_geom.specs.Sides.{slid_by}
 use Rattle.mill_geom.proofs.DescendCerts.{lin}
 use Rattle.mill_geom.proofs.LevelCerts.{near_same}
 use Rattle.mill_geom.proofs.SideCerts.{side_near, side_dot, slid, slid_x, slid_back, sum_time, side_over, side_weight, strip_near}
@@ -23,10 +24,6 @@ pub record Strip (r : ℤ) (a b c : Offset) : Type 0 where
   pub some : (pos 0) <ℤ ((u +ℤ v) +ℤ w)
   pub near : square (mean3 u v w a b c).y <ℤ (square r *ℤ square ((u +ℤ v) +ℤ w))
   pub level : (pos 0) ≤ℤ (mean3 u v w a b c).z
-
--- the offset from a centre that is t further along x
-abbrev pub slid_by : ℤ → Offset → Offset
-slid_by t p = record { x = p.x -ℤ t; y = p.y; z = p.z }
 
 weak : (x : ℤ) → (pos 0) <ℤ x → (pos 0) ≤ℤ x
 weak x h = omega (arith, ints)

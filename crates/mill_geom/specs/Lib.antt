@@ -2,3 +2,5 @@ pub mod Offsets
 pub mod Forms
 pub mod Contacts
 pub mod Spots
+pub mod Sides
+pub mod Reaches

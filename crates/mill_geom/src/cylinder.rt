@@ -1,18 +1,14 @@
-ghost use Rattle.std.specs.Prelude.{◌≡◌, ◌-ℤ◌, ◌≤ℤ◌, pos, false, IsTrue};
+ghost use Rattle.std.specs.Prelude.{◌≡◌, ◌-ℤ◌, ◌<ℤ◌, pos, false, IsTrue, IfSome, None};
 ghost use Rattle.mill_base.specs.Numbers.{Within};
-ghost use Rattle.mill_base.specs.Ranges.{TriInRange};
-ghost use Rattle.mill_base.specs.Sizes.{HasRadius};
-ghost use Rattle.mill_base.specs.Contact.{Touches};
-ghost use Rattle.mill_base.specs.declared.cutter.Cutter.TheVariants.{Flat};
-ghost use Rattle.mill_geom.specs.Offsets.{OffsetInRange, farthest, AllFrom, AllTo, IsCentre};
-ghost use Rattle.mill_geom.specs.Contacts.{TouchesTriangle};
+ghost use Rattle.mill_geom.specs.Offsets.{OffsetInRange, farthest, AllFrom, AllTo};
+ghost use Rattle.mill_geom.specs.Sides.{IsOnSide, TouchesAt, IsBoxNear};
 
-use crate::offset::{Offset, offset_from};
-use crate::triangle::touches_triangle;
-use mill_base::{Pt3, Tri};
+use crate::offset::Offset;
+use crate::touch::Side;
+use crate::triangle::is_over;
 
 /// Whether all three numbers are at least `bound`.
-fn all_from(a: i64, b: i64, c: i64, bound: i64) -> bool
+pub(crate) fn all_from(a: i64, b: i64, c: i64, bound: i64) -> bool
     requires a_ok { Within farthest a }
     requires b_ok { Within farthest b }
     requires c_ok { Within farthest c }
@@ -30,7 +26,7 @@ fn all_from(a: i64, b: i64, c: i64, bound: i64) -> bool
 }
 
 /// Whether all three numbers are at most `-bound`.
-fn all_to(a: i64, b: i64, c: i64, bound: i64) -> bool
+pub(crate) fn all_to(a: i64, b: i64, c: i64, bound: i64) -> bool
     requires a_ok { Within farthest a }
     requires b_ok { Within farthest b }
     requires c_ok { Within farthest c }
@@ -47,44 +43,33 @@ fn all_to(a: i64, b: i64, c: i64, bound: i64) -> bool
     c <= -bound
 }
 
-/// Whether the upright box of the triangle keeps off that of the cylinder, by 64-bit comparisons.
-fn is_beside(a: Offset, b: Offset, c: Offset, radius: i64) -> bool
+/// The side of a triangle whose upright box shows it by 64-bit comparisons: it isn't over the level,
+/// or keeps off the cylinder's box.
+///
+/// A ball and a cone lie in the cylinder of their radius over their tip, so the side is theirs, too.
+pub fn box_side(a: Offset, b: Offset, c: Offset, radius: i64) -> Option<Side>
     requires a_ok { OffsetInRange a }
     requires b_ok { OffsetInRange b }
     requires c_ok { OffsetInRange c }
     requires r_ok { Within 16384 radius }
-    requires r_least { pos 0 ≤ℤ radius }
-    ensures { IsTrue result → ¬ TouchesTriangle radius a b c }
+    requires r_least { pos 0 <ℤ radius }
+    ensures apart { IfSome result (λ side. IsOnSide side (TouchesAt radius a b c)) }
+    ensures near { result ≡ None → IsBoxNear radius a b c }
 {
-    if all_from(a.x, b.x, c.x, radius) {
-        return true;
-    }
-    if all_to(a.x, b.x, c.x, radius) {
-        return true;
+    if !is_over(a, b, c) {
+        return Some(Side::Never);
     }
     if all_from(a.y, b.y, c.y, radius) {
-        return true;
+        return Some(Side::Never);
     }
-    all_to(a.y, b.y, c.y, radius)
-}
-
-/// Whether some point of the triangle is over the height of `centre`, and strictly nearer than
-/// `radius` to the vertical axis through it. Lengths are in units of 0.01 mm.
-///
-/// This is a flat cutter's contact with its tip at `centre`. Corners may be equal or collinear.
-pub fn touches_cylinder(tri: &Tri, radius: i32, centre: Pt3) -> bool
-    requires tri_ok { TriInRange tri.now }
-    requires radius_ok { HasRadius radius (pos 11024) }
-    requires centre_ok { IsCentre centre }
-    ensures yes { IsTrue result → Touches (Flat radius) (pos 1) centre tri.now }
-    ensures no { result ≡ false → ¬ Touches (Flat radius) (pos 1) centre tri.now }
-{
-    let a = offset_from(tri.a, centre);
-    let b = offset_from(tri.b, centre);
-    let c = offset_from(tri.c, centre);
-    let radius = i64::from(radius);
-    if is_beside(a, b, c, radius) {
-        return false;
+    if all_to(a.y, b.y, c.y, radius) {
+        return Some(Side::Never);
     }
-    touches_triangle(a, b, c, radius)
+    if all_from(a.x, b.x, c.x, radius) {
+        return Some(Side::More);
+    }
+    if all_to(a.x, b.x, c.x, radius) {
+        return Some(Side::Less);
+    }
+    None
 }

@@ -1,27 +1,36 @@
 //! Exact tests of a triangle against a vertical cylinder over a level.
 //!
-//! It stands on mill_base. `touches_cylinder` decides whether some point of a triangle is over the
-//! level and strictly nearer to the cylinder's axis than its radius, for triangles whose corners
-//! are collinear or equal too. It works on the offsets of the corners from the centre: it tries
-//! the three edges, the place where the axis meets the plane, and the line where the plane meets
-//! the level. specs/Contacts says what a touch of a segment and of a triangle is, specs/Forms
-//! which numbers are compared, and proofs/Touching why these tests are enough. `spot_below` finds a
-//! point of a triangle on or over the level, on one side of a line beside the axis; specs/Spots
-//! says what such a point is.
+//! It stands on mill_base, and works on the offsets of the corners from the cylinder's centre.
+//! `touches_triangle` decides whether some point of a triangle is over the level and strictly nearer
+//! to the axis than the radius, for triangles whose corners are collinear or equal too: it tries the
+//! three edges, the place where the axis meets the plane, and the line where the plane meets the
+//! level. `side` and `box_side` tell at which positions along an axis a triangle that has no such
+//! point has none either. `reaches_cylinder` decides the closed case, with the points on the level.
+//! specs/Contacts says what a touch is, specs/Sides what a side means, specs/Reaches what the closed
+//! case is, specs/Forms which numbers are compared, and proofs/Touching and proofs/Strips why that
+//! is enough.
 #![tactic(auto)]
 
 mod cylinder;
 mod level;
 mod offset;
 mod plane;
+mod reach;
 mod segment;
 mod spot;
+mod strip;
 #[cfg(test)]
 mod tests;
+mod touch;
 mod triangle;
+mod turn;
 
-pub use cylinder::touches_cylinder;
+pub use cylinder::box_side;
 pub use offset::{Offset, offset_from};
+pub use reach::reaches_cylinder;
 pub use segment::touches_segment;
 pub use spot::{Spot, spot_below};
+pub use strip::side;
+pub use touch::{Axis, Side, Touch};
 pub use triangle::touches_triangle;
+pub use turn::turned;

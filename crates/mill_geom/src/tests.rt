@@ -1,61 +1,116 @@
-ghost use Rattle.mill_base.specs.Ranges.{IsInRange};
-ghost use Rattle.mill_geom.specs.Offsets.{IsCentre};
+ghost use Rattle.mill_geom.specs.Offsets.{OffsetInRange};
 
-use crate::touches_cylinder;
-use mill_base::{Pt3, Tri};
+use crate::{Offset, Side, Spot, box_side, spot_below, touches_triangle};
 use std::test::Fail;
 
-fn at(x: i16, y: i16, z: i16) -> Pt3
-    ensures corner { IsInRange result }
-    ensures centre { IsCentre result }
+fn at(x: i16, y: i16, z: i16) -> Offset
+    ensures { OffsetInRange result }
 {
-    Pt3 {
-        x: i32::from(x),
-        y: i32::from(y),
-        z: i32::from(z),
+    Offset {
+        x: i64::from(x),
+        y: i64::from(y),
+        z: i64::from(z),
     }
 }
 
-// Touches of a level triangle from its edge, its slope and its level, one unit in and one unit out.
+// A level triangle beside the axis by its edge, by its slope and by its level, one unit in and out.
 #[test]
 fn one_unit_in_and_out(rt: HostRuntime) -> Result<(), Fail> {
-    let flat = Tri {
-        a: at(0, 0, 200),
-        b: at(1000, 0, 200),
-        c: at(0, 1000, 200),
-    };
-    assert!(rt; touches_cylinder(&flat, 100, at(-99, 500, 199)));
-    assert!(rt; !touches_cylinder(&flat, 100, at(-100, 500, 199)));
-    assert!(rt; touches_cylinder(&flat, 100, at(641, 500, 199)));
-    assert!(rt; !touches_cylinder(&flat, 100, at(642, 500, 199)));
-    assert!(rt; touches_cylinder(&flat, 100, at(300, 300, 199)));
-    assert!(rt; !touches_cylinder(&flat, 100, at(300, 300, 200)));
+    assert!(rt; touches_triangle(at(99, -500, 1), at(1099, -500, 1), at(99, 500, 1), 100));
+    assert!(rt; !touches_triangle(at(100, -500, 1), at(1100, -500, 1), at(100, 500, 1), 100));
+    assert!(rt; touches_triangle(at(-641, -500, 1), at(359, -500, 1), at(-641, 500, 1), 100));
+    assert!(rt; !touches_triangle(at(-642, -500, 1), at(358, -500, 1), at(-642, 500, 1), 100));
+    assert!(rt; touches_triangle(at(-300, -300, 1), at(700, -300, 1), at(-300, 700, 1), 100));
+    assert!(rt; !touches_triangle(at(-300, -300, 0), at(700, -300, 0), at(-300, 700, 0), 100));
     Ok(())
 }
 
-// A slope that is cut by the level, a segment and a point.
+// The level cuts a slope in a line of which only the middle is near: from each corner, with that
+// corner alone over the level and with it alone under it.
 #[test]
-fn cut_and_degenerate(rt: HostRuntime) -> Result<(), Fail> {
-    let slope = Tri {
-        a: at(0, -1000, 0),
-        b: at(0, 1000, 0),
-        c: at(1000, 0, 1000),
-    };
-    assert!(rt; touches_cylinder(&slope, 100, at(401, 0, 500)));
-    assert!(rt; !touches_cylinder(&slope, 100, at(400, 0, 500)));
-    let segment = Tri {
-        a: at(0, 0, 10),
-        b: at(500, 0, 10),
-        c: at(200, 0, 10),
-    };
-    assert!(rt; touches_cylinder(&segment, 5, at(300, 4, 9)));
-    assert!(rt; !touches_cylinder(&segment, 5, at(300, 5, 9)));
-    let point = Tri {
-        a: at(7, 7, 7),
-        b: at(7, 7, 7),
-        c: at(7, 7, 7),
-    };
-    assert!(rt; touches_cylinder(&point, 1, at(7, 7, 6)));
-    assert!(rt; !touches_cylinder(&point, 1, at(7, 7, 7)));
+fn near_on_the_level_alone(rt: HostRuntime) -> Result<(), Fail> {
+    let (a, b, c) = (at(-401, -1000, -500), at(-401, 1000, -500), at(599, 0, 500));
+    assert!(rt; touches_triangle(a, b, c, 100));
+    assert!(rt; touches_triangle(b, c, a, 100));
+    assert!(rt; touches_triangle(c, a, b, 100));
+    assert!(rt; !touches_triangle(a, b, c, 99));
+    let (a, b, c) = (at(599, -1000, 500), at(599, 1000, 500), at(-401, 0, -500));
+    assert!(rt; touches_triangle(a, b, c, 100));
+    assert!(rt; touches_triangle(b, c, a, 100));
+    assert!(rt; touches_triangle(c, a, b, 100));
+    assert!(rt; !touches_triangle(a, b, c, 99));
+    Ok(())
+}
+
+// The line of the level is near, but not between the edges that it cuts.
+#[test]
+fn near_beyond_the_edges(rt: HostRuntime) -> Result<(), Fail> {
+    let (a, b, c) = (
+        at(-401, -1700, -500),
+        at(-401, 300, -500),
+        at(599, -700, 500),
+    );
+    assert!(rt; !touches_triangle(a, b, c, 100));
+    assert!(rt; !touches_triangle(b, c, a, 100));
+    assert!(rt; !touches_triangle(c, a, b, 100));
+    Ok(())
+}
+
+// Three equal corners, and three on one line.
+#[test]
+fn degenerate(rt: HostRuntime) -> Result<(), Fail> {
+    let point = at(60, 80, 1);
+    assert!(rt; touches_triangle(point, point, point, 101));
+    assert!(rt; !touches_triangle(point, point, point, 100));
+    let (a, b, c) = (at(-300, 99, 1), at(200, 99, 1), at(-100, 99, 1));
+    assert!(rt; touches_triangle(a, b, c, 100));
+    assert!(rt; !touches_triangle(a, b, c, 99));
+    Ok(())
+}
+
+// What the upright boxes show, and what they don't.
+#[test]
+fn sides_of_boxes(rt: HostRuntime) -> Result<(), Fail> {
+    for (a, b, side) in [
+        ((100, 0, 1), (200, 50, 1), Some(Side::More)),
+        ((99, 0, 1), (200, 50, 1), None),
+        ((-100, 0, 1), (-200, 50, 1), Some(Side::Less)),
+        ((-99, 0, 1), (-200, 50, 1), None),
+        ((0, 100, 1), (50, 200, 1), Some(Side::Never)),
+        ((0, 99, 1), (50, 200, 1), None),
+        ((0, -100, 1), (50, -200, 1), Some(Side::Never)),
+        ((0, -99, 1), (50, -200, 1), None),
+        ((0, 0, 0), (0, 0, -1), Some(Side::Never)),
+        ((0, 0, 0), (0, 0, 1), None),
+    ] {
+        let (a, b) = (at(a.0, a.1, a.2), at(b.0, b.1, b.2));
+        assert_eq!(rt; box_side(a, a, b, 100), side);
+        assert_eq!(rt; box_side(a, b, a, 100), side);
+        assert_eq!(rt; box_side(b, a, a, 100), side);
+    }
+    Ok(())
+}
+
+// A corner, a point where an edge crosses the level, and none.
+#[test]
+fn spots(rt: HostRuntime) -> Result<(), Fail> {
+    let (a, b, c) = (at(0, -500, -100), at(300, 700, 200), at(9, 100, -5));
+    assert_eq!(rt;
+        spot_below(a, b, c, 701),
+        Some(Spot {
+            x: 300,
+            y: 700,
+            n: 1
+        })
+    );
+    assert_eq!(rt;
+        spot_below(a, b, c, 700),
+        Some(Spot {
+            x: 30_000,
+            y: -30_000,
+            n: 300
+        })
+    );
+    assert_eq!(rt; spot_below(a, b, c, -100), None);
     Ok(())
 }

@@ -10,7 +10,7 @@ use crate::plane::{cross, volume};
 use crate::segment::touches_segment;
 
 /// Whether some corner is over the level.
-fn is_over(a: Offset, b: Offset, c: Offset) -> bool
+pub fn is_over(a: Offset, b: Offset, c: Offset) -> bool
     requires a_ok { OffsetInRange a }
     requires b_ok { OffsetInRange b }
     requires c_ok { OffsetInRange c }

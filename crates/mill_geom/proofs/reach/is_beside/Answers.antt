@@ -1,7 +1,7 @@
 use Rattle.std.proofs.Common.{refl, w64}
 use Rattle.mill_base.proofs.Machine.{kept}
 use Rattle.mill_geom.proofs.Places.{misses_high_x, misses_low_x, misses_high_y, misses_low_y}
-use Rattle.mill_geom.proofs.cylinder.is_beside.Goals as goal
+use Rattle.mill_geom.proofs.reach.is_beside.Goals as goal
 
 pub returns-then-all_from : goal.returns-then-all_from
 returns-then-all_from c = λ h.
