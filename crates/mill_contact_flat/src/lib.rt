@@ -1,28 +1,56 @@
 //! The exact contact of a flat cutter and a triangle.
 //!
-//! It stands on mill_geom, whose `touches_cylinder` it calls with the cutter's radius, and on
-//! mill_base, whose specs/Contact defines a touch. `is_inside` decides whether some point of the
-//! triangle is strictly inside a flat cutter.
+//! It stands on mill_geom, which tests the triangle's offsets from the tip against the cutter's
+//! cylinder, and on mill_base, whose specs/Contact defines a touch. `touch` decides whether some
+//! point of the triangle is strictly inside a flat cutter, and if none is, at which positions along
+//! an axis none is either; mill_geom's specs/Sides says what its answers mean.
 #![tactic(auto)]
 
-ghost use Rattle.std.specs.Prelude.{◌≡◌, pos, false, IsTrue};
+ghost use Rattle.std.specs.Prelude.{◌^◌, ◌<ℤ◌, pos};
 ghost use Rattle.mill_base.specs.Contact.{Touches};
+ghost use Rattle.mill_base.specs.Numbers.{Within};
 ghost use Rattle.mill_base.specs.Ranges.{TriInRange};
 ghost use Rattle.mill_base.specs.Sizes.{IsWideCutter, radius_of};
 ghost use Rattle.mill_base.specs.declared.cutter.Cutter.TheVariants.{Flat};
-ghost use Rattle.mill_geom.specs.Offsets.{IsCentre};
+ghost use Rattle.mill_geom.specs.Offsets.{IsCentre, OffsetInRange};
+ghost use Rattle.mill_geom.specs.Sides.{IsTouch, TouchesAt, along};
 
 use mill_base::{Cutter, Pt3, Tri};
-use mill_geom::touches_cylinder;
+use mill_geom::{Axis, Offset, Touch, box_side, offset_from, side, touches_triangle, turned};
+
+#[cfg(test)]
+mod tests;
+
+/// How the triangle lies to the cylinder of `radius` over the level, for positions along x.
+fn touch_along_x(a: Offset, b: Offset, c: Offset, radius: i64) -> Touch
+    requires a_ok { OffsetInRange a }
+    requires b_ok { OffsetInRange b }
+    requires c_ok { OffsetInRange c }
+    requires r_ok { Within 16384 radius }
+    requires r_least { pos 0 <ℤ radius }
+    ensures { IsTouch result (TouchesAt radius a b c) }
+{
+    if let Some(side) = box_side(a, b, c, radius) {
+        return Touch::Apart(side);
+    }
+    if touches_triangle(a, b, c, radius) {
+        return Touch::Inside;
+    }
+    Touch::Apart(side(a, b, c, radius))
+}
 
 /// Whether some point of the triangle is strictly inside the flat cutter of `cutter`'s radius with
-/// its tip at `tip`. Lengths are in units of 0.01 mm.
-pub fn is_inside(tri: &Tri, cutter: Cutter, tip: Pt3) -> bool
+/// its tip at `tip`, and if none is, at which positions of the tip along `axis` none is either.
+///
+/// Lengths are in units of 0.01 mm. Corners may be equal or collinear.
+pub fn touch(tri: &Tri, cutter: Cutter, tip: Pt3, axis: Axis) -> Touch
     requires tri_ok { TriInRange tri.now }
     requires cutter_ok { IsWideCutter cutter }
     requires tip_ok { IsCentre tip }
-    ensures yes { IsTrue result → Touches (Flat (radius_of cutter)) (pos 1) tip tri.now }
-    ensures no { result ≡ false → ¬ Touches (Flat (radius_of cutter)) (pos 1) tip tri.now }
+    ensures { IsTouch result (λ t. Touches (Flat (radius_of cutter)) (pos 1) (along axis tip t) tri.now) }
 {
-    touches_cylinder(tri, cutter.radius(), tip)
+    let a = turned(offset_from(tri.a, tip), axis);
+    let b = turned(offset_from(tri.b, tip), axis);
+    let c = turned(offset_from(tri.c, tip), axis);
+    touch_along_x(a, b, c, i64::from(cutter.radius()))
 }

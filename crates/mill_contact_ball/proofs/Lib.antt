@@ -1,0 +1,15 @@
+pub mod SlideCerts
+pub mod Slide
+pub mod FootCerts
+pub mod Feet
+pub mod LineCerts
+pub mod Lines
+pub mod EdgeCerts
+pub mod Edges
+pub mod Triangles
+pub mod PlaceCerts
+pub mod Places
+pub mod Boxes
+pub mod ShadowCerts
+pub mod Shadows
+pub mod Along

@@ -1,0 +1,72 @@
+ghost use Rattle.std.specs.Prelude.{◌≡◌, ◌-ℤ◌, ◌<ℤ◌, pos, false, IsTrue, IfSome, None};
+ghost use Rattle.mill_base.specs.Numbers.{Within};
+ghost use Rattle.mill_geom.specs.Offsets.{OffsetInRange, farthest, AllFrom, AllTo};
+ghost use Rattle.mill_geom.specs.Sides.{IsOnSide};
+ghost use Rattle.mill_contact_ball.specs.Spheres.{MeetsAt, IsBoxNear};
+
+use mill_geom::{Offset, Side};
+
+/// Whether all three numbers are at least `bound`.
+fn all_from(a: i64, b: i64, c: i64, bound: i64) -> bool
+    requires a_ok { Within farthest a }
+    requires b_ok { Within farthest b }
+    requires c_ok { Within farthest c }
+    requires bound_ok { Within 16384 bound }
+    ensures yes { IsTrue result → AllFrom bound a b c }
+    ensures no { result ≡ false → ¬ AllFrom bound a b c }
+{
+    if a < bound {
+        return false;
+    }
+    if b < bound {
+        return false;
+    }
+    c >= bound
+}
+
+/// Whether all three numbers are at most `-bound`.
+fn all_to(a: i64, b: i64, c: i64, bound: i64) -> bool
+    requires a_ok { Within farthest a }
+    requires b_ok { Within farthest b }
+    requires c_ok { Within farthest c }
+    requires bound_ok { Within 16384 bound }
+    ensures yes { IsTrue result → AllTo (pos 0 -ℤ bound) a b c }
+    ensures no { result ≡ false → ¬ AllTo (pos 0 -ℤ bound) a b c }
+{
+    if a > -bound {
+        return false;
+    }
+    if b > -bound {
+        return false;
+    }
+    c <= -bound
+}
+
+/// On which side along x the triangle lies, where its upright box keeps off the cutter's along one
+/// axis: a few 64-bit comparisons.
+pub fn box_side(a: Offset, b: Offset, c: Offset, radius: i64) -> Option<Side>
+    requires a_ok { OffsetInRange a }
+    requires b_ok { OffsetInRange b }
+    requires c_ok { OffsetInRange c }
+    requires r_ok { Within 16384 radius }
+    requires r_least { pos 0 <ℤ radius }
+    ensures apart { IfSome result (λ s. IsOnSide s (MeetsAt radius a b c)) }
+    ensures near { result ≡ None → IsBoxNear radius a b c }
+{
+    if all_to(a.z, b.z, c.z, radius) {
+        return Some(Side::Never);
+    }
+    if all_from(a.y, b.y, c.y, radius) {
+        return Some(Side::Never);
+    }
+    if all_to(a.y, b.y, c.y, radius) {
+        return Some(Side::Never);
+    }
+    if all_from(a.x, b.x, c.x, radius) {
+        return Some(Side::More);
+    }
+    if all_to(a.x, b.x, c.x, radius) {
+        return Some(Side::Less);
+    }
+    None
+}

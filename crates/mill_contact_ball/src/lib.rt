@@ -1,0 +1,81 @@
+//! The exact contact of a ball cutter and a triangle.
+//!
+//! It stands on mill_geom, whose cylinder it tries over the sphere's centre, and on mill_base, whose
+//! specs/Contact defines a touch. `touch` decides whether some point of the triangle is strictly
+//! inside the cutter, and if none is, at which positions along an axis none is (mill_geom's
+//! specs/Sides). It tries the edges against the sphere, then the foot of the centre on the plane:
+//! specs/Spheres says what a point in the sphere is, specs/Vectors which numbers are compared.
+#![tactic(auto)]
+
+ghost use Rattle.std.specs.Prelude.{◌^◌, ◌<ℤ◌, pos};
+ghost use Rattle.mill_base.specs.Contact.{Touches};
+ghost use Rattle.mill_base.specs.Numbers.{Within};
+ghost use Rattle.mill_base.specs.Ranges.{TriInRange};
+ghost use Rattle.mill_base.specs.Sizes.{HasRadius, IsWideCutter, radius_of};
+ghost use Rattle.mill_base.specs.declared.cutter.Cutter.TheVariants.{Ball};
+ghost use Rattle.mill_geom.specs.Offsets.{IsCentre, OffsetInRange};
+ghost use Rattle.mill_geom.specs.Sides.{IsTouch, along};
+ghost use Rattle.mill_contact_ball.specs.Spheres.{MeetsAt};
+
+mod beside;
+mod centre;
+mod edge;
+mod face;
+mod meeting;
+#[cfg(test)]
+mod tests;
+mod vector;
+mod weights;
+
+use crate::beside::box_side;
+use crate::centre::offset_from_centre;
+use crate::meeting::{meets_ball, side_of_ball};
+use mill_base::{Cutter, Pt3, Tri};
+use mill_geom::{Axis, Offset, Touch, turned};
+
+/// How the triangle lies to the ball about the origin with the cylinder over it, for positions
+/// along x.
+fn touch_along_x(a: Offset, b: Offset, c: Offset, radius: i64) -> Touch
+    requires a_ok { OffsetInRange a }
+    requires b_ok { OffsetInRange b }
+    requires c_ok { OffsetInRange c }
+    requires r_ok { Within 16384 radius }
+    requires r_least { pos 0 <ℤ radius }
+    ensures { IsTouch result (MeetsAt radius a b c) }
+{
+    if let Some(side) = box_side(a, b, c, radius) {
+        return Touch::Apart(side);
+    }
+    if meets_ball(a, b, c, radius) {
+        return Touch::Inside;
+    }
+    Touch::Apart(side_of_ball(a, b, c, radius))
+}
+
+/// How the triangle lies to the ball cutter of `radius` with its tip at `tip`, for positions along
+/// `axis`.
+fn touch_ball(tri: &Tri, radius: i32, tip: Pt3, axis: Axis) -> Touch
+    requires tri_ok { TriInRange tri.now }
+    requires radius_ok { HasRadius radius (pos 11024) }
+    requires tip_ok { IsCentre tip }
+    ensures { IsTouch result (λ t. Touches (Ball radius) (pos 1) (along axis tip t) tri.now) }
+{
+    let a = turned(offset_from_centre(tri.a, tip, radius), axis);
+    let b = turned(offset_from_centre(tri.b, tip, radius), axis);
+    let c = turned(offset_from_centre(tri.c, tip, radius), axis);
+    let radius = i64::from(radius);
+    touch_along_x(a, b, c, radius)
+}
+
+/// Whether some point of the triangle is strictly inside the ball cutter of `cutter`'s radius with
+/// its tip at `tip`, and if none is, at which positions of the tip along `axis` none is either.
+///
+/// Lengths are in units of 0.01 mm. Corners may be equal or collinear.
+pub fn touch(tri: &Tri, cutter: Cutter, tip: Pt3, axis: Axis) -> Touch
+    requires tri_ok { TriInRange tri.now }
+    requires cutter_ok { IsWideCutter cutter }
+    requires tip_ok { IsCentre tip }
+    ensures { IsTouch result (λ t. Touches (Ball (radius_of cutter)) (pos 1) (along axis tip t) tri.now) }
+{
+    touch_ball(tri, cutter.radius(), tip, axis)
+}

@@ -1,0 +1,13 @@
+pub mod Sizes
+pub mod PartCerts
+pub mod ZoneCerts
+pub mod WholeCerts
+pub mod Parts
+pub mod Zones
+pub mod Whole
+pub mod Volumes
+pub mod Placed
+pub mod SideCerts
+pub mod Lifts
+pub mod Bearings
+pub mod Splits

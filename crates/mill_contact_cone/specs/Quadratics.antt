@@ -1,0 +1,64 @@
+-- The forms that decide whether a segment comes into the cone cutter, and the part of the segment on which each decides.
+use Rattle.std.specs.Prelude.{◌≡◌, ◌⊎◌, ◌^◌, ℤ, pos, ◌+ℤ◌, ◌-ℤ◌, ◌*ℤ◌, ◌<ℤ◌, ◌≤ℤ◌}
+use Rattle.mill_base.specs.Numbers.{Within}
+use Rattle.mill_contact_cone.specs.declared.corner.Cone.{Cone}
+use Rattle.mill_contact_cone.specs.declared.corner.Corner.{Corner}
+use Rattle.mill_contact_cone.specs.declared.quadratic.Form.{Form}
+use Rattle.mill_contact_cone.specs.declared.quadratic.Blend.{Blend}
+
+-- the three numbers of a form are small
+pub record FormInRange (f : Form) : Type 0 where
+  pub a_ok : Within (2 ^ 53) f.a
+  pub h_ok : Within (2 ^ 53) f.h
+  pub b_ok : Within (2 ^ 53) f.b
+
+-- the weights of a blend are small, and not negative
+pub record BlendInRange (p : Blend) : Type 0 where
+  pub u_ok : Within (2 ^ 26) p.u
+  pub v_ok : Within (2 ^ 26) p.v
+  pub u_least : (pos 0) ≤ℤ p.u
+  pub v_least : (pos 0) ≤ℤ p.v
+
+-- the value of the form at the weights u and v
+abbrev pub value_of : Form → ℤ → ℤ → ℤ
+value_of f u v = (f.a *ℤ (u *ℤ u) +ℤ pos 2 *ℤ (f.h *ℤ (u *ℤ v))) +ℤ f.b *ℤ (v *ℤ v)
+
+-- the bilinear form of two blends
+abbrev pub polar_of : Form → Blend → Blend → ℤ
+polar_of f p q = (p.u *ℤ q.u *ℤ f.a +ℤ (p.u *ℤ q.v +ℤ p.v *ℤ q.u) *ℤ f.h) +ℤ p.v *ℤ q.v *ℤ f.b
+
+-- positive where q comes after p on the way from the first end to the last
+abbrev pub turn_of : Blend → Blend → ℤ
+turn_of p q = p.u *ℤ q.v -ℤ p.v *ℤ q.u
+
+-- the form is negative at some weights between those of two blends
+pub record HitsBetween (f : Form) (from to : Blend) : Type 0 where
+  pub u : ℤ
+  pub v : ℤ
+  pub u_ok : (pos 0) ≤ℤ u
+  pub v_ok : (pos 0) ≤ℤ v
+  pub after : (pos 0) ≤ℤ (from.u *ℤ v -ℤ from.v *ℤ u)
+  pub before : (pos 0) ≤ℤ (u *ℤ to.v -ℤ v *ℤ to.u)
+  pub negative : value_of f u v <ℤ pos 0
+
+-- the products of corners whose sign decides over the height at which the cone reaches its radius, and under it
+abbrev pub upper_of : Cone → Corner → Corner → ℤ
+upper_of k p q = (p.x *ℤ q.x +ℤ p.y *ℤ q.y) -ℤ k.radius *ℤ k.radius
+
+abbrev pub lower_of : Cone → Corner → Corner → ℤ
+lower_of k p q = k.rise *ℤ k.rise *ℤ (p.x *ℤ q.x +ℤ p.y *ℤ q.y) -ℤ k.run *ℤ k.run *ℤ (p.z *ℤ q.z)
+
+-- the form of a segment's two ends
+pub record IsUpperForm (k : Cone) (p q : Corner) (f : Form) : Type 0 where
+  pub a_is : f.a ≡ upper_of k p p
+  pub h_is : f.h ≡ upper_of k p q
+  pub b_is : f.b ≡ upper_of k q q
+
+pub record IsLowerForm (k : Cone) (p q : Corner) (f : Form) : Type 0 where
+  pub a_is : f.a ≡ lower_of k p p
+  pub h_is : f.h ≡ lower_of k p q
+  pub b_is : f.b ≡ lower_of k q q
+
+-- where a quantity that is f at the first end and g at the last begins not to be negative: at the first end, or where it is 0
+abbrev pub IsStart : ℤ → ℤ → Blend → Type 0
+IsStart f g p = (((pos 0) ≤ℤ f) × ((p.u ≡ pos 1) × (p.v ≡ pos 0))) ⊎ ((f <ℤ pos 0) × ((p.u ≡ g) × (p.v ≡ pos 0 -ℤ f)))

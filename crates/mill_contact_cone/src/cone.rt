@@ -1,0 +1,94 @@
+ghost use Rattle.std.specs.Prelude.{◌≡◌, pos, false, IsTrue};
+ghost use Rattle.mill_base.specs.Ranges.{TriInRange};
+ghost use Rattle.mill_base.specs.Contact.{Touches};
+ghost use Rattle.mill_base.specs.declared.cutter.Cutter.TheVariants.{Cone as ConeCutter};
+ghost use Rattle.mill_geom.specs.Offsets.{IsCentre};
+ghost use Rattle.mill_geom.specs.Sides.{IsTouch, along};
+ghost use Rattle.mill_contact_cone.specs.Cones.{IsCone, IsCornerOf, CornerInRange, TouchesCone, EdgesFree};
+ghost use Rattle.mill_contact_cone.specs.Positions.{ConeAt};
+
+use crate::corner::{Cone, Corner, corner_from, offset_of};
+use crate::edge::touches_edge;
+use crate::level::touches_on_level;
+use crate::plane::is_pierced;
+use crate::side::side;
+use mill_base::{Pt3, Tri};
+use mill_geom::{Axis, Touch, box_side};
+
+/// Whether some edge has a point strictly inside the cone cutter.
+fn touches_some_edge(a: Corner, b: Corner, c: Corner, cone: Cone) -> bool
+    requires a_ok { CornerInRange a }
+    requires b_ok { CornerInRange b }
+    requires c_ok { CornerInRange c }
+    requires cone_ok { IsCone cone }
+    requires a_is { IsCornerOf cone a }
+    requires b_is { IsCornerOf cone b }
+    requires c_is { IsCornerOf cone c }
+    ensures yes { IsTrue result → TouchesCone cone a b c }
+    ensures no { result ≡ false → EdgesFree cone a b c }
+{
+    if touches_edge(a, b, cone) {
+        return true;
+    }
+    if touches_edge(b, c, cone) {
+        return true;
+    }
+    touches_edge(c, a, cone)
+}
+
+/// Whether some point of the triangle is strictly inside the cone cutter.
+fn touches_cone(a: Corner, b: Corner, c: Corner, cone: Cone) -> bool
+    requires a_ok { CornerInRange a }
+    requires b_ok { CornerInRange b }
+    requires c_ok { CornerInRange c }
+    requires cone_ok { IsCone cone }
+    requires a_is { IsCornerOf cone a }
+    requires b_is { IsCornerOf cone b }
+    requires c_is { IsCornerOf cone c }
+    ensures yes { IsTrue result → TouchesCone cone a b c }
+    ensures no { result ≡ false → ¬ TouchesCone cone a b c }
+{
+    if touches_some_edge(a, b, c, cone) {
+        return true;
+    }
+    if is_pierced(a, b, c) {
+        return true;
+    }
+    touches_on_level(a, b, c, cone)
+}
+
+/// How the triangle lies to the cone cutter, for positions along x.
+fn touch_along_x(a: Corner, b: Corner, c: Corner, cone: Cone) -> Touch
+    requires a_ok { CornerInRange a }
+    requires b_ok { CornerInRange b }
+    requires c_ok { CornerInRange c }
+    requires cone_ok { IsCone cone }
+    requires a_is { IsCornerOf cone a }
+    requires b_is { IsCornerOf cone b }
+    requires c_is { IsCornerOf cone c }
+    ensures { IsTouch result (ConeAt cone a b c) }
+{
+    if let Some(side) = box_side(offset_of(a), offset_of(b), offset_of(c), cone.radius) {
+        return Touch::Apart(side);
+    }
+    if touches_cone(a, b, c, cone) {
+        return Touch::Inside;
+    }
+    Touch::Apart(side(a, b, c, cone))
+}
+
+/// Whether some point of the triangle is strictly inside the cone cutter with its tip at `tip`, and
+/// if none is, at which positions of the tip along `axis` none is either.
+///
+/// Lengths are in units of 0.01 mm. Corners may be equal or collinear.
+pub fn touch(tri: &Tri, cone: Cone, tip: Pt3, axis: Axis) -> Touch
+    requires tri_ok { TriInRange tri.now }
+    requires cone_ok { IsCone cone }
+    requires tip_ok { IsCentre tip }
+    ensures { IsTouch result (λ t. Touches (ConeCutter cone.radius cone.rise cone.run) (pos 1) (along axis tip t) tri.now) }
+{
+    let a = corner_from(tri.a, tip, axis, cone);
+    let b = corner_from(tri.b, tip, axis, cone);
+    let c = corner_from(tri.c, tip, axis, cone);
+    touch_along_x(a, b, c, cone)
+}

@@ -1,0 +1,172 @@
+ghost use Rattle.std.specs.Prelude.{◌≡◌, ◌⊎◌, ◌^◌, ◌<ℤ◌, ◌≤ℤ◌, pos, false, IsTrue};
+ghost use Rattle.mill_base.specs.Numbers.{Within};
+ghost use Rattle.mill_contact_cone.specs.Cones.{IsCone, IsCornerOf, CornerInRange, TouchesEdge, HitsUpper, HitsLower};
+ghost use Rattle.mill_contact_cone.specs.Quadratics.{FormInRange, BlendInRange, IsUpperForm, IsLowerForm, upper_of, lower_of, IsStart};
+
+use crate::corner::{Cone, Corner};
+use crate::quadratic::{Blend, Form, hits_between};
+
+/// The dot product of two corners in x and y, less the square of the radius.
+pub fn upper_product(p: Corner, q: Corner, cone: Cone) -> i128
+    requires p_ok { CornerInRange p }
+    requires q_ok { CornerInRange q }
+    requires cone_ok { IsCone cone }
+    ensures value { result ≡ upper_of cone p q }
+    ensures bound { Within (2 ^ 53) result }
+{
+    let r = cone.radius as i128;
+    p.x as i128 * q.x as i128 + p.y as i128 * q.y as i128 - r * r
+}
+
+/// The dot product of two corners in x and y, times the square of the rise, less the product of
+/// their heights, times the square of the run.
+fn lower_product(p: Corner, q: Corner, cone: Cone) -> i128
+    requires p_ok { CornerInRange p }
+    requires q_ok { CornerInRange q }
+    requires cone_ok { IsCone cone }
+    ensures value { result ≡ lower_of cone p q }
+    ensures bound { Within (2 ^ 53) result }
+{
+    let rise = cone.rise as i128;
+    let run = cone.run as i128;
+    let across = p.x as i128 * q.x as i128 + p.y as i128 * q.y as i128;
+    rise * rise * across - run * run * (p.z as i128 * q.z as i128)
+}
+
+/// The form that decides over the height at which the cone reaches its radius.
+fn upper_form(p: Corner, q: Corner, cone: Cone) -> Form
+    requires p_ok { CornerInRange p }
+    requires q_ok { CornerInRange q }
+    requires cone_ok { IsCone cone }
+    ensures value { IsUpperForm cone p q result }
+    ensures range { FormInRange result }
+{
+    let a = upper_product(p, p, cone);
+    let h = upper_product(p, q, cone);
+    let b = upper_product(q, q, cone);
+    Form { a, h, b }
+}
+
+/// The form that decides under that height.
+fn lower_form(p: Corner, q: Corner, cone: Cone) -> Form
+    requires p_ok { CornerInRange p }
+    requires q_ok { CornerInRange q }
+    requires cone_ok { IsCone cone }
+    ensures value { IsLowerForm cone p q result }
+    ensures range { FormInRange result }
+{
+    let a = lower_product(p, p, cone);
+    let h = lower_product(p, q, cone);
+    let b = lower_product(q, q, cone);
+    Form { a, h, b }
+}
+
+/// Where a quantity that is `f` at the first end and `g` at the last begins not to be negative.
+fn start(f: i64, g: i64) -> Blend
+    requires f_ok { Within (2 ^ 26) f }
+    requires g_ok { Within (2 ^ 26) g }
+    requires g_least { pos 0 ≤ℤ g }
+    ensures place { IsStart f g result }
+    ensures range { BlendInRange result }
+{
+    if f >= 0 {
+        return Blend { u: 1, v: 0 };
+    }
+    Blend { u: g, v: -f }
+}
+
+/// The same point, from the other end of the segment.
+fn turned(p: Blend) -> Blend
+    requires p_ok { BlendInRange p }
+    ensures u { result.u ≡ p.v }
+    ensures v { result.v ≡ p.u }
+    ensures range { BlendInRange result }
+{
+    Blend { u: p.v, v: p.u }
+}
+
+/// The last end of a segment.
+fn last() -> Blend
+    ensures u { result.u ≡ pos 0 }
+    ensures v { result.v ≡ pos 1 }
+    ensures range { BlendInRange result }
+{
+    Blend { u: 0, v: 1 }
+}
+
+/// Whether a point of the segment is inside the cutter's cylinder, where the last end is over the
+/// height at which the cone reaches its radius.
+fn hits_upper(p: Corner, q: Corner, cone: Cone) -> bool
+    requires p_ok { CornerInRange p }
+    requires q_ok { CornerInRange q }
+    requires cone_ok { IsCone cone }
+    requires q_over { pos 0 <ℤ q.over }
+    ensures yes { IsTrue result → HitsUpper cone p q }
+    ensures no { result ≡ false → ¬ HitsUpper cone p q }
+{
+    let form = upper_form(p, q, cone);
+    let from = start(p.over, q.over);
+    hits_between(form, from, last())
+}
+
+/// Whether a point of the segment is inside the cutter's cone, where the last end is over the tip
+/// and not under the first, and some point is under the height at which the cone reaches its radius.
+fn hits_lower(p: Corner, q: Corner, cone: Cone) -> bool
+    requires p_ok { CornerInRange p }
+    requires q_ok { CornerInRange q }
+    requires cone_ok { IsCone cone }
+    requires p_is { IsCornerOf cone p }
+    requires q_is { IsCornerOf cone q }
+    requires rising { p.z ≤ℤ q.z }
+    requires q_up { pos 0 <ℤ q.z }
+    requires under { (q.over ≤ℤ pos 0) ⊎ (p.over <ℤ pos 0) }
+    ensures yes { IsTrue result → HitsLower cone p q }
+    ensures no { result ≡ false → ¬ HitsLower cone p q }
+{
+    let form = lower_form(p, q, cone);
+    let from = start(p.z, q.z);
+    let back = start(-q.over, -p.over);
+    hits_between(form, from, turned(back))
+}
+
+/// The test of a segment whose last end isn't lower than its first.
+fn touches_rising(p: Corner, q: Corner, cone: Cone) -> bool
+    requires p_ok { CornerInRange p }
+    requires q_ok { CornerInRange q }
+    requires cone_ok { IsCone cone }
+    requires p_is { IsCornerOf cone p }
+    requires q_is { IsCornerOf cone q }
+    requires rising { p.z ≤ℤ q.z }
+    ensures yes { IsTrue result → TouchesEdge cone p q }
+    ensures no { result ≡ false → ¬ TouchesEdge cone p q }
+{
+    if q.z <= 0 {
+        return false;
+    }
+    if q.over <= 0 {
+        return hits_lower(p, q, cone);
+    }
+    if hits_upper(p, q, cone) {
+        return true;
+    }
+    if p.over >= 0 {
+        return false;
+    }
+    hits_lower(p, q, cone)
+}
+
+/// Whether some point of the segment is strictly inside the cone cutter.
+pub fn touches_edge(p: Corner, q: Corner, cone: Cone) -> bool
+    requires p_ok { CornerInRange p }
+    requires q_ok { CornerInRange q }
+    requires cone_ok { IsCone cone }
+    requires p_is { IsCornerOf cone p }
+    requires q_is { IsCornerOf cone q }
+    ensures yes { IsTrue result → TouchesEdge cone p q }
+    ensures no { result ≡ false → ¬ TouchesEdge cone p q }
+{
+    if p.z <= q.z {
+        return touches_rising(p, q, cone);
+    }
+    touches_rising(q, p, cone)
+}
