@@ -9,6 +9,12 @@ first-append [] after e = refl
 first-append (None ∷ before) after e = first-append before after e
 first-append (Some fault ∷ before) after e = cc
 
+-- a fault that is the first of a list is the first with more behind it
+pub first-found : (before after : List (Option JobFault)) (fault : JobFault) → first before ≡ Some fault → first (before ++ after) ≡ Some fault
+first-found [] after fault e = cc
+first-found (None ∷ before) after fault e = first-found before after fault e
+first-found (Some other ∷ before) after fault e = e
+
 -- what holds of the value where there is no fault
 pub if_ok : {V : Type 0} (fault : Option JobFault) (v : V) (P : V → Type 0) → (fault ≡ None → P v) → IfOk (checked fault v) P
 if_ok None v P h = h refl

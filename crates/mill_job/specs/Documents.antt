@@ -1,14 +1,14 @@
 -- What a job's text means: the document, then the keys, then the relations between them.
-use Rattle.std.specs.Prelude.{◌≡◌, ◌⊎◌, IsUtf8, ℕ, ◌*◌, nat_lt, codes, bytes_eq, Bool, if◌then◌else◌, pos, int_lt, List, [], ◌∷◌, ◌++◌, Option, Some, None, option_and_then, option_map, Result, Err}
+use Rattle.std.specs.Prelude.{◌≡◌, ◌⊎◌, IsUtf8, ℕ, ◌*◌, nat_lt, codes, bytes_eq, if◌then◌else◌, pos, int_lt, List, [], ◌∷◌, ◌++◌, Option, Some, None, option_and_then, option_map, Result, Err}
 use Rattle.toml.specs.Data.{Members, get_member, as_str}
 use Rattle.toml.specs.Parse.{parse_document}
-use Rattle.mill_base.specs.declared.cutter.Cutter.TheVariants.{Flat}
 use Rattle.mill_base.specs.Sizes.{radius_of}
 use Rattle.mill_decimal.specs.declared.snap.Snap.{Snap}
 use Rattle.mill_decimal.specs.declared.snap.Snap.TheVariants.{Nearest, Exact}
 use Rattle.mill_job.specs.Columns.{row_count, column_count}
+use Rattle.mill_job.specs.Cutters.{shape_of, shape_fault, slope_fault, slope_faults, cutter_with}
 use Rattle.mill_job.specs.Keys.{name_of, unknown_in}
-use Rattle.mill_job.specs.Tables.{text_fault, text_fault_if_there, number_fault, coordinate_fault, array_fault, is_area, is_place, number_at, numbers_at, area_of, place_of, first, checked}
+use Rattle.mill_job.specs.Tables.{text_fault_if_there, number_fault, coordinate_fault, array_fault, is_area, is_place, number_given, number_at, numbers_at, area_of, place_of, fault_if, first, checked}
 use Rattle.mill_job.specs.declared.job.Job.{Job}
 use Rattle.mill_job.specs.declared.key.Key.TheVariants as key
 use Rattle.mill_job.specs.declared.fault.JobFault.{JobFault}
@@ -17,8 +17,10 @@ use Rattle.mill_job.specs.declared.fault.JobFault.TheVariants.{Syntax, Unknown, 
 -- what is wrong with each key, in the format's order
 abbrev pub key_faults : Members → List (Option JobFault)
 key_faults ms =
-    text_fault key.Cutter (codes "flat" ∷ []) ms
+    shape_fault ms
     ∷ number_fault key.Radius (pos 1) (pos 10000) ms
+    ∷ slope_fault key.Rise ms
+    ∷ slope_fault key.Run ms
     ∷ coordinate_fault key.Floor ms
     ∷ coordinate_fault key.Top ms
     ∷ coordinate_fault key.Clear ms
@@ -27,7 +29,7 @@ key_faults ms =
     ∷ number_fault key.Pitch (pos 1) (pos 10000) ms
     ∷ number_fault key.Sample (pos 1) (pos 10000) ms
     ∷ number_fault key.Allowance (pos 0) (pos 10000) ms
-    ∷ number_fault key.Band (pos 0) (pos 0) ms
+    ∷ number_fault key.Band (pos 0) (pos 10000) ms
     ∷ text_fault_if_there key.Snap (codes "nearest" ∷ codes "exact" ∷ []) ms
     ∷ []
 
@@ -43,7 +45,7 @@ snap_of ms = snap_from (option_and_then as_str (get_member (name_of key.Snap) ms
 -- the job of a document with whose keys nothing is wrong
 abbrev pub job_from : Members → Job
 job_from ms = record {
-  cutter = Flat (number_at key.Radius ms);
+  cutter = cutter_with (shape_of ms) (number_at key.Radius ms) (number_given key.Rise ms) (number_given key.Run ms);
   floor = number_at key.Floor ms;
   top = number_at key.Top ms;
   clear = number_at key.Clear ms;
@@ -57,10 +59,11 @@ job_from ms = record {
   snap = snap_of ms;
 }
 
-abbrev pub fault_if : Bool → JobFault → Option JobFault
-fault_if fails f = if fails then Some f else None
+-- what is wrong between the cutter's keys, in order
+abbrev pub cutter_faults : Members → List (Option JobFault)
+cutter_faults ms = slope_faults (shape_of ms) (number_given key.Rise ms) (number_given key.Run ms)
 
--- what is wrong between the keys, in order
+-- what is wrong between a job's numbers, in order
 abbrev pub relation_faults : Job → List (Option JobFault)
 relation_faults job =
     fault_if (int_lt job.top job.floor) (Relation key.Floor key.Top)
@@ -69,9 +72,9 @@ relation_faults job =
     ∷ fault_if (int_lt (radius_of job.cutter) job.band) (Relation key.Band key.Radius)
     ∷ []
 
--- the document's first fault: an unknown key, a key's own fault, a relation's
+-- the document's first fault: an unknown key, a key's own fault, one between the cutter's keys, one between the others
 abbrev pub document_fault : Members → Option JobFault
-document_fault ms = first (option_map Unknown (unknown_in ms) ∷ key_faults ms ++ relation_faults (job_from ms))
+document_fault ms = first (option_map Unknown (unknown_in ms) ∷ key_faults ms ++ cutter_faults ms ++ relation_faults (job_from ms))
 
 abbrev pub job_in : Option Members → Result Job JobFault
 job_in None = Err Syntax

@@ -9,6 +9,8 @@ use Rattle.mill_job.specs.declared.key.Key.TheVariants as key
 abbrev pub name_of : Key → List ℕ
 name_of key.Cutter = codes "cutter"
 name_of key.Radius = codes "radius"
+name_of key.Rise = codes "rise"
+name_of key.Run = codes "run"
 name_of key.Floor = codes "floor"
 name_of key.Top = codes "top"
 name_of key.Clear = codes "clear"
@@ -22,7 +24,7 @@ name_of key.Snap = codes "snap"
 
 -- every key, in the format's order
 abbrev pub every_key : List Key
-every_key = key.Cutter ∷ key.Radius ∷ key.Floor ∷ key.Top ∷ key.Clear ∷ key.Area ∷ key.Home ∷ key.Pitch ∷ key.Sample ∷ key.Allowance ∷ key.Band ∷ key.Snap ∷ []
+every_key = key.Cutter ∷ key.Radius ∷ key.Rise ∷ key.Run ∷ key.Floor ∷ key.Top ∷ key.Clear ∷ key.Area ∷ key.Home ∷ key.Pitch ∷ key.Sample ∷ key.Allowance ∷ key.Band ∷ key.Snap ∷ []
 
 -- the text is one of these
 abbrev pub is_one_of : List (List ℕ) → List ℕ → Bool

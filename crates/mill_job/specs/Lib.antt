@@ -2,4 +2,5 @@ pub mod Columns
 pub mod Jobs
 pub mod Keys
 pub mod Tables
+pub mod Cutters
 pub mod Documents

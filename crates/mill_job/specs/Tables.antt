@@ -24,6 +24,10 @@ integers (item d ds) = with_rest (as_integer d) (integers ds)
 abbrev pub as_integers : Data → Option (List ℤ)
 as_integers d = option_and_then integers (as_array d)
 
+-- this fault if a condition holds
+abbrev pub fault_if : Bool → JobFault → Option JobFault
+fault_if holds f = if holds then Some f else None
+
 -- what is wrong with the value that a reader gives at a key: its kind, or its range
 abbrev pub kind_fault : {V : Type 0} → Key → (V → Bool) → Option V → Option JobFault
 kind_fault key test None = Some (WrongKind key)
@@ -38,6 +42,11 @@ must_be key read test (Some d) = kind_fault key test (read d)
 abbrev pub may_be : {V : Type 0} → Key → (Data → Option V) → (V → Bool) → Option Data → Option JobFault
 may_be key read test None = None
 may_be key read test (Some d) = kind_fault key test (read d)
+
+-- the same of a key that must be there if a condition holds
+abbrev pub must_be_if : {V : Type 0} → Bool → Key → (Data → Option V) → (V → Bool) → Option Data → Option JobFault
+must_be_if holds key read test None = fault_if holds (Missing key)
+must_be_if holds key read test (Some d) = kind_fault key test (read d)
 
 -- z is from lo to hi
 abbrev pub is_from : ℤ → ℤ → ℤ → Bool
@@ -69,10 +78,11 @@ text_fault key texts ms = must_be key as_str (is_one_of texts) (get_member (name
 unfoldable pub text_fault_if_there : Key → List (List ℕ) → Members → Option JobFault
 text_fault_if_there key texts ms = may_be key as_str (is_one_of texts) (get_member (name_of key) ms)
 
--- what is wrong with the whole number at a key, which must be from lo to hi, and with the coordinate
+-- what is wrong with the whole number at a key, which must be from lo to hi
 unfoldable pub number_fault : Key → ℤ → ℤ → Members → Option JobFault
 number_fault key lo hi ms = must_be key as_integer (is_from lo hi) (get_member (name_of key) ms)
 
+-- what is wrong with the coordinate at a key
 abbrev pub coordinate_fault : Key → Members → Option JobFault
 coordinate_fault key ms = number_fault key (neg_ℤ (pos greatest)) (pos greatest) ms
 
@@ -80,9 +90,13 @@ coordinate_fault key ms = number_fault key (neg_ℤ (pos greatest)) (pos greates
 unfoldable pub array_fault : Key → (List ℤ → Bool) → Members → Option JobFault
 array_fault key test ms = must_be key as_integers test (get_member (name_of key) ms)
 
--- the whole number at a key, 0 where there is none
+-- the whole number at a key, if there is one
+unfoldable pub number_given : Key → Members → Option ℤ
+number_given key ms = option_and_then as_integer (get_member (name_of key) ms)
+
+-- the same, 0 where there is none
 unfoldable pub number_at : Key → Members → ℤ
-number_at key ms = unwrap_or (option_and_then as_integer (get_member (name_of key) ms)) (pos 0)
+number_at key ms = unwrap_or (number_given key ms) (pos 0)
 
 -- the whole numbers of the array at a key
 unfoldable pub numbers_at : Key → Members → Option (List ℤ)

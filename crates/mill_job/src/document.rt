@@ -38,6 +38,8 @@ fn is_known(name: &str) -> bool
         name,
         "cutter"
             | "radius"
+            | "rise"
+            | "run"
             | "floor"
             | "top"
             | "clear"
@@ -67,8 +69,8 @@ pub fn first_unknown(table: &Table) -> Option<&String>
 pub fn unknown(alloc: Global, name: &str) -> JobFault
     ensures { (result ≡ JobFault.Unknown name.now) ⊎ (result ≡ JobFault.WantOfMemory) }
 {
-    match Vec::from_slice(alloc, name.as_bytes()) {
-        Ok(bytes) => JobFault::Unknown(Name::new(bytes)),
+    match String::from_str(alloc, name) {
+        Ok(text) => JobFault::Unknown(Name::new(text)),
         Err(_) => JobFault::WantOfMemory,
     }
 }

@@ -1,4 +1,5 @@
-ghost use Rattle.std.specs.Prelude.{◌≡◌};
+ghost use Rattle.std.specs.Prelude.{◌≡◌, Some};
+ghost use Rattle.mill_job.specs.Keys.{name_of};
 
 use std::fmt;
 
@@ -7,6 +8,8 @@ use std::fmt;
 pub enum Key {
     Cutter,
     Radius,
+    Rise,
+    Run,
     Floor,
     Top,
     Clear,
@@ -20,8 +23,6 @@ pub enum Key {
 }
 
 impl Key {
-    ghost use Rattle.mill_job.specs.Keys.{name_of};
-
     /// The key as it stands in a document.
     pub fn name(self) -> &'static str
         ensures { result.now ≡ name_of self }
@@ -29,6 +30,8 @@ impl Key {
         match self {
             Key::Cutter => "cutter",
             Key::Radius => "radius",
+            Key::Rise => "rise",
+            Key::Run => "run",
             Key::Floor => "floor",
             Key::Top => "top",
             Key::Clear => "clear",
@@ -43,7 +46,10 @@ impl Key {
     }
 }
 
+/// Shows the key as it stands in a document.
 impl fmt::Display for Key {
+    ghost output = { λ key. Some (name_of key) };
+
     fn fmt<W: fmt::Write>(&self, f: &mut fmt::Formatter<W>) -> fmt::Result {
         f.write_str(self.name())
     }

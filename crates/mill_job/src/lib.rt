@@ -4,10 +4,11 @@
 //! It promises that a text is read exactly as its definition says, down to which fault comes first,
 //! and that every job that was read is in range.
 //! Definitions: `specs/Columns` says where the columns of a job stand, `specs/Jobs` which jobs are
-//! in range, `specs/Keys`, `specs/Tables` and `specs/Documents` what a text means.
+//! in range, `specs/Keys`, `specs/Tables`, `specs/Cutters` and `specs/Documents` what a text means.
 #![tactic(auto)]
 
 mod arrays;
+mod cutter;
 mod document;
 mod fault;
 mod job;

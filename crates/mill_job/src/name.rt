@@ -1,51 +1,50 @@
-ghost use Rattle.std.specs.Prelude.{◌≡◌};
+ghost use Rattle.std.specs.Prelude.{◌≡◌, string_bytes, Some};
 
 use std::fmt;
 use std::marker::Model;
 
-/// The text of a key that no job has, as the bytes that the document has.
+/// The text of a key that no job has, as it stands in the document.
 #[derive(Debug, Drop)]
 pub struct Name {
-    bytes: Vec<u8>,
+    text: String,
 }
 
 impl Model for Name {
-    ghost use Rattle.std.specs.Prelude.{ℕ, List};
+    ghost use Rattle.std.specs.Prelude.{ℕ, List, string_bytes};
 
     ghost Value = { List ℕ };
 
-    ghost view = { λ name. name.bytes.items };
+    ghost view = { λ name. string_bytes name.text };
 }
 
 impl Name {
-    /// The name of these bytes.
-    pub fn new(bytes: Vec<u8>) -> Name
-        ensures { result ≡ bytes.items }
+    /// The name of this text.
+    pub fn new(text: String) -> Name
+        ensures { result ≡ string_bytes text }
     {
-        Name { bytes }
+        Name { text }
     }
 
     /// The bytes, as they are.
     pub fn as_bytes(&self) -> &[u8]
         ensures { result.now ≡ self.now }
     {
-        &self.bytes
+        self.text.as_bytes()
     }
 
     /// The bytes, given back.
     pub fn into_bytes(self) -> Vec<u8>
         ensures { result.items ≡ self }
     {
-        self.bytes
+        self.text.into_bytes()
     }
 }
 
-/// Shows the text. Bytes that are none, which no document has in a key, are shown as a list.
+/// Shows the text.
 impl fmt::Display for Name {
+    ghost output = { λ name. Some name };
+
     fn fmt<W: fmt::Write>(&self, f: &mut fmt::Formatter<W>) -> fmt::Result {
-        match str::from_utf8(&self.bytes) {
-            Ok(text) => f.write_str(text),
-            Err(_) => write!(f, "{:?}", self.bytes.as_slice()),
-        }
+        f.write_str(self.text.as_str())
     }
 }

@@ -2,17 +2,18 @@ ghost use Rattle.std.specs.Prelude.{◌≡◌, ◌≤◌, ◌*◌, ◌≤ℤ◌,
 ghost use Rattle.mill_base.specs.Sizes.{radius_of};
 ghost use Rattle.toml.specs.View.{table_view};
 ghost use Rattle.mill_job.specs.Columns.{row_count, column_count};
-ghost use Rattle.mill_job.specs.Documents.{Gives, job_from, key_faults, relation_faults};
+ghost use Rattle.mill_job.specs.Documents.{Gives, cutter_faults, job_from, key_faults, relation_faults};
 ghost use Rattle.mill_job.specs.Jobs.{IsFrom, IsJob};
 ghost use Rattle.mill_job.specs.Tables.{IsArea, checked, first};
 
 use crate::arrays::{area, home};
+use crate::cutter::{cutter, named_shape, slope};
 use crate::document::{document, first_unknown, unknown};
 use crate::fault::JobFault;
 use crate::job::Job;
 use crate::key::Key;
 use crate::positions::column_total;
-use crate::values::{coordinate, cutter_shape, number, snap};
+use crate::values::{coordinate, number, snap};
 use std::alloc::Global;
 use toml::Table;
 
@@ -56,12 +57,13 @@ fn unless(fault: Option<JobFault>, job: Job) -> Result<Job, JobFault>
 
 /// The job of a document that has no unknown key.
 fn job(table: &Table) -> Result<Job, JobFault>
-    ensures value { result ≡ checked (first (key_faults (table_view table.now) ++ relation_faults (job_from (table_view table.now)))) (job_from (table_view table.now)) }
+    ensures value { result ≡ checked (first (key_faults (table_view table.now) ++ cutter_faults (table_view table.now) ++ relation_faults (job_from (table_view table.now)))) (job_from (table_view table.now)) }
     ensures in_range { IfOk result IsJob }
-    ensures no_band { IfOk result (λ job. job.band ≡ pos 0) }
 {
-    let shape = cutter_shape(table)?;
+    let shape = named_shape(table)?;
     let radius = number(table, Key::Radius, 1, 10_000)?;
+    let rise = slope(table, Key::Rise, shape)?;
+    let run = slope(table, Key::Run, shape)?;
     let floor = coordinate(table, Key::Floor)?;
     let top = coordinate(table, Key::Top)?;
     let clear = coordinate(table, Key::Clear)?;
@@ -70,10 +72,11 @@ fn job(table: &Table) -> Result<Job, JobFault>
     let pitch = number(table, Key::Pitch, 1, 10_000)?;
     let sample = number(table, Key::Sample, 1, 10_000)?;
     let allowance = number(table, Key::Allowance, 0, 10_000)?;
-    let band = number(table, Key::Band, 0, 0)?;
+    let band = number(table, Key::Band, 0, 10_000)?;
     let snap = snap(table)?;
+    let cutter = cutter(shape, radius, rise, run)?;
     let job = Job {
-        cutter: shape.with_radius(radius),
+        cutter,
         floor,
         top,
         clear,
@@ -90,15 +93,16 @@ fn job(table: &Table) -> Result<Job, JobFault>
 }
 
 /// Reads a job: a TOML 1.0 document with each key of [`Key`] and no other; only `snap` may be left
-/// out.
+/// out, and `rise` and `run` where the cutter is no cone.
 ///
-/// Numbers are whole, in units of 0.01 mm. `cutter` is a text, and only `flat` is in range.
-/// `radius`, `pitch` and `sample` are from 1 to 10,000, `allowance` from 0 to 10,000, and `band` is
-/// 0. `floor`, `top`, `clear` and the members of `area` and `home` are coordinates, of a magnitude
-/// of at most 131,071. `area` has x0, y0, x1, y1, with x0 at most x1 and y0 at most y1; `home` has
-/// x, y. `snap` is a text, `nearest` or `exact`, and a document without it means `nearest`. The
-/// relations are: floor is at most top, top at most clear, there are at most 4,000,000 columns, and
-/// band is at most radius.
+/// Numbers are whole, in units of 0.01 mm. `cutter` is a text, `flat`, `ball` or `cone`. `radius`,
+/// `pitch` and `sample` are from 1 to 10,000, `rise` and `run` from 1 to 100, `allowance` and
+/// `band` from 0 to 10,000. `floor`, `top`, `clear` and the members of `area` and `home` are
+/// coordinates, of a magnitude of at most 131,071. `area` has x0, y0, x1, y1, with x0 at most x1
+/// and y0 at most y1; `home` has x, y. `snap` is a text, `nearest` or `exact`, and a document
+/// without it means `nearest`. The relations are: only a cone has a rise, only a cone has a run,
+/// rise is at most 16 times run, floor at most top, top at most clear, there are at most 4,000,000
+/// columns, and band is at most radius.
 ///
 /// A fault is the first in this order: the document's syntax; an unknown key, the first by its
 /// bytes; for each key in the order of [`Key`], that it is missing, of a wrong kind or out of
@@ -106,7 +110,6 @@ fn job(table: &Table) -> Result<Job, JobFault>
 pub fn read_job(alloc: Global, text: &[u8]) -> Result<Job, JobFault>
     ensures gives { Gives text.now result }
     ensures in_range { IfOk result IsJob }
-    ensures no_band { IfOk result (λ job. job.band ≡ pos 0) }
 {
     let table = document(alloc, text)?;
     match first_unknown(&table) {

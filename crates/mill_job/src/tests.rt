@@ -1,6 +1,7 @@
 use crate::{Job, Key, Name, read_job};
 use mill_base::{Box2, Cutter, Pt3};
 use mill_decimal::Snap;
+use std::alloc::Global;
 use std::test::Fail;
 
 const EXAMPLE: &str = "cutter = \"flat\"
@@ -14,6 +15,21 @@ pitch = 100
 sample = 50
 allowance = 0
 band = 0
+";
+
+const FAULTY: &str = "cutter = 1
+depth = 1
+radius = 0
+run = \"1\"
+floor = 131072
+top = 300
+area = [0, 9, 131071, 0]
+home = [1.5, 90]
+pitch = 50
+sample = 50
+allowance = 0
+band = -1
+snap = \"near\"
 ";
 
 const JOB: Job = Job {
@@ -43,6 +59,13 @@ fn reads_jobs(rt: HostRuntime) -> Result<(), Fail> {
     assert_eq!(rt; job, JOB);
     let with_snap = format!(in alloc; "{EXAMPLE}snap = \"exact\"\n")?;
     assert_eq!(rt; read_job(alloc, with_snap.as_bytes())?.snap, Snap::Exact);
+    let with_ball = EXAMPLE.replace(alloc, "flat", "ball")?;
+    assert_eq!(rt;
+        read_job(alloc, with_ball.as_bytes())?.cutter,
+        Cutter::Ball { radius: 150 }
+    );
+    let with_band = EXAMPLE.replace(alloc, "band = 0", "band = 150")?;
+    assert_eq!(rt; read_job(alloc, with_band.as_bytes())?.band, 150);
     assert_eq!(rt; (job.rows(), job.columns(), job.column_total()), (3, 3, 9));
     assert_eq!(rt;
         job.home(),
@@ -57,6 +80,14 @@ fn reads_jobs(rt: HostRuntime) -> Result<(), Fail> {
     Ok(())
 }
 
+/// The text of the fault for which a document is refused.
+fn fault_text(alloc: Global, text: &str) -> Result<String, Fail> {
+    match read_job(alloc, text.as_bytes()) {
+        Ok(_) => Err(Fail::from("a job")),
+        Err(fault) => Ok(format!(in alloc; "{fault}")?),
+    }
+}
+
 #[test]
 fn refuses_other_texts(rt: HostRuntime) -> Result<(), Fail> {
     let alloc = rt.alloc();
@@ -67,7 +98,15 @@ fn refuses_other_texts(rt: HostRuntime) -> Result<(), Fail> {
         ("= 150", "= 1.5", "wrong kind of radius"),
         ("= 150", "= 10001", "radius out of range"),
         ("= 150", "= 99999999999999999999", "syntax"),
-        ("\"flat\"", "\"ball\"", "cutter out of range"),
+        ("\"flat\"", "\"disc\"", "cutter out of range"),
+        ("\"flat\"", "\"flat\"\nrise = 1", "cutter doesn't fit rise"),
+        ("\"flat\"", "\"ball\"\nrun = 1", "cutter doesn't fit run"),
+        (
+            "\"flat\"",
+            "\"ball\"\nrise = 99\nrun = 1",
+            "cutter doesn't fit rise",
+        ),
+        ("\"flat\"", "\"ball\"\nrise = 101", "rise out of range"),
         ("[0, 0, 200, 200]", "[0, 0, 200]", "area out of range"),
         (
             "[0, 0, 200, 200]",
@@ -75,17 +114,15 @@ fn refuses_other_texts(rt: HostRuntime) -> Result<(), Fail> {
             "wrong kind of area",
         ),
         ("[100, 90]", "[100, 131072]", "home out of range"),
-        ("band = 0", "band = 1", "band out of range"),
+        ("band = 0", "band = 10001", "band out of range"),
+        ("band = 0", "band = 151", "band doesn't fit radius"),
         ("band = 0", "band = 0\nsnap = \"near\"", "snap out of range"),
         ("band = 0", "band = 0\nsnap = 1", "wrong kind of snap"),
         ("band = 0", "snap = 1\nsnaps = 1", "unknown snaps"),
     ];
     for (old, new, want) in rows {
         let text = EXAMPLE.replace(alloc, old, new)?;
-        match read_job(alloc, text.as_bytes()) {
-            Ok(_) => return Err(Fail::from(want)),
-            Err(fault) => assert_eq!(rt; format!(in alloc; "{fault}")?.as_str(), want),
-        }
+        assert_eq!(rt; fault_text(alloc, text.as_str())?.as_str(), want);
     }
     let wide = EXAMPLE.replace(alloc, "[0, 0, 200, 200]", "[0, 0, 131071, 131071]")?;
     let fine = wide.replace(alloc, "pitch = 100", "pitch = 1")?;
@@ -95,9 +132,53 @@ fn refuses_other_texts(rt: HostRuntime) -> Result<(), Fail> {
     Ok(())
 }
 
+/// Each repair mends the first of the faults that are left.
+#[test]
+fn first_fault_decides(rt: HostRuntime) -> Result<(), Fail> {
+    let alloc = rt.alloc();
+    let repairs = [
+        ("unknown depth", "depth = 1\n", ""),
+        ("wrong kind of cutter", "cutter = 1", "cutter = \"cone\""),
+        ("radius out of range", "radius = 0", "radius = 150"),
+        ("missing rise", "floor", "rise = 0\nfloor"),
+        ("rise out of range", "rise = 0", "rise = 17"),
+        ("wrong kind of run", "run = \"1\"", "run = 1"),
+        ("floor out of range", "131072", "301"),
+        ("missing clear", "area", "clear = 200\narea"),
+        ("area out of range", "9, 131071, 0]", "0, 131071, 131071]"),
+        ("wrong kind of home", "1.5", "100"),
+        ("band out of range", "band = -1", "band = 151"),
+        ("snap out of range", "\"near\"", "\"nearest\""),
+        ("rise doesn't fit run", "rise = 17", "rise = 16"),
+        ("floor doesn't fit top", "floor = 301", "floor = 0"),
+        ("top doesn't fit clear", "clear = 200", "clear = 400"),
+        ("area doesn't fit pitch", "131071, 131071", "200, 200"),
+        ("band doesn't fit radius", "band = 151", "band = 0"),
+    ];
+    let mut text = FAULTY.to_string(alloc)?;
+    for (want, old, new) in repairs {
+        assert_eq!(rt; fault_text(alloc, text.as_str())?.as_str(), want);
+        text = text.replace(alloc, old, new)?;
+    }
+    let cone = Cutter::Cone {
+        radius: 150,
+        rise: 16,
+        run: 1,
+    };
+    assert_eq!(rt;
+        read_job(alloc, text.as_bytes())?,
+        Job {
+            cutter: cone,
+            pitch: 50,
+            ..JOB
+        }
+    );
+    Ok(())
+}
+
 #[test]
 fn names_keep_their_bytes(rt: HostRuntime) -> Result<(), Fail> {
-    let name = Name::new(Vec::from_slice(rt.alloc(), b"depth")?);
+    let name = Name::new(String::from_str(rt.alloc(), "depth")?);
     assert_eq!(rt; name.as_bytes(), b"depth".as_slice());
     assert_eq!(rt; name.into_bytes().as_slice(), b"depth".as_slice());
     assert_eq!(rt; Key::Home.name(), "home");

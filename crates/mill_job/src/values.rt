@@ -1,37 +1,19 @@
-ghost use Rattle.std.specs.Prelude.{◌≡◌, codes, neg_ℤ, pos, true, false, IfOk, IfErr, OnOk, None, Some, [], ◌∷◌, option_map};
+ghost use Rattle.std.specs.Prelude.{◌≡◌, codes, neg_ℤ, pos, true, false, IfOk, IfErr, None, Some, [], ◌∷◌, option_map};
 ghost use Rattle.mill_base.specs.Numbers.{Within, greatest};
 ghost use Rattle.toml.specs.Data.{get_member};
 ghost use Rattle.toml.specs.View.{table_view, view};
 ghost use Rattle.mill_job.specs.Documents.{snap_of};
 ghost use Rattle.mill_job.specs.Jobs.{IsFrom};
 ghost use Rattle.mill_job.specs.Keys.{name_of};
-ghost use Rattle.mill_job.specs.Tables.{coordinate_fault, is_coordinate, is_from, number_at, number_fault, text_fault, text_fault_if_there};
+ghost use Rattle.mill_job.specs.Tables.{coordinate_fault, is_coordinate, is_from, number_at, number_fault, text_fault_if_there};
 
 use crate::fault::JobFault;
 use crate::key::Key;
-use mill_base::Cutter;
 use mill_decimal::Snap;
 use toml::{Table, Value};
 
 /// The greatest magnitude of a coordinate, in units of 0.01 mm.
 const GREATEST: i32 = 131_071;
-
-/// A kind of cutter.
-#[derive(Clone, Copy)]
-pub enum Shape {
-    Flat,
-}
-
-impl Shape {
-    /// The cutter of this kind and radius.
-    pub fn with_radius(self, radius: i32) -> Cutter
-        ensures { result ≡ Cutter.Flat radius }
-    {
-        match self {
-            Shape::Flat => Cutter::Flat { radius },
-        }
-    }
-}
 
 /// The value at a key.
 pub fn find<'a>(table: &'a Table, key: Key) -> Option<&'a Value>
@@ -41,7 +23,7 @@ pub fn find<'a>(table: &'a Table, key: Key) -> Option<&'a Value>
 }
 
 /// The number, which must be from `low` to `high`.
-fn in_range(number: i64, key: Key, low: i32, high: i32) -> Result<i32, JobFault>
+pub fn in_range(number: i64, key: Key, low: i32, high: i32) -> Result<i32, JobFault>
     ensures ok { IfOk result (λ z. (is_from low high number ≡ true) × (z ≡ number)) }
     ensures err { IfErr result (λ fault. (is_from low high number ≡ false) × (fault ≡ JobFault.Range key)) }
     ensures in_range { IfOk result (IsFrom low high) }
@@ -63,7 +45,7 @@ pub fn as_coordinate(number: i64, key: Key) -> Result<i32, JobFault>
 }
 
 /// The whole number from `low` to `high` at a key.
-#[tactic(auto, unfolding(crate::specs::Tables::number_fault, crate::specs::Tables::number_at))]
+#[tactic(auto, unfolding(crate::specs::Tables::number_fault, crate::specs::Tables::number_at, crate::specs::Tables::number_given))]
 pub fn number(table: &Table, key: Key, low: i32, high: i32) -> Result<i32, JobFault>
     ensures ok { IfOk result (λ n. (number_fault key low high (table_view table.now) ≡ None) × (n ≡ number_at key (table_view table.now))) }
     ensures err { IfErr result (λ fault. number_fault key low high (table_view table.now) ≡ Some fault) }
@@ -85,22 +67,6 @@ pub fn coordinate(table: &Table, key: Key) -> Result<i32, JobFault>
     ensures in_range { IfOk result (Within greatest) }
 {
     number(table, key, -GREATEST, GREATEST)
-}
-
-/// The kind of cutter that the document names.
-#[tactic(auto, unfolding(crate::specs::Tables::text_fault))]
-pub fn cutter_shape(table: &Table) -> Result<Shape, JobFault>
-    ensures ok { OnOk result (text_fault Key.Cutter (codes "flat" ∷ []) (table_view table.now) ≡ None) }
-    ensures err { IfErr result (λ fault. text_fault Key.Cutter (codes "flat" ∷ []) (table_view table.now) ≡ Some fault) }
-{
-    let Some(value) = find(table, Key::Cutter) else {
-        return Err(JobFault::Missing(Key::Cutter));
-    };
-    match value.as_str() {
-        None => Err(JobFault::WrongKind(Key::Cutter)),
-        Some("flat") => Ok(Shape::Flat),
-        Some(_) => Err(JobFault::Range(Key::Cutter)),
-    }
 }
 
 /// How the document takes what is finer than a unit.

@@ -1,24 +1,42 @@
-use Rattle.std.proofs.Common.{◌≡◌, ◌∙◌, ap, sym, Option, None, arith, rules}
-use Rattle.std.specs.Prelude.{ℤ, pos}
+use Rattle.std.proofs.Common.{◌≡◌, ◌∙◌, ◌++◌, ap, sym, Option, None, arith, rules}
+use Rattle.std.specs.Prelude.{ℤ}
 use mir.Syntax.{w32}
 use mir.Val.{to_z, of_z}
 use Rattle.std.proofs.lemmas.Int.{ints}
+use Rattle.std.proofs.lemmas.Result.{err_from_is_err_and}
 use Rattle.toml.specs.View.{table_view}
-use Rattle.mill_base.specs.declared.cutter.Cutter.TheVariants.{Flat}
 use Rattle.mill_job.specs.Jobs.{IsJob}
-use Rattle.mill_job.specs.declared.job.Job.{Job}
 use Rattle.mill_job.specs.declared.fault.JobFault.{JobFault}
 use Rattle.mill_job.specs.declared.key.Key.TheVariants as key
-use Rattle.mill_job.specs.Documents.{job_from, key_faults, relation_faults, snap_of}
-use Rattle.mill_job.specs.Tables.{first, checked, number_at, numbers_at, area_of, place_of}
-use Rattle.mill_job.proofs.Faults.{first-append, if_ok}
+use Rattle.mill_job.specs.Documents.{job_from, key_faults, cutter_faults, relation_faults, snap_of}
+use Rattle.mill_job.specs.Cutters.{shape_of, cutter_with}
+use Rattle.mill_job.specs.Tables.{first, checked, number_given, number_at, numbers_at, area_of, place_of}
+use Rattle.mill_job.proofs.Faults.{first-append, first-found, if_ok}
 use Rattle.mill_job.proofs.reading.job.Goals as goal
+
+-- Behind keys with which nothing is wrong, a fault between the cutter's keys is the first.
+pub returns-in_err-cutter-clause-value : goal.returns-in_err-cutter-clause-value
+returns-in_err-cutter-clause-value c =
+    let ms = table_view c.args.table.now in
+    let shape : c.in_ok-shape.shape ≡ shape_of ms = c.in_ok-shape.ensures.ok.1 in
+    let rise : c.in_ok-rise.rise ≡ number_given key.Rise ms = c.in_ok-rise.ensures.ok.1 in
+    let run : c.in_ok-run.run' ≡ number_given key.Run ms = c.in_ok-run.ensures.ok.1 in
+    let keys : first (key_faults ms) ≡ None = search rules in
+    let slope = first-found (cutter_faults ms) (relation_faults (job_from ms)) _ (rw (← shape, ← rise, ← run) c.in_err-cutter.ensures.err) in
+    let rest = first-append (key_faults ms) (cutter_faults ms ++ relation_faults (job_from ms)) keys in
+    let answer = err_from_is_err_and c.from_residual-in_err-cutter.result c.from_residual-in_err-cutter.ensures.1 in
+    rw (answer.1, answer.2) (ap (λ (fault : Option JobFault). checked fault (job_from ms)) (sym (rest ∙ slope)))
 
 -- Each value is the one that the document gives, and no key has a fault: so the relations decide.
 pub returns-clause-value : goal.returns-clause-value
 returns-clause-value c =
     let ms = table_view c.args.table.now in
-    let cutter : c.with_radius.result ≡ Flat (number_at key.Radius ms) = c.with_radius.ensures ∙ ap (λ (z : ℤ). Flat z) (omega (arith, ints) ∙ c.in_ok-radius.ensures.ok.1) in
+    let shape : c.in_ok-shape.shape ≡ shape_of ms = c.in_ok-shape.ensures.ok.1 in
+    let radius : to_z w32 (of_z w32 c.in_ok-radius.radius) ≡ number_at key.Radius ms = omega (arith, ints) ∙ c.in_ok-radius.ensures.ok.1 in
+    let rise : c.in_ok-rise.rise ≡ number_given key.Rise ms = c.in_ok-rise.ensures.ok.1 in
+    let run : c.in_ok-run.run' ≡ number_given key.Run ms = c.in_ok-run.ensures.ok.1 in
+    let slope : first (cutter_faults ms) ≡ None = rw (← shape, ← rise, ← run) c.in_ok-cutter.ensures.ok.0 in
+    let cutter : c.in_ok-cutter.cutter ≡ cutter_with (shape_of ms) (number_at key.Radius ms) (number_given key.Rise ms) (number_given key.Run ms) = rw (← shape, ← radius, ← rise, ← run) c.in_ok-cutter.ensures.ok.1 in
     let floor : to_z w32 (of_z w32 c.in_ok-floor.floor) ≡ number_at key.Floor ms = omega (arith, ints) ∙ c.in_ok-floor.ensures.ok.1 in
     let top : to_z w32 (of_z w32 c.in_ok-top.top) ≡ number_at key.Top ms = omega (arith, ints) ∙ c.in_ok-top.ensures.ok.1 in
     let clear : to_z w32 (of_z w32 c.in_ok-clear.clear) ≡ number_at key.Clear ms = omega (arith, ints) ∙ c.in_ok-clear.ensures.ok.1 in
@@ -31,12 +49,13 @@ returns-clause-value c =
     let band : to_z w32 (of_z w32 c.in_ok-band.band) ≡ number_at key.Band ms = omega (arith, ints) ∙ c.in_ok-band.ensures.ok.1 in
     let snap : c.in_ok-snap.snap ≡ snap_of ms = c.in_ok-snap.ensures.ok.1 in
     let keys : first (key_faults ms) ≡ None = search rules in
-    let same = ap (λ (fault : Option JobFault). checked fault (job_from ms)) (sym (first-append (key_faults ms) (relation_faults (job_from ms)) keys)) in
+    let rest : first (key_faults ms ++ cutter_faults ms ++ relation_faults (job_from ms)) ≡ first (relation_faults (job_from ms)) = first-append (key_faults ms) (cutter_faults ms ++ relation_faults (job_from ms)) keys ∙ first-append (cutter_faults ms) (relation_faults (job_from ms)) slope in
+    let same = ap (λ (fault : Option JobFault). checked fault (job_from ms)) (sym rest) in
     c.unless.ensures ∙ rw (c.relation_fault.ensures.value, cutter, floor, top, clear, area, home_x, home_y, pitch, sample, allowance, band, snap) same
 
 pub returns-clause-in_range : goal.returns-clause-in_range
 returns-clause-in_range c = rw c.unless.ensures (if_ok c.relation_fault.result _ IsJob (λ none. record {
-  cutter_ok = rw c.with_radius.ensures (record { least = omega (arith, ints, c.in_ok-radius.ensures.in_range); within = omega (arith, ints, c.in_ok-radius.ensures.in_range) });
+  cutter_ok = c.in_ok-cutter.ensures.in_range;
   floor_ok = record { within = omega (arith, ints, c.in_ok-floor.ensures.in_range) };
   top_ok = record { within = omega (arith, ints, c.in_ok-top.ensures.in_range) };
   clear_ok = record { within = omega (arith, ints, c.in_ok-clear.ensures.in_range) };
@@ -57,6 +76,3 @@ returns-clause-in_range c = rw c.unless.ensures (if_ok c.relation_fault.result _
   few = c.relation_fault.ensures.few none;
   narrow = c.relation_fault.ensures.narrow none;
 }))
-
-pub returns-clause-no_band : goal.returns-clause-no_band
-returns-clause-no_band c = rw c.unless.ensures (if_ok c.relation_fault.result _ (λ (job : Job). job.band ≡ pos 0) (λ _. omega (arith, ints, c.in_ok-band.ensures.in_range)))

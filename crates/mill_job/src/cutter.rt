@@ -1,0 +1,90 @@
+ghost use Rattle.std.specs.Prelude.{◌≡◌, pos, IfOk, IfErr, IfSome, IsSome, None, Some};
+ghost use Rattle.mill_base.specs.Sizes.{IsCutter};
+ghost use Rattle.toml.specs.View.{table_view};
+ghost use Rattle.mill_job.specs.Cutters.{cutter_with, shape_fault, shape_of, slope_fault, slope_faults};
+ghost use Rattle.mill_job.specs.Jobs.{IsFrom};
+ghost use Rattle.mill_job.specs.Tables.{first, number_given};
+
+use crate::fault::JobFault;
+use crate::key::Key;
+use crate::values::{find, in_range};
+use mill_base::Cutter;
+use toml::Table;
+
+/// How many times its run a cone may rise.
+const STEEPEST: i32 = 16;
+
+/// The shape of a cutter.
+#[derive(Clone, Copy)]
+pub enum Shape {
+    Flat,
+    Ball,
+    Cone,
+}
+
+/// The shape that the document names.
+#[tactic(auto, unfolding(crate::specs::Cutters::shape_fault, crate::specs::Cutters::shape_of, crate::specs::Tables::text_fault))]
+pub fn named_shape(table: &Table) -> Result<Shape, JobFault>
+    ensures ok { IfOk result (λ shape. (shape_fault (table_view table.now) ≡ None) × (shape ≡ shape_of (table_view table.now))) }
+    ensures err { IfErr result (λ fault. shape_fault (table_view table.now) ≡ Some fault) }
+{
+    let Some(value) = find(table, Key::Cutter) else {
+        return Err(JobFault::Missing(Key::Cutter));
+    };
+    match value.as_str() {
+        None => Err(JobFault::WrongKind(Key::Cutter)),
+        Some("flat") => Ok(Shape::Flat),
+        Some("ball") => Ok(Shape::Ball),
+        Some("cone") => Ok(Shape::Cone),
+        Some(_) => Err(JobFault::Range(Key::Cutter)),
+    }
+}
+
+/// The rise or the run at a key, which only a cone must have.
+#[tactic(auto, unfolding(crate::specs::Cutters::slope_fault, crate::specs::Tables::number_given))]
+pub fn slope(table: &Table, key: Key, shape: Shape) -> Result<Option<i32>, JobFault>
+    requires { shape ≡ shape_of (table_view table.now) }
+    ensures ok { IfOk result (λ given. (slope_fault key (table_view table.now) ≡ None) × (given ≡ number_given key (table_view table.now))) }
+    ensures err { IfErr result (λ fault. slope_fault key (table_view table.now) ≡ Some fault) }
+    ensures in_range { IfOk result (λ given. IfSome given (IsFrom (pos 1) (pos 100))) }
+    ensures of_cone { IfOk result (λ given. shape ≡ Shape.Cone → IsSome given) }
+{
+    let Some(value) = find(table, key) else {
+        return match shape {
+            Shape::Cone => Err(JobFault::Missing(key)),
+            Shape::Flat | Shape::Ball => Ok(None),
+        };
+    };
+    let Some(number) = value.as_integer() else {
+        return Err(JobFault::WrongKind(key));
+    };
+    Ok(Some(in_range(number, key, 1, 100)?))
+}
+
+/// The cutter of this shape; only a cone may have a rise and a run, and must have both.
+pub fn cutter(
+    shape: Shape,
+    radius: i32,
+    rise: Option<i32>,
+    run: Option<i32>,
+) -> Result<Cutter, JobFault>
+    requires radius_ok { IsFrom (pos 1) (pos 10000) radius }
+    requires rise_ok { IfSome rise (IsFrom (pos 1) (pos 100)) }
+    requires run_ok { IfSome run (IsFrom (pos 1) (pos 100)) }
+    requires has_rise { shape ≡ Shape.Cone → IsSome rise }
+    requires has_run { shape ≡ Shape.Cone → IsSome run }
+    ensures ok { IfOk result (λ cutter. (first (slope_faults shape rise run) ≡ None) × (cutter ≡ cutter_with shape radius rise run)) }
+    ensures err { IfErr result (λ fault. first (slope_faults shape rise run) ≡ Some fault) }
+    ensures in_range { IfOk result IsCutter }
+{
+    match (shape, rise, run) {
+        (Shape::Cone, Some(rise), Some(run)) if rise <= STEEPEST * run => {
+            Ok(Cutter::Cone { radius, rise, run })
+        }
+        (Shape::Cone, _, _) => Err(JobFault::Relation(Key::Rise, Key::Run)),
+        (_, Some(_), _) => Err(JobFault::Relation(Key::Cutter, Key::Rise)),
+        (_, None, Some(_)) => Err(JobFault::Relation(Key::Cutter, Key::Run)),
+        (Shape::Flat, None, None) => Ok(Cutter::Flat { radius }),
+        (Shape::Ball, None, None) => Ok(Cutter::Ball { radius }),
+    }
+}
