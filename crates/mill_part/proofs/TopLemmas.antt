@@ -70,7 +70,7 @@ corners_under tri = under3 tri.a.z tri.b.z tri.c.z
     under3 : (a b c : ℤ) → (a ≤ℤ greater a (greater b c)) × (b ≤ℤ greater a (greater b c)) × (c ≤ℤ greater a (greater b c))
     under3 a b c = grind (arith, ints)
 
-highest_is : (tri : Tri) → HasCornerAt tri (highest tri)
+pub highest_is : (tri : Tri) → HasCornerAt tri (highest tri)
 highest_is tri = one3 tri.a.z tri.b.z tri.c.z
   where
     one3 : (a b c : ℤ) → (a ≡ greater a (greater b c)) ⊎ ((b ≡ greater a (greater b c)) ⊎ (c ≡ greater a (greater b c)))

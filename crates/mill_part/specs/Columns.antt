@@ -1,5 +1,7 @@
 -- At what heights a triangle stands over a column.
 use Rattle.std.specs.Prelude.{◌≡◌, ◌⊎◌, ℤ, pos, ◌+ℤ◌, ◌-ℤ◌, ◌*ℤ◌, ◌<ℤ◌, ◌≤ℤ◌, Option, Some, None}
+use Rattle.mill_base.specs.Points.{IsPointOf}
+use Rattle.mill_base.specs.Covers.{IsBeside}
 use Rattle.mill_base.specs.declared.points.Pt3.{Pt3}
 use Rattle.mill_base.specs.declared.points.Tri.{Tri}
 
@@ -23,6 +25,14 @@ pub record StandsOver (tri : Tri) (x y h : ℤ) : Type 0 where
   pub on_x : weigh u v w tri.a.x tri.b.x tri.c.x ≡ ((u +ℤ v) +ℤ w) *ℤ x
   pub on_y : weigh u v w tri.a.y tri.b.y tri.c.y ≡ ((u +ℤ v) +ℤ w) *ℤ y
   pub reaches : Reaches tri u v w h
+
+-- some point of the triangle is at least as high as h, and on the column (x, y) or nearer to it than band
+pub record CoversColumn (tri : Tri) (band x y h : ℤ) : Type 0 where
+  pub n : ℤ
+  pub p : Pt3
+  pub point : IsPointOf tri n p
+  pub high : (n *ℤ h) ≤ℤ p.z
+  pub beside : IsBeside band x y n p
 
 -- the greatest number that has a property; none if no number has it
 abbrev pub IsGreatest : (ℤ → Type 0) → Option ℤ → Type 0

@@ -1,15 +1,16 @@
 //! The part: its triangles, its greatest height, and how high it covers a column.
 //!
-//! It stands on `mill_base`. It promises that the covered height of a column is exact, for every
-//! triangle, also one that stands for its edges or its point. Definitions: `mill_base`'s
-//! `specs/Covers` say which heights are covered. Here `specs/Tops` is the part's greatest height,
-//! and `specs/Columns` and `specs/Lines` are the heights at which one triangle or one edge stands
-//! over a column.
+//! It stands on `mill_base` and `mill_geom`. It promises that the covered heights of a column, with
+//! any band, are exact, for every triangle, also one that stands for its edges or its point.
+//! Definitions: `mill_base`'s `specs/Covers` say which heights are covered. Here `specs/Tops` is the
+//! part's greatest height, and `specs/Columns` and `specs/Lines` are the heights at which one
+//! triangle or one edge covers a column.
 #![tactic(auto)]
 
 mod column;
 mod laws;
 mod line;
+mod near;
 mod part;
 mod whole;
 

@@ -1,11 +1,9 @@
-ghost use Rattle.std.specs.Prelude.{◌≡◌, ◌⊎◌, ◌↔◌, ◌<◌, ◌^◌, ℤ, pos, ◌≤ℤ◌, List, length, IfSome, IsNone};
-ghost use Rattle.mill_base.specs.Covers.{Covered};
+ghost use Rattle.std.specs.Prelude.{◌≡◌, ◌↔◌, ◌<◌, ◌^◌, ℤ, pos, false, ◌≤ℤ◌, length, IfSome, IsNone, IsTrue};
+ghost use Rattle.mill_base.specs.Covers.{Covered, HasPointOver};
 ghost use Rattle.mill_base.specs.Numbers.{Within, greatest};
-ghost use Rattle.mill_base.specs.Points.{highest as highest_of};
-ghost use Rattle.mill_base.specs.Ranges.{TriInRange};
-ghost use Rattle.mill_part.specs.Columns.{StandsOver};
+ghost use Rattle.mill_base.specs.Ranges.{TrisInRange};
 
-use crate::column::height_over;
+use crate::near::{Column, highest};
 use mill_base::Tri;
 use std::marker::Model;
 
@@ -65,50 +63,64 @@ impl Part {
         top
     }
 
-    /// The greatest whole height of the column (x, y) that the floor or a point of the part on that
-    /// column covers, exactly, in units of 0.01 mm.
+    /// Whether the floor, or a point of the part at least as high as `height`, covers the column
+    /// (x, y) at that height, exactly: a point on the column does, and one nearer to it than `band`.
     ///
-    /// It is the floor where no point of the part stands over the column. The magnitudes of
-    /// `floor`, `x` and `y` are at most 131,071.
-    pub fn covered_height(&self, floor: i32, x: i32, y: i32) -> i32
+    /// `height` is any; the magnitudes of `floor`, `x` and `y` are at most 131,071, and `band` is from
+    /// 0 to 10,000, all in units of 0.01 mm.
+    pub fn covered(&self, floor: i32, x: i32, y: i32, height: i32, band: i32) -> bool
         requires floor_ok { Within greatest floor }
         requires x_ok { Within greatest x }
         requires y_ok { Within greatest y }
-        ensures exact { (h : ℤ) → Covered self.now floor (pos 0) x y h ↔ (h ≤ℤ result) }
+        requires band_least { pos 0 ≤ℤ band }
+        requires band_most { band ≤ℤ pos 10000 }
+        ensures { IsTrue result ↔ Covered self.now floor band x y height }
+    {
+        let tris = self.tris();
+        if height <= floor {
+            return true;
+        }
+        if height > 131_071 {
+            return false;
+        }
+        has_point_over(tris, Column { x, y, band }, height)
+    }
+
+    /// The greatest whole height of the column (x, y) that the floor or a point of the part covers,
+    /// exactly, in units of 0.01 mm: a point on the column does, and one nearer to it than `band`.
+    ///
+    /// It is the floor where no point of the part does. The magnitudes of `floor`, `x` and `y` are at
+    /// most 131,071, and `band` is from 0 to 10,000.
+    pub fn covered_height(&self, floor: i32, x: i32, y: i32, band: i32) -> i32
+        requires floor_ok { Within greatest floor }
+        requires x_ok { Within greatest x }
+        requires y_ok { Within greatest y }
+        requires band_least { pos 0 ≤ℤ band }
+        requires band_most { band ≤ℤ pos 10000 }
+        ensures exact { (h : ℤ) → Covered self.now floor band x y h ↔ (h ≤ℤ result) }
         ensures bound { Within greatest result }
     {
+        let column = Column { x, y, band };
         let mut height = floor;
         for tri in self.tris() {
-            height = raised(height, tri, x, y);
+            height = column.raised(height, tri);
         }
         height
     }
 }
 
-/// `height`, or the greatest whole height at which the triangle stands over the column (x, y) if
-/// that is more.
-///
-/// A triangle whose highest corner isn't over `height` can't raise it, and isn't looked at further.
-fn raised(height: i32, tri: &Tri, x: i32, y: i32) -> i32
-    requires tri_ok { TriInRange tri.now }
-    requires x_ok { Within greatest x }
-    requires y_ok { Within greatest y }
-    ensures kept { height ≤ℤ result }
-    ensures reached { (result ≡ height) ⊎ StandsOver tri.now x y result }
-    ensures highest { (h : ℤ) → StandsOver tri.now x y h → h ≤ℤ result }
+/// Whether a point of the triangles at least as high as `height` covers the column.
+fn has_point_over(tris: &[Tri], column: Column, height: i32) -> bool
+    requires in_range { TrisInRange tris.now }
+    requires height_ok { Within greatest height }
+    ensures yes { IsTrue result → HasPointOver tris.now column.band column.x column.y height }
+    ensures no { result ≡ false
+        → ¬ HasPointOver tris.now column.band column.x column.y height }
 {
-    if highest(tri) <= height {
-        return height;
+    for tri in tris {
+        if column.is_covered(tri, height) {
+            return true;
+        }
     }
-    match height_over(tri, x, y) {
-        Some(over) => height.max(over),
-        None => height,
-    }
-}
-
-/// The greatest of a triangle's three heights.
-fn highest(tri: &Tri) -> i32
-    ensures { result ≡ highest_of tri.now }
-{
-    tri.a.z.max(tri.b.z).max(tri.c.z)
+    false
 }

@@ -1,4 +1,4 @@
-ghost use Rattle.std.specs.Prelude.{IsTrue, ◌<◌, ◌^◌, length};
+ghost use Rattle.std.specs.Prelude.{IsTrue, ◌<◌, ◌^◌, ◌≤ℤ◌, pos, length};
 ghost use Rattle.mill_base.specs.Numbers.{Within, greatest};
 ghost use Rattle.mill_base.specs.Ranges.{IsInRange, TriInRange};
 
@@ -71,13 +71,17 @@ fn part_of<R: Abort + AllocGlobal>(rt: &R, tris: &[Tri]) -> Result<Part, Fail>
     Ok(Part::new(kept))
 }
 
-#[test]
-fn covers_columns(rt: HostRuntime) -> Result<(), Fail> {
+fn plate<R: Abort + AllocGlobal>(rt: &R) -> Result<Part, Fail> {
     let plate = [
         tri((0, 0, 200), (200, 0, 200), (200, 200, 200)),
         tri((0, 0, 200), (200, 200, 200), (0, 200, 200)),
     ];
-    let plate = part_of(&rt, plate.as_slice())?;
+    part_of(rt, plate.as_slice())
+}
+
+#[test]
+fn covers_columns(rt: HostRuntime) -> Result<(), Fail> {
+    let plate = plate(&rt)?;
     let table = [
         (0, 100, 100, 200),
         (0, 0, 0, 200),
@@ -91,9 +95,77 @@ fn covers_columns(rt: HostRuntime) -> Result<(), Fail> {
         assert!(rt; fits(floor));
         assert!(rt; fits(x));
         assert!(rt; fits(y));
-        assert_eq!(rt; plate.covered_height(floor, x, y), want, "at {x}, {y}");
+        assert_eq!(rt; plate.covered_height(floor, x, y, 0), want, "at {x}, {y}");
     }
     covered_below();
+    Ok(())
+}
+
+fn is_band(band: i32) -> bool
+    ensures { IsTrue result → (pos 0 ≤ℤ band) × (band ≤ℤ pos 10000) }
+{
+    if band < 0 {
+        return false;
+    }
+    band <= 10_000
+}
+
+#[test]
+fn covers_heights(rt: HostRuntime) -> Result<(), Fail> {
+    let plate = plate(&rt)?;
+    let table = [
+        (100, 100, 200, 0, true),
+        (100, 100, 201, 0, false),
+        (100, 100, 201, 10_000, false),
+        (250, 100, 200, 0, false),
+        (250, 100, 200, 50, false),
+        (250, 100, 200, 51, true),
+        (250, 100, 1, 50, false),
+        (250, 100, 0, 50, true),
+        (230, 240, 200, 50, false),
+        (230, 240, 200, 51, true),
+        (999, 999, 0, 0, true),
+        (999, 999, 1, 0, false),
+        (100, 100, i32::MIN, 10, true),
+        (100, 100, i32::MAX, 10, false),
+    ];
+    for (x, y, height, band, want) in table {
+        assert!(rt; fits(x));
+        assert!(rt; fits(y));
+        assert!(rt; is_band(band));
+        let got = plate.covered(0, x, y, height, band);
+        assert_eq!(rt; got, want, "{x}, {y}, {height}, {band}");
+    }
+    Ok(())
+}
+
+#[test]
+fn covers_within_a_band(rt: HostRuntime) -> Result<(), Fail> {
+    // It rises by 1 over 2: the greatest height nearer than 100 lies between its corners.
+    let slope = tri((0, -1000, 0), (0, 1000, 0), (1000, 0, 500));
+    let corner = tri((0, 0, -7), (0, 0, -7), (0, 0, -7));
+    let table = [
+        (slope, 300, 0, 0, 150),
+        (slope, 300, 0, 1, 150),
+        (slope, 300, 0, 2, 150),
+        (slope, 300, 0, 3, 151),
+        (slope, 300, 0, 100, 199),
+        (slope, 300, 0, 101, 200),
+        (slope, 950, 0, 51, 500),
+        (slope, 1050, 0, 50, -50),
+        (slope, 1050, 0, 51, 500),
+        (corner, 3, 4, 5, -50),
+        (corner, 3, 4, 6, -7),
+        (corner, 0, 0, 0, -7),
+    ];
+    for (tri, x, y, band, want) in table {
+        assert!(rt; fits(x));
+        assert!(rt; fits(y));
+        assert!(rt; is_band(band));
+        let part = part_of(&rt, [tri].as_slice())?;
+        let got = part.covered_height(-50, x, y, band);
+        assert_eq!(rt; got, want, "{x}, {y}, {band}");
+    }
     Ok(())
 }
 
@@ -124,7 +196,7 @@ fn stands_over_columns(rt: HostRuntime) -> Result<(), Fail> {
         assert!(rt; fits(x));
         assert!(rt; fits(y));
         let part = part_of(&rt, [tri].as_slice())?;
-        assert_eq!(rt; part.covered_height(-50, x, y), want, "at {x}, {y}");
+        assert_eq!(rt; part.covered_height(-50, x, y, 0), want, "at {x}, {y}");
     }
     Ok(())
 }
