@@ -102,7 +102,7 @@ once x y z = same _ _ _ _ _ _ (one x) (one y) (one z)
     same a b c d e f p q r = cc
 
 -- a point is the one point of its triangle
-itself : (p : Pt3) → IsPointOf (point_tri p) (pos 1) p
+pub itself : (p : Pt3) → IsPointOf (point_tri p) (pos 1) p
 itself p = record {
   u = pos 1;
   v = pos 0;

@@ -1,0 +1,5 @@
+use Rattle.mill_sweep.proofs.Halves.{passing_is_clear}
+use Rattle.mill_sweep.proofs.moments.halving_is_clear.Goals as goal
+
+pub returns : goal.returns
+returns c = passing_is_clear

@@ -1,0 +1,46 @@
+-- Which moves pass a triangle at every moment, by halving.
+use Rattle.std.specs.Prelude.{◌≡◌, ◌⊎◌, ℕ, zero, suc, ◌+◌, ◌*◌, ◌≤◌, pos, ◌<ℤ◌, ◌≤ℤ◌}
+use Rattle.mill_base.specs.Points.{highest, point_tri}
+use Rattle.mill_base.specs.Contact.{Touches}
+use Rattle.mill_base.specs.Sizes.{outer}
+use Rattle.mill_base.specs.declared.points.Pt3.{Pt3}
+use Rattle.mill_base.specs.declared.points.Tri.{Tri}
+use Rattle.mill_base.specs.declared.motion.Move.{Move}
+use Rattle.mill_base.specs.declared.cutter.Cutter.{Cutter}
+use Rattle.mill_sweep.specs.Leaves.{depth_of, span_of, reach_of, zlow_of, outer_tip}
+use Rattle.mill_sweep.specs.declared.leaf.Leaf.{Leaf}
+use Rattle.mill_sweep.specs.declared.leaf.Span.{Span}
+
+-- a triangle blocks a span: its highest point is over zlow, and some point of it is strictly inside the outer cutter
+pub record Blocks (cutter : Cutter) (s : Span) (tri : Tri) : Type 0 where
+  pub over : s.zlow <ℤ highest tri
+  pub touches : Touches (outer cutter s.reach) (pos 1) (outer_tip cutter s) tri
+
+-- a leaf passes by itself: its reach is at most 1,024 and it isn't blocked, or it lies no lower than the triangle's highest point
+abbrev pub IsFree : Cutter → Move → Tri → ℕ → ℕ → Type 0
+IsFree cutter m tri d k = ((reach_of m d k ≤ 1024) × (¬ Blocks cutter (span_of m d k) tri)) ⊎ (highest tri ≤ℤ zlow_of m d k)
+
+-- the leaf (d, k) passes, with more further halvings: by itself, or both its halves do
+abbrev pub LeafPasses : Cutter → Move → Tri → ℕ → ℕ → ℕ → Type 0
+LeafPasses cutter m tri zero d k = IsFree cutter m tri d k
+LeafPasses cutter m tri (suc more) d k = IsFree cutter m tri d k ⊎ (LeafPasses cutter m tri more (d + 1) (2 * k) × LeafPasses cutter m tri more (d + 1) (2 * k + 1))
+
+-- the whole move passes
+abbrev pub Passes : Cutter → Move → Tri → Type 0
+Passes cutter m tri = LeafPasses cutter m tri (depth_of m) 0 0
+
+-- from the leaf (d, k), which doesn't pass, the way to the left half if that fails, else to the right half, ends at this leaf
+abbrev pub LeadsTo : Cutter → Move → Tri → ℕ → ℕ → ℕ → Leaf → Type 0
+LeadsTo cutter m tri zero d k leaf = (leaf.d ≡ d) × (leaf.k ≡ k)
+LeadsTo cutter m tri (suc more) d k leaf =
+    ((¬ LeafPasses cutter m tri more (d + 1) (2 * k)) × LeadsTo cutter m tri more (d + 1) (2 * k) leaf)
+    ⊎ (LeafPasses cutter m tri more (d + 1) (2 * k) × LeadsTo cutter m tri more (d + 1) (2 * k + 1) leaf)
+
+-- the move doesn't pass the triangle, and this is its failing leaf
+pub record FailsAt (cutter : Cutter) (m : Move) (tri : Tri) (leaf : Leaf) : Type 0 where
+  pub fails : ¬ Passes cutter m tri
+  pub leads : LeadsTo cutter m tri (depth_of m) 0 0 leaf
+
+-- the same for a point, which is a triangle of three equal corners
+abbrev pub PassesPoint : Cutter → Move → Pt3 → Type 0
+PassesPoint cutter m p = Passes cutter m (point_tri p)

@@ -1,0 +1,35 @@
+-- What the test by halving implies at each moment of a move.
+use Rattle.std.specs.Prelude.{ℕ, ◌≤◌, ◌<◌, ◌^◌, ℤ, pos, ◌<ℤ◌, ◌≤ℤ◌}
+use Rattle.mill_base.specs.Points.{point_at}
+use Rattle.mill_base.specs.Motion.{IsMoment, tip_at}
+use Rattle.mill_base.specs.Contact.{Holds, Touches, Removes}
+use Rattle.mill_base.specs.Sizes.{outer, IsCutter}
+use Rattle.mill_base.specs.Ranges.{IsInRange, MoveInRange}
+use Rattle.mill_base.specs.declared.points.Pt3.{Pt3}
+use Rattle.mill_base.specs.declared.points.Tri.{Tri}
+use Rattle.mill_base.specs.declared.motion.Move.{Move}
+use Rattle.mill_base.specs.declared.cutter.Cutter.{Cutter}
+use Rattle.mill_sweep.specs.Leaves.{depth_of, span_of, reach_of, IsMomentOf, outer_tip}
+use Rattle.mill_sweep.specs.Halving.{Passes, PassesPoint, FailsAt, Blocks}
+use Rattle.mill_sweep.specs.declared.leaf.Leaf.{Leaf}
+
+-- every point inside the cutter at a moment of a leaf is inside the leaf's outer cutter
+abbrev pub OuterHolds : Type 0
+OuterHolds = (cutter : Cutter) (move : Move) (d j : ℕ) (k m n : ℤ) (p : Pt3) → IsCutter cutter → MoveInRange move → d ≤ depth_of move → j < 2 ^ d
+    → IsMomentOf d j k m → (pos 0) <ℤ n → Holds cutter m (tip_at move k m) n p
+    → Holds (outer cutter (pos (reach_of move d j))) (pos 1) (outer_tip cutter (span_of move d j)) n p
+
+-- if a move passes a triangle, no point of it is inside the cutter at any moment of the move
+abbrev pub PassingIsClear : Type 0
+PassingIsClear = (cutter : Cutter) (move : Move) (tri : Tri) (k m : ℤ) → IsCutter cutter → MoveInRange move
+    → Passes cutter move tri → IsMoment k m → ¬ Touches cutter m (tip_at move k m) tri
+
+-- if a move passes a point, it removes no whole point at or under it
+abbrev pub PassingKeepsPoint : Type 0
+PassingKeepsPoint = (cutter : Cutter) (move : Move) (x y t h : ℤ) → IsCutter cutter → MoveInRange move → IsInRange (point_at x y t)
+    → PassesPoint cutter move (point_at x y t) → h ≤ℤ t → ¬ Removes cutter move (pos 1) (point_at x y h)
+
+-- a failing leaf has a reach of at most 2, and it isn't so that it isn't blocked; that it is blocked, is said by the code that decided it
+abbrev pub FailingIsBlocked : Type 0
+FailingIsBlocked = (cutter : Cutter) (move : Move) (tri : Tri) (leaf : Leaf) → IsCutter cutter → MoveInRange move
+    → FailsAt cutter move tri leaf → (reach_of move leaf.d leaf.k ≤ 2) × (¬ (¬ Blocks cutter (span_of move leaf.d leaf.k) tri))
