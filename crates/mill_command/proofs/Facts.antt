@@ -1,0 +1,42 @@
+-- What the definitions say of words that are written out.
+use Rattle.std.proofs.Common.{◌≡◌, ◌∷◌, [], codes, refl, Some, None}
+use Rattle.clap.specs.declared.error.kind.ErrorKind.TheVariants as kind
+use Rattle.clap.proofs.OnLiterals.{clap_on_literals}
+use Rattle.mill_command.specs.Requests.{faults, request, verify, drop}
+
+verify_of_files : request (codes "verify" ∷ codes "j" ∷ codes "p" ∷ codes "f" ∷ []) ≡ Some (verify (codes "j") (codes "p") (codes "f"))
+unfolding clap_on_literals
+verify_of_files = refl
+
+drop_at_place : request (codes "drop" ∷ codes "--y=2" ∷ codes "j" ∷ codes "--x=-1" ∷ codes "p" ∷ []) ≡ Some (drop (codes "j") (codes "p") (codes "-1") (codes "2"))
+unfolding clap_on_literals
+drop_at_place = refl
+
+value_apart : faults (codes "drop" ∷ codes "j" ∷ codes "p" ∷ codes "--x" ∷ codes "-1" ∷ codes "--y=2" ∷ []) ≡ kind.UnknownArgument ∷ []
+unfolding clap_on_literals
+value_apart = refl
+
+file_missing : faults (codes "verify" ∷ codes "j" ∷ codes "p" ∷ []) ≡ kind.MissingRequiredArgument ∷ []
+unfolding clap_on_literals
+file_missing = refl
+
+no_words : faults [] ≡ kind.MissingSubcommand ∷ []
+unfolding clap_on_literals
+no_words = refl
+
+help_wanted : faults (codes "verify" ∷ codes "--help" ∷ []) ≡ kind.DisplayHelp ∷ []
+unfolding clap_on_literals
+help_wanted = refl
+
+version_wanted : faults (codes "--version" ∷ []) ≡ kind.DisplayVersion ∷ []
+unfolding clap_on_literals
+version_wanted = refl
+
+-- the two words that clap's definition leaves open: help on commands, or a command that isn't there
+help_on : faults (codes "help" ∷ []) ≡ kind.DisplayHelp ∷ kind.InvalidSubcommand ∷ []
+unfolding clap_on_literals
+help_on = refl
+
+not_yet : request (codes "plan" ∷ codes "j" ∷ codes "p" ∷ codes "f" ∷ []) ≡ None
+unfolding clap_on_literals
+not_yet = refl

@@ -1,0 +1,4 @@
+mod Facts
+pub mod Faultless
+pub mod Takes
+pub mod Taken

@@ -1,0 +1,152 @@
+-- Words that clap takes make a request.
+use Rattle.std.proofs.Common.{◌≡◌, ◌∙◌, ◌&&◌, ◌||◌, ◌∷◌, [], Bool, true, false, not, cond, refl, sym, ap, true≢false, List, Option, Some, None, Err, is_some}
+use Rattle.std.specs.Prelude.{codes, option_and_then}
+use Rattle.std.specs.Option.{option_map, option_map_or}
+use Rattle.std.specs.Str.{bytes_eq}
+use Rattle.std.proofs.lemmas.Slice.Eq.{bytes_eq-Decides}
+use Rattle.clap.specs.Walk.{Row, Text, nothing_held, rows_after, stop_after, first_of}
+use Rattle.clap.specs.Simple.{Shape, built_leaf, built, entered, help_shape, inherited, is_simple, names_of, rows_at, subcommand_of}
+use Rattle.clap.proofs.OnLiterals.{clap_on_literals}
+use Rattle.mill_command.proofs.Takes.{built_test, none}
+use Rattle.clap.specs.Takes.{built_takes, is_given, takes}
+use Rattle.clap.specs.Faults.{entered_fault, level_fault}
+use Rattle.mill_command.specs.Set.{commands, verify, drop}
+use Rattle.clap.specs.Kinds.{IsAmong, Kinds}
+use Rattle.clap.specs.declared.error.kind.ErrorKind.{ErrorKind}
+use Rattle.mill_command.specs.Requests.{Reads, Refuses, Request, drop_of, faults, is_taken, request, request_in, verify_of}
+use Rattle.mill_command.specs.declared.refusal.Refusal.{Refusal}
+use Rattle.mill_command.specs.declared.refusal.Refusal.TheVariants as refusal
+use Rattle.mill_command.proofs.Faultless.{IsStopped, given_value, level_faultless, none_missing}
+
+-- the shapes of the program and its commands, as building leaves them
+abbrev top : Shape
+top = (built commands).top
+
+abbrev above : Shape
+above = record commands.top { is_built = true }
+
+abbrev verify_shape : Shape
+verify_shape = built_leaf (inherited above verify.top)
+
+abbrev drop_shape : Shape
+drop_shape = built_leaf (inherited above drop.top)
+
+abbrev topic_shape : Shape
+topic_shape = built_leaf help_shape
+
+are_built : (built commands).subs ≡ verify_shape ∷ drop_shape ∷ topic_shape ∷ []
+are_built = refl
+
+abbrev HasRequest : Option Request → Type 0
+HasRequest o = is_some o ≡ true
+
+verify_some : (job part file : Option Text) → ((v : Text) × (job ≡ Some v)) → ((v : Text) × (part ≡ Some v)) → ((v : Text) × (file ≡ Some v))
+    → HasRequest (verify_of job part file)
+verify_some job part file j p f = rw (j.1, p.1, f.1) refl
+
+drop_some : (job part x y : Option Text) → ((v : Text) × (job ≡ Some v)) → ((v : Text) × (part ≡ Some v)) → ((v : Text) × (x ≡ Some v)) → ((v : Text) × (y ≡ Some v))
+    → HasRequest (drop_of job part x y)
+drop_some job part x y j p a b = rw (j.1, p.1, a.1, b.1) refl
+
+three_given : (a b d : Bool) → (not a || (not b || (not d || false))) ≡ false → (a ≡ true) × (b ≡ true) × (d ≡ true)
+three_given true true true e = (refl, refl, refl)
+three_given true true false e = absurd (true≢false e)
+three_given true false d e = absurd (true≢false e)
+three_given false b d e = absurd (true≢false e)
+
+four_given : (a b d f : Bool) → (not a || (not b || (not d || (not f || false)))) ≡ false → (a ≡ true) × (b ≡ true) × (d ≡ true) × (f ≡ true)
+four_given true true true true e = (refl, refl, refl, refl)
+four_given true true true false e = absurd (true≢false e)
+four_given true true false f e = absurd (true≢false e)
+four_given true false d f e = absurd (true≢false e)
+four_given false b d f e = absurd (true≢false e)
+
+verify_asks : (words : List Text) → level_fault verify_shape [] nothing_held words false [] ≡ [] → HasRequest (request_in (codes "verify") (rows_after verify_shape.rules [] words))
+verify_asks words none =
+    let rows = rows_after verify_shape.rules [] words in
+    let level = level_faultless verify_shape [] words false [] refl none in
+    let given = three_given (is_given (codes "job") rows) (is_given (codes "part") rows) (is_given (codes "file") rows) (none_missing verify_shape rows false level.checked).1 in
+    verify_some (first_of (codes "job") rows) (first_of (codes "part") rows) (first_of (codes "file") rows)
+    (given_value (codes "job") rows level.full given.0) (given_value (codes "part") rows level.full given.1) (given_value (codes "file") rows level.full given.2)
+
+drop_asks : (words : List Text) → level_fault drop_shape [] nothing_held words false [] ≡ [] → HasRequest (request_in (codes "drop") (rows_after drop_shape.rules [] words))
+drop_asks words none =
+    let rows = rows_after drop_shape.rules [] words in
+    let level = level_faultless drop_shape [] words false [] refl none in
+    let given = four_given (is_given (codes "job") rows) (is_given (codes "part") rows) (is_given (codes "x") rows) (is_given (codes "y") rows) (none_missing drop_shape rows false level.checked).1 in
+    drop_some (first_of (codes "job") rows) (first_of (codes "part") rows) (first_of (codes "x") rows) (first_of (codes "y") rows)
+    (given_value (codes "job") rows level.full given.0) (given_value (codes "part") rows level.full given.1)
+    (given_value (codes "x") rows level.full given.2) (given_value (codes "y") rows level.full given.3)
+
+-- the subcommand that was met is one of the two commands
+named : (v d h : Bool) (words : List Text) → h ≡ false
+    → option_map_or (λ (s : Shape). level_fault s [] nothing_held words false []) (cond (v || false) (Some verify_shape) (cond (d || false) (Some drop_shape) (cond (h || false) (Some topic_shape) None))) [] ≡ []
+    → is_some (option_map (λ (s : Shape). rows_at s words) (cond (v || false) (Some verify_shape) (cond (d || false) (Some drop_shape) (cond (h || false) (Some topic_shape) None)))) ≡ true
+    → HasRequest (option_and_then (λ (m : Text × List Row). request_in m.0 m.1)
+    (option_map (λ (s : Shape). rows_at s words) (cond (v || false) (Some verify_shape) (cond (d || false) (Some drop_shape) (cond (h || false) (Some topic_shape) None)))))
+named true d h words other none some = verify_asks words none
+named false true h words other none some = drop_asks words none
+named false false true words other none some = absurd (true≢false other)
+named false false false words other none some = absurd (true≢false (sym some))
+
+-- the name of the command for help, either way round
+help_named : (name : Text) → (bytes_eq name (codes "help") && true) ≡ false → bytes_eq (codes "help") name ≡ false
+help_named name other = go (bytes_eq (codes "help") name) refl
+  where
+    go : (b : Bool) → bytes_eq (codes "help") name ≡ b → b ≡ false
+    go false e = refl
+    go true e = let same : bytes_eq name (codes "help") ≡ true = (bytes_eq-Decides name (codes "help")).1 (sym ((bytes_eq-Decides (codes "help") name).0 e)) in
+        absurd (true≢false (sym (ap (λ b. b && true) same) ∙ other))
+
+entered_asks : (stop : Option (Text × List Text)) → IsStopped top stop → entered_fault (built commands) stop ≡ [] → is_some (entered (built commands) stop) ≡ true
+    → HasRequest (option_and_then (λ (m : Text × List Row). request_in m.0 m.1) (entered (built commands) stop))
+entered_asks None stop none some = absurd (true≢false (sym some))
+entered_asks (Some p) stop none some = named (bytes_eq (codes "verify") p.0) (bytes_eq (codes "drop") p.0) (bytes_eq (codes "help") p.0) p.1 (help_named p.0 stop) none some
+
+wanted : (b : Bool) → (not b && true) ≡ false → b ≡ true
+wanted true e = refl
+wanted false e = absurd (true≢false e)
+
+-- words in which clap finds no fault make a request
+pub taken_asks : (words : List Text) → faults words ≡ [] → HasRequest (option_and_then (λ (m : Text × List Row). request_in m.0 m.1) (subcommand_of commands words))
+taken_asks words none =
+    let stop = stop_after top.rules (names_of (built commands)) words in
+    let level = level_faultless top (names_of (built commands)) words (is_some (entered (built commands) stop)) (entered_fault (built commands) stop) refl none in
+    entered_asks stop level.stop level.under (wanted (is_some (entered (built commands) stop)) (none_missing top (rows_after top.rules (names_of (built commands)) words) (is_some (entered (built commands) stop)) level.checked).0)
+
+are_plain : is_simple commands ≡ true
+unfolding clap_on_literals
+are_plain = refl
+
+-- clap's test of whether it takes the words is that it finds no fault in them
+pub takes_faultless : (words : List Text) → takes commands words ≡ none (faults words)
+takes_faultless words = ap (λ b. b && built_takes (built commands) nothing_held words) are_plain ∙ built_test (built commands) words refl
+
+among_some : (k : ErrorKind) (kinds : Kinds) → IsAmong k kinds → none kinds ≡ false
+among_some k [] e = absurd e
+among_some k (x ∷ xs) e = refl
+
+not_taken : (words : List Text) (k : ErrorKind) → IsAmong k (faults words) → is_taken words ≡ false
+not_taken words k e = takes_faultless words ∙ among_some k (faults words) e
+
+-- where clap finds no fault, the request is that of the subcommand
+pub taken : (words : List Text) → faults words ≡ [] → request words ≡ option_and_then (λ (m : Text × List Row). request_in m.0 m.1) (subcommand_of commands words)
+taken words e = ap (λ b. cond b (option_and_then (λ (m : Text × List Row). request_in m.0 m.1) (subcommand_of commands words)) None) (takes_faultless words ∙ ap none e)
+
+-- a refusal is one of words that aren't taken
+pub refused : (words : List Text) (r : Refusal) → Refuses (faults words) r → Reads words (Err r)
+refused words (refusal.Help text) e = (not_taken words e.0 e.1, e)
+refused words (refusal.NotTaken text) e = (not_taken words e.0 e.1, e)
+refused words refusal.WantOfMemory e = tt
+
+-- words that clap takes make a request
+pub whole : (words : List Text) → is_some (request words) ≡ is_taken words
+whole words = go (is_taken words) refl
+  where
+    all : (kinds : Kinds) → none kinds ≡ true → kinds ≡ []
+    all [] e = refl
+    all (k ∷ ks) e = absurd (true≢false (sym e))
+
+    go : (b : Bool) → is_taken words ≡ b → is_some (cond b (option_and_then (λ (m : Text × List Row). request_in m.0 m.1) (subcommand_of commands words)) None) ≡ b
+    go true e = taken_asks words (all (faults words) (sym (takes_faultless words) ∙ e))
+    go false e = refl

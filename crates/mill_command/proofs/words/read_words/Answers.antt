@@ -1,0 +1,24 @@
+use Rattle.std.proofs.Common.{◌∙◌, List, sym, ap, map, string_bytes, true≢false, is_some}
+use Rattle.std.specs.Prelude.{option_and_then, option_map}
+use Rattle.clap.specs.Words.{Row, Text}
+use Rattle.mill_command.specs.Requests.{faults, request_in, request_of}
+use Rattle.mill_command.proofs.Taken.{refused, taken, taken_asks, whole}
+use Rattle.mill_command.proofs.words.read_words.Goals as goal
+
+pub unreachable-requires : goal.unreachable-requires
+unreachable-requires c = true≢false (sym (taken_asks (map string_bytes c.args.words.now) c.in-Ok.ensures.kinds)
+    ∙ sym (ap (λ o. is_some (option_and_then (λ (m : Text × List Row). request_in m.0 m.1) o)) c.in-Ok.ensures.matches)
+    ∙ ap is_some (sym c.command_of.ensures ∙ ap (option_map request_of) c.in-None.is))
+
+pub returns-in-Err-clause-reads : goal.returns-in-Err-clause-reads
+returns-in-Err-clause-reads c = refused (map string_bytes c.args.words.now) c.refusal_of.result (c.refusal_of.ensures (faults (map string_bytes c.args.words.now)) c.in-Err.ensures.kinds)
+
+pub returns-in-Err-clause-whole : goal.returns-in-Err-clause-whole
+returns-in-Err-clause-whole c = whole (map string_bytes c.args.words.now)
+
+pub returns-clause-reads : goal.returns-clause-reads
+returns-clause-reads c = taken (map string_bytes c.args.words.now) c.in-Ok.ensures.kinds
+    ∙ sym (ap (option_and_then (λ (m : Text × List Row). request_in m.0 m.1)) c.in-Ok.ensures.matches) ∙ sym c.command_of.ensures ∙ ap (option_map request_of) c.in-Some.is
+
+pub returns-clause-whole : goal.returns-clause-whole
+returns-clause-whole c = whole (map string_bytes c.args.words.now)

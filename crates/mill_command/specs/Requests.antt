@@ -1,0 +1,70 @@
+-- What words ask for.
+use Rattle.std.specs.Prelude.{◌≡◌, ◌≢◌, ◌⊎◌, bytes_eq, codes, Bool, false, if◌then◌else◌, List, Option, Some, None, option_and_then, Result, Ok, Err}
+use Rattle.clap.specs.Words.{IsAmong, Kinds, Row, Text, fault_of, first_of, subcommand_of, takes}
+use Rattle.clap.specs.declared.error.kind.ErrorKind.{ErrorKind}
+use Rattle.clap.specs.declared.error.kind.ErrorKind.TheVariants.{DisplayHelp, DisplayVersion}
+use Rattle.mill_command.specs.Set.{commands}
+use Rattle.mill_command.specs.declared.command.Command.{Command}
+use Rattle.mill_command.specs.declared.command.Command.TheVariants as command
+use Rattle.mill_command.specs.declared.refusal.Refusal.{Refusal}
+use Rattle.mill_command.specs.declared.refusal.Refusal.TheVariants as refusal
+
+-- a command with its words: the names of files, and coordinates as they were written
+pub data Request : Type 0 where
+  verify : Text → Text → Text → Request
+  drop : Text → Text → Text → Text → Request
+
+-- what a command of the code says
+abbrev pub request_of : Command → Request
+request_of (command.Verify job part file) = verify job.now part.now file.now
+request_of (command.Drop job part x y) = drop job.now part.now x.now y.now
+
+-- `verify` where each of its words is there
+abbrev pub verify_of : Option Text → Option Text → Option Text → Option Request
+verify_of (Some job) (Some part) (Some file) = Some (verify job part file)
+verify_of _ _ _ = None
+
+-- `drop` where each of its words is there
+abbrev pub drop_of : Option Text → Option Text → Option Text → Option Text → Option Request
+drop_of (Some job) (Some part) (Some x) (Some y) = Some (drop job part x y)
+drop_of _ _ _ _ = None
+
+-- the request of a subcommand's name and of the values that clap gives under its ids
+abbrev pub request_in : Text → List Row → Option Request
+request_in name rows =
+    if bytes_eq name (codes "verify") then verify_of (first_of (codes "job") rows) (first_of (codes "part") rows) (first_of (codes "file") rows)
+    else (if bytes_eq name (codes "drop") then drop_of (first_of (codes "job") rows) (first_of (codes "part") rows) (first_of (codes "x") rows) (first_of (codes "y") rows)
+    else None)
+
+-- clap takes the words: its own test, for this set of commands
+abbrev pub is_taken : List Text → Bool
+is_taken words = takes commands words
+
+-- the request that the words make: where clap takes them, that of the subcommand that they name
+abbrev pub request : List Text → Option Request
+request words = if is_taken words then option_and_then (λ m. request_in m.0 m.1) (subcommand_of commands words) else None
+
+-- the kinds of answer that clap may give in place of matches; none where it takes the words
+abbrev pub faults : List Text → Kinds
+faults words = fault_of commands words
+
+-- clap may answer with its help or its version
+abbrev pub AsksHelp : Kinds → Type 0
+AsksHelp kinds = (kind : ErrorKind) × IsAmong kind kinds × ((kind ≡ DisplayHelp) ⊎ (kind ≡ DisplayVersion))
+
+-- clap may answer with a mistake in the words
+abbrev pub IsMistaken : Kinds → Type 0
+IsMistaken kinds = (kind : ErrorKind) × IsAmong kind kinds × (kind ≢ DisplayHelp) × (kind ≢ DisplayVersion)
+
+-- the refusal is among what clap may answer
+abbrev pub Refuses : Kinds → Refusal → Type 0
+Refuses kinds (refusal.Help text) = AsksHelp kinds
+Refuses kinds (refusal.NotTaken text) = IsMistaken kinds
+Refuses kinds refusal.WantOfMemory = Unit {0}
+
+-- what reading the words comes to: the command that they ask for; or they aren't taken, and clap answers with help or a mistake; or memory was short
+abbrev pub Reads : List Text → Result Command Refusal → Type 0
+Reads words (Ok c) = request words ≡ Some (request_of c)
+Reads words (Err (refusal.Help text)) = (is_taken words ≡ false) × AsksHelp (faults words)
+Reads words (Err (refusal.NotTaken text)) = (is_taken words ≡ false) × IsMistaken (faults words)
+Reads words (Err refusal.WantOfMemory) = Unit {0}

@@ -1,0 +1,37 @@
+-- The set of commands, as clap's own definitions see it.
+use Rattle.std.specs.Prelude.{◌≡◌, codes, Some, true, false}
+use Rattle.clap.specs.Words.{App, Rule, Text, app_of, new_app, new_rule, with_rule, with_subcommand}
+use Rattle.clap.specs.declared.builder.command.Command.{Command}
+use Rattle.clap.specs.declared.builder.command.Command.TheViews.{out-Command}
+
+-- a word that must stand at its place
+abbrev pub place : Text → Rule
+place id = record (new_rule id) { required = true; value_names = 1 }
+
+-- an option with a value, that must be there
+abbrev pub option : Text → Rule
+option id = record (new_rule id) { long = Some id; required = true; value_names = 1 }
+
+-- a command on a job and a part
+abbrev pub with_files : Text → App
+with_files name = with_rule (with_rule (new_app name) (place (codes "job"))) (place (codes "part"))
+
+-- `verify JOB PART FILE`
+abbrev pub verify : App
+verify = with_rule (with_files (codes "verify")) (place (codes "file"))
+
+-- `drop JOB PART --x=X --y=Y`
+abbrev pub drop : App
+drop = with_rule (with_rule (with_files (codes "drop")) (option (codes "x"))) (option (codes "y"))
+
+-- the program: its words have no program name, it has a version, and one of its commands must be there
+abbrev pub program : App
+program = record (new_app (codes "camtool")) { top = record (new_app (codes "camtool")).top { no_binary_name = true; has_version = true; subcommand_required = true } }
+
+-- the set of commands
+abbrev pub commands : App
+commands = with_subcommand (with_subcommand program verify.top) drop.top
+
+-- the command is as clap sees this one, and none of its arguments is global
+abbrev pub Is : App → Command → Type 0
+Is app command = (app_of command ≡ app) × ((out-Command command).has_globals ≡ false)

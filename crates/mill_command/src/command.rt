@@ -1,0 +1,64 @@
+ghost use Rattle.std.specs.Prelude.{◌≡◌, codes, option_map, Some};
+ghost use Rattle.clap.specs.Words.{first_of, found_of, rows_of};
+ghost use Rattle.mill_command.specs.Requests.{drop_of, request_in, request_of, verify_of};
+
+use clap::ArgMatches;
+
+/// What the words ask for, each text as the word has it.
+#[derive(Clone, Copy, Debug, PartialEq, Eq)]
+pub enum Command<'a> {
+    /// The verdict on the program in `file`, by the job and the part in the other two files.
+    Verify {
+        job: &'a str,
+        part: &'a str,
+        file: &'a str,
+    },
+    /// How far the job's cutter drops onto the part at (x, y), in millimetres as they were written.
+    Drop {
+        job: &'a str,
+        part: &'a str,
+        x: &'a str,
+        y: &'a str,
+    },
+}
+
+impl<'a> Command<'a> {
+    /// The command under a subcommand's name, with the values of its matches.
+    pub(crate) fn from_matches(name: &str, matches: &ArgMatches<'a>) -> Option<Command<'a>>
+        ensures { option_map request_of result ≡ request_in name.now (rows_of (found_of matches.now)) }
+    {
+        match name {
+            "verify" => Command::verify_from(matches),
+            "drop" => Command::drop_from(matches),
+            _ => None,
+        }
+    }
+
+    fn verify_from(matches: &ArgMatches<'a>) -> Option<Command<'a>>
+        ensures { option_map request_of result ≡ verify_of (first_of (codes "job") (rows_of (found_of matches.now))) (first_of (codes "part") (rows_of (found_of matches.now))) (first_of (codes "file") (rows_of (found_of matches.now))) }
+    {
+        Some(Command::Verify {
+            job: value(matches, "job")?,
+            part: value(matches, "part")?,
+            file: value(matches, "file")?,
+        })
+    }
+
+    fn drop_from(matches: &ArgMatches<'a>) -> Option<Command<'a>>
+        ensures { option_map request_of result ≡ drop_of (first_of (codes "job") (rows_of (found_of matches.now))) (first_of (codes "part") (rows_of (found_of matches.now))) (first_of (codes "x") (rows_of (found_of matches.now))) (first_of (codes "y") (rows_of (found_of matches.now))) }
+    {
+        Some(Command::Drop {
+            job: value(matches, "job")?,
+            part: value(matches, "part")?,
+            x: value(matches, "x")?,
+            y: value(matches, "y")?,
+        })
+    }
+}
+
+/// The word that is the value under this id.
+fn value<'a>(matches: &ArgMatches<'a>, id: &str) -> Option<&'a str>
+    ensures { option_map (λ s. s.now) result ≡ first_of id.now (rows_of (found_of matches.now)) }
+{
+    matches.get_str(id)
+}

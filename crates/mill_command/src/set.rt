@@ -1,0 +1,115 @@
+//! The set of commands. All that words can name stands here; a new command or option is added here,
+//! in `specs/Set.antt`, and where matches are read.
+ghost use Rattle.std.specs.Prelude.{◌≡◌, false, IfOk};
+ghost use Rattle.clap.specs.Words.{App, Rule, new_app, rule_of, with_rule, with_subcommand};
+ghost use Rattle.mill_command.specs.Set.{Is, commands, drop as drop_command, option, place, program, verify, with_files};
+
+use clap::{Arg, Command};
+use std::alloc::{AllocError, Global};
+
+/// What `--version` shows.
+const VERSION: &str = "0.1.0";
+
+/// The program with all its commands, ready to be built by a parse.
+pub fn commands<'a>(alloc: Global) -> Result<Command<'a>, AllocError>
+    ensures { IfOk result (Is commands) }
+{
+    let program = with_command(program(alloc)?, verify(alloc)?)?;
+    with_command(program, drop_height(alloc)?)
+}
+
+// `bin_name` is for the usage lines, which else lack the program's name.
+fn program<'a>(alloc: Global) -> Result<Command<'a>, AllocError>
+    ensures { IfOk result (Is program) }
+{
+    Command::new(alloc, "camtool")
+        .about("Verifies programs for three-axis mills against a part, a cutter and a stock")
+        .version(VERSION)
+        .no_binary_name(true)
+        .subcommand_required(true)
+        .bin_name("camtool")
+}
+
+/// `verify JOB PART FILE`.
+fn verify<'a>(alloc: Global) -> Result<Command<'a>, AllocError>
+    ensures { IfOk result (Is verify) }
+{
+    let command = with_files(alloc, "verify", "Verifies a program against the part")?;
+    with_arg(
+        command,
+        place(alloc, "file", "FILE", "The program's file, RS274/NGC"),
+    )
+}
+
+/// `drop JOB PART --x=X --y=Y`.
+fn drop_height<'a>(alloc: Global) -> Result<Command<'a>, AllocError>
+    ensures { IfOk result (Is drop_command) }
+{
+    let command = with_files(
+        alloc,
+        "drop",
+        "Tells how low the cutter comes at one place before it touches the part",
+    )?;
+    let command = with_arg(
+        command,
+        option(alloc, "x", "X", "The place's x in mm, as in --x=-1.5"),
+    )?;
+    with_arg(command, option(alloc, "y", "Y", "The place's y in mm"))
+}
+
+/// A command whose first two words are the job's and the part's file.
+fn with_files<'a>(
+    alloc: Global,
+    name: &'static str,
+    about: &'static str,
+) -> Result<Command<'a>, AllocError>
+    ensures { IfOk result (Is (with_files name.entry.now)) }
+{
+    let command = with_arg(
+        command(alloc, name, about),
+        place(alloc, "job", "JOB", "The job's file, TOML"),
+    )?;
+    with_arg(
+        command,
+        place(alloc, "part", "PART", "The part's file, ASCII STL"),
+    )
+}
+
+/// A command without words.
+fn command<'a>(alloc: Global, name: &'static str, about: &'static str) -> Command<'a>
+    ensures { Is (new_app name.entry.now) result }
+{
+    Command::new(alloc, name).about(about)
+}
+
+/// A word that must stand at its place. Help calls it by its name.
+fn place<'a>(alloc: Global, id: &'static str, name: &'static str, help: &'static str) -> Arg<'a>
+    ensures { (rule_of result ≡ place id.entry.now) × (result.global ≡ false) }
+{
+    Arg::new(alloc, id)
+        .required(true)
+        .value_name(name)
+        .help(help)
+}
+
+/// An option that must be there, with its value.
+fn option<'a>(alloc: Global, id: &'static str, name: &'static str, help: &'static str) -> Arg<'a>
+    ensures { (rule_of result ≡ option id.entry.now) × (result.global ≡ false) }
+{
+    place(alloc, id, name, help).long(id)
+}
+
+/// The command with one more argument.
+fn with_arg<'a>(command: Command<'a>, arg: Arg<'a>) -> Result<Command<'a>, AllocError>
+    requires { arg.global ≡ false }
+    ensures { IfOk result (λ c. (a : App) (r : Rule) → Is a command.entry → rule_of arg.entry ≡ r → Is (with_rule a r) c) }
+{
+    command.arg(arg)
+}
+
+/// The program with one more command.
+fn with_command<'a>(program: Command<'a>, command: Command<'a>) -> Result<Command<'a>, AllocError>
+    ensures { IfOk result (λ c. (a : App) (b : App) → Is a program.entry → Is b command.entry → Is (with_subcommand a b.top) c) }
+{
+    program.subcommand(command)
+}

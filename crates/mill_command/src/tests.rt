@@ -1,0 +1,157 @@
+// Words that are taken, that ask for help, and that aren't taken.
+use crate::{Command, Refusal, read_words};
+use std::alloc::Global;
+use std::test::Fail;
+
+fn owned(alloc: Global, words: &[&str]) -> Result<Vec<String>, Fail> {
+    let mut all = Vec::new(alloc);
+    for word in words {
+        all.push(String::from_str(alloc, word)?)?;
+    }
+    Ok(all)
+}
+
+#[test]
+fn takes_commands(rt: HostRuntime) -> Result<(), Fail> {
+    let verify = Command::Verify {
+        job: "a",
+        part: "b",
+        file: "c",
+    };
+    let dashed = Command::Verify {
+        job: "-a",
+        part: "--help",
+        file: "verify",
+    };
+    let nameless = Command::Verify {
+        job: "a",
+        part: "b",
+        file: "",
+    };
+    let drop = Command::Drop {
+        job: "a",
+        part: "b",
+        x: "-1",
+        y: "2.5",
+    };
+    let unwritten = Command::Drop {
+        job: "a",
+        part: "b",
+        x: "",
+        y: "--x=1",
+    };
+    let table: [(&[&str], Command<'_>); 9] = [
+        (&["verify", "a", "b", "c"], verify),
+        (&["verify", "--", "a", "b", "c"], verify),
+        (&["verify", "--", "-a", "--help", "verify"], dashed),
+        (&["verify", "a", "b", ""], nameless),
+        (&["drop", "a", "b", "--x=-1", "--y=2.5"], drop),
+        (&["drop", "--y", "2.5", "a", "--x=-1", "b"], drop),
+        (&["drop", "--y=2.5", "--x=-1", "a", "b"], drop),
+        (&["drop", "--y=2.5", "--x=-1", "--", "a", "b"], drop),
+        (&["drop", "a", "b", "--x=", "--y=--x=1"], unwritten),
+    ];
+    for (words, command) in table {
+        let words = owned(rt.alloc(), words)?;
+        assert!(&rt; read_words(rt.alloc(), &words)? == command, "{words:?}");
+    }
+    Ok(())
+}
+
+#[test]
+fn shows_help_and_version(rt: HostRuntime) -> Result<(), Fail> {
+    let table: [(&[&str], &str); 10] = [
+        (&["--help"], "Usage: camtool <COMMAND>"),
+        (&["-h"], "Usage: camtool <COMMAND>"),
+        (&["help"], "Usage: camtool <COMMAND>"),
+        (&["help", "verify"], "Verifies a program"),
+        (
+            &["verify", "--help"],
+            "Usage: camtool verify <JOB> <PART> <FILE>",
+        ),
+        (
+            &["verify", "a", "-h"],
+            "Usage: camtool verify <JOB> <PART> <FILE>",
+        ),
+        (
+            &["drop", "-h"],
+            "Usage: camtool drop --x <X> --y <Y> <JOB> <PART>",
+        ),
+        (&["--version"], "camtool 0.1.0\n"),
+        (&["-V"], "camtool 0.1.0\n"),
+        (&["-V", "verify"], "camtool 0.1.0\n"),
+    ];
+    for (words, part) in table {
+        let words = owned(rt.alloc(), words)?;
+        let Err(Refusal::Help { text }) = read_words(rt.alloc(), &words) else {
+            panic!(&rt; "{words:?}")
+        };
+        assert!(&rt; text.contains(part), "{words:?} {text}");
+    }
+    Ok(())
+}
+
+#[test]
+fn refuses_words(rt: HostRuntime) -> Result<(), Fail> {
+    let table: [(&[&str], &str); 21] = [
+        (&[], "requires a subcommand"),
+        (&["--"], "requires a subcommand"),
+        (&["verify"], "<JOB>\n  <PART>\n  <FILE>\n"),
+        (&["verify", "a", "b"], "not provided:\n  <FILE>\n"),
+        (&["verify", "a", "b", "c", "d"], "unexpected argument 'd'"),
+        (
+            &["verify", "a", "b", "c", "--x=1"],
+            "unexpected argument '--x'",
+        ),
+        (&["verify", "a", "b", "c", "-V"], "unexpected argument '-V'"),
+        (&["verify", "a", "b", "-c"], "unexpected argument '-c'"),
+        (&["plan", "a", "b", "c"], "unrecognized subcommand 'plan'"),
+        (
+            &["Verify", "a", "b", "c"],
+            "unrecognized subcommand 'Verify'",
+        ),
+        (
+            &["camtool", "verify", "a", "b", "c"],
+            "unrecognized subcommand 'camtool'",
+        ),
+        (&["help", "plan"], "unrecognized subcommand 'plan'"),
+        (
+            &["--workers=2", "verify", "a", "b", "c"],
+            "unexpected argument '--workers'",
+        ),
+        (&["drop", "a", "b"], "not provided:\n  --x <X>\n  --y <Y>\n"),
+        (&["drop", "a", "b", "--x=1"], "not provided:\n  --y <Y>\n"),
+        (
+            &["drop", "a", "--x=1", "--y=2"],
+            "not provided:\n  <PART>\n",
+        ),
+        (
+            &["drop", "a", "b", "--x", "-1", "--y=2"],
+            "unexpected argument '-1'",
+        ),
+        (
+            &["drop", "a", "b", "--x=1", "--x=2", "--y=2"],
+            "multiple times",
+        ),
+        (
+            &["drop", "a", "b", "--x=1", "--y"],
+            "a value is required for '--y <Y>'",
+        ),
+        (
+            &["drop", "a", "b", "c", "--x=1", "--y=2"],
+            "unexpected argument 'c'",
+        ),
+        (
+            &["drop", "a", "b", "--x=1", "--y=2", "--z=3"],
+            "unexpected argument '--z'",
+        ),
+    ];
+    for (words, part) in table {
+        let words = owned(rt.alloc(), words)?;
+        let Err(Refusal::NotTaken { text }) = read_words(rt.alloc(), &words) else {
+            panic!(&rt; "{words:?}")
+        };
+        assert!(&rt; text.contains(part), "{words:?} {text}");
+    }
+    Ok(())
+}
