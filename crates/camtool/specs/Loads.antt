@@ -1,5 +1,5 @@
 -- What reading one of the three files comes to, by its text, and what reading all three comes to.
-use Rattle.std.specs.Prelude.{◌≡◌, ◌≤◌, ◌<◌, ℕ, ℤ, ◌<ℤ◌, pos, List, length, Option, Some, None, Result, Ok, Err}
+use Rattle.std.specs.Prelude.{◌≡◌, ◌≤◌, ◌<◌, ℕ, ℤ, ◌<ℤ◌, List, length, Option, Some, None, Result, Ok, Err}
 use Rattle.std.specs.Global.{Vec}
 use Rattle.mill_base.specs.declared.points.Tri.{Tri}
 use Rattle.mill_base.specs.declared.motion.Move.{Move}
@@ -83,7 +83,6 @@ Loads texts (Err e) = EndsAt texts e
 -- what was read is within the ranges that the verifier asks for
 pub record IsReady (l : Loaded) : Type 0 where
   pub job_ok : IsJob l.job
-  pub no_band : l.job.band ≡ pos 0
   pub moves_ok : MovesInRange l.moves.items
   pub under : IsUnder l.part l.job.top
   pub follow : Follow (home l.job) l.moves.items

@@ -1,4 +1,4 @@
-ghost use Rattle.std.specs.Prelude.{◌≡◌, ◌≤◌, ◌<◌, ◌^◌, pos, List, ℕ, Some, length, IfOk, IfSome, IfErr};
+ghost use Rattle.std.specs.Prelude.{◌≡◌, ◌≤◌, ◌<◌, ◌^◌, List, ℕ, Some, length, IfOk, IfSome, IfErr};
 ghost use Rattle.mill_base.specs.Covers.{IsUnder};
 ghost use Rattle.mill_base.specs.Motion.{Follow};
 ghost use Rattle.mill_base.specs.Ranges.{MovesInRange};
@@ -82,7 +82,6 @@ fn height_over(job: &Job, part: &Part) -> Option<i32>
 fn load_job<S: Shelf>(alloc: Global, shelf: &mut S, name: &str) -> Result<Job, End>
     ensures told { IfSome (S.contents shelf.old name.now) (λ text. LoadsJob text result) }
     ensures in_range { IfOk result IsJob }
-    ensures no_band { IfOk result (λ job. job.band ≡ pos 0) }
     ensures cause { EndsBy (S.read_faults shelf.old) (S.read_faults shelf.new) result }
     ensures stay { Stay (S.contents shelf.old) (S.contents shelf.new) }
     ensures kept { S.write_faults shelf.new ≡ S.write_faults shelf.old }
@@ -146,7 +145,6 @@ fn job_from(alloc: Global, text: &[u8]) -> Result<Job, End>
     requires { Fits text.now }
     ensures told { LoadsJob text.now result }
     ensures in_range { IfOk result IsJob }
-    ensures no_band { IfOk result (λ job. job.band ≡ pos 0) }
     ensures cause { EndsBy 0 0 result }
 {
     match read_job(alloc, text) {

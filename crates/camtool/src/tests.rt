@@ -10,6 +10,15 @@ use std::test::Fail;
 const JOB: &[u8] =
     b"cutter = \"flat\"\nradius = 150\nfloor = 0\ntop = 300\nclear = 400\narea = [0, 0, 200, 200]\nhome = [100, 100]\npitch = 100\nsample = 50\nallowance = 0\nband = 0\n";
 
+const BAND_50_JOB: &[u8] =
+    b"cutter = \"flat\"\nradius = 150\nfloor = 0\ntop = 300\nclear = 400\narea = [0, 0, 200, 200]\nhome = [100, 100]\npitch = 100\nsample = 50\nallowance = 0\nband = 50\n";
+
+const BAND_51_JOB: &[u8] =
+    b"cutter = \"flat\"\nradius = 150\nfloor = 0\ntop = 300\nclear = 400\narea = [0, 0, 200, 200]\nhome = [100, 100]\npitch = 100\nsample = 50\nallowance = 0\nband = 51\n";
+
+const BAND_151_JOB: &[u8] =
+    b"cutter = \"flat\"\nradius = 150\nfloor = 0\ntop = 300\nclear = 400\narea = [0, 0, 200, 200]\nhome = [100, 100]\npitch = 100\nsample = 50\nallowance = 0\nband = 151\n";
+
 const WIDE_JOB: &[u8] =
     b"cutter = \"flat\"\nradius = 100\nfloor = 0\ntop = 400\nclear = 400\narea = [0, 0, 1000, 1000]\nhome = [0, 0]\npitch = 100\nsample = 50\nallowance = 50\nband = 0\n";
 
@@ -21,6 +30,10 @@ const LOW_CLEAR_JOB: &[u8] =
 
 const PLATE: &[u8] =
     b"solid plate\nfacet normal 0 0 1\nouter loop\nvertex 0 0 2\nvertex 2 0 2\nvertex 2 2 2\nendloop\nendfacet\nfacet normal 0 0 1\nouter loop\nvertex 0 0 2\nvertex 2 2 2\nvertex 0 2 2\nendloop\nendfacet\nendsolid plate\n";
+
+// It ends 0.50 before the last columns.
+const NARROW: &[u8] =
+    b"solid plate\nfacet normal 0 0 1\nouter loop\nvertex 0 0 2\nvertex 1.5 0 2\nvertex 1.5 2 2\nendloop\nendfacet\nfacet normal 0 0 1\nouter loop\nvertex 0 0 2\nvertex 1.5 2 2\nvertex 0 2 2\nendloop\nendfacet\nendsolid plate\n";
 
 const CORNER: &[u8] =
     b"solid\nfacet normal 0 0 1\nouter loop\nvertex 0 0 2\nvertex 10 0 2\nvertex 0 10 2\nendloop\nendfacet\nendsolid\n";
@@ -59,7 +72,7 @@ fn words(alloc: Global, words: &[&str]) -> Result<Vec<String>, Fail> {
 #[test]
 fn prints_each_answer(rt: HostRuntime) -> Result<(), Fail> {
     let alloc = rt.alloc();
-    let table: [((&[u8], &[u8], &[u8]), Status, &[u8]); 18] = [
+    let table: [((&[u8], &[u8], &[u8]), Status, &[u8]); 21] = [
         (
             (JOB, PLATE, b"G21 G90\nG1 Z2\nG0 Z4\nM2\n"),
             Status::Done,
@@ -84,6 +97,21 @@ fn prints_each_answer(rt: HostRuntime) -> Result<(), Fail> {
             (JOB, PLATE, b"G21 G90\nG1 Z-0.01\nM2"),
             Status::Rejected,
             b"rejected floor move 0 z -0.01\n",
+        ),
+        (
+            (BAND_50_JOB, NARROW, b"G21 G90\nG1 Z2\nG0 Z4\nM2\n"),
+            Status::Rejected,
+            b"rejected left row 0 column 2 top 2.00\n",
+        ),
+        (
+            (BAND_51_JOB, NARROW, b"G21 G90\nG1 Z2\nG0 Z4\nM2\n"),
+            Status::Done,
+            b"accepted moves 2 columns 9 left 0.00 band 0.51 allowance 0.00\n",
+        ),
+        (
+            (BAND_151_JOB, NARROW, b"M2"),
+            Status::Refused,
+            b"refused job relation band radius\n",
         ),
         (
             (FLAT_JOB, EMPTY, b"M2"),

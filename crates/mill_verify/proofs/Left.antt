@@ -15,31 +15,28 @@ use Rattle.mill_verify.specs.Firsts.{IsCutTo, IsRowLeft, IsRowUncut, IsStockLeft
 use Rattle.mill_verify.proofs.Most.{IsMostOf, most_none, most_more, below_suc}
 
 -- covered is the greatest covered height of the column, whatever lies over it
-pub record IsCover (part : List Tri) (floor x y covered : ℤ) : Type 0 where
-  pub height : (h : ℤ) → (Covered part floor (pos 0) x y h → h ≤ℤ covered) × (h ≤ℤ covered → Covered part floor (pos 0) x y h)
+pub record IsCover (part : List Tri) (floor band x y covered : ℤ) : Type 0 where
+  pub height : (h : ℤ) → (Covered part floor band x y h → h ≤ℤ covered) × (h ≤ℤ covered → Covered part floor band x y h)
 
-pub isnt_cut : (part : List Tri) (floor band x y covered v : ℤ) → band ≡ pos 0 → IsCover part floor x y covered → covered <ℤ v → ¬ Covered part floor band x y v
-isnt_cut part floor band x y covered v e cover over h = not_both v covered ((cover.height v).0 (subst (λ (b : ℤ). Covered part floor b x y v) e h)) over
+pub isnt_cut : (part : List Tri) (floor band x y covered v : ℤ) → IsCover part floor band x y covered → covered <ℤ v → ¬ Covered part floor band x y v
+isnt_cut part floor band x y covered v cover over h = not_both v covered ((cover.height v).0 h) over
   where
     not_both : (a b : ℤ) → a ≤ℤ b → b <ℤ a → ⊥
     not_both a b h k = omega (h, k, arith, ints)
 
-pub is_cut_to : {job : Job} {part : List Tri} {x y top covered left : ℤ} → job.band ≡ pos 0 → IsCover part job.floor x y covered → (top -ℤ job.allowance) ≤ℤ covered
+pub is_cut_to : {job : Job} {part : List Tri} {x y top covered left : ℤ} → IsCover part job.floor job.band x y covered → (top -ℤ job.allowance) ≤ℤ covered
     → left ≡ top -ℤ int_min top covered → IsCutTo job part x y top left
-is_cut_to {job} {part} {x} {y} {top} {covered} e cover cut is = record {
-  cut = covers (top -ℤ job.allowance) cut;
+is_cut_to {job} {part} {x} {y} {top} {covered} cover cut is = record {
+  cut = (cover.height (top -ℤ job.allowance)).1 cut;
   height = int_min top covered;
   highest = record {
-    covered = covers (int_min top covered) (omega (arith, ints, clamps));
+    covered = (cover.height (int_min top covered)).1 (omega (arith, ints, clamps));
     under = omega (arith, ints, clamps);
-    highest = λ higher over under covers_it. too_high higher over under ((cover.height higher).0 (subst (λ (b : ℤ). Covered part job.floor b x y higher) e covers_it));
+    highest = λ higher over under covers_it. too_high higher over under ((cover.height higher).0 covers_it);
   };
   difference = is;
 }
   where
-    covers : (h : ℤ) → h ≤ℤ covered → Covered part job.floor job.band x y h
-    covers h under = subst (λ (b : ℤ). Covered part job.floor b x y h) (sym e) ((cover.height h).1 under)
-
     too_high : (higher : ℤ) → int_min top covered <ℤ higher → higher ≤ℤ top → higher ≤ℤ covered → ⊥
     too_high higher a b c = omega (a, b, c, arith, ints, clamps)
 

@@ -1,14 +1,16 @@
 -- What the code reads of a column is what the tests speak of: numbers in range are stored as they are.
-use Rattle.std.specs.Prelude.{◌≡◌, ℕ, ◌<◌, ℤ, pos, ◌-ℤ◌, ◌≤ℤ◌, List, length, slice_index_or, refl}
-use Rattle.std.proofs.Common.{sym, ◌∙◌, ap, subst}
+use Rattle.std.specs.Prelude.{◌≡◌, ℕ, ◌<◌, ◌≤◌, ℤ, pos, nat_abs, ◌-ℤ◌, ◌≤ℤ◌, List, length, slice_index_or, refl}
+use Rattle.std.proofs.Common.{[], ◌∷◌, FitsSigned, sym, ◌∙◌, ap, subst, arith}
+use Rattle.std.proofs.lemmas.Int.{ints, clamps}
+use Rattle.std.specs.Int.{int_min}
 use mir.Syntax.{w32}
 use Rattle.mill_base.specs.Numbers.{Within, greatest}
 use Rattle.mill_base.specs.Covers.{Covered}
 use Rattle.mill_base.specs.declared.points.Tri.{Tri}
 use Rattle.mill_base.specs.declared.motion.Move.{Move}
-use Rattle.mill_base.proofs.Machine.{stored, kept}
+use Rattle.mill_base.proofs.Machine.{Read, stored, kept, diff_fits}
 use Rattle.mill_job.specs.declared.job.Job.{Job}
-use Rattle.mill_job.specs.Jobs.{IsJob}
+use Rattle.mill_job.specs.Jobs.{IsJob, IsFrom}
 use Rattle.mill_job.specs.Columns.{column_x, column_y, column_count}
 use Rattle.mill_dexel.specs.Tops.{top_after}
 use Rattle.mill_dexel.specs.Rows.{RowState}
@@ -39,11 +41,28 @@ kept_to v z e h = kept_in v h ∙ e
 at_stored : (P : ℤ → ℤ → ℤ → Type 0) (x y t a b c : ℤ) → x ≡ a → y ≡ b → t ≡ c → P x y t → P a b c
 at_stored P x y t a b c ex ey et p = subst (λ (v : ℤ). P a b v) et (subst (λ (v : ℤ). P a v t) ey (subst (λ (v : ℤ). P v y t) ex p))
 
-pub cover_stored : {part : List Tri} {floor x y covered : ℤ} → Within greatest floor → Within greatest x → Within greatest y
-    → ((h : ℤ) → (Covered part (stored w32 floor) (pos 0) (stored w32 x) (stored w32 y) h → h ≤ℤ covered) × (h ≤ℤ covered → Covered part (stored w32 floor) (pos 0) (stored w32 x) (stored w32 y) h))
-    → IsCover part floor x y covered
-cover_stored {part} {floor} {x} {y} {covered} f_ok x_ok y_ok h =
-    at_stored (λ (a b c : ℤ). IsCover part a b c covered) _ _ _ floor x y (kept_in floor f_ok) (kept_in x x_ok) (kept_in y y_ok) (record { height = h })
+band_in : (z : ℤ) → IsFrom (pos 0) (pos 10000) z → stored w32 z ≡ z
+band_in z h = kept w32 z 10000 (small z h.low h.high) refl
+  where
+    small : (z : ℤ) → (pos 0) ≤ℤ z → z ≤ℤ pos 10000 → nat_abs z ≤ 10000
+    small z low high = omega (arith, ints)
+
+pub cover_stored : {part : List Tri} {floor band x y covered : ℤ} → Within greatest floor → IsFrom (pos 0) (pos 10000) band → Within greatest x → Within greatest y
+    → ((h : ℤ) → (Covered part (stored w32 floor) (stored w32 band) (stored w32 x) (stored w32 y) h → h ≤ℤ covered)
+    × (h ≤ℤ covered → Covered part (stored w32 floor) (stored w32 band) (stored w32 x) (stored w32 y) h))
+    → IsCover part floor band x y covered
+cover_stored {part} {floor} {band} {x} {y} {covered} f_ok b_ok x_ok y_ok h =
+    subst (λ (b : ℤ). IsCover part floor b x y covered) (band_in band b_ok)
+    (at_stored (λ (a b c : ℤ). IsCover part a (stored w32 band) b c covered) _ _ _ floor x y (kept_in floor f_ok) (kept_in x x_ok) (kept_in y y_ok) (record { height = h }))
+
+-- what is left of a column fits
+pub left_fits : (top covered low : ℤ) → Within greatest top → Within greatest covered → low ≡ int_min (stored w32 top) (stored w32 covered) → FitsSigned w32 (stored w32 top -ℤ stored w32 low)
+left_fits top covered low t_ok c_ok e =
+    diff_fits w32 (top ∷ low ∷ []) (131071 ∷ 131071 ∷ []) (Read w32 0) (Read w32 1)
+    (t_ok.within, (small top covered low t_ok.within c_ok.within (rw (kept_in top t_ok, kept_in covered c_ok) at e), tt)) refl
+  where
+    small : (t c m : ℤ) → nat_abs t ≤ 131071 → nat_abs c ≤ 131071 → m ≡ int_min t c → nat_abs m ≤ 131071
+    small t c m h k e = omega (e, h, k, arith, ints, clamps)
 
 -- where and how high column i of row j stands, as the code has it
 pub record IsAt (job : Job) (moves : List Move) (j i : ℕ) (x y top : ℤ) : Type 0 where

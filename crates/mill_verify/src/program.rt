@@ -1,4 +1,4 @@
-ghost use Rattle.std.specs.Prelude.{◌≡◌, ℕ, ◌≤◌, ℤ, pos, length, Ok, IfOk};
+ghost use Rattle.std.specs.Prelude.{◌≡◌, ℕ, ◌≤◌, ℤ, length, Ok, IfOk};
 ghost use Rattle.mill_base.specs.Covers.{IsUnder};
 ghost use Rattle.mill_base.specs.Motion.{Follow};
 ghost use Rattle.mill_base.specs.Ranges.{MovesInRange};
@@ -28,9 +28,8 @@ use std::alloc::Global;
 /// move.
 ///
 /// The part is nowhere higher than the uncut stock. The program has at most 1,000,000 moves; it
-/// starts at the job's home, and each move begins where the one before it ended. The job's band
-/// is 0: a part point covers only the column on which it stands. (A band comes with a later
-/// version.)
+/// starts at the job's home, and each move begins where the one before it ended. A part point covers
+/// the column on which it stands, and those nearer to it than the job's band.
 ///
 /// The only error is want of memory, for the rows of the stock.
 pub fn verify(
@@ -40,7 +39,6 @@ pub fn verify(
     moves: &[Move],
 ) -> Result<Verdict, WantOfMemory>
     requires job_ok { IsJob job.now }
-    requires no_band { job.now.band ≡ pos 0 }
     requires moves_ok { MovesInRange moves.now }
     requires under { IsUnder part.now job.now.top }
     requires follow { Follow (home job.now) moves.now }
@@ -62,7 +60,6 @@ pub fn verify(
 /// The verdict after the last move, all moves being good.
 fn last_verdict(job: &Job, part: &Part, moves: &[Move], rows: &[Row]) -> Verdict
     requires job_ok { IsJob job.now }
-    requires no_band { job.now.band ≡ pos 0 }
     requires good { GoodBefore job.now part.now moves.now (length moves.now) }
     requires rows_ok { IsStock job.now moves.now rows.now }
     ensures { IsVerdict job.now part.now moves.now result }

@@ -1,4 +1,4 @@
-ghost use Rattle.std.specs.Prelude.{◌≡◌, ◌<◌, ℤ, pos, ◌-ℤ◌, MatchOption, MatchResult};
+ghost use Rattle.std.specs.Prelude.{◌≡◌, ◌<◌, ◌-ℤ◌, MatchOption, MatchResult};
 ghost use Rattle.mill_base.specs.Numbers.{Within, greatest};
 ghost use Rattle.mill_base.specs.Covers.{Covered};
 ghost use Rattle.mill_job.specs.Jobs.{IsJob, IsFrom};
@@ -23,7 +23,6 @@ pub struct Uncut {
 /// first. `moves` are those that made the rows.
 pub fn stock_left(job: &Job, part: &Part, moves: &[Move], rows: &[Row]) -> Result<i32, Uncut>
     requires job_ok { IsJob job.now }
-    requires no_band { job.now.band ≡ pos 0 }
     requires rows_ok { IsStock job.now moves.now rows.now }
     ensures { MatchResult
         result
@@ -43,7 +42,6 @@ pub fn stock_left(job: &Job, part: &Part, moves: &[Move], rows: &[Row]) -> Resul
 /// Test (iv) on the columns of row `number`.
 fn row_left(job: &Job, part: &Part, moves: &[Move], number: u32, row: &Row) -> Result<i32, Uncut>
     requires job_ok { IsJob job.now }
-    requires no_band { job.now.band ≡ pos 0 }
     requires there { number < row_count job.now }
     requires row_ok { IsRow job.now moves.now number row.now }
     ensures { MatchResult
@@ -74,7 +72,6 @@ fn row_left(job: &Job, part: &Part, moves: &[Move], number: u32, row: &Row) -> R
 /// is more than the allowance over it.
 fn left_over(job: &Job, part: &Part, x: i32, y: i32, top: i32) -> Option<i32>
     requires job_ok { IsJob job.now }
-    requires no_band { job.now.band ≡ pos 0 }
     requires x_ok { Within greatest x }
     requires y_ok { Within greatest y }
     requires top_ok { Within greatest top }
@@ -83,7 +80,7 @@ fn left_over(job: &Job, part: &Part, x: i32, y: i32, top: i32) -> Option<i32>
         (¬ Covered part.now job.now.floor job.now.band x y (top -ℤ job.now.allowance))
         (IsCutTo job.now part.now x y top) }
 {
-    let covered = part.covered_height(job.floor, x, y);
+    let covered = part.covered_height(job.floor, x, y, job.band);
     if top - job.allowance > covered {
         return None;
     }

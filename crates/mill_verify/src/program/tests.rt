@@ -1,4 +1,4 @@
-ghost use Rattle.std.specs.Prelude.{◌≡◌, pos, IfOk};
+ghost use Rattle.std.specs.Prelude.{◌≡◌, ◌≤ℤ◌, pos, IfOk};
 ghost use Rattle.mill_base.specs.Numbers.{Within, greatest};
 ghost use Rattle.mill_base.specs.Points.{point_at};
 ghost use Rattle.mill_base.specs.Covers.{IsUnder};
@@ -13,9 +13,10 @@ use mill_decimal::Snap;
 use mill_sweep::Leaf;
 
 /// A block from 0 to 300 over a square of 200, and nine columns in it.
-fn block_job() -> Job
+fn block_job(band: i32) -> Job
+    requires least { pos 0 ≤ℤ band }
+    requires most { band ≤ℤ pos 150 }
     ensures job { IsJob result }
-    ensures band { result.band ≡ pos 0 }
     ensures top { result.top ≡ pos 300 }
     ensures start { home result ≡ point_at (pos 100) (pos 100) (pos 400) }
 {
@@ -35,7 +36,7 @@ fn block_job() -> Job
         pitch: 100,
         sample: 50,
         allowance: 0,
-        band: 0,
+        band,
         snap: Snap::Nearest,
     }
 }
@@ -48,19 +49,20 @@ fn corner(x: i32, y: i32) -> Pt3
     Pt3 { x, y, z: 200 }
 }
 
-/// A plate at the height 200 over the whole square.
-fn plate(alloc: Global) -> Result<Part, WantOfMemory>
+/// A plate at the height 200 over the square, as far as this x.
+fn plate(alloc: Global, x: i32) -> Result<Part, WantOfMemory>
+    requires { Within greatest x }
     ensures { IfOk result (λ part. IsUnder part (pos 300)) }
 {
     let mut tris = Vec::new(alloc);
     tris.push(Tri {
         a: corner(0, 0),
-        b: corner(200, 0),
-        c: corner(200, 200),
+        b: corner(x, 0),
+        c: corner(x, 200),
     })?;
     tris.push(Tri {
         a: corner(0, 0),
-        b: corner(200, 200),
+        b: corner(x, 200),
         c: corner(0, 200),
     })?;
     Ok(Part::new(tris))
@@ -99,8 +101,8 @@ fn down_and_up(kind: Kind, height: i32) -> [Move; 2]
 #[test]
 fn names_the_first_failing_test_or_accepts(rt: HostRuntime) {
     let alloc = rt.alloc();
-    let job = block_job();
-    let part = plate(alloc).unwrap_or_else(|_| panic!(rt; "want of memory"));
+    let job = block_job(0);
+    let part = plate(alloc, 200).unwrap_or_else(|_| panic!(rt; "want of memory"));
     let leaf = Leaf { d: 0, k: 0 };
     let accept = Verdict::Accept {
         moves: 2,
@@ -142,4 +144,34 @@ fn names_the_first_failing_test_or_accepts(rt: HostRuntime) {
         let moves = down_and_up(kind, height);
         assert_eq!(rt; verify(alloc, &job, &part, &moves), Ok(want), "at {height}");
     }
+}
+
+// A plate that ends 50 before the last columns doesn't cover them within a band of 50.
+#[test]
+fn leaves_a_column_at_the_band(rt: HostRuntime) {
+    let alloc = rt.alloc();
+    let job = block_job(50);
+    let part = plate(alloc, 150).unwrap_or_else(|_| panic!(rt; "want of memory"));
+    let moves = down_and_up(Kind::Feed, 200);
+    let left = Verdict::Reject(Reason::Left {
+        row: 0,
+        col: 2,
+        top: 200,
+    });
+    assert_eq!(rt; verify(alloc, &job, &part, &moves), Ok(left));
+}
+
+// Within a band of 51 it does.
+#[test]
+fn covers_a_column_within_the_band(rt: HostRuntime) {
+    let alloc = rt.alloc();
+    let job = block_job(51);
+    let part = plate(alloc, 150).unwrap_or_else(|_| panic!(rt; "want of memory"));
+    let moves = down_and_up(Kind::Feed, 200);
+    let accept = Verdict::Accept {
+        moves: 2,
+        columns: 9,
+        most_left: 0,
+    };
+    assert_eq!(rt; verify(alloc, &job, &part, &moves), Ok(accept));
 }
