@@ -1,22 +1,21 @@
 -- One point of a triangle that comes into the cutter at some position along x tells on which side of the tip all of them are.
-use Rattle.std.proofs.Common.{◌≡◌, ◌⊎◌, inl, inr, refl, sym, ◌∙◌, subst, arith}
+use Rattle.std.proofs.Common.{◌≡◌, refl, sym, ◌∙◌, subst, arith}
 use lib.IntN.{ℤ, pos, ◌+ℤ◌, ◌-ℤ◌, ◌*ℤ◌}
 use lib.Signed.{◌<ℤ◌, ◌≤ℤ◌}
 use Rattle.std.proofs.lemmas.Int.{ints}
 use Rattle.mill_base.specs.Cutters.{InCone}
-use Rattle.mill_base.proofs.Exit.{split_lt}
 use Rattle.mill_base.proofs.Integers.{mul_nonneg-ℤ}
 use Rattle.mill_geom.specs.declared.touch.Side.{Side}
 use Rattle.mill_geom.specs.declared.touch.Side.TheVariants.{Less, More, Never}
-use Rattle.mill_geom.specs.Offsets.{mean2, mean3}
+use Rattle.mill_geom.specs.Offsets.{mean3}
 use Rattle.mill_geom.specs.Sides.{IsOnSide}
 use Rattle.mill_geom.proofs.Corners.{gone_third}
 use Rattle.mill_geom.proofs.DescendCerts.{lin}
 use Rattle.mill_geom.proofs.SideCerts.{side_near, side_dot, side_over, side_weight, sum_time, slid, slid_x, slid_back, strip_near}
 use Rattle.mill_contact_cone.specs.declared.corner.Cone.{Cone}
 use Rattle.mill_contact_cone.specs.declared.corner.Corner.{Corner}
-use Rattle.mill_contact_cone.specs.Cones.{IsCone, plain, TouchesEdge, TouchesCone}
-use Rattle.mill_contact_cone.specs.Positions.{ConeAt, slid as slid_corner, flattened, SeenLess, SeenMore, IsSeenOn}
+use Rattle.mill_contact_cone.specs.Cones.{IsCone, plain, TouchesCone}
+use Rattle.mill_contact_cone.specs.Positions.{ConeAt, slid as slid_corner, flattened, IsSeenOn}
 use Rattle.mill_contact_cone.proofs.Sizes.{radius_positive, run_positive}
 use Rattle.mill_contact_cone.proofs.Zones.{same_inside}
 use Rattle.mill_contact_cone.proofs.Whole.{cone_edge, cone_turned}

@@ -1,19 +1,18 @@
 -- What comes into the cutter at some position along x shows on an edge: each such point can be lifted in the triangle until it is on one.
-use Rattle.std.proofs.Common.{◌≡◌, ◌⊎◌, inl, inr, sym, ◌∙◌, subst, [], ◌∷◌, List, arith}
+use Rattle.std.proofs.Common.{◌≡◌, ◌⊎◌, inl, inr, sym, subst, [], ◌∷◌, arith}
 use lib.IntN.{ℤ, pos, ◌+ℤ◌, ◌-ℤ◌, ◌*ℤ◌}
 use lib.Signed.{◌<ℤ◌, ◌≤ℤ◌}
 use Rattle.std.proofs.lemmas.Int.{ints}
 use Rattle.mill_base.specs.Cutters.{InCone}
-use Rattle.mill_base.proofs.Exit.{Line, NeverFalls, Exit, exit, split_lt}
-use Rattle.mill_base.proofs.Integers.{mul_pos-ℤ, mul_nonneg-ℤ}
+use Rattle.mill_base.proofs.Exit.{NeverFalls, Exit, exit, split_lt}
+use Rattle.mill_base.proofs.Integers.{mul_pos-ℤ}
 use Rattle.mill_geom.specs.Offsets.{mean3}
 use Rattle.mill_geom.proofs.Corners.{gone_first, gone_second, gone_third}
 use Rattle.mill_geom.proofs.DescendCerts.{lin}
 use Rattle.mill_geom.proofs.TriangleCerts.{opp_zero, opp_zero2, opp_rises}
-use Rattle.mill_geom.proofs.SideCerts.{slid, strip_near}
 use Rattle.mill_contact_cone.specs.declared.corner.Cone.{Cone}
 use Rattle.mill_contact_cone.specs.declared.corner.Corner.{Corner}
-use Rattle.mill_contact_cone.specs.Cones.{plain, TouchesEdge, TouchesCone, EdgesFree}
+use Rattle.mill_contact_cone.specs.Cones.{plain, TouchesCone, EdgesFree}
 use Rattle.mill_contact_cone.specs.Positions.{ConeAt, flattened}
 use Rattle.mill_contact_cone.proofs.Zones.{same_inside}
 use Rattle.mill_contact_cone.proofs.SideCerts.{no_width, still_lifted, still_lifted_back, time_lifted, time_lifted_back, lift_near, lift_over, lift_steep, rise_still, steep_flat, near_flat}

@@ -1,8 +1,8 @@
-use Rattle.std.proofs.Common.{◌≡◌, List, [], ◌∷◌, refl}
-use lib.IntN.{ℤ, pos, negsuc, neg_ℤ, ◌+ℤ◌, ◌-ℤ◌, ◌*ℤ◌}
+use Rattle.std.proofs.Common.{◌≡◌, [], ◌∷◌, refl}
+use lib.IntN.{ℤ, pos, ◌+ℤ◌, ◌-ℤ◌, ◌*ℤ◌}
 use lib.Signed.{◌<ℤ◌, ◌≤ℤ◌}
-use Rattle.mill_base.proofs.Ring.{E, Var, Num, Add, Sub, Mul, Neg, ring}
-use Rattle.mill_base.proofs.Cert.{H, Le, Lt, Eq, C, Hyp, TimesEq, Sq, Lit, Plus, Times, refute, prove_le, prove_le_by, prove_lt_by}
+use Rattle.mill_base.proofs.Ring.{Var, Num, Add, Sub, Mul, Neg, ring}
+use Rattle.mill_base.proofs.Cert.{Le, Lt, Eq, Hyp, TimesEq, Sq, Lit, Plus, Times, refute, prove_le_by, prove_lt_by}
 
 -- vars x y z a b; hyp h: (a*a)*(x*x+y*y) < (b*b)*(z*z); goal (a*x)*(a*x)+(a*y)*(a*y) < (b*b)*(z*z)
 pub steep_in : (x y z a b : ℤ) → ((a *ℤ a) *ℤ ((x *ℤ x) +ℤ (y *ℤ y))) <ℤ ((b *ℤ b) *ℤ (z *ℤ z)) → (((a *ℤ x) *ℤ (a *ℤ x)) +ℤ ((a *ℤ y) *ℤ (a *ℤ y))) <ℤ ((b *ℤ b) *ℤ (z *ℤ z))

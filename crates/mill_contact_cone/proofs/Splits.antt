@@ -4,11 +4,10 @@ use lib.IntN.{ℤ, pos, ◌+ℤ◌, ◌-ℤ◌, ◌*ℤ◌}
 use lib.Signed.{◌<ℤ◌, ◌≤ℤ◌}
 use Rattle.std.proofs.lemmas.Int.{ints}
 use Rattle.mill_base.proofs.Exit.{split_lt}
-use Rattle.mill_geom.specs.Offsets.{mean2}
 use Rattle.mill_contact_cone.specs.declared.corner.Cone.{Cone}
 use Rattle.mill_contact_cone.specs.declared.corner.Corner.{Corner}
-use Rattle.mill_contact_cone.specs.Cones.{IsCone, plain, TouchesEdge}
-use Rattle.mill_contact_cone.specs.Positions.{flattened, SeenLess, SeenMore, HoldsBefore, IsBefore}
+use Rattle.mill_contact_cone.specs.Cones.{IsCone, TouchesEdge}
+use Rattle.mill_contact_cone.specs.Positions.{flattened, SeenLess, SeenMore, IsBefore}
 use Rattle.mill_contact_cone.proofs.Sizes.{radius_positive, rise_positive, run_positive}
 use Rattle.mill_contact_cone.proofs.Zones.{same_inside, edge_turned}
 use Rattle.mill_contact_cone.proofs.ZoneCerts.{low_pair, high_pair}

@@ -3,10 +3,18 @@ use Rattle.std.specs.Prelude.{◌≡◌, ◌^◌, ℤ, pos, ◌+ℤ◌, ◌-ℤ�
 use Rattle.mill_base.specs.Numbers.{Within, square}
 use Rattle.mill_base.specs.Cutters.{InCone, apart}
 use Rattle.mill_base.specs.Sizes.{HasRadius, IsSlope}
+use Rattle.mill_base.specs.declared.cutter.Cutter.{Cutter}
+use Rattle.mill_base.specs.declared.cutter.Cutter.TheVariants.{Flat, Ball, Cone as ConeCutter}
 use Rattle.mill_geom.specs.declared.offset.Offset.{Offset}
 use Rattle.mill_geom.specs.Offsets.{mean2, mean3, farthest}
 use Rattle.mill_contact_cone.specs.declared.corner.Cone.{Cone}
 use Rattle.mill_contact_cone.specs.declared.corner.Corner.{Corner}
+
+-- the cutter is a cone
+abbrev pub IsConical : Cutter → Type 0
+IsConical (Flat r) = ⊥
+IsConical (Ball r) = ⊥
+IsConical (ConeCutter r a b) = Unit {0}
 
 -- the radius and the slope are in the ranges of a contact test
 pub record IsCone (k : Cone) : Type 0 where

@@ -1,10 +1,11 @@
 ghost use Rattle.std.specs.Prelude.{◌≡◌, pos, false, IsTrue};
 ghost use Rattle.mill_base.specs.Ranges.{TriInRange};
 ghost use Rattle.mill_base.specs.Contact.{Touches};
+ghost use Rattle.mill_base.specs.Sizes.{HasRadius, IsSlope, IsWideCutter};
 ghost use Rattle.mill_base.specs.declared.cutter.Cutter.TheVariants.{Cone as ConeCutter};
 ghost use Rattle.mill_geom.specs.Offsets.{IsCentre};
 ghost use Rattle.mill_geom.specs.Sides.{IsTouch, along};
-ghost use Rattle.mill_contact_cone.specs.Cones.{IsCone, IsCornerOf, CornerInRange, TouchesCone, EdgesFree};
+ghost use Rattle.mill_contact_cone.specs.Cones.{IsCone, IsConical, IsCornerOf, CornerInRange, TouchesCone, EdgesFree};
 ghost use Rattle.mill_contact_cone.specs.Positions.{ConeAt};
 
 use crate::corner::{Cone, Corner, corner_from, offset_of};
@@ -12,7 +13,7 @@ use crate::edge::touches_edge;
 use crate::level::touches_on_level;
 use crate::plane::is_pierced;
 use crate::side::side;
-use mill_base::{Pt3, Tri};
+use mill_base::{Cutter, Pt3, Tri};
 use mill_geom::{Axis, Touch, box_side};
 
 /// Whether some edge has a point strictly inside the cone cutter.
@@ -77,11 +78,8 @@ fn touch_along_x(a: Corner, b: Corner, c: Corner, cone: Cone) -> Touch
     Touch::Apart(side(a, b, c, cone))
 }
 
-/// Whether some point of the triangle is strictly inside the cone cutter with its tip at `tip`, and
-/// if none is, at which positions of the tip along `axis` none is either.
-///
-/// Lengths are in units of 0.01 mm. Corners may be equal or collinear.
-pub fn touch(tri: &Tri, cone: Cone, tip: Pt3, axis: Axis) -> Touch
+/// How the triangle lies to the cone cutter with its tip at `tip`, for positions along `axis`.
+fn touch_cone(tri: &Tri, cone: Cone, tip: Pt3, axis: Axis) -> Touch
     requires tri_ok { TriInRange tri.now }
     requires cone_ok { IsCone cone }
     requires tip_ok { IsCentre tip }
@@ -91,4 +89,40 @@ pub fn touch(tri: &Tri, cone: Cone, tip: Pt3, axis: Axis) -> Touch
     let b = corner_from(tri.b, tip, axis, cone);
     let c = corner_from(tri.c, tip, axis, cone);
     touch_along_x(a, b, c, cone)
+}
+
+/// The numbers of a cone cutter.
+fn cone_of(radius: i32, rise: i32, run: i32) -> Cone
+    requires radius_ok { HasRadius radius (pos 11024) }
+    requires slope_ok { IsSlope rise run }
+    ensures radius { result.radius ≡ radius }
+    ensures rise { result.rise ≡ rise }
+    ensures run { result.run ≡ run }
+    ensures range { IsCone result }
+{
+    Cone {
+        radius: i64::from(radius),
+        rise: i64::from(rise),
+        run: i64::from(run),
+    }
+}
+
+/// Whether some point of the triangle is strictly inside the cone cutter with its tip at `tip`, and
+/// if none is, at which positions of the tip along `axis` none is either.
+///
+/// The cutter is a cone. Lengths are in units of 0.01 mm. Corners may be equal or collinear.
+pub fn touch(tri: &Tri, cutter: Cutter, tip: Pt3, axis: Axis) -> Touch
+    requires tri_ok { TriInRange tri.now }
+    requires cutter_ok { IsWideCutter cutter }
+    requires shape_ok { IsConical cutter }
+    requires tip_ok { IsCentre tip }
+    ensures { IsTouch result (λ t. Touches cutter (pos 1) (along axis tip t) tri.now) }
+{
+    match cutter {
+        Cutter::Cone { radius, rise, run } => {
+            touch_cone(tri, cone_of(radius, rise, run), tip, axis)
+        }
+        Cutter::Flat { .. } => unreachable!(),
+        Cutter::Ball { .. } => unreachable!(),
+    }
 }

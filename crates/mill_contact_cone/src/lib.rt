@@ -21,4 +21,3 @@ mod side;
 mod tests;
 
 pub use cone::touch;
-pub use corner::Cone;

@@ -1,9 +1,8 @@
 ghost use Rattle.mill_base.specs.Ranges.{IsInRange, TriInRange};
 ghost use Rattle.mill_geom.specs.Offsets.{IsCentre};
-ghost use Rattle.mill_contact_cone.specs.Cones.{IsCone};
 
-use crate::{Cone, touch};
-use mill_base::{Pt3, Tri};
+use crate::touch;
+use mill_base::{Cutter, Pt3, Tri};
 use mill_geom::{Axis, Side, Touch};
 use std::test::Fail;
 
@@ -41,7 +40,7 @@ fn point(x: i16, y: i16, z: i16) -> Tri
 fn lies(tri: &Tri, tip: (i16, i16, i16)) -> (Touch, Touch)
     requires { TriInRange tri.now }
 {
-    let cone = Cone {
+    let cone = Cutter::Cone {
         radius: 100,
         rise: 1,
         run: 1,
@@ -92,7 +91,7 @@ fn points_one_unit_in_and_out(rt: HostRuntime) -> Result<(), Fail> {
 // The wall's slope is the rise over the run.
 #[test]
 fn slopes(rt: HostRuntime) -> Result<(), Fail> {
-    let steep = Cone {
+    let steep = Cutter::Cone {
         radius: 100,
         rise: 16,
         run: 1,
@@ -102,7 +101,7 @@ fn slopes(rt: HostRuntime) -> Result<(), Fail> {
         INSIDE
     );
     assert_eq!(rt; touch(&point(1, 0, 16), steep, at(0, 0, 0), Axis::X), MORE);
-    let shallow = Cone {
+    let shallow = Cutter::Cone {
         radius: 100,
         rise: 3,
         run: 7,

@@ -1,6 +1,4 @@
 use Rattle.std.proofs.Common.{refl, arith, w64}
-use lib.IntN.{ℤ, pos}
-use lib.Signed.{◌<ℤ◌, ◌≤ℤ◌}
 use Rattle.std.proofs.lemmas.Int.{ints}
 use Rattle.mill_base.proofs.Machine.{kept}
 use Rattle.mill_contact_cone.specs.Positions.{flattened}
