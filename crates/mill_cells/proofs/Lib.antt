@@ -1,0 +1,12 @@
+pub mod BoxLemmas
+pub mod Counting
+pub mod FrameLemmas
+pub mod Given
+pub mod Lists
+pub mod Passing
+pub mod Placements
+pub mod SizeLemmas
+pub mod Summing
+pub mod UpTo
+pub mod WalkLemmas
+pub mod Walked

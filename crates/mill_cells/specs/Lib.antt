@@ -1,0 +1,6 @@
+pub mod Boxes
+pub mod Frames
+pub mod Sizes
+pub mod Grids
+pub mod Placing
+pub mod Walks
