@@ -1,0 +1,8 @@
+pub mod Searching
+pub mod HeightCerts
+pub mod Heights
+pub mod NearCerts
+pub mod NearLemmas
+pub mod Dropping
+pub mod ContactLemmas
+pub mod Scanning

@@ -1,0 +1,22 @@
+use Rattle.std.proofs.Common.{arith}
+use Rattle.std.proofs.lemmas.Int.{ints}
+use lib.IntN.{ℤ}
+use Rattle.mill_base.specs.Numbers.{Within, greatest}
+use Rattle.mill_base.specs.Points.{point_at}
+use Rattle.mill_geom.specs.Offsets.{IsCentre}
+use Rattle.mill_part.proofs.Stored.{coordinate}
+use Rattle.mill_drop.proofs.Heights.{is_wide}
+use Rattle.mill_drop.proofs.search.Spindle.holds_some.Goals as goal
+
+wider : (z : ℤ) → Within greatest z → Within 160000 z
+wider z h = let k = h.within in record { within = omega (arith, ints) }
+
+is_centre : (x y z : ℤ) → Within greatest x → Within greatest y → Within greatest z → IsCentre (point_at x y z)
+is_centre x y z hx hy hz = record { x_ok = wider x hx; y_ok = wider y hy; z_ok = wider z hz }
+
+pub holds_some-requires-clause-cutter_ok : goal.holds_some-requires-clause-cutter_ok
+holds_some-requires-clause-cutter_ok c = is_wide c.args.self.cutter c.requires.self_ok.cutter_ok
+
+pub holds_some-requires-clause-tip_ok : goal.holds_some-requires-clause-tip_ok
+holds_some-requires-clause-tip_ok c =
+    rw (coordinate c.args.self.x c.requires.self_ok.x_ok, coordinate c.args.self.y c.requires.self_ok.y_ok, coordinate c.args.z c.requires.z_ok) (is_centre c.args.self.x c.args.self.y c.args.z c.requires.self_ok.x_ok c.requires.self_ok.y_ok c.requires.z_ok)

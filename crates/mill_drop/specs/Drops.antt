@@ -1,0 +1,20 @@
+-- How far a cutter can go down over a place until it would gouge.
+use Rattle.std.specs.Prelude.{ℤ, pos, ◌<ℤ◌, ◌≤ℤ◌, List}
+use Rattle.mill_base.specs.Points.{point_at}
+use Rattle.mill_base.specs.Contact.{Touches, Gouges}
+use Rattle.mill_base.specs.declared.points.Tri.{Tri}
+use Rattle.mill_base.specs.declared.cutter.Cutter.{Cutter}
+
+-- some point of the triangle is strictly inside the cutter with its tip at (x, y, z)
+abbrev pub TouchesAt : Cutter → Tri → ℤ → ℤ → ℤ → Type 0
+TouchesAt cutter tri x y z = Touches cutter (pos 1) (point_at x y z) tri
+
+-- some part point is strictly inside the cutter with its tip at (x, y, z)
+abbrev pub GougesAt : Cutter → List Tri → ℤ → ℤ → ℤ → Type 0
+GougesAt cutter part x y z = Gouges cutter (pos 1) (point_at x y z) part
+
+-- z is the least whole height, from the floor on, at which the cutter over (x, y) doesn't gouge; nor does it at any greater height
+pub record IsDropHeight (cutter : Cutter) (part : List Tri) (x y floor z : ℤ) : Type 0 where
+  pub kept : floor ≤ℤ z
+  pub free : (higher : ℤ) → z ≤ℤ higher → ¬ GougesAt cutter part x y higher
+  pub least : (lower : ℤ) → floor ≤ℤ lower → lower <ℤ z → GougesAt cutter part x y lower

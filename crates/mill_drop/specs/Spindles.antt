@@ -1,0 +1,10 @@
+-- A cutter over a place.
+use Rattle.mill_base.specs.Numbers.{Within, greatest}
+use Rattle.mill_base.specs.Sizes.{IsCutter}
+use Rattle.mill_drop.specs.declared.search.Spindle.{Spindle}
+
+-- the cutter is one of a job, and the place is in range
+pub record IsSpindle (s : Spindle) : Type 0 where
+  pub cutter_ok : IsCutter s.cutter
+  pub x_ok : Within greatest s.x
+  pub y_ok : Within greatest s.y

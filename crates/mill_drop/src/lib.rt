@@ -1,0 +1,16 @@
+//! The drop height: how far a cutter can go down over a place until it touches the part.
+//!
+//! It stands on the part and its cells (mill_part, mill_cells) and on the contact crates. It
+//! promises that `drop_at` gives the least whole height at which the cutter doesn't gouge, exactly,
+//! for every triangle and cutter, and `drop_once` the same without cells. `specs/Drops` says what a drop height is.
+#![tactic(auto)]
+
+mod contact;
+mod drop;
+mod once;
+mod search;
+#[cfg(test)]
+mod tests;
+
+pub use drop::drop_at;
+pub use once::drop_once;

@@ -1,0 +1,25 @@
+ghost use Rattle.mill_base.specs.Numbers.{Within, greatest};
+ghost use Rattle.mill_base.specs.Sizes.{IsCutter};
+ghost use Rattle.mill_drop.specs.Drops.{IsDropHeight};
+
+use crate::search::Spindle;
+use mill_base::Cutter;
+use mill_part::Part;
+
+/// The drop height at (x, y) as `drop_at` gives it, by a look at every triangle of the part. For a
+/// single place that is less work than making cells.
+pub fn drop_once(part: &Part, cutter: Cutter, x: i32, y: i32, floor: i32) -> i32
+    requires cutter_ok { IsCutter cutter }
+    requires x_ok { Within greatest x }
+    requires y_ok { Within greatest y }
+    requires floor_ok { Within greatest floor }
+    ensures drop { IsDropHeight cutter part.now x y floor result }
+    ensures bound { Within greatest result }
+{
+    let spindle = Spindle { cutter, x, y };
+    let mut height = floor;
+    for tri in part.tris() {
+        height = spindle.raised(tri, height);
+    }
+    height
+}
