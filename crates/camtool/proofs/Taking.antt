@@ -1,66 +1,38 @@
--- Which words are taken, by their number and the first of them.
-use Rattle.std.proofs.Common.{◌≡◌, ℕ, suc, zero, Bool, true, false, List, [], ◌∷◌, length, map, get_or, Option, Some, None, refl, sym, ap, subst, ◌∙◌, inl, inr, arith, rules}
-use Rattle.std.specs.Prelude.{bytes_eq, codes, not, if◌then◌else◌, IsSome}
-use Rattle.camtool.specs.Words.{Files, files_in}
-use Rattle.camtool.specs.Headline.{Call, call_of, Tells, Verifies, Ending, bad_words, no_memory, read_fault, answered, IsEnding, Ends}
-use Rattle.camtool.specs.Answers.{Texts}
-use Rattle.camtool.specs.Shows.{FilesEnd, Works}
+-- Words that make a request are taken, and make one request; what reading them came to gives the call's ending.
+use Rattle.std.proofs.Common.{◌≡◌, ℕ, Bool, true, false, List, Option, Some, None}
+use Rattle.std.specs.Prelude.{if◌then◌else◌, string_bytes, Err}
+use Rattle.mill_command.specs.Requests.{Reads, Request, is_taken, request}
+use Rattle.mill_command.specs.declared.refusal.Refusal.{Refusal}
+use Rattle.mill_command.specs.declared.refusal.Refusal.TheVariants as refusal
+use Rattle.camtool.specs.Headline.{Call, Ending, help, bad_words, no_memory, read_fault, answered, Comes, IsEnding, Came, Ends}
+use Rattle.camtool.specs.Shows.{Works}
+use Rattle.camtool.specs.Statuses.{refusal_ending}
 
-pub is_false : (b : Bool) → true ≡ not b → b ≡ false
-is_false true e = cc
-is_false false e = refl
+chosen : (b : Bool) (o : Option Request) (r : Request) → b ≡ false → (if b then o else None) ≡ Some r → ⊥
+chosen true o r e h = cc
+chosen false o r e h = cc
 
-pub is_true : (b : Bool) → false ≡ not b → b ≡ true
-is_true true e = refl
-is_true false e = cc
+-- words that aren't taken make no request
+pub not_taken : (words : List (List ℕ)) (r : Request) → is_taken words ≡ false → request words ≡ Some r → ⊥
+not_taken words r e h = chosen (is_taken words) _ r e h
 
-abbrev files : List ℕ → List ℕ → List ℕ → Files
-files job part program = record { job = job; part = part; program = program }
+-- words make at most one request
+pub same_request : (o : Option Request) (a b : Request) → o ≡ Some a → o ≡ Some b → a ≡ b
+same_request o a b e h = cc
 
-chosen : (b : Bool) (f : Files) → b ≡ true → (if b then Some f else None) ≡ Some f
-chosen true f e = refl
-chosen false f e = cc
+ending_is : (call : Call) (asked : Request) (ending : Ending) → request call.words ≡ Some asked → Comes call.contents asked ending → IsEnding call ending
+ending_is call asked (help text) e c = absurd c
+ending_is call asked (bad_words text) e c = absurd c
+ending_is call asked no_memory e c = tt
+ending_is call asked (read_fault file) e c = record { asked = asked; command = e; comes = c }
+ending_is call asked (answered answer) e c = record { asked = asked; command = e; comes = c }
 
-refused : (b : Bool) (f : Files) → b ≡ false → (if b then Some f else None) ≡ None
-refused true f e = cc
-refused false f e = refl
+-- the work on the request that the words make is what the call came to
+pub works_ends : (call : Call) (asked : Request) → request call.words ≡ Some asked → Works call.contents asked call.status call.written_before call.written_after → Ends call
+works_ends call asked e w = record { ending = w.ending; is = ending_is call asked w.ending e w.comes; safe = w.safe; shown = w.shown }
 
--- four words, the first of them `verify`, name the other three
-pub four_words : {S : Type 0} (f : S → List ℕ) (ws : List S) (a b c d : S) → length ws ≡ 4 → bytes_eq (f (get_or ws 0 a)) (codes "verify") ≡ true
-    → files_in (map f ws) ≡ Some (files (f (get_or ws 1 b)) (f (get_or ws 2 c)) (f (get_or ws 3 d)))
-four_words f [] a b c d n e = absurd (omega (n, arith))
-four_words f (w ∷ []) a b c d n e = absurd (omega (n, arith))
-four_words f (w ∷ v ∷ []) a b c d n e = absurd (omega (n, arith))
-four_words f (w ∷ v ∷ u ∷ []) a b c d n e = absurd (omega (n, arith))
-four_words f (w ∷ v ∷ u ∷ t ∷ []) a b c d n e = chosen _ _ e
-four_words f (w ∷ v ∷ u ∷ t ∷ s ∷ ws) a b c d n e = absurd (omega (n, arith))
-
--- another first word names none
-pub other_word : {S : Type 0} (f : S → List ℕ) (ws : List S) (a : S) → length ws ≡ 4 → bytes_eq (f (get_or ws 0 a)) (codes "verify") ≡ false
-    → files_in (map f ws) ≡ None
-other_word f [] a n e = absurd (omega (n, arith))
-other_word f (w ∷ []) a n e = absurd (omega (n, arith))
-other_word f (w ∷ v ∷ []) a n e = absurd (omega (n, arith))
-other_word f (w ∷ v ∷ u ∷ []) a n e = absurd (omega (n, arith))
-other_word f (w ∷ v ∷ u ∷ t ∷ []) a n e = refused _ _ e
-other_word f (w ∷ v ∷ u ∷ t ∷ s ∷ ws) a n e = absurd (omega (n, arith))
-
-same_files : (o : Option Files) (a b : Files) → o ≡ Some a → o ≡ Some b → a ≡ b
-same_files o a b e h = cc
-
-is_some : (o : Option Files) (f : Files) → o ≡ Some f → IsSome o
-is_some (Some g) f e = search rules
-is_some None f e = cc
-
-told : (call : Call) (texts : Texts) (f : Files) → files_in call.words ≡ Some f → Verifies call texts → Tells call.contents f texts
-told call texts f e v = subst (λ (g : Files). Tells call.contents g texts) (same_files _ v.files f v.command e) v.told
-
-ending_is : (call : Call) (f : Files) (ending : Ending) → files_in call.words ≡ Some f → FilesEnd call.contents f ending → IsEnding call ending
-ending_is call f bad_words e is = absurd is
-ending_is call f no_memory e is = is_some _ f e
-ending_is call f (read_fault file) e is = (is_some _ f e, λ texts v. is texts (told call texts f e v))
-ending_is call f (answered a) e is = (is_some _ f e, λ texts v. is texts (told call texts f e v))
-
--- the work on the files that the words name is what the call came to
-pub works_ends : (call : Call) (f : Files) → files_in call.words ≡ Some f → Works call.contents f call.status call.written_before call.written_after → Ends call
-works_ends call f e w = record { ending = w.ending; is = ending_is call f w.ending e w.is; safe = w.safe; shown = w.shown }
+-- so is what clap says of words that it doesn't take
+pub refusal_ends : (call : Call) (r : Refusal) → Reads call.words (Err r) → Came (refusal_ending r) call.status call.written_before call.written_after → Ends call
+refusal_ends call (refusal.Help text) e came = record { ending = help (string_bytes text); is = record { untaken = e.0; asks = e.1 }; safe = tt; shown = came }
+refusal_ends call (refusal.NotTaken text) e came = record { ending = bad_words (string_bytes text); is = record { untaken = e.0; mistaken = e.1 }; safe = tt; shown = came }
+refusal_ends call refusal.WantOfMemory e came = record { ending = no_memory; is = tt; safe = tt; shown = came }

@@ -1,6 +1,8 @@
 -- How the line of a refused text names its first fault.
 use Rattle.std.specs.Prelude.{ℕ, codes, List, [], ◌∷◌, ◌++◌}
 use Rattle.camtool.specs.Printed.{line}
+use Rattle.camtool.specs.declared.place.Coordinate.{Coordinate}
+use Rattle.camtool.specs.declared.place.Coordinate.TheVariants.{X, Y}
 use Rattle.mill_job.specs.declared.key.Key.{Key}
 use Rattle.mill_decimal.specs.declared.fault.DecFault.{DecFault}
 use Rattle.mill_decimal.specs.declared.fault.DecFault.TheVariants as decimal_fault
@@ -11,6 +13,11 @@ use Rattle.mill_ngc.specs.declared.fault.NgcFault.TheVariants as program_fault
 use Rattle.mill_job.specs.Keys.{name_of}
 use Rattle.mill_job.specs.declared.fault.JobFault.{JobFault}
 use Rattle.mill_job.specs.declared.fault.JobFault.TheVariants as job_fault
+
+-- a coordinate, by its option
+abbrev pub coordinate_name : Coordinate → List ℕ
+coordinate_name X = codes "x"
+coordinate_name Y = codes "y"
 
 -- a job's fault: what is wrong, and with which keys
 abbrev pub job_fault_words : JobFault → List (List ℕ)

@@ -1,4 +1,4 @@
--- What reading one of the three files comes to, by its text, and what reading all three comes to.
+-- What reading a file or a word comes to, by its text, and what reading all that a command needs comes to.
 use Rattle.std.specs.Prelude.{◌≡◌, ◌≤◌, ◌<◌, ℕ, ℤ, ◌<ℤ◌, List, length, Option, Some, None, Result, Ok, Err}
 use Rattle.std.specs.Global.{Vec}
 use Rattle.mill_base.specs.declared.points.Tri.{Tri}
@@ -6,6 +6,7 @@ use Rattle.mill_base.specs.declared.motion.Move.{Move}
 use Rattle.mill_base.specs.Motion.{Follow}
 use Rattle.mill_base.specs.Ranges.{MovesInRange}
 use Rattle.mill_base.specs.Covers.{IsUnder}
+use Rattle.mill_base.specs.Numbers.{Within, greatest}
 use Rattle.mill_decimal.specs.declared.snap.Snap.{Snap}
 use Rattle.mill_stl.specs.Parts.{part_of}
 use Rattle.mill_ngc.specs.Programs.{program_of}
@@ -20,8 +21,11 @@ use Rattle.camtool.specs.declared.file.File.TheVariants.{Job as JobFile, Part as
 use Rattle.camtool.specs.declared.ending.End.{End}
 use Rattle.camtool.specs.declared.ending.End.TheVariants as end
 use Rattle.camtool.specs.declared.load.Loaded.{Loaded}
-use Rattle.camtool.specs.Answers.{Texts, Reads, longest, Fits, RefusesJob, LongPart, RefusesPart, HighPart, LongProgram, RefusesProgram}
-use Rattle.camtool.specs.Headline.{ReadsBefore}
+use Rattle.camtool.specs.declared.load.Setup.{Setup}
+use Rattle.camtool.specs.declared.place.Place.{Place}
+use Rattle.camtool.specs.declared.place.WordFault.{WordFault}
+use Rattle.camtool.specs.Answers.{SetupTexts, Texts, Reads, ReadsSetup, ReadsPlace, RefusesWord, longest, Fits, RefusesJob, LongPart, RefusesPart, HighPart, LongProgram, RefusesProgram}
+use Rattle.camtool.specs.Headline.{BeforeSetup, ReadsBefore}
 
 -- the bytes of a file, or why there are none
 abbrev pub ReadsFile : List ℕ → File → Result (Vec ℕ) End → Type 0
@@ -63,22 +67,44 @@ LoadsProgram job text (Err (end.ReadFault ProgramFile)) = Unit {0}
 LoadsProgram job text (Err end.Memory) = Unit {0}
 LoadsProgram job text (Err _) = ⊥
 
+-- what the end of the work says of the job's and the part's text
+abbrev pub EndsSetup : SetupTexts → End → Type 0
+EndsSetup texts (end.ReadFault file) = BeforeSetup texts file
+EndsSetup texts (end.TooLong JobFile) = longest < length texts.job
+EndsSetup texts (end.TooLong PartFile) = LongPart texts
+EndsSetup texts (end.TooLong ProgramFile) = ⊥
+EndsSetup texts (end.JobRefused fault) = RefusesJob texts fault
+EndsSetup texts (end.PartRefused fault) = RefusesPart texts fault
+EndsSetup texts (end.ProgramRefused fault) = ⊥
+EndsSetup texts (end.PartTop height top) = HighPart texts height top
+EndsSetup texts end.Memory = Unit {0}
+
+-- what reading both says of their texts
+abbrev pub LoadsSetup : SetupTexts → Result Setup End → Type 0
+LoadsSetup texts (Ok s) = ReadsSetup texts s.job s.part
+LoadsSetup texts (Err e) = EndsSetup texts e
+
 -- what the end of the work says of the three texts
 abbrev pub EndsAt : Texts → End → Type 0
 EndsAt texts (end.ReadFault file) = ReadsBefore texts file
-EndsAt texts (end.TooLong JobFile) = longest < length texts.job
-EndsAt texts (end.TooLong PartFile) = LongPart texts
+EndsAt texts (end.TooLong JobFile) = longest < length texts.setup.job
+EndsAt texts (end.TooLong PartFile) = LongPart texts.setup
 EndsAt texts (end.TooLong ProgramFile) = LongProgram texts
-EndsAt texts (end.JobRefused fault) = RefusesJob texts fault
-EndsAt texts (end.PartRefused fault) = RefusesPart texts fault
+EndsAt texts (end.JobRefused fault) = RefusesJob texts.setup fault
+EndsAt texts (end.PartRefused fault) = RefusesPart texts.setup fault
 EndsAt texts (end.ProgramRefused fault) = RefusesProgram texts fault
-EndsAt texts (end.PartTop height top) = HighPart texts height top
+EndsAt texts (end.PartTop height top) = HighPart texts.setup height top
 EndsAt texts end.Memory = Unit {0}
 
 -- what reading all three says of their texts
 abbrev pub Loads : Texts → Result Loaded End → Type 0
 Loads texts (Ok l) = Reads texts l.job l.part l.moves.items
 Loads texts (Err e) = EndsAt texts e
+
+-- what was read is a job, and a part that isn't over its top
+pub record IsSetup (s : Setup) : Type 0 where
+  pub job_ok : IsJob s.job
+  pub under : IsUnder s.part s.job.top
 
 -- what was read is within the ranges that the verifier asks for
 pub record IsReady (l : Loaded) : Type 0 where
@@ -92,3 +118,13 @@ pub record IsReady (l : Loaded) : Type 0 where
 abbrev pub IsLow : Job → List Tri → Option ℤ → Type 0
 IsLow job part None = IsUnder part job.top
 IsLow job part (Some height) = IsTop part height × (job.top <ℤ height)
+
+-- what the words for x and y come to
+abbrev pub PlaceFrom : List ℕ → List ℕ → Result Place WordFault → Type 0
+PlaceFrom x y (Ok place) = ReadsPlace x y place
+PlaceFrom x y (Err f) = RefusesWord x y f.coordinate f.fault
+
+-- the place is in range
+pub record IsPlace (place : Place) : Type 0 where
+  pub x_ok : Within greatest place.x
+  pub y_ok : Within greatest place.y

@@ -1,11 +1,14 @@
 -- What printing a line comes to.
-use Rattle.std.specs.Prelude.{◌⊎◌, ◌≡◌, ℕ, List, Option, Some, Result, Ok, Err}
+use Rattle.std.specs.Prelude.{◌⊎◌, ◌≡◌, ℕ, ℤ, List, Option, Some, Result, Ok, Err}
 use Rattle.mill_verify.specs.declared.verdict.Verdict.{Verdict}
 use Rattle.mill_verify.specs.Verdicts.{IsVerdict}
 use Rattle.camtool.specs.declared.load.Loaded.{Loaded}
-use Rattle.camtool.specs.Words.{Files}
-use Rattle.camtool.specs.Answers.{Texts, IsAnswer, judged}
-use Rattle.camtool.specs.Headline.{Tells, ReadsBefore, Ending, bad_words, no_memory, read_fault, answered, Came, IsSafe}
+use Rattle.mill_command.specs.Requests.{Request}
+use Rattle.mill_drop.specs.Drops.{IsDropHeight}
+use Rattle.camtool.specs.declared.load.Setup.{Setup}
+use Rattle.camtool.specs.declared.place.Place.{Place}
+use Rattle.camtool.specs.Answers.{judged, dropped}
+use Rattle.camtool.specs.Headline.{Ending, no_memory, answered, Comes, Came, IsSafe}
 use Rattle.camtool.specs.declared.file.File.{File}
 use Rattle.std.specs.Global.{Vec}
 use Rattle.mill_base.specs.declared.memory.WantOfMemory.{WantOfMemory}
@@ -37,17 +40,10 @@ abbrev pub EndsAsRead : End → Status → Type 0
 EndsAsRead (end.ReadFault file) result = (result ≡ status.ReadFault) ⊎ (result ≡ status.WriteFault)
 EndsAsRead _ result = result ≡ status.ReadFault → ⊥
 
--- what the work on three files comes to, by their texts where the store tells them
-abbrev pub FilesEnd : (List ℕ → Option (List ℕ)) → Files → Ending → Type 0
-FilesEnd contents files bad_words = ⊥
-FilesEnd contents files no_memory = Unit {0}
-FilesEnd contents files (read_fault file) = (texts : Texts) → Tells contents files texts → ReadsBefore texts file
-FilesEnd contents files (answered answer) = (texts : Texts) → Tells contents files texts → IsAnswer texts answer
-
--- the work on three files came to some ending, and shows it
-pub record Works (contents : List ℕ → Option (List ℕ)) (files : Files) (result : ℕ) (before after : Option (List ℕ)) : Type 0 where
+-- the work on a request came to some ending, and shows it
+pub record Works (contents : List ℕ → Option (List ℕ)) (asked : Request) (result : ℕ) (before after : Option (List ℕ)) : Type 0 where
   pub ending : Ending
-  pub is : FilesEnd contents files ending
+  pub comes : Comes contents asked ending
   pub safe : IsSafe ending
   pub shown : Came ending result before after
 
@@ -55,11 +51,11 @@ pub record Works (contents : List ℕ → Option (List ℕ)) (files : Files) (re
 abbrev pub CameOr : Ending → ℕ → Option (List ℕ) → Option (List ℕ) → Type 0
 CameOr ending result before after = Came ending result before after ⊎ Came no_memory result before after
 
--- the line that was made is shown with the status of a refusal, or that memory was short
-abbrev pub CameMade : Result (Vec ℕ) WantOfMemory → ℕ → Option (List ℕ) → Option (List ℕ) → Type 0
-CameMade (Ok line) result before after =
-    (((result ≡ 4) × Appended line.items before after) ⊎ ((result ≡ 7) × AppendedPart line.items before after))
-CameMade (Err failed) result before after = Came no_memory result before after
+-- the line that was made is shown with its status, or that memory was short
+abbrev pub CameMade : Result (Vec ℕ) WantOfMemory → ℕ → ℕ → Option (List ℕ) → Option (List ℕ) → Type 0
+CameMade (Ok line) wanted result before after =
+    (((result ≡ wanted) × Appended line.items before after) ⊎ ((result ≡ 7) × AppendedPart line.items before after))
+CameMade (Err failed) wanted result before after = Came no_memory result before after
 
 -- the verdict on what was read, and it is shown, or that memory was short
 pub record TellsVerdict (l : Loaded) (result : ℕ) (before after : Option (List ℕ)) : Type 0 where
@@ -70,3 +66,9 @@ pub record TellsVerdict (l : Loaded) (result : ℕ) (before after : Option (List
 
 abbrev pub Tries : Loaded → ℕ → Option (List ℕ) → Option (List ℕ) → Type 0
 Tries l result before after = TellsVerdict l result before after ⊎ Came no_memory result before after
+
+-- the drop height at a place, and it is shown, or that memory was short
+pub record TellsDrop (s : Setup) (place : Place) (result : ℕ) (before after : Option (List ℕ)) : Type 0 where
+  pub height : ℤ
+  pub is : IsDropHeight s.job.cutter s.part place.x place.y s.job.floor height
+  pub shown : CameOr (answered (dropped height)) result before after

@@ -1,12 +1,14 @@
 -- The exit statuses, and what ends the work before there is a verdict.
-use Rattle.std.specs.Prelude.{ℕ}
+use Rattle.std.specs.Prelude.{ℕ, string_bytes}
+use Rattle.mill_command.specs.declared.refusal.Refusal.{Refusal}
+use Rattle.mill_command.specs.declared.refusal.Refusal.TheVariants as refusal
 use Rattle.camtool.specs.declared.file.File.TheVariants.{Job as JobFile, Part as PartFile, Program as ProgramFile}
 use Rattle.camtool.specs.declared.ending.Status.{Status}
 use Rattle.camtool.specs.declared.ending.Status.TheVariants as status
 use Rattle.camtool.specs.declared.ending.End.{End}
 use Rattle.camtool.specs.declared.ending.End.TheVariants as end
 use Rattle.camtool.specs.Answers.{Answer, long_job, refused_job, long_part, refused_part, high_part, long_program, refused_program}
-use Rattle.camtool.specs.Headline.{Ending, no_memory, read_fault, answered}
+use Rattle.camtool.specs.Headline.{Ending, help, bad_words, no_memory, read_fault, answered}
 
 abbrev pub status_code : Status → ℕ
 status_code status.Done = 0
@@ -28,3 +30,9 @@ ending_of (end.PartRefused fault) = answered (refused_part fault)
 ending_of (end.ProgramRefused fault) = answered (refused_program fault)
 ending_of (end.PartTop height top) = answered (high_part height top)
 ending_of end.Memory = no_memory
+
+-- the ending of a run whose words give no command
+abbrev pub refusal_ending : Refusal → Ending
+refusal_ending (refusal.Help text) = help (string_bytes text)
+refusal_ending (refusal.NotTaken text) = bad_words (string_bytes text)
+refusal_ending refusal.WantOfMemory = no_memory

@@ -1,5 +1,6 @@
--- The words of the command line: `verify` and the names of the three files.
-use Rattle.std.specs.Prelude.{bytes_eq, codes, ℕ, if◌then◌else◌, List, [], ◌∷◌, Option, Some, None}
+-- What the words of the command line ask for.
+use Rattle.std.specs.Prelude.{◌≡◌, ℕ, List, Some}
+use Rattle.mill_command.specs.Requests.{request, verify, drop}
 
 -- the names of the job's, the part's and the program's file
 pub record Files : Type 0 where
@@ -7,7 +8,10 @@ pub record Files : Type 0 where
   pub part : List ℕ
   pub program : List ℕ
 
--- the files that the words name: four words, the first of them `verify`; else none
-abbrev pub files_in : List (List ℕ) → Option Files
-files_in (command ∷ job ∷ part ∷ program ∷ []) = if bytes_eq command (codes "verify") then Some (record { job = job; part = part; program = program }) else None
-files_in _ = None
+-- the words are taken as `verify` with these files
+abbrev pub AsksVerify : List (List ℕ) → Files → Type 0
+AsksVerify words files = request words ≡ Some (verify files.job files.part files.program)
+
+-- the words are taken as `drop` with the job's and the part's file, and with these words for x and y
+abbrev pub AsksDrop : List (List ℕ) → List ℕ → List ℕ → List ℕ → List ℕ → Type 0
+AsksDrop words job part x y = request words ≡ Some (drop job part x y)

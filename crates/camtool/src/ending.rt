@@ -11,7 +11,7 @@ use mill_stl::StlFault;
 /// How a run ends.
 #[derive(Clone, Copy, Debug, PartialEq, Eq)]
 pub enum Status {
-    /// The program is accepted.
+    /// The program is accepted, the drop height is told, or clap's help or version is shown.
     Done,
     /// The words aren't taken.
     Words,
@@ -44,7 +44,7 @@ impl Status {
     }
 }
 
-/// What ends the work before there is a verdict.
+/// What ends the work before there is an answer.
 #[derive(Debug, Drop)]
 pub enum End {
     /// The file could not be read.

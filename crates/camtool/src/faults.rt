@@ -1,11 +1,12 @@
 ghost use Rattle.std.specs.Prelude.{◌≡◌, ◌++◌, ◌∷◌, IfOk, OnOk};
-ghost use Rattle.camtool.specs.Answers.{answer_line, high_part, refused_job, refused_part, refused_program};
-ghost use Rattle.camtool.specs.Faults.{job_fault_end, decimal_fault_code, part_fault_line, part_fault_code, program_fault_line, program_fault_code, one_key, two_keys};
+ghost use Rattle.camtool.specs.Answers.{answer_line, high_part, refused_job, refused_part, refused_program, refused_word};
+ghost use Rattle.camtool.specs.Faults.{coordinate_name, job_fault_end, decimal_fault_code, part_fault_line, part_fault_code, program_fault_line, program_fault_code, one_key, two_keys};
 ghost use Rattle.camtool.specs.Headline.{ending_line, read_fault};
 ghost use Rattle.camtool.specs.Statuses.{ending_of};
 
 use crate::ending::End;
 use crate::file::File;
+use crate::place::{Coordinate, WordFault};
 use crate::print::{add_length, add_number, add_text};
 use mill_base::WantOfMemory;
 use mill_decimal::DecFault;
@@ -13,6 +14,28 @@ use mill_job::{JobFault, Key};
 use mill_ngc::NgcFault;
 use mill_stl::StlFault;
 use std::alloc::Global;
+
+/// The line of a word that is refused.
+pub fn line_of_word_fault(alloc: Global, refused: WordFault) -> Result<Vec<u8>, WantOfMemory>
+    ensures { IfOk result (λ line. line.items ≡ answer_line (refused_word refused.coordinate refused.fault)) }
+{
+    let mut line = Vec::new(alloc);
+    add_text(&mut line, b"refused word ")?;
+    add_text(&mut line, name_of_coordinate(refused.coordinate))?;
+    add_text(&mut line, b" ")?;
+    add_text(&mut line, code_of_decimal(refused.fault))?;
+    add_text(&mut line, b"\n")?;
+    Ok(line)
+}
+
+fn name_of_coordinate(coordinate: Coordinate) -> &'static [u8]
+    ensures { result.now ≡ coordinate_name coordinate }
+{
+    match coordinate {
+        Coordinate::X => b"x",
+        Coordinate::Y => b"y",
+    }
+}
 
 /// The line of a job's text that is refused.
 pub fn line_of_job_fault(alloc: Global, fault: &JobFault) -> Result<Vec<u8>, WantOfMemory>

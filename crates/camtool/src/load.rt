@@ -6,9 +6,9 @@ ghost use Rattle.mill_io.specs.Contents.{Stay};
 ghost use Rattle.mill_job.specs.Columns.{home};
 ghost use Rattle.mill_job.specs.Jobs.{IsJob};
 ghost use Rattle.mill_part.specs.Tops.{IsTop};
-ghost use Rattle.camtool.specs.Answers.{Texts, Fits};
-ghost use Rattle.camtool.specs.Headline.{Tells};
-ghost use Rattle.camtool.specs.Loads.{ReadsFile, LoadsJob, LoadsPart, LoadsProgram, Loads, IsReady, IsLow};
+ghost use Rattle.camtool.specs.Answers.{SetupTexts, Texts, Fits};
+ghost use Rattle.camtool.specs.Headline.{TellsSetup, Tells};
+ghost use Rattle.camtool.specs.Loads.{ReadsFile, LoadsJob, LoadsPart, LoadsProgram, LoadsSetup, Loads, IsSetup, IsReady, IsLow};
 ghost use Rattle.camtool.specs.Shows.{EndsBy};
 
 use crate::ending::End;
@@ -25,7 +25,14 @@ use std::alloc::Global;
 /// The most bytes that a file may have.
 const MOST_BYTES: u64 = 1 << 26;
 
-/// The three texts as what they mean.
+/// What every command works on: the job, and a part that isn't over the job's top.
+#[derive(Drop)]
+pub struct Setup {
+    pub job: Job,
+    pub part: Part,
+}
+
+/// What `verify` works on.
 #[derive(Drop)]
 pub struct Loaded {
     pub job: Job,
@@ -48,6 +55,34 @@ pub fn load<S: Shelf>(
     ensures stay { Stay (S.contents shelf.old) (S.contents shelf.new) }
     ensures kept { S.write_faults shelf.new ≡ S.write_faults shelf.old }
 {
+    let setup = match load_setup(alloc, shelf, job, part) {
+        Ok(setup) => setup,
+        Err(end) => return Err(end),
+    };
+    let moves = match load_program(alloc, shelf, program, &setup.job) {
+        Ok(moves) => moves,
+        Err(end) => return Err(end),
+    };
+    Ok(Loaded {
+        job: setup.job,
+        part: setup.part,
+        moves,
+    })
+}
+
+/// Reads the job and then the part, and checks the part's top. The first that fails ends it.
+pub fn load_setup<S: Shelf>(
+    alloc: Global,
+    shelf: &mut S,
+    job: &str,
+    part: &str,
+) -> Result<Setup, End>
+    ensures told { (texts : SetupTexts) → TellsSetup (S.contents shelf.old) job.now part.now texts → LoadsSetup texts result }
+    ensures ready { IfOk result IsSetup }
+    ensures cause { EndsBy (S.read_faults shelf.old) (S.read_faults shelf.new) result }
+    ensures stay { Stay (S.contents shelf.old) (S.contents shelf.new) }
+    ensures kept { S.write_faults shelf.new ≡ S.write_faults shelf.old }
+{
     let job = match load_job(alloc, shelf, job) {
         Ok(job) => job,
         Err(end) => return Err(end),
@@ -62,11 +97,7 @@ pub fn load<S: Shelf>(
             top: job.top,
         });
     }
-    let moves = match load_program(alloc, shelf, program, &job) {
-        Ok(moves) => moves,
-        Err(end) => return Err(end),
-    };
-    Ok(Loaded { job, part, moves })
+    Ok(Setup { job, part })
 }
 
 /// The part's greatest height, where it is over the job's top.

@@ -1,17 +1,20 @@
-//! `camtool verify JOB PART PROGRAM`: verifies a program for a three-axis mill against a part, a
-//! cutter and a stock.
+//! `camtool verify JOB PART FILE` verifies a program for a three-axis mill against a part, a cutter
+//! and a stock. `camtool drop JOB PART --x=X --y=Y` tells how low the cutter comes at one place.
 //!
 //! `run` is all that the program does, over any store of files and any sink. Its contract goes
-//! from bytes to bytes: `specs/Answers` says which answer three texts have, `specs/Headline` what
-//! the answer means.
+//! from bytes to bytes: `specs/Answers` says which answer a command has on its texts,
+//! `specs/Headline` what the answer means.
 #![tactic(auto)]
 
+mod drop;
 mod ending;
 mod faults;
 mod file;
 mod load;
+mod place;
 mod print;
 mod run;
+mod tell;
 #[cfg(test)]
 mod tests;
 

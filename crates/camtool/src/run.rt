@@ -1,27 +1,28 @@
-ghost use Rattle.std.specs.Prelude.{◌≡◌, ◌≢◌, ◌⊎◌, ◌+◌, ◌-◌, ◌^◌, ◌<◌, ◌↔◌, ℕ, List, map, string_bytes};
+ghost use Rattle.std.specs.Prelude.{◌≡◌, ◌≢◌, ◌⊎◌, ◌+◌, ◌-◌, ◌^◌, ◌<◌, ◌↔◌, ℕ, List, false, map, string_bytes};
+ghost use Rattle.mill_command.specs.Requests.{is_taken, request_of, verify as asks_verify};
 ghost use Rattle.mill_io.specs.Contents.{Stay};
 ghost use Rattle.camtool.specs.Answers.{judged, verdict_status};
-ghost use Rattle.camtool.specs.Headline.{Ends, Outcome, Headline, call_of, answered};
+ghost use Rattle.camtool.specs.Headline.{Came, Ends, Outcome, Headline, call_of, answered};
 ghost use Rattle.camtool.specs.Loads.{IsReady};
 ghost use Rattle.camtool.specs.Printed.{NamesMove};
-ghost use Rattle.camtool.specs.Shows.{Shown, Works, Tries, CameOr, CameMade, EndsAsRead};
-ghost use Rattle.camtool.specs.Statuses.{status_code, ending_of};
+ghost use Rattle.camtool.specs.Shows.{Works, Tries, CameOr};
+ghost use Rattle.camtool.specs.Statuses.{refusal_ending, status_code};
 
-use crate::ending::{End, Status};
-use crate::faults::{
-    line_of_high_part, line_of_job_fault, line_of_long, line_of_part_fault, line_of_program_fault,
-    line_of_read_fault,
-};
+use crate::drop::drop_cutter;
+use crate::ending::Status;
 use crate::load::{Loaded, load};
 use crate::print::line_of_verdict;
+use crate::tell::{tell, tell_end};
 use mill_base::WantOfMemory;
-use mill_io::{Failed, Shelf, Sink, write_whole};
+use mill_command::{Command, Refusal, read_words};
+use mill_io::{Shelf, Sink};
 use mill_verify::{Verdict, one_verdict, verify};
 use std::alloc::Global;
 
-/// All that the program does: reads the three files that the words name, and prints one line.
+/// All that the program does: takes the words, does the work on the files that they name, and
+/// prints its answer.
 ///
-/// The words don't have the program's name. A line goes to the sink whole, or the status is
+/// The words don't have the program's name. The answer goes to the sink whole, or the status is
 /// `WriteFault` and a prefix of it went there. The contents of every file stay.
 pub fn run<R, S: Shelf, O: Sink>(
     _rt: &R,
@@ -41,6 +42,9 @@ pub fn run<R, S: Shelf, O: Sink>(
     ensures kept { S.write_faults shelf.new ≡ S.write_faults shelf.old }
     ensures stay { Stay (S.contents shelf.old) (S.contents shelf.new) }
 
+    // Where the words aren't taken, no call on the store is made.
+    ensures untouched { is_taken (map string_bytes words.now) ≡ false → shelf.new ≡ shelf.old }
+
     // What the call came to, whatever the outside did.
     ensures ends { Ends (call_of (map string_bytes words.now) (S.contents shelf.old) (status_code result) (O.written out.old) (O.written out.new) (S.read_faults shelf.old) (S.read_faults shelf.new) (O.faults out.old) (O.faults out.new)) }
 
@@ -53,7 +57,7 @@ pub fn run<R, S: Shelf, O: Sink>(
     work(alloc, words, shelf, out)
 }
 
-/// Takes the words, and does the work on the three files that they name.
+/// Reads the words, and serves the command that they ask for.
 fn work<S: Shelf, O: Sink>(alloc: Global, words: &[String], shelf: &mut S, out: &mut O) -> Status
     requires reads { S.read_faults shelf.old < 2 ^ 64 - 1 }
     requires prints { O.faults out.old < 2 ^ 64 - 1 }
@@ -62,15 +66,48 @@ fn work<S: Shelf, O: Sink>(alloc: Global, words: &[String], shelf: &mut S, out: 
     ensures read { (result ≡ Status.ReadFault) ↔ ((S.read_faults shelf.old < S.read_faults shelf.new) × (O.faults out.new ≡ O.faults out.old)) }
     ensures kept { S.write_faults shelf.new ≡ S.write_faults shelf.old }
     ensures stay { Stay (S.contents shelf.old) (S.contents shelf.new) }
+    ensures untouched { is_taken (map string_bytes words.now) ≡ false → shelf.new ≡ shelf.old }
 {
-    if words.len() != 4 {
-        return tell(out, b"refused words\n", Status::Words);
+    match read_words(alloc, words) {
+        Ok(command) => serve(alloc, shelf, command, out),
+        Err(refusal) => tell_refusal(refusal, out),
     }
-    if words[0].as_str() != "verify" {
-        return tell(out, b"refused words\n", Status::Words);
+}
+
+/// Prints what clap says of words that it doesn't take, or that there was no memory for them.
+fn tell_refusal<O: Sink>(refusal: Refusal, out: &mut O) -> Status
+    requires prints { O.faults out.old < 2 ^ 64 - 1 }
+    ensures came { Came (refusal_ending refusal) (status_code result) (O.written out.old) (O.written out.new) }
+    ensures write { (result ≡ Status.WriteFault) ↔ (O.faults out.old < O.faults out.new) }
+    ensures no_read { result ≢ Status.ReadFault }
+    ensures other { result ≢ Status.WriteFault → O.faults out.new ≡ O.faults out.old }
+{
+    match refusal {
+        Refusal::Help { text } => tell(out, text.as_bytes(), Status::Done),
+        Refusal::NotTaken { text } => tell(out, text.as_bytes(), Status::Words),
+        Refusal::WantOfMemory => tell(out, b"out of memory\n", Status::Memory),
     }
-    let (job, part, program) = (words[1].as_str(), words[2].as_str(), words[3].as_str());
-    verify_files(alloc, shelf, job, part, program, out)
+}
+
+/// The work on one command.
+fn serve<S: Shelf, O: Sink>(
+    alloc: Global,
+    shelf: &mut S,
+    command: Command<'_>,
+    out: &mut O,
+) -> Status
+    requires reads { S.read_faults shelf.old < 2 ^ 64 - 1 }
+    requires prints { O.faults out.old < 2 ^ 64 - 1 }
+    ensures works { Works (S.contents shelf.old) (request_of command.entry) (status_code result) (O.written out.old) (O.written out.new) }
+    ensures write { (result ≡ Status.WriteFault) ↔ (O.faults out.old < O.faults out.new) }
+    ensures read { (result ≡ Status.ReadFault) ↔ ((S.read_faults shelf.old < S.read_faults shelf.new) × (O.faults out.new ≡ O.faults out.old)) }
+    ensures kept { S.write_faults shelf.new ≡ S.write_faults shelf.old }
+    ensures stay { Stay (S.contents shelf.old) (S.contents shelf.new) }
+{
+    match command {
+        Command::Verify { job, part, file } => verify_files(alloc, shelf, job, part, file, out),
+        Command::Drop { job, part, x, y } => drop_cutter(alloc, shelf, job, part, x, y, out),
+    }
 }
 
 /// The work on three files: reads them, and prints the verdict or what keeps it from one.
@@ -84,7 +121,7 @@ fn verify_files<S: Shelf, O: Sink>(
 ) -> Status
     requires reads { S.read_faults shelf.old < 2 ^ 64 - 1 }
     requires prints { O.faults out.old < 2 ^ 64 - 1 }
-    ensures works { Works (S.contents shelf.old) (record { job = job.now; part = part.now; program = program.now }) (status_code result) (O.written out.old) (O.written out.new) }
+    ensures works { Works (S.contents shelf.old) (asks_verify job.now part.now program.now) (status_code result) (O.written out.old) (O.written out.new) }
     ensures write { (result ≡ Status.WriteFault) ↔ (O.faults out.old < O.faults out.new) }
     ensures read { (result ≡ Status.ReadFault) ↔ ((S.read_faults shelf.old < S.read_faults shelf.new) × (O.faults out.new ≡ O.faults out.old)) }
     ensures kept { S.write_faults shelf.new ≡ S.write_faults shelf.old }
@@ -135,52 +172,5 @@ fn status_of(verdict: Verdict) -> Status
     match verdict {
         Verdict::Accept { .. } => Status::Done,
         Verdict::Reject(_) => Status::Rejected,
-    }
-}
-
-/// Prints why there is no verdict.
-fn tell_end<O: Sink>(alloc: Global, end: End, out: &mut O) -> Status
-    requires { O.faults out.old < 2 ^ 64 - 1 }
-    ensures came { CameOr (ending_of end) (status_code result) (O.written out.old) (O.written out.new) }
-    ensures write { (result ≡ Status.WriteFault) ↔ (O.faults out.old < O.faults out.new) }
-    ensures read { EndsAsRead end result }
-    ensures other { result ≢ Status.WriteFault → O.faults out.new ≡ O.faults out.old }
-{
-    match end {
-        End::ReadFault(file) => tell(out, line_of_read_fault(file), Status::ReadFault),
-        End::TooLong(file) => tell(out, line_of_long(file), Status::Refused),
-        End::JobRefused(fault) => tell_made(line_of_job_fault(alloc, &fault), out),
-        End::PartRefused(fault) => tell_made(line_of_part_fault(alloc, fault), out),
-        End::ProgramRefused(fault) => tell_made(line_of_program_fault(alloc, fault), out),
-        End::PartTop { height, top } => tell_made(line_of_high_part(alloc, height, top), out),
-        End::Memory => tell(out, b"out of memory\n", Status::Memory),
-    }
-}
-
-/// Prints the line of a refusal, or that there was no memory for it.
-fn tell_made<O: Sink>(line: Result<Vec<u8>, WantOfMemory>, out: &mut O) -> Status
-    requires { O.faults out.old < 2 ^ 64 - 1 }
-    ensures came { CameMade line (status_code result) (O.written out.old) (O.written out.new) }
-    ensures write { (result ≡ Status.WriteFault) ↔ (O.faults out.old < O.faults out.new) }
-    ensures no_read { result ≢ Status.ReadFault }
-    ensures other { result ≢ Status.WriteFault → O.faults out.new ≡ O.faults out.old }
-{
-    match line {
-        Ok(line) => tell(out, &line, Status::Refused),
-        Err(WantOfMemory) => tell(out, b"out of memory\n", Status::Memory),
-    }
-}
-
-/// Prints a line, and answers the status unless the printing fails.
-fn tell<O: Sink>(out: &mut O, line: &[u8], status: Status) -> Status
-    requires prints { O.faults out.old < 2 ^ 64 - 1 }
-    requires no_write { status ≢ Status.WriteFault }
-    ensures shown { Shown line.now status result (O.written out.old) (O.written out.new) }
-    ensures write { (result ≡ Status.WriteFault) ↔ (O.faults out.old < O.faults out.new) }
-    ensures other { result ≢ Status.WriteFault → (result ≡ status) × (O.faults out.new ≡ O.faults out.old) }
-{
-    match write_whole(out, line) {
-        Ok(()) => status,
-        Err(Failed) => Status::WriteFault,
     }
 }

@@ -22,6 +22,9 @@ const BAND_151_JOB: &[u8] =
 const WIDE_JOB: &[u8] =
     b"cutter = \"flat\"\nradius = 100\nfloor = 0\ntop = 400\nclear = 400\narea = [0, 0, 1000, 1000]\nhome = [0, 0]\npitch = 100\nsample = 50\nallowance = 50\nband = 0\n";
 
+const BALL_JOB: &[u8] =
+    b"cutter = \"ball\"\nradius = 100\nfloor = 0\ntop = 400\nclear = 400\narea = [0, 0, 1000, 1000]\nhome = [0, 0]\npitch = 100\nsample = 50\nallowance = 50\nband = 0\n";
+
 const FLAT_JOB: &[u8] =
     b"cutter = \"flat\"\nradius = 150\nfloor = 0\ntop = 0\nclear = 0\narea = [0, 0, 0, 0]\nhome = [0, 0]\npitch = 100\nsample = 50\nallowance = 0\nband = 0\n";
 
@@ -37,6 +40,10 @@ const NARROW: &[u8] =
 
 const CORNER: &[u8] =
     b"solid\nfacet normal 0 0 1\nouter loop\nvertex 0 0 2\nvertex 10 0 2\nvertex 0 10 2\nendloop\nendfacet\nendsolid\n";
+
+// The point (0, 0, 3).
+const PEAK: &[u8] =
+    b"solid\nfacet normal 0 0 1\nouter loop\nvertex 0 0 3\nvertex 0 0 3\nvertex 0 0 3\nendloop\nendfacet\nendsolid\n";
 
 const HIGH: &[u8] =
     b"solid\nfacet normal 0 0 1\nouter loop\nvertex 0 0 3.01\nvertex 0 0 3.01\nvertex 0 0 3.01\nendloop\nendfacet\nendsolid\n";
@@ -190,27 +197,206 @@ fn prints_each_answer(rt: HostRuntime) -> Result<(), Fail> {
     Ok(())
 }
 
+// Clap's text isn't part of any promise: only a piece of it is looked for.
 #[test]
-fn refuses_other_words(rt: HostRuntime) -> Result<(), Fail> {
+fn answers_untaken_words(rt: HostRuntime) -> Result<(), Fail> {
     let alloc = rt.alloc();
-    let table: [(&[&str], Status, &[u8]); 4] = [
-        (&["verify", "job"], Status::Words, b"refused words\n"),
-        (&[], Status::Words, b"refused words\n"),
+    let table: [(&[&str], Status, &str); 18] = [
+        (&["--help"], Status::Done, "Usage: camtool <COMMAND>"),
+        (&["-h"], Status::Done, "Usage: camtool <COMMAND>"),
+        (&["help", "drop"], Status::Done, "--x <X>"),
+        (&["drop", "--help"], Status::Done, "--x <X>"),
+        (&["verify", "job", "--help"], Status::Done, "Usage: camtool"),
+        (&["--version"], Status::Done, "camtool 0.1.0\n"),
+        (&["-V"], Status::Done, "camtool 0.1.0\n"),
+        (&[], Status::Words, "requires a subcommand"),
         (
             &["Verify", "job", "part", "program"],
             Status::Words,
-            b"refused words\n",
+            "unrecognized",
+        ),
+        (&["verify", "job"], Status::Words, "<PART>"),
+        (&["verify", "job", "part"], Status::Words, "<FILE>"),
+        (
+            &["verify", "job", "part", "program", "more"],
+            Status::Words,
+            "unexpected argument 'more'",
         ),
         (
-            &["verify", "none", "part", "program"],
+            &["verify", "job", "part", "program", "--z=1"],
+            Status::Words,
+            "unexpected argument '--z'",
+        ),
+        (&["drop", "job", "--x=1", "--y=2"], Status::Words, "<PART>"),
+        (&["drop", "job", "part", "--y=2"], Status::Words, "--x <X>"),
+        (
+            &["drop", "job", "part", "--x", "-1", "--y=2"],
+            Status::Words,
+            "unexpected argument '-1'",
+        ),
+        (
+            &["drop", "job", "part", "--x=1", "--x=1", "--y=2"],
+            Status::Words,
+            "multiple times",
+        ),
+        (
+            &["drop", "job", "part", "--x=1", "--y=2", "--z=3"],
+            Status::Words,
+            "unexpected argument '--z'",
+        ),
+    ];
+    for (list, status, piece) in table {
+        // Every read would fail: no file is read.
+        let mut shelf = store(alloc, (JOB, PLATE, b"M2"), &[0, 1, 2, 3, 4, 5])?;
+        let mut sink = MemSink::new(alloc, 2000, &[])?;
+        let ended = run(&rt, alloc, &words(alloc, list)?, &mut shelf, &mut sink);
+        let Ok(text) = str::from_utf8(sink.written()) else {
+            panic!(&rt; "{list:?}")
+        };
+        assert!(&rt; text.contains(piece), "{list:?} {text}");
+        assert_eq!(rt; ended, status);
+    }
+    Ok(())
+}
+
+#[test]
+fn drops_the_cutter(rt: HostRuntime) -> Result<(), Fail> {
+    let alloc = rt.alloc();
+    let texts: (&[u8], &[u8], &[u8]) = (WIDE_JOB, CORNER, b"");
+    let table: [((&[u8], &[u8], &[u8]), &str, &str, Status, &[u8]); 18] = [
+        (texts, "--x=-0.99", "--y=5.00", Status::Done, b"drop 2.00\n"),
+        (texts, "--x=-1.00", "--y=5.00", Status::Done, b"drop 0.00\n"),
+        (texts, "--x=-1", "--y=5", Status::Done, b"drop 0.00\n"),
+        (texts, "--x=5.00", "--y=-0.99", Status::Done, b"drop 2.00\n"),
+        (texts, "--x=10", "--y=-0.9", Status::Done, b"drop 2.00\n"),
+        (texts, "--x=-0.9", "--y=10", Status::Done, b"drop 2.00\n"),
+        (texts, "--x=11", "--y=-0.9", Status::Done, b"drop 0.00\n"),
+        (
+            texts,
+            "--x=1e0",
+            "--y=0.010e2",
+            Status::Done,
+            b"drop 2.00\n",
+        ),
+        (
+            (BALL_JOB, PEAK, b""),
+            "--x=0.6",
+            "--y=0",
+            Status::Done,
+            b"drop 2.80\n",
+        ),
+        (
+            (BALL_JOB, PEAK, b""),
+            "--x=0.61",
+            "--y=0",
+            Status::Done,
+            b"drop 2.80\n",
+        ),
+        (
+            (WIDE_JOB, EMPTY, b""),
+            "--x=0",
+            "--y=0",
+            Status::Done,
+            b"drop 0.00\n",
+        ),
+        (
+            texts,
+            "--x=0.005",
+            "--y=5",
+            Status::Refused,
+            b"refused word x off-grid\n",
+        ),
+        (
+            texts,
+            "--x=1",
+            "--y=1310.72",
+            Status::Refused,
+            b"refused word y out-of-range\n",
+        ),
+        (
+            texts,
+            "--x=",
+            "--y=",
+            Status::Refused,
+            b"refused word x spelling\n",
+        ),
+        (
+            texts,
+            "--x=0",
+            "--y=0.000000000000000000000000",
+            Status::Refused,
+            b"refused word y too-many-digits\n",
+        ),
+        (
+            (b"\xff", CORNER, b""),
+            "--x=0",
+            "--y=0",
+            Status::Refused,
+            b"refused job syntax\n",
+        ),
+        (
+            (WIDE_JOB, b"solid\n", b""),
+            "--x=0",
+            "--y=0",
+            Status::Refused,
+            b"refused part line 2 cut-short\n",
+        ),
+        (
+            (JOB, HIGH, b""),
+            "--x=0",
+            "--y=0",
+            Status::Refused,
+            b"refused part-top 3.01 top 3.00\n",
+        ),
+    ];
+    for (texts, x, y, status, line) in table {
+        let mut shelf = store(alloc, texts, &[])?;
+        let mut sink = MemSink::new(alloc, 200, &[])?;
+        let words = words(alloc, &["drop", "job", "part", x, y])?;
+        let ended = run(&rt, alloc, &words, &mut shelf, &mut sink);
+        assert_eq!(rt; sink.written(), line);
+        assert_eq!(rt; ended, status);
+    }
+    Ok(())
+}
+
+#[test]
+fn blames_what_failed_in_a_drop(rt: HostRuntime) -> Result<(), Fail> {
+    let alloc = rt.alloc();
+    let none: &[u64] = &[];
+    let table: [(&str, &[u64], &[u64], usize, Status, &[u8]); 5] = [
+        (
+            "--x=0",
+            &[0],
+            none,
+            200,
             Status::ReadFault,
             b"read fault job\n",
         ),
+        (
+            "--x=0",
+            &[2],
+            none,
+            200,
+            Status::ReadFault,
+            b"read fault part\n",
+        ),
+        (
+            "--x=0.005",
+            &[0],
+            none,
+            200,
+            Status::Refused,
+            b"refused word x off-grid\n",
+        ),
+        ("--x=0", none, &[0], 200, Status::WriteFault, b""),
+        ("--x=0", none, none, 5, Status::WriteFault, b"drop "),
     ];
-    for (list, status, line) in table {
-        let mut shelf = store(alloc, (JOB, PLATE, b"M2"), &[])?;
-        let mut sink = MemSink::new(alloc, 200, &[])?;
-        let ended = run(&rt, alloc, &words(alloc, list)?, &mut shelf, &mut sink);
+    for (x, reads, writes, room, status, line) in table {
+        let mut shelf = store(alloc, (WIDE_JOB, CORNER, b""), reads)?;
+        let mut sink = MemSink::new(alloc, room, writes)?;
+        let words = words(alloc, &["drop", "job", "part", "--y=5", x])?;
+        let ended = run(&rt, alloc, &words, &mut shelf, &mut sink);
         assert_eq!(rt; sink.written(), line);
         assert_eq!(rt; ended, status);
     }

@@ -1,0 +1,22 @@
+use Rattle.std.proofs.Common.{◌≡◌, refl, rules, w32}
+use Rattle.std.specs.Prelude.{FitsSigned, IfOk}
+use Rattle.std.proofs.lemmas.Int.{to_z-of_z}
+use Rattle.mill_drop.specs.Drops.{IsDropHeight}
+use Rattle.camtool.specs.Answers.{answer_line, dropped}
+use Rattle.camtool.proofs.Works.{made_came}
+use Rattle.camtool.proofs.drop.tell_drop.Goals as goal
+
+pub returns-clause-tells : goal.returns-clause-tells
+returns-clause-tells g c =
+    let x_fits : FitsSigned w32 c.args.place.x = search rules in
+    let y_fits : FitsSigned w32 c.args.place.y = search rules in
+    let floor_fits : FitsSigned w32 c.args.setup.now.job.floor = search rules in
+    let height_fits : FitsSigned w32 c.drop_once-height.result = search rules in
+    let least : IsDropHeight c.args.setup.now.job.cutter c.args.setup.now.part c.args.place.x c.args.place.y c.args.setup.now.job.floor c.drop_once-height.result =
+    simp to_z-of_z at c.drop_once-height.ensures.drop in
+    let line : IfOk c.line_of_height.result (λ line. line.items ≡ answer_line (dropped c.drop_once-height.result)) = simp to_z-of_z at c.line_of_height.ensures in
+    record {
+      height = c.drop_once-height.result;
+      is = least;
+      shown = made_came c.line_of_height.result (dropped c.drop_once-height.result) _ _ _ _ refl line c.tell_made.ensures.came;
+    }
