@@ -46,12 +46,12 @@ Served Is (answered answer) = Is answer
 verify_answer : (call : Call) (texts : Texts) (a : Answer) → Serves call (answered a) → Verifies call texts → IsVerified texts a
 verify_answer call texts a s v =
     (subst (λ (r : Request). Comes call.contents r (answered a))
-    (same_request (request call.words) s.asked (verify v.files.job v.files.part v.files.program) s.command v.command) s.comes) texts
+    (same_request (request call.words) s.asked (verify v.files.job v.files.part v.files.program v.command.0) s.command v.command.1) s.comes) texts
     (record { setup_told = v.told.setup_told; program_told = v.told.program_told })
 
 verify_ends : (call : Call) (texts : Texts) (ending : Ending) → IsEnding call ending → Verifies call texts → Served (IsVerified texts) ending
-verify_ends call texts (help text) is v = not_taken call.words _ is.untaken v.command
-verify_ends call texts (bad_words text) is v = not_taken call.words _ is.untaken v.command
+verify_ends call texts (help text) is v = not_taken call.words _ is.untaken v.command.1
+verify_ends call texts (bad_words text) is v = not_taken call.words _ is.untaken v.command.1
 verify_ends call texts no_memory is v = tt
 verify_ends call texts (read_fault file) is v = tt
 verify_ends call texts (answered a) is v = verify_answer call texts a is v

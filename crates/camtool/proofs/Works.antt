@@ -84,34 +84,34 @@ program_ends texts job part end.Memory r h = tt
 abbrev files : List ℕ → List ℕ → List ℕ → Files
 files job part program = record { job = job; part = part; program = program }
 
-pub works_ok : (contents : List ℕ → Option (List ℕ)) (job part program : List ℕ) (l : Loaded) (status : ℕ) (before after : Option (List ℕ))
-    → ((texts : Texts) → Tells contents (files job part program) texts → Loads texts (Ok l)) → Tries l status before after → Works contents (verify job part program) status before after
-works_ok contents job part program l status before after told (inl v) = record {
+pub works_ok : (contents : List ℕ → Option (List ℕ)) (job part program : List ℕ) (workers : ℕ) (l : Loaded) (status : ℕ) (before after : Option (List ℕ))
+    → ((texts : Texts) → Tells contents (files job part program) texts → Loads texts (Ok l)) → Tries l status before after → Works contents (verify job part program workers) status before after
+works_ok contents job part program workers l status before after told (inl v) = record {
   ending = answered (judged l.job l.part l.moves.items v.verdict);
   comes = λ texts t. record { all_read = told texts t; is = v.is };
   safe = v.safe;
   shown = v.shown;
 }
-works_ok contents job part program l status before after told (inr m) = record { ending = no_memory; comes = tt; safe = tt; shown = m }
+works_ok contents job part program workers l status before after told (inr m) = record { ending = no_memory; comes = tt; safe = tt; shown = m }
 
-end_comes : (contents : List ℕ → Option (List ℕ)) (job part program : List ℕ) (e : End)
-    → ((texts : Texts) → Tells contents (files job part program) texts → EndsAt texts e) → Comes contents (verify job part program) (ending_of e)
-end_comes contents job part program (end.ReadFault file) told = told
-end_comes contents job part program (end.TooLong JobFile) told = told
-end_comes contents job part program (end.TooLong PartFile) told = told
-end_comes contents job part program (end.TooLong ProgramFile) told = told
-end_comes contents job part program (end.JobRefused fault) told = told
-end_comes contents job part program (end.PartRefused fault) told = told
-end_comes contents job part program (end.ProgramRefused fault) told = told
-end_comes contents job part program (end.PartTop height top) told = told
-end_comes contents job part program end.Memory told = tt
+end_comes : (contents : List ℕ → Option (List ℕ)) (job part program : List ℕ) (workers : ℕ) (e : End)
+    → ((texts : Texts) → Tells contents (files job part program) texts → EndsAt texts e) → Comes contents (verify job part program workers) (ending_of e)
+end_comes contents job part program workers (end.ReadFault file) told = told
+end_comes contents job part program workers (end.TooLong JobFile) told = told
+end_comes contents job part program workers (end.TooLong PartFile) told = told
+end_comes contents job part program workers (end.TooLong ProgramFile) told = told
+end_comes contents job part program workers (end.JobRefused fault) told = told
+end_comes contents job part program workers (end.PartRefused fault) told = told
+end_comes contents job part program workers (end.ProgramRefused fault) told = told
+end_comes contents job part program workers (end.PartTop height top) told = told
+end_comes contents job part program workers end.Memory told = tt
 
-pub works_err : (contents : List ℕ → Option (List ℕ)) (job part program : List ℕ) (e : End) (status : ℕ) (before after : Option (List ℕ))
+pub works_err : (contents : List ℕ → Option (List ℕ)) (job part program : List ℕ) (workers : ℕ) (e : End) (status : ℕ) (before after : Option (List ℕ))
     → ((texts : Texts) → Tells contents (files job part program) texts → EndsAt texts e) → CameOr (ending_of e) status before after
-    → Works contents (verify job part program) status before after
-works_err contents job part program e status before after told (inl came) =
-    record { ending = ending_of e; comes = end_comes contents job part program e told; safe = safe_end e; shown = came }
-works_err contents job part program e status before after told (inr m) = record { ending = no_memory; comes = tt; safe = tt; shown = m }
+    → Works contents (verify job part program workers) status before after
+works_err contents job part program workers e status before after told (inl came) =
+    record { ending = ending_of e; comes = end_comes contents job part program workers e told; safe = safe_end e; shown = came }
+works_err contents job part program workers e status before after told (inr m) = record { ending = no_memory; comes = tt; safe = tt; shown = m }
 
 -- ---- `drop`
 

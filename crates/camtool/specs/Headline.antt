@@ -51,7 +51,7 @@ pub record Tells (contents : List ℕ → Option (List ℕ)) (files : Files) (te
   pub setup_told : TellsSetup contents files.job files.part texts.setup
   pub program_told : contents files.program ≡ Some texts.program
 
--- the words are taken as `verify` with three files, and the store tells these texts of them
+-- the words are taken as `verify` with three files and any number of workers, and the store tells these texts of them
 pub record Verifies (call : Call) (texts : Texts) : Type 0 where
   pub files : Files
   pub command : AsksVerify call.words files
@@ -129,9 +129,9 @@ abbrev pub Comes : (List ℕ → Option (List ℕ)) → Request → Ending → T
 Comes contents asked (help text) = ⊥
 Comes contents asked (bad_words text) = ⊥
 Comes contents asked no_memory = Unit {0}
-Comes contents (verify job part program) (read_fault file) =
+Comes contents (verify job part program workers) (read_fault file) =
     (texts : Texts) → Tells contents (record { job = job; part = part; program = program }) texts → ReadsBefore texts file
-Comes contents (verify job part program) (answered answer) =
+Comes contents (verify job part program workers) (answered answer) =
     (texts : Texts) → Tells contents (record { job = job; part = part; program = program }) texts → IsVerified texts answer
 Comes contents (drop job part x y) (read_fault file) = HasPlace x y × ((texts : SetupTexts) → TellsSetup contents job part texts → BeforeSetup texts file)
 Comes contents (drop job part x y) (answered answer) = SaysWords x y answer × ((texts : SetupTexts) → TellsSetup contents job part texts → IsDropped x y texts answer)

@@ -8,9 +8,9 @@ pub record Files : Type 0 where
   pub part : List ℕ
   pub program : List ℕ
 
--- the words are taken as `verify` with these files
+-- the words are taken as `verify` with these files, with any number of workers
 abbrev pub AsksVerify : List (List ℕ) → Files → Type 0
-AsksVerify words files = request words ≡ Some (verify files.job files.part files.program)
+AsksVerify words files = (workers : ℕ) × (request words ≡ Some (verify files.job files.part files.program workers))
 
 -- the words are taken as `drop` with the job's and the part's file, and with these words for x and y
 abbrev pub AsksDrop : List (List ℕ) → List ℕ → List ℕ → List ℕ → List ℕ → Type 0

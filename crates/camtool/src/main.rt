@@ -1,5 +1,6 @@
-//! `camtool verify JOB PART FILE` verifies a program for a three-axis mill against a part, a cutter
-//! and a stock. `camtool drop JOB PART --x=X --y=Y` tells how low the cutter comes at one place.
+//! `camtool verify JOB PART FILE [--workers=W]` verifies a program for a three-axis mill against a
+//! part, a cutter and a stock. `camtool drop JOB PART --x=X --y=Y` tells how low the cutter comes at
+//! one place.
 //!
 //! `run` is all that the program does, over any store of files and any sink. Its contract goes
 //! from bytes to bytes: `specs/Answers` says which answer a command has on its texts,

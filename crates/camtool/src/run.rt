@@ -1,5 +1,5 @@
-ghost use Rattle.std.specs.Prelude.{◌≡◌, ◌≢◌, ◌⊎◌, ◌+◌, ◌-◌, ◌^◌, ◌<◌, ◌↔◌, ℕ, List, false, map, string_bytes};
-ghost use Rattle.mill_command.specs.Requests.{is_taken, request_of, verify as asks_verify};
+ghost use Rattle.std.specs.Prelude.{◌≡◌, ◌≢◌, ◌⊎◌, ◌+◌, ◌-◌, ◌^◌, ◌<◌, ◌≤◌, ◌↔◌, ℕ, List, false, map, string_bytes};
+ghost use Rattle.mill_command.specs.Requests.{HasWorkers, is_taken, request_of, verify as asks_verify};
 ghost use Rattle.mill_io.specs.Contents.{Stay};
 ghost use Rattle.camtool.specs.Answers.{judged, verdict_status};
 ghost use Rattle.camtool.specs.Headline.{Came, Ends, Outcome, Headline, call_of, answered};
@@ -18,14 +18,15 @@ use mill_command::{Command, Refusal, read_words};
 use mill_io::{Shelf, Sink};
 use mill_verify::{Verdict, one_verdict, verify};
 use std::alloc::Global;
+use std::thread::Threads;
 
 /// All that the program does: takes the words, does the work on the files that they name, and
 /// prints its answer.
 ///
 /// The words don't have the program's name. The answer goes to the sink whole, or the status is
 /// `WriteFault` and a prefix of it went there. The contents of every file stay.
-pub fn run<R, S: Shelf, O: Sink>(
-    _rt: &R,
+pub fn run<R: Threads + Sync, S: Shelf, O: Sink>(
+    rt: &R,
     alloc: Global,
     words: &[String],
     shelf: &mut S,
@@ -54,11 +55,17 @@ pub fn run<R, S: Shelf, O: Sink>(
 {
     // A law without code: there is at most one verdict. The headline's last part rests on it.
     one_verdict();
-    work(alloc, words, shelf, out)
+    work(rt, alloc, words, shelf, out)
 }
 
 /// Reads the words, and serves the command that they ask for.
-fn work<S: Shelf, O: Sink>(alloc: Global, words: &[String], shelf: &mut S, out: &mut O) -> Status
+fn work<R: Threads + Sync, S: Shelf, O: Sink>(
+    rt: &R,
+    alloc: Global,
+    words: &[String],
+    shelf: &mut S,
+    out: &mut O,
+) -> Status
     requires reads { S.read_faults shelf.old < 2 ^ 64 - 1 }
     requires prints { O.faults out.old < 2 ^ 64 - 1 }
     ensures ends { Ends (call_of (map string_bytes words.now) (S.contents shelf.old) (status_code result) (O.written out.old) (O.written out.new) (S.read_faults shelf.old) (S.read_faults shelf.new) (O.faults out.old) (O.faults out.new)) }
@@ -69,7 +76,7 @@ fn work<S: Shelf, O: Sink>(alloc: Global, words: &[String], shelf: &mut S, out: 
     ensures untouched { is_taken (map string_bytes words.now) ≡ false → shelf.new ≡ shelf.old }
 {
     match read_words(alloc, words) {
-        Ok(command) => serve(alloc, shelf, command, out),
+        Ok(command) => serve(rt, alloc, shelf, command, out),
         Err(refusal) => tell_refusal(refusal, out),
     }
 }
@@ -90,12 +97,14 @@ fn tell_refusal<O: Sink>(refusal: Refusal, out: &mut O) -> Status
 }
 
 /// The work on one command.
-fn serve<S: Shelf, O: Sink>(
+fn serve<R: Threads + Sync, S: Shelf, O: Sink>(
+    rt: &R,
     alloc: Global,
     shelf: &mut S,
     command: Command<'_>,
     out: &mut O,
 ) -> Status
+    requires workers { HasWorkers (request_of command) }
     requires reads { S.read_faults shelf.old < 2 ^ 64 - 1 }
     requires prints { O.faults out.old < 2 ^ 64 - 1 }
     ensures works { Works (S.contents shelf.old) (request_of command.entry) (status_code result) (O.written out.old) (O.written out.new) }
@@ -105,36 +114,53 @@ fn serve<S: Shelf, O: Sink>(
     ensures stay { Stay (S.contents shelf.old) (S.contents shelf.new) }
 {
     match command {
-        Command::Verify { job, part, file } => verify_files(alloc, shelf, job, part, file, out),
+        Command::Verify {
+            job,
+            part,
+            file,
+            workers,
+        } => verify_files(rt, alloc, shelf, job, part, file, workers, out),
         Command::Drop { job, part, x, y } => drop_cutter(alloc, shelf, job, part, x, y, out),
     }
 }
 
 /// The work on three files: reads them, and prints the verdict or what keeps it from one.
-fn verify_files<S: Shelf, O: Sink>(
+fn verify_files<R: Threads + Sync, S: Shelf, O: Sink>(
+    rt: &R,
     alloc: Global,
     shelf: &mut S,
     job: &str,
     part: &str,
     program: &str,
+    workers: u32,
     out: &mut O,
 ) -> Status
+    requires some_workers { 1 ≤ workers }
+    requires few_workers { workers ≤ 64 }
     requires reads { S.read_faults shelf.old < 2 ^ 64 - 1 }
     requires prints { O.faults out.old < 2 ^ 64 - 1 }
-    ensures works { Works (S.contents shelf.old) (asks_verify job.now part.now program.now) (status_code result) (O.written out.old) (O.written out.new) }
+    ensures works { Works (S.contents shelf.old) (asks_verify job.now part.now program.now workers) (status_code result) (O.written out.old) (O.written out.new) }
     ensures write { (result ≡ Status.WriteFault) ↔ (O.faults out.old < O.faults out.new) }
     ensures read { (result ≡ Status.ReadFault) ↔ ((S.read_faults shelf.old < S.read_faults shelf.new) × (O.faults out.new ≡ O.faults out.old)) }
     ensures kept { S.write_faults shelf.new ≡ S.write_faults shelf.old }
     ensures stay { Stay (S.contents shelf.old) (S.contents shelf.new) }
 {
     match load(alloc, shelf, job, part, program) {
-        Ok(loaded) => tell_verdict(alloc, &loaded, out),
+        Ok(loaded) => tell_verdict(rt, alloc, &loaded, workers, out),
         Err(end) => tell_end(alloc, end, out),
     }
 }
 
 /// Prints the verdict on what was read.
-fn tell_verdict<O: Sink>(alloc: Global, loaded: &Loaded, out: &mut O) -> Status
+fn tell_verdict<R: Threads + Sync, O: Sink>(
+    rt: &R,
+    alloc: Global,
+    loaded: &Loaded,
+    workers: u32,
+    out: &mut O,
+) -> Status
+    requires some_workers { 1 ≤ workers }
+    requires few_workers { workers ≤ 64 }
     requires ready { IsReady loaded.now }
     requires prints { O.faults out.old < 2 ^ 64 - 1 }
     ensures tries { Tries loaded.now (status_code result) (O.written out.old) (O.written out.new) }
@@ -142,7 +168,7 @@ fn tell_verdict<O: Sink>(alloc: Global, loaded: &Loaded, out: &mut O) -> Status
     ensures no_read { result ≢ Status.ReadFault }
     ensures other { result ≢ Status.WriteFault → O.faults out.new ≡ O.faults out.old }
 {
-    match verify(alloc, &loaded.job, &loaded.part, &loaded.moves) {
+    match verify(rt, alloc, &loaded.job, &loaded.part, &loaded.moves, workers) {
         Ok(verdict) => tell_line_of(alloc, loaded, verdict, out),
         Err(WantOfMemory) => tell(out, b"out of memory\n", Status::Memory),
     }

@@ -4,9 +4,21 @@ use Rattle.clap.specs.declared.error.kind.ErrorKind.TheVariants as kind
 use Rattle.clap.proofs.OnLiterals.{clap_on_literals}
 use Rattle.mill_command.specs.Requests.{faults, request, verify, drop}
 
-verify_of_files : request (codes "verify" ∷ codes "j" ∷ codes "p" ∷ codes "f" ∷ []) ≡ Some (verify (codes "j") (codes "p") (codes "f"))
+verify_of_files : request (codes "verify" ∷ codes "j" ∷ codes "p" ∷ codes "f" ∷ []) ≡ Some (verify (codes "j") (codes "p") (codes "f") 1)
 unfolding clap_on_literals
 verify_of_files = refl
+
+workers_given : request (codes "verify" ∷ codes "--workers=64" ∷ codes "j" ∷ codes "p" ∷ codes "f" ∷ []) ≡ Some (verify (codes "j") (codes "p") (codes "f") 64)
+unfolding clap_on_literals
+workers_given = refl
+
+too_many_workers : faults (codes "verify" ∷ codes "j" ∷ codes "p" ∷ codes "f" ∷ codes "--workers=65" ∷ []) ≡ kind.ValueValidation ∷ []
+unfolding clap_on_literals
+too_many_workers = refl
+
+no_workers : faults (codes "verify" ∷ codes "j" ∷ codes "p" ∷ codes "f" ∷ codes "--workers=0" ∷ []) ≡ kind.ValueValidation ∷ []
+unfolding clap_on_literals
+no_workers = refl
 
 drop_at_place : request (codes "drop" ∷ codes "--y=2" ∷ codes "j" ∷ codes "--x=-1" ∷ codes "p" ∷ []) ≡ Some (drop (codes "j") (codes "p") (codes "-1") (codes "2"))
 unfolding clap_on_literals

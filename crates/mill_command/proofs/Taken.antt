@@ -1,22 +1,24 @@
 -- Words that clap takes make a request.
-use Rattle.std.proofs.Common.{◌≡◌, ◌∙◌, ◌&&◌, ◌||◌, ◌∷◌, [], Bool, true, false, not, cond, refl, sym, ap, true≢false, List, Option, Some, None, Err, is_some}
+use Rattle.std.proofs.Common.{◌≡◌, ◌∙◌, ◌&&◌, ◌||◌, ◌≤◌, ◌∷◌, [], ℕ, Bool, true, false, not, cond, refl, sym, ap, subst, true≢false, List, Option, Some, None, Err, is_some}
 use Rattle.std.specs.Prelude.{codes, option_and_then}
 use Rattle.std.specs.Option.{option_map, option_map_or}
 use Rattle.std.specs.Str.{bytes_eq}
+use Rattle.std.specs.List.{list_any}
 use Rattle.std.proofs.lemmas.Slice.Eq.{bytes_eq-Decides}
-use Rattle.clap.specs.Walk.{Row, Text, nothing_held, rows_after, stop_after, first_of}
-use Rattle.clap.specs.Simple.{Shape, built_leaf, built, entered, help_shape, inherited, is_simple, names_of, rows_at, subcommand_of}
+use Rattle.clap.specs.Walk.{Row, Rule, Text, has_row, nothing_held, rows_after, settled, stop_after, first_of, walk}
+use Rattle.clap.specs.Simple.{Shape, filled, built_leaf, built, entered, help_shape, inherited, is_simple, names_of, rows_at, subcommand_of}
 use Rattle.clap.proofs.OnLiterals.{clap_on_literals}
-use Rattle.mill_command.proofs.Takes.{built_test, none}
+use Rattle.mill_command.proofs.Takes.{built_test, is_bare_app, none}
 use Rattle.clap.specs.Takes.{built_takes, is_given, takes}
 use Rattle.clap.specs.Faults.{entered_fault, level_fault}
-use Rattle.mill_command.specs.Set.{commands, verify, drop}
+use Rattle.mill_command.specs.Set.{commands, verify, drop, workers}
 use Rattle.clap.specs.Kinds.{IsAmong, Kinds}
 use Rattle.clap.specs.declared.error.kind.ErrorKind.{ErrorKind}
-use Rattle.mill_command.specs.Requests.{Reads, Refuses, Request, drop_of, faults, is_taken, request, request_in, verify_of}
+use Rattle.mill_command.specs.Requests.{HasWorkers, Reads, Refuses, Request, drop_of, faults, is_taken, request, request_in, verify_of, workers_in, verify as verify_files, drop as drop_at}
 use Rattle.mill_command.specs.declared.refusal.Refusal.{Refusal}
 use Rattle.mill_command.specs.declared.refusal.Refusal.TheVariants as refusal
-use Rattle.mill_command.proofs.Faultless.{IsStopped, given_value, level_faultless, none_missing}
+use Rattle.mill_command.proofs.Faultless.{AreSound, IsSound, IsStopped, defaults_make, given_value, is_full, level_faultless, none_missing, other_sound}
+use Rattle.mill_command.proofs.Workers.{workers_found}
 
 -- the shapes of the program and its commands, as building leaves them
 abbrev top : Shape
@@ -38,15 +40,15 @@ are_built : (built commands).subs ≡ verify_shape ∷ drop_shape ∷ topic_shap
 are_built = refl
 
 abbrev HasRequest : Option Request → Type 0
-HasRequest o = is_some o ≡ true
+HasRequest o = (asked : Request) × (o ≡ Some asked) × HasWorkers asked
 
-verify_some : (job part file : Option Text) → ((v : Text) × (job ≡ Some v)) → ((v : Text) × (part ≡ Some v)) → ((v : Text) × (file ≡ Some v))
-    → HasRequest (verify_of job part file)
-verify_some job part file j p f = rw (j.1, p.1, f.1) refl
+verify_some : (job part file : Option Text) (count : Option ℕ) → ((v : Text) × (job ≡ Some v)) → ((v : Text) × (part ≡ Some v)) → ((v : Text) × (file ≡ Some v))
+    → ((n : ℕ) × (count ≡ Some n) × (1 ≤ n) × (n ≤ 64)) → HasRequest (verify_of job part file count)
+verify_some job part file count j p f w = (verify_files j.0 p.0 f.0 w.0, rw (j.1, p.1, f.1, w.1) refl, (w.2, w.3))
 
 drop_some : (job part x y : Option Text) → ((v : Text) × (job ≡ Some v)) → ((v : Text) × (part ≡ Some v)) → ((v : Text) × (x ≡ Some v)) → ((v : Text) × (y ≡ Some v))
     → HasRequest (drop_of job part x y)
-drop_some job part x y j p a b = rw (j.1, p.1, a.1, b.1) refl
+drop_some job part x y j p a b = (drop_at j.0 p.0 a.0 b.0, rw (j.1, p.1, a.1, b.1) refl, tt)
 
 three_given : (a b d : Bool) → (not a || (not b || (not d || false))) ≡ false → (a ≡ true) × (b ≡ true) × (d ≡ true)
 three_given true true true e = (refl, refl, refl)
@@ -61,22 +63,42 @@ four_given true true false f e = absurd (true≢false e)
 four_given true false d f e = absurd (true≢false e)
 four_given false b d f e = absurd (true≢false e)
 
+-- the arguments of each level are as the proof on its walk wants them
+workers_sound : IsSound (filled workers)
+unfolding clap_on_literals
+workers_sound = record { sets = refl; parser = λ e. refl; default = refl }
+
+top_sound : AreSound top.rules
+top_sound = (other_sound _ refl refl, (other_sound _ refl refl, tt))
+
+verify_sound : AreSound verify_shape.rules
+verify_sound = (workers_sound, (other_sound _ refl refl, (other_sound _ refl refl, (other_sound _ refl refl, (other_sound _ refl refl, tt)))))
+
+drop_sound : AreSound drop_shape.rules
+drop_sound = (workers_sound, (other_sound _ refl refl, (other_sound _ refl refl, (other_sound _ refl refl, (other_sound _ refl refl, (other_sound _ refl refl, tt))))))
+
+-- there is a row for the workers
+has_workers : (c : List Rule) (words : List Text) → list_any (λ (a : Rule). bytes_eq a.id (codes "workers") && is_full a.defaults) c ≡ true
+    → has_row (codes "workers") (rows_after c [] words) ≡ true
+has_workers c words e = defaults_make (codes "workers") c (settled c (walk c [] nothing_held words).held).rows e
+
 verify_asks : (words : List Text) → level_fault verify_shape [] nothing_held words false [] ≡ [] → HasRequest (request_in (codes "verify") (rows_after verify_shape.rules [] words))
 verify_asks words none =
     let rows = rows_after verify_shape.rules [] words in
-    let level = level_faultless verify_shape [] words false [] refl none in
+    let level = level_faultless verify_shape [] words false [] verify_sound none in
     let given = three_given (is_given (codes "job") rows) (is_given (codes "part") rows) (is_given (codes "file") rows) (none_missing verify_shape rows false level.checked).1 in
-    verify_some (first_of (codes "job") rows) (first_of (codes "part") rows) (first_of (codes "file") rows)
-    (given_value (codes "job") rows level.full given.0) (given_value (codes "part") rows level.full given.1) (given_value (codes "file") rows level.full given.2)
+    verify_some (first_of (codes "job") rows) (first_of (codes "part") rows) (first_of (codes "file") rows) (workers_in rows)
+    (given_value (codes "job") rows level.right given.0) (given_value (codes "part") rows level.right given.1) (given_value (codes "file") rows level.right given.2)
+    (workers_found rows level.right (has_workers verify_shape.rules words refl))
 
 drop_asks : (words : List Text) → level_fault drop_shape [] nothing_held words false [] ≡ [] → HasRequest (request_in (codes "drop") (rows_after drop_shape.rules [] words))
 drop_asks words none =
     let rows = rows_after drop_shape.rules [] words in
-    let level = level_faultless drop_shape [] words false [] refl none in
+    let level = level_faultless drop_shape [] words false [] drop_sound none in
     let given = four_given (is_given (codes "job") rows) (is_given (codes "part") rows) (is_given (codes "x") rows) (is_given (codes "y") rows) (none_missing drop_shape rows false level.checked).1 in
     drop_some (first_of (codes "job") rows) (first_of (codes "part") rows) (first_of (codes "x") rows) (first_of (codes "y") rows)
-    (given_value (codes "job") rows level.full given.0) (given_value (codes "part") rows level.full given.1)
-    (given_value (codes "x") rows level.full given.2) (given_value (codes "y") rows level.full given.3)
+    (given_value (codes "job") rows level.right given.0) (given_value (codes "part") rows level.right given.1)
+    (given_value (codes "x") rows level.right given.2) (given_value (codes "y") rows level.right given.3)
 
 -- the subcommand that was met is one of the two commands
 named : (v d h : Bool) (words : List Text) → h ≡ false
@@ -111,16 +133,20 @@ wanted false e = absurd (true≢false e)
 pub taken_asks : (words : List Text) → faults words ≡ [] → HasRequest (option_and_then (λ (m : Text × List Row). request_in m.0 m.1) (subcommand_of commands words))
 taken_asks words none =
     let stop = stop_after top.rules (names_of (built commands)) words in
-    let level = level_faultless top (names_of (built commands)) words (is_some (entered (built commands) stop)) (entered_fault (built commands) stop) refl none in
+    let level = level_faultless top (names_of (built commands)) words (is_some (entered (built commands) stop)) (entered_fault (built commands) stop) top_sound none in
     entered_asks stop level.stop level.under (wanted (is_some (entered (built commands) stop)) (none_missing top (rows_after top.rules (names_of (built commands)) words) (is_some (entered (built commands) stop)) level.checked).0)
 
 are_plain : is_simple commands ≡ true
 unfolding clap_on_literals
 are_plain = refl
 
+are_bare : is_bare_app (built commands) ≡ true
+unfolding clap_on_literals
+are_bare = refl
+
 -- clap's test of whether it takes the words is that it finds no fault in them
 pub takes_faultless : (words : List Text) → takes commands words ≡ none (faults words)
-takes_faultless words = ap (λ b. b && built_takes (built commands) nothing_held words) are_plain ∙ built_test (built commands) words refl
+takes_faultless words = ap (λ b. b && built_takes (built commands) nothing_held words) are_plain ∙ built_test (built commands) words are_bare
 
 among_some : (k : ErrorKind) (kinds : Kinds) → IsAmong k kinds → none kinds ≡ false
 among_some k [] e = absurd e
@@ -148,5 +174,16 @@ whole words = go (is_taken words) refl
     all (k ∷ ks) e = absurd (true≢false (sym e))
 
     go : (b : Bool) → is_taken words ≡ b → is_some (cond b (option_and_then (λ (m : Text × List Row). request_in m.0 m.1) (subcommand_of commands words)) None) ≡ b
-    go true e = taken_asks words (all (faults words) (sym (takes_faultless words) ∙ e))
+    go true e = ap is_some (taken_asks words (all (faults words) (sym (takes_faultless words) ∙ e))).1
     go false e = refl
+
+abbrev HasWorkersIf : Option Request → Type 0
+HasWorkersIf None = Unit {0}
+HasWorkersIf (Some asked) = HasWorkers asked
+
+-- and where it has a number of workers, it is from 1 to 64
+pub workers_bounded : (words : List Text) → faults words ≡ [] → (asked : Request)
+    → option_and_then (λ (m : Text × List Row). request_in m.0 m.1) (subcommand_of commands words) ≡ Some asked → HasWorkers asked
+workers_bounded words none asked is =
+    let some = taken_asks words none in
+    subst (λ (o : Option Request). HasWorkersIf o) (sym some.1 ∙ is) some.2

@@ -12,13 +12,13 @@ use Rattle.std.proofs.lemmas.Bool.Decides.{Decides-eqb, Decides-ltb, leb_tells, 
 use Rattle.clap.proofs.WalkLemmas.{both}
 use Rattle.mill_command.proofs.Faultless.{and_true}
 use Rattle.clap.specs.Lexer.{long_of, short_of}
-use Rattle.clap.specs.Values.{refused_kind}
+use Rattle.clap.specs.Values.{is_request, refused_kind}
 use Rattle.clap.specs.ValueTests.{accepts}
 use Rattle.clap.specs.Facts.{explicit_source, parser_of_value, unwrap_or_range}
 use Rattle.clap.specs.Walk.{Held, Names, Row, Rule, Step, Text, Waiting, Walk, action_of, answers_to, arg_by_id, arg_by_index, arg_by_long, arg_by_short, attached_value, finished, has_row, is_empty, is_pending, most_values, next, nothing_held, reacted, settled, subcommand, subcommand_met, takes_several, takes_values, trailing, value, values_or_missing, walk, walk_from, walked, with_default, word_met}
 use Rattle.clap.specs.Simple.{App, Shape, entered, label_of, names_of}
 use Rattle.clap.specs.Takes.{action_passes, bundle_step_passes, built_takes, count_passes, default_passes, entered_passes, flag_word_passes, flags_pass, is_given, is_valid, level_passes, long_passes, option_passes, other_passes, positional_passes, react_passes, set_passes, settle_passes, short_passes, step_passes, turn_passes, use_passes, walk_passes, word_passes}
-use Rattle.clap.specs.Kinds.{Kinds, check_kinds, or_else, range_kinds, value_kinds, values_kinds}
+use Rattle.clap.specs.Kinds.{Kinds, check_kinds, or_else, range_kinds, request_kinds, value_kinds, values_kinds}
 use Rattle.clap.specs.Faults.{action_fault, bundle_step_fault, built_fault, check_fault, count_fault, defaults_fault, entered_fault, flag_word_fault, flags_fault, level_fault, long_fault, option_fault, other_fault, positional_fault, react_fault, repeat_fault, set_fault, settle_fault, short_fault, step_fault, stray_fault, turn_fault, use_fault, values_fault, walk_fault, word_fault}
 use Rattle.clap.specs.declared.builder.action.ArgAction.{ArgAction}
 use Rattle.clap.specs.declared.builder.action.ArgAction.TheVariants.{Set, Append, SetTrue, SetFalse, Count, Help, HelpShort, HelpLong, Version}
@@ -262,37 +262,53 @@ module _ (s : Shape) where
 
 -- ---- after the walk
 
--- the argument has no default, and no rule on another
+-- the argument's default passes, and it has no rule on another
 abbrev pub is_bare : Rule → Bool
-is_bare a = is_empty a.defaults && a.is_free
+is_bare a = default_passes a && a.is_free
 
-or_true : (a b : Bool) → a ≡ true → (a || b) ≡ true
-or_true true b e = refl
-or_true false b e = absurd (true≢false (sym e))
+unasked : (x : ArgAction) → not (is_request x) ≡ true → request_kinds x ≡ []
+unasked Set e = refl
+unasked Append e = refl
+unasked SetTrue e = refl
+unasked SetFalse e = refl
+unasked Count e = refl
+unasked Help e = absurd (true≢false (sym e))
+unasked HelpShort e = absurd (true≢false (sym e))
+unasked HelpLong e = absurd (true≢false (sym e))
+unasked Version e = absurd (true≢false (sym e))
 
-no_default : (has empty : Bool) (more : Kinds) → empty ≡ true → cond (has || empty) [] more ≡ []
-no_default true empty more e = refl
-no_default false true more e = refl
-no_default false false more e = absurd (true≢false (sym e))
+none_nil : (kinds : Kinds) → none kinds ≡ true → kinds ≡ []
+none_nil [] e = refl
+none_nil (k ∷ ks) e = absurd (true≢false (sym e))
+
+no_default : (has empty passes : Bool) (x : ArgAction) (more : Kinds) → (empty || (not (is_request x) && passes)) ≡ true → passes ≡ none more
+    → cond (has || empty) [] (or_else (request_kinds x) more) ≡ []
+no_default true empty passes x more e same = refl
+no_default false true passes x more e same = refl
+no_default false false passes x more e same =
+    let is = both (not (is_request x)) passes e in
+    ap₂ or_else (unasked x is.0) (none_nil more (sym same ∙ is.1))
 
 defaults_pass : (c : List Rule) → list_all is_bare c ≡ true → list_all default_passes c ≡ true
 defaults_pass [] bare = refl
 defaults_pass (a ∷ c) bare =
     let here = both (is_bare a) (list_all is_bare c) bare in
-    and_true (default_passes a) (list_all default_passes c) (or_true (is_empty a.defaults) _ (both (is_empty a.defaults) a.is_free here.0).0) (defaults_pass c here.1)
+    and_true (default_passes a) (list_all default_passes c) (both (default_passes a) a.is_free here.0).0 (defaults_pass c here.1)
 
 defaults_none : (c : List Rule) (rows : List Row) → list_all is_bare c ≡ true → defaults_fault rows c ≡ []
 unfolding defaults_fault
 defaults_none [] rows bare = refl
 defaults_none (a ∷ c) rows bare =
     let here = both (is_bare a) (list_all is_bare c) bare in
-    ap₂ or_else (no_default (has_row a.id rows) (is_empty a.defaults) _ (both (is_empty a.defaults) a.is_free here.0).0) (defaults_none c (with_default rows a) here.1)
+    ap₂ or_else (no_default (has_row a.id rows) (is_empty a.defaults) (list_all (accepts a.ignore_case (parser_of_value a.parser)) a.defaults) (action_of a) (values_fault a a.defaults)
+    (both (default_passes a) a.is_free here.0).0 (values_test a.ignore_case (parser_of_value a.parser) a.defaults))
+    (defaults_none c (with_default rows a) here.1)
 
 all_free : (c : List Rule) → list_all is_bare c ≡ true → list_all (λ (a : Rule). a.is_free) c ≡ true
 all_free [] bare = refl
 all_free (a ∷ c) bare =
     let here = both (is_bare a) (list_all is_bare c) bare in
-    and_true a.is_free (list_all (λ (x : Rule). x.is_free) c) (both (is_empty a.defaults) a.is_free here.0).1 (all_free c here.1)
+    and_true a.is_free (list_all (λ (x : Rule). x.is_free) c) (both (default_passes a) a.is_free here.0).1 (all_free c here.1)
 
 help_wanted : (arg has any : Bool) → (not arg || (has || any)) ≡ not (not has && (arg && not any))
 help_wanted true true any = refl
@@ -379,7 +395,7 @@ entered_test : (a : App) (stop : Option (Text × List Text)) → list_all is_bar
 entered_test a None bare = refl
 entered_test a (Some p) bare = sub_test (λ s. answers_to p.0 (label_of s)) a.subs p.1 bare
 
--- a built command of which no argument has a default or a rule on another passes where it has no fault
+-- a built command of which the defaults pass, and no argument has a rule on another, passes where it has no fault
 pub built_test : (a : App) (words : List Text) → is_bare_app a ≡ true → built_takes a nothing_held words ≡ none (built_fault a nothing_held words)
 built_test a words bare =
     let stop = (walk a.top.rules (names_of a) nothing_held words).stopped in

@@ -1,6 +1,8 @@
 -- What words ask for.
-use Rattle.std.specs.Prelude.{◌≡◌, ◌≢◌, ◌⊎◌, bytes_eq, codes, Bool, false, if◌then◌else◌, List, Option, Some, None, option_and_then, Result, Ok, Err}
-use Rattle.clap.specs.Words.{IsAmong, Kinds, Row, Text, fault_of, first_of, subcommand_of, takes}
+use Rattle.std.specs.Prelude.{◌≡◌, ◌≢◌, ◌⊎◌, ◌≤◌, bytes_eq, codes, ℕ, Bool, false, if◌then◌else◌, List, Option, Some, None, option_and_then, Result, Ok, Err}
+use Rattle.std.specs.Str.Parse.{digits_value, without_leading_plus}
+use Rattle.clap.specs.Words.{IsAmong, Kinds, Row, Text, fault_of, first_of, one_of, subcommand_of, takes}
+use Rattle.clap.specs.ValueTests.{is_unsigned_in}
 use Rattle.clap.specs.declared.error.kind.ErrorKind.{ErrorKind}
 use Rattle.clap.specs.declared.error.kind.ErrorKind.TheVariants.{DisplayHelp, DisplayVersion}
 use Rattle.mill_command.specs.Set.{commands}
@@ -9,20 +11,33 @@ use Rattle.mill_command.specs.declared.command.Command.TheVariants as command
 use Rattle.mill_command.specs.declared.refusal.Refusal.{Refusal}
 use Rattle.mill_command.specs.declared.refusal.Refusal.TheVariants as refusal
 
--- a command with its words: the names of files, and coordinates as they were written
+-- a command with its words: the names of files, the number of workers, and coordinates as they were written
 pub data Request : Type 0 where
-  verify : Text → Text → Text → Request
+  verify : Text → Text → Text → ℕ → Request
   drop : Text → Text → Text → Text → Request
 
 -- what a command of the code says
 abbrev pub request_of : Command → Request
-request_of (command.Verify job part file) = verify job.now part.now file.now
+request_of (command.Verify job part file workers) = verify job.now part.now file.now workers
 request_of (command.Drop job part x y) = drop job.now part.now x.now y.now
 
+-- where a request has a number of workers, it is from 1 to 64
+abbrev pub HasWorkers : Request → Type 0
+HasWorkers (verify job part file workers) = (1 ≤ workers) × (workers ≤ 64)
+HasWorkers (drop job part x y) = Unit {0}
+
+-- the number of `u32` that a text stands for
+abbrev pub number_of : Text → Option ℕ
+number_of text = if is_unsigned_in 0 4294967295 text then Some (digits_value 10 (without_leading_plus text)) else None
+
+-- how many workers clap's values say
+abbrev pub workers_in : List Row → Option ℕ
+workers_in rows = option_and_then number_of (one_of (codes "workers") rows)
+
 -- `verify` where each of its words is there
-abbrev pub verify_of : Option Text → Option Text → Option Text → Option Request
-verify_of (Some job) (Some part) (Some file) = Some (verify job part file)
-verify_of _ _ _ = None
+abbrev pub verify_of : Option Text → Option Text → Option Text → Option ℕ → Option Request
+verify_of (Some job) (Some part) (Some file) (Some workers) = Some (verify job part file workers)
+verify_of _ _ _ _ = None
 
 -- `drop` where each of its words is there
 abbrev pub drop_of : Option Text → Option Text → Option Text → Option Text → Option Request
@@ -32,7 +47,7 @@ drop_of _ _ _ _ = None
 -- the request of a subcommand's name and of the values that clap gives under its ids
 abbrev pub request_in : Text → List Row → Option Request
 request_in name rows =
-    if bytes_eq name (codes "verify") then verify_of (first_of (codes "job") rows) (first_of (codes "part") rows) (first_of (codes "file") rows)
+    if bytes_eq name (codes "verify") then verify_of (first_of (codes "job") rows) (first_of (codes "part") rows) (first_of (codes "file") rows) (workers_in rows)
     else (if bytes_eq name (codes "drop") then drop_of (first_of (codes "job") rows) (first_of (codes "part") rows) (first_of (codes "x") rows) (first_of (codes "y") rows)
     else None)
 

@@ -1,8 +1,10 @@
 -- The set of commands, as clap's own definitions see it.
-use Rattle.std.specs.Prelude.{◌≡◌, codes, Some, true, false}
+use Rattle.std.specs.Prelude.{◌≡◌, [], ◌∷◌, codes, pos, Some, true, false}
 use Rattle.clap.specs.Words.{App, Rule, Text, app_of, new_app, new_rule, with_rule, with_subcommand}
 use Rattle.clap.specs.declared.builder.command.Command.{Command}
 use Rattle.clap.specs.declared.builder.command.Command.TheViews.{out-Command}
+use Rattle.clap.specs.declared.builder.value_parser.ValueParser.{ValueParser}
+use Rattle.clap.specs.declared.builder.value_parser.ValueParser.TheVariants.{Signed}
 
 -- a word that must stand at its place
 abbrev pub place : Text → Rule
@@ -12,9 +14,17 @@ place id = record (new_rule id) { required = true; value_names = 1 }
 abbrev pub option : Text → Rule
 option id = record (new_rule id) { long = Some id; required = true; value_names = 1 }
 
--- a command on a job and a part
+-- a number from 1 to 64
+abbrev pub count_parser : ValueParser
+count_parser = Signed (pos 1) (pos 64)
+
+-- the option for how many workers, which is 1 where it isn't given
+abbrev pub workers : Rule
+workers = record (new_rule (codes "workers")) { long = Some (codes "workers"); defaults = codes "1" ∷ []; parser = Some count_parser; value_names = 1 }
+
+-- a command on a job and a part, with a number of workers
 abbrev pub with_files : Text → App
-with_files name = with_rule (with_rule (new_app name) (place (codes "job"))) (place (codes "part"))
+with_files name = with_rule (with_rule (with_rule (new_app name) workers) (place (codes "job"))) (place (codes "part"))
 
 -- `verify JOB PART FILE`
 abbrev pub verify : App

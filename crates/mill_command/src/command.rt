@@ -1,6 +1,6 @@
 ghost use Rattle.std.specs.Prelude.{◌≡◌, codes, option_map, Some};
 ghost use Rattle.clap.specs.Words.{first_of, found_of, rows_of};
-ghost use Rattle.mill_command.specs.Requests.{drop_of, request_in, request_of, verify_of};
+ghost use Rattle.mill_command.specs.Requests.{drop_of, request_in, request_of, verify_of, workers_in};
 
 use clap::ArgMatches;
 
@@ -8,10 +8,12 @@ use clap::ArgMatches;
 #[derive(Clone, Copy, Debug, PartialEq, Eq)]
 pub enum Command<'a> {
     /// The verdict on the program in `file`, by the job and the part in the other two files.
+    /// `workers` is how many threads share the work, from 1 to 64.
     Verify {
         job: &'a str,
         part: &'a str,
         file: &'a str,
+        workers: u32,
     },
     /// How far the job's cutter drops onto the part at (x, y), in millimetres as they were written.
     Drop {
@@ -35,12 +37,13 @@ impl<'a> Command<'a> {
     }
 
     fn verify_from(matches: &ArgMatches<'a>) -> Option<Command<'a>>
-        ensures { option_map request_of result ≡ verify_of (first_of (codes "job") (rows_of (found_of matches.now))) (first_of (codes "part") (rows_of (found_of matches.now))) (first_of (codes "file") (rows_of (found_of matches.now))) }
+        ensures { option_map request_of result ≡ verify_of (first_of (codes "job") (rows_of (found_of matches.now))) (first_of (codes "part") (rows_of (found_of matches.now))) (first_of (codes "file") (rows_of (found_of matches.now))) (workers_in (rows_of (found_of matches.now))) }
     {
         Some(Command::Verify {
             job: value(matches, "job")?,
             part: value(matches, "part")?,
             file: value(matches, "file")?,
+            workers: workers(matches)?,
         })
     }
 
@@ -61,4 +64,11 @@ fn value<'a>(matches: &ArgMatches<'a>, id: &str) -> Option<&'a str>
     ensures { option_map (λ s. s.now) result ≡ first_of id.now (rows_of (found_of matches.now)) }
 {
     matches.get_str(id)
+}
+
+/// How many workers there are.
+fn workers(matches: &ArgMatches<'_>) -> Option<u32>
+    ensures { result ≡ workers_in (rows_of (found_of matches.now)) }
+{
+    matches.get_one("workers")
 }

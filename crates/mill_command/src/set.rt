@@ -2,9 +2,10 @@
 //! in `specs/Set.antt`, and where matches are read.
 ghost use Rattle.std.specs.Prelude.{◌≡◌, false, IfOk};
 ghost use Rattle.clap.specs.Words.{App, Rule, new_app, rule_of, with_rule, with_subcommand};
-ghost use Rattle.mill_command.specs.Set.{Is, commands, drop as drop_command, option, place, program, verify, with_files};
+ghost use Rattle.mill_command.specs.Set.{Is, commands, count_parser, drop as drop_command, option, place, program, verify, with_files, workers};
 
-use clap::{Arg, Command};
+use clap::builder::ValueParser;
+use clap::{Arg, Command, value_parser};
 use std::alloc::{AllocError, Global};
 
 /// What `--version` shows.
@@ -30,7 +31,7 @@ fn program<'a>(alloc: Global) -> Result<Command<'a>, AllocError>
         .bin_name("camtool")
 }
 
-/// `verify JOB PART FILE`.
+/// `verify JOB PART FILE`, with how many workers.
 fn verify<'a>(alloc: Global) -> Result<Command<'a>, AllocError>
     ensures { IfOk result (Is verify) }
 {
@@ -41,7 +42,7 @@ fn verify<'a>(alloc: Global) -> Result<Command<'a>, AllocError>
     )
 }
 
-/// `drop JOB PART --x=X --y=Y`.
+/// `drop JOB PART --x=X --y=Y`, with how many workers.
 fn drop_height<'a>(alloc: Global) -> Result<Command<'a>, AllocError>
     ensures { IfOk result (Is drop_command) }
 {
@@ -57,7 +58,8 @@ fn drop_height<'a>(alloc: Global) -> Result<Command<'a>, AllocError>
     with_arg(command, option(alloc, "y", "Y", "The place's y in mm"))
 }
 
-/// A command whose first two words are the job's and the part's file.
+/// A command whose first two words are the job's and the part's file, and that takes how many
+/// workers.
 fn with_files<'a>(
     alloc: Global,
     name: &'static str,
@@ -65,10 +67,8 @@ fn with_files<'a>(
 ) -> Result<Command<'a>, AllocError>
     ensures { IfOk result (Is (with_files name.entry.now)) }
 {
-    let command = with_arg(
-        command(alloc, name, about),
-        place(alloc, "job", "JOB", "The job's file, TOML"),
-    )?;
+    let command = with_arg(command(alloc, name, about), workers(alloc))?;
+    let command = with_arg(command, place(alloc, "job", "JOB", "The job's file, TOML"))?;
     with_arg(
         command,
         place(alloc, "part", "PART", "The part's file, ASCII STL"),
@@ -97,6 +97,25 @@ fn option<'a>(alloc: Global, id: &'static str, name: &'static str, help: &'stati
     ensures { (rule_of result ≡ option id.entry.now) × (result.global ≡ false) }
 {
     place(alloc, id, name, help).long(id)
+}
+
+/// `--workers=W`, which may be left out.
+fn workers<'a>(alloc: Global) -> Arg<'a>
+    ensures { (rule_of result ≡ workers) × (result.global ≡ false) }
+{
+    Arg::new(alloc, "workers")
+        .long("workers")
+        .value_parser(count_parser())
+        .default_value("1")
+        .value_name("W")
+        .help("How many threads share the work, from 1 to 64")
+}
+
+/// How many workers there can be.
+fn count_parser<'a>() -> ValueParser<'a>
+    ensures { result ≡ count_parser }
+{
+    value_parser!(u32).range(1..=64)
 }
 
 /// The command with one more argument.

@@ -17,16 +17,25 @@ fn takes_commands(rt: HostRuntime) -> Result<(), Fail> {
         job: "a",
         part: "b",
         file: "c",
+        workers: 1,
+    };
+    let crowded = Command::Verify {
+        job: "a",
+        part: "b",
+        file: "c",
+        workers: 64,
     };
     let dashed = Command::Verify {
         job: "-a",
         part: "--help",
         file: "verify",
+        workers: 1,
     };
     let nameless = Command::Verify {
         job: "a",
         part: "b",
         file: "",
+        workers: 1,
     };
     let drop = Command::Drop {
         job: "a",
@@ -40,16 +49,28 @@ fn takes_commands(rt: HostRuntime) -> Result<(), Fail> {
         x: "",
         y: "--x=1",
     };
-    let table: [(&[&str], Command<'_>); 9] = [
+    let table: [(&[&str], Command<'_>); 15] = [
         (&["verify", "a", "b", "c"], verify),
         (&["verify", "--", "a", "b", "c"], verify),
         (&["verify", "--", "-a", "--help", "verify"], dashed),
         (&["verify", "a", "b", ""], nameless),
+        (&["verify", "a", "b", "c", "--workers=1"], verify),
+        (&["verify", "--workers=64", "a", "b", "c"], crowded),
+        (&["verify", "a", "--workers", "64", "b", "c"], crowded),
+        (&["verify", "a", "b", "--workers=+064", "c"], crowded),
         (&["drop", "a", "b", "--x=-1", "--y=2.5"], drop),
         (&["drop", "--y", "2.5", "a", "--x=-1", "b"], drop),
         (&["drop", "--y=2.5", "--x=-1", "a", "b"], drop),
         (&["drop", "--y=2.5", "--x=-1", "--", "a", "b"], drop),
         (&["drop", "a", "b", "--x=", "--y=--x=1"], unwritten),
+        (
+            &["drop", "a", "b", "--x=-1", "--y=2.5", "--workers=1"],
+            drop,
+        ),
+        (
+            &["drop", "--workers=64", "a", "b", "--x=-1", "--y=2.5"],
+            drop,
+        ),
     ];
     for (words, command) in table {
         let words = owned(rt.alloc(), words)?;
@@ -67,15 +88,15 @@ fn shows_help_and_version(rt: HostRuntime) -> Result<(), Fail> {
         (&["help", "verify"], "Verifies a program"),
         (
             &["verify", "--help"],
-            "Usage: camtool verify <JOB> <PART> <FILE>",
+            "Usage: camtool verify [OPTIONS] <JOB> <PART> <FILE>",
         ),
         (
             &["verify", "a", "-h"],
-            "Usage: camtool verify <JOB> <PART> <FILE>",
+            "Usage: camtool verify [OPTIONS] <JOB> <PART> <FILE>",
         ),
         (
             &["drop", "-h"],
-            "Usage: camtool drop --x <X> --y <Y> <JOB> <PART>",
+            "Usage: camtool drop [OPTIONS] --x <X> --y <Y> <JOB> <PART>",
         ),
         (&["--version"], "camtool 0.1.0\n"),
         (&["-V"], "camtool 0.1.0\n"),
@@ -93,7 +114,7 @@ fn shows_help_and_version(rt: HostRuntime) -> Result<(), Fail> {
 
 #[test]
 fn refuses_words(rt: HostRuntime) -> Result<(), Fail> {
-    let table: [(&[&str], &str); 21] = [
+    let table: [(&[&str], &str); 30] = [
         (&[], "requires a subcommand"),
         (&["--"], "requires a subcommand"),
         (&["verify"], "<JOB>\n  <PART>\n  <FILE>\n"),
@@ -118,6 +139,39 @@ fn refuses_words(rt: HostRuntime) -> Result<(), Fail> {
         (
             &["--workers=2", "verify", "a", "b", "c"],
             "unexpected argument '--workers'",
+        ),
+        (
+            &["verify", "a", "b", "c", "--workers=0"],
+            "0 is not in 1..=64",
+        ),
+        (
+            &["verify", "a", "b", "c", "--workers=65"],
+            "65 is not in 1..=64",
+        ),
+        (
+            &["verify", "a", "b", "c", "--workers=-1"],
+            "-1 is not in 1..=64",
+        ),
+        (
+            &["verify", "a", "b", "c", "--workers=1.5"],
+            "invalid value '1.5'",
+        ),
+        (&["verify", "a", "b", "c", "--workers="], "'--workers <W>'"),
+        (
+            &["verify", "a", "b", "c", "--workers"],
+            "a value is required for '--workers <W>'",
+        ),
+        (
+            &["verify", "a", "b", "c", "--workers=2", "--workers=2"],
+            "multiple times",
+        ),
+        (
+            &["verify", "--workers=2", "a", "b"],
+            "not provided:\n  <FILE>\n",
+        ),
+        (
+            &["drop", "a", "b", "--x=1", "--y=2", "--workers=65"],
+            "65 is not in 1..=64",
         ),
         (&["drop", "a", "b"], "not provided:\n  --x <X>\n  --y <Y>\n"),
         (&["drop", "a", "b", "--x=1"], "not provided:\n  --y <Y>\n"),

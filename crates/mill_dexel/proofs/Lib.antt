@@ -1,8 +1,16 @@
 mod Heights
 mod FarCerts
+mod InnerCerts
+mod Inner
+mod Places
 mod Reaches
 mod CutRows
+mod Beyond
+mod LineCerts
+mod Lines
 mod UncutRows
+mod RunLaws
+mod Chunks
 pub mod TopLaws
 pub mod RowLaws
 pub mod Removal

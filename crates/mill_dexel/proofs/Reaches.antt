@@ -1,22 +1,28 @@
 -- Columns at least the cutter's radius away from a sample keep their tops, and a move passes them.
-use Rattle.std.proofs.Common.{◌≡◌, ◌⊎◌, inl, inr, refl, sym, ap, true, false, Bool, ℕ, ◌*◌, ◌<◌, ◌≤◌, arith}
-use Rattle.std.specs.Prelude.{ℤ, pos, ◌+ℤ◌, ◌-ℤ◌, ◌*ℤ◌, ◌<ℤ◌, ◌≤ℤ◌, negsuc, nat_abs, int_lt, Option, Some, None, if◌then◌else◌}
+use Rattle.std.proofs.Common.{◌≡◌, ◌⊎◌, inl, inr, refl, sym, ap, ◌∙◌, [], ◌∷◌, w32, true, false, Bool, ℕ, ◌*◌, ◌<◌, ◌≤◌, arith}
+use Rattle.std.specs.Prelude.{ℤ, pos, ◌+ℤ◌, ◌-ℤ◌, ◌*ℤ◌, ◌<ℤ◌, ◌≤ℤ◌, negsuc, nat_abs, int_lt, cond, Option, Some, None, if◌then◌else◌}
 use Rattle.std.proofs.lemmas.Int.{ints}
 use Rattle.std.proofs.Math.IntN.{pos-*ℤ-pos}
 use Rattle.mill_base.specs.Numbers.{square}
-use Rattle.mill_base.specs.Points.{point_at}
+use Rattle.mill_base.specs.Points.{point_at, point_tri}
 use Rattle.mill_base.specs.Sizes.{IsCutter, radius_of, is_within, surface, cut_height_of}
 use Rattle.mill_base.specs.declared.points.Pt3.{Pt3}
 use Rattle.mill_base.specs.declared.motion.Move.{Move}
 use Rattle.mill_base.specs.declared.cutter.Cutter.{Cutter}
 use Rattle.mill_base.specs.declared.cutter.Cutter.TheVariants.{Flat, Ball, Cone}
+use Rattle.mill_base.proofs.Exit.{split_lt}
+use Rattle.mill_base.proofs.Machine.{Read, Lit, Sum, exact, stored}
+use Rattle.mill_base.specs.Ranges.{MoveInRange}
 use Rattle.mill_base.proofs.Integers.{sq-ℤ}
+use Rattle.mill_shape.proofs.CutHeights.{cut_height_is_greatest, cutter_is_wide}
+use Rattle.mill_shape.proofs.Holding.{holds_over_tip}
 use Rattle.mill_job.specs.declared.job.Job.{Job}
-use Rattle.mill_sweep.specs.Passes.{PassesPoint}
+use Rattle.mill_sweep.specs.Halving.{PassesPoint}
+use Rattle.mill_sweep.proofs.Far.{far_passes}
 use Rattle.mill_sweep.proofs.Passing.{radius_least}
-use Rattle.mill_dexel.specs.Samples.{placed}
+use Rattle.mill_dexel.specs.declared.sample.Placed.{Placed}
 use Rattle.mill_dexel.specs.Tops.{top_after_sample, lowered_to}
-use Rattle.mill_dexel.specs.Cuts.{IsUnderBoth, IsOverBoth}
+use Rattle.mill_dexel.specs.Cuts.{IsUnderBy, IsOverBy, IsReachBy, IsBeyond}
 use Rattle.mill_dexel.proofs.FarCerts.{far_under, far_over}
 
 -- two numbers are at least r apart
@@ -61,16 +67,75 @@ far_is_none cutter tip x y least far =
     squares (inr h) = inr (far_square (radius_of cutter) y tip.y least h)
 
 -- and so leaves its top as it is
-pub far_keeps : (cutter : Cutter) (tip : Pt3) (floor x y top : ℤ) → IsCutter cutter → IsFar cutter tip x y → top ≡ top_after_sample floor x y top (placed cutter tip)
-far_keeps cutter tip floor x y top size far =
-    sym (ap (λ (cut : Option ℤ). lowered_to floor top cut) (far_is_none cutter tip x y (radius_least cutter size) far))
+pub far_keeps : (s : Placed) (floor x y top : ℤ) → IsCutter s.cutter → IsFar s.cutter s.tip x y → top ≡ top_after_sample floor x y top (Some s)
+far_keeps s floor x y top size far =
+    sym (ap (λ (cut : Option ℤ). lowered_to floor top cut) (far_is_none s.cutter s.tip x y (radius_least s.cutter size) far))
 
--- a move passes each point of a column at least the radius under or over both its ends in x
-pub under_passes : (job : Job) (m : Move) (x y z : ℤ) → IsUnderBoth job m.from.x m.to.x x → PassesPoint job.cutter m (point_at x y z)
-under_passes job m x y z h = inr (inl (inr (record { a_e = h.first; b_e = h.first; c_e = h.first; a_f = h.second; b_f = h.second; c_f = h.second })))
+-- the same of numbers that are stored as they are
+pub beyond_same : (r a b y s c d z : ℤ) → r ≡ s → a ≡ c → b ≡ d → y ≡ z → IsBeyond r a b y → IsBeyond s c d z
+beyond_same r a b y s c d z er ea eb ey (inl h) = let l = h.first in let k = h.second in inl (record { first = omega (arith, ints); second = omega (arith, ints) })
+beyond_same r a b y s c d z er ea eb ey (inr h) = let l = h.first in let k = h.second in inr (record { first = omega (arith, ints); second = omega (arith, ints) })
 
-pub over_passes : (job : Job) (m : Move) (x y z : ℤ) → IsOverBoth job m.from.x m.to.x x → PassesPoint job.cutter m (point_at x y z)
-over_passes job m x y z h = inr (inl (inl (record { a_e = h.first; b_e = h.first; c_e = h.first; a_f = h.second; b_f = h.second; c_f = h.second })))
+pub reach_same : (job : Job) (r a b s c d : ℤ) (first «end» : ℕ) → r ≡ s → a ≡ c → b ≡ d → IsReachBy job r a b first «end» → IsReachBy job s c d first «end»
+reach_same job r a b s c d first «end» er ea eb reach = record {
+  within = reach.within;
+  under = λ i before. let h = reach.under i before in let l = h.first in let k = h.second in record { first = omega (arith, ints); second = omega (arith, ints) };
+  over = λ i behind within. let h = reach.over i behind within in let l = h.first in let k = h.second in record { first = omega (arith, ints); second = omega (arith, ints) };
+}
+
+-- a row or a column beyond a distance from the tip is that far from it
+pub beyond_far : (r t x : ℤ) → IsBeyond r t t x → AreFar r x t
+beyond_far r t x (inl under) = inl under.first
+beyond_far r t x (inr over) = inr over.first
+
+-- a cutter cuts no column under its tip
+cut_is_over : (s : Placed) (x y h : ℤ) → IsCutter s.cutter → cut_height_of s.cutter s.tip x y ≡ Some h → s.tip.z ≤ℤ h
+cut_is_over s x y h size cut = elim (split_lt h s.tip.z) [
+  | inr over ↦ over
+  | inl under ↦ absurd (
+      let held = (cut_height_is_greatest s.cutter s.tip x y h (cutter_is_wide s.cutter (pos 10000) (omega (arith, ints)) size) cut).greatest s.tip.z under in
+      let over = holds_over_tip s.cutter (pos 1) s.tip (pos 1) (point_at x y s.tip.z) (radius_least s.cutter size) (omega (arith, ints)) (omega (arith, ints)) held in
+      omega (arith, ints))
+]
+
+kept_over : (floor top : ℤ) (cut : Option ℤ) → floor ≤ℤ top → ((h : ℤ) → cut ≡ Some h → top ≤ℤ h) → top ≡ lowered_to floor top cut
+kept_over floor top None low over = refl
+kept_over floor top (Some h) low over = let high = over h refl in rw (not_less h top high) (by (int_lt floor top) refl)
+  where
+    by : (t : Bool) → int_lt floor top ≡ t → top ≡ cond t top floor
+    by true e = refl
+    by false e = omega (arith, ints)
+
+-- so a top from the floor to the tip's height stays as it is
+pub free_keeps : (s : Placed) (floor x y top : ℤ) → IsCutter s.cutter → floor ≤ℤ top → top ≤ℤ s.tip.z → top ≡ top_after_sample floor x y top (Some s)
+free_keeps s floor x y top size low high =
+    kept_over floor top (cut_height_of s.cutter s.tip x y) low (λ h cut. over h (cut_is_over s x y h size cut))
+  where
+    over : (h : ℤ) → s.tip.z ≤ℤ h → top ≤ℤ h
+    over h k = omega (arith, ints)
+
+-- a move passes each point of a column at least the radius and 2 under or over both its ends in x
+pub under_passes : (cutter : Cutter) (m : Move) (x y z : ℤ) → IsCutter cutter → MoveInRange m → IsUnderBy (radius_of cutter +ℤ pos 2) m.from.x m.to.x x → PassesPoint cutter m (point_at x y z)
+under_passes cutter m x y z size range h =
+    far_passes cutter m (point_tri (point_at x y z)) size range (inr (inl (inr (record { a_e = h.first; b_e = h.first; c_e = h.first; a_f = h.second; b_f = h.second; c_f = h.second }))))
+
+pub over_passes : (cutter : Cutter) (m : Move) (x y z : ℤ) → IsCutter cutter → MoveInRange m → IsOverBy (radius_of cutter +ℤ pos 2) m.from.x m.to.x x → PassesPoint cutter m (point_at x y z)
+over_passes cutter m x y z size range h =
+    far_passes cutter m (point_tri (point_at x y z)) size range (inr (inl (inl (record { a_e = h.first; b_e = h.first; c_e = h.first; a_f = h.second; b_f = h.second; c_f = h.second }))))
+
+-- a job's cutter has a radius up to 10,000
+pub radius_most : (cutter : Cutter) → IsCutter cutter → radius_of cutter ≤ℤ pos 10000
+radius_most (Flat r) h = h.within
+radius_most (Ball r) h = h.within
+radius_most (Cone r a b) h = h.0.within
+
+-- the distance beyond which a move passes, as the code has it
+pub passes_beyond : (cutter : Cutter) (r : ℤ) → IsCutter cutter → r ≡ radius_of cutter → stored w32 (stored w32 r +ℤ pos 2) ≡ radius_of cutter +ℤ pos 2
+passes_beyond cutter r size e =
+    exact (r ∷ []) (10000 ∷ []) (Sum w32 (Read w32 0) (Lit (pos 2))) (rw e (small (radius_of cutter) (radius_least cutter size) (radius_most cutter size)), tt) refl ∙ ap (λ (s : ℤ). s +ℤ pos 2) e
+  where
+    small : (q : ℤ) → (pos 1) ≤ℤ q → q ≤ℤ pos 10000 → nat_abs q ≤ 10000
+    small q least most = omega (arith, ints)
 
 -- a column that stands at most s after the first one, and one that stands more than s after it
 pub column_inside : (i s p : ℕ) (x0 x pitch : ℤ) → (pos 0) ≤ℤ pitch → p ≡ nat_abs pitch → (x0 +ℤ pos s) ≤ℤ x → i * p ≤ s → (x0 +ℤ pos i *ℤ pitch) ≤ℤ x
@@ -85,9 +150,3 @@ column_outside i s p x0 x (negsuc q) pitch_ok e place h = absurd (omega (arith, 
 pub column_from_first : (i : ℕ) (x0 x pitch : ℤ) → (pos 0) ≤ℤ pitch → x <ℤ x0 → x <ℤ (x0 +ℤ pos i *ℤ pitch)
 column_from_first i x0 x (pos q) pitch_ok h = rw (pos-*ℤ-pos i q) (omega (arith, ints))
 column_from_first i x0 x (negsuc q) pitch_ok h = absurd (omega (arith, ints))
-
--- a job's cutter has a radius up to 10,000
-pub radius_most : (cutter : Cutter) → IsCutter cutter → radius_of cutter ≤ℤ pos 10000
-radius_most (Flat r) h = h.within
-radius_most (Ball r) h = h.within
-radius_most (Cone r a b) h = h.0.within

@@ -1,77 +1,149 @@
 -- What is over a column's top was held by the cutter at some sample, and so is removed.
 use Rattle.std.proofs.Common.{◌≡◌, ◌⊎◌, inl, inr, refl, sym, subst, arith}
-use Rattle.std.specs.Prelude.{ℤ, pos, ◌+ℤ◌, ◌-ℤ◌, ◌*ℤ◌, ◌<ℤ◌, List, [], ◌∷◌, fold}
+use Rattle.std.specs.Prelude.{ℕ, zero, suc, ◌+◌, ◌^◌, ◌<◌, ◌≤◌, Bool, true, false, ◌&&◌, ℤ, pos, ◌+ℤ◌, ◌-ℤ◌, ◌*ℤ◌, ◌<ℤ◌, ◌≤ℤ◌, List, [], ◌∷◌, fold, map, Some}
+use Rattle.std.specs.List.{range_with_len}
 use Rattle.std.proofs.lemmas.Int.{ints}
+use Rattle.std.proofs.lemmas.Nat.{pow_pos}
 use Rattle.std.proofs.lemmas.List.Elements.{Contains-append_right}
-use Rattle.mill_base.proofs.Integers.{one-mul-ℤ, zero-mul-ℤ}
+use Rattle.mill_base.proofs.Divisions.{half_low, half_high, ceil_div_high}
+use Rattle.mill_base.specs.Numbers.{square, divides, round_half_up}
 use Rattle.mill_base.specs.Points.{point_at}
-use Rattle.mill_base.specs.Motion.{tip_at}
+use Rattle.mill_base.specs.Motion.{IsMoment, tip_at}
 use Rattle.mill_base.specs.Contact.{Holds, Removes, IsRemoved}
-use Rattle.mill_base.specs.Sizes.{IsCutter, cut_height_of}
+use Rattle.mill_base.specs.Sizes.{IsCutter, radius_of, with_radius, inner, shift, cut_height_of}
 use Rattle.mill_base.specs.declared.points.Pt3.{Pt3}
 use Rattle.mill_base.specs.declared.motion.Move.{Move}
 use Rattle.mill_base.specs.declared.cutter.Cutter.{Cutter}
+use Rattle.mill_base.specs.declared.cutter.Cutter.TheVariants.{Flat, Ball, Cone}
 use Rattle.mill_shape.proofs.CutHeights.{cut_height_is_greatest, cutter_is_wide}
+use Rattle.mill_sweep.specs.Leaves.{end_of}
+use Rattle.mill_sweep.proofs.Passing.{radius_least}
 use Rattle.mill_job.specs.declared.job.Job.{Job}
-use Rattle.mill_dexel.specs.Samples.{placed}
+use Rattle.mill_dexel.specs.declared.sample.Placed.{Placed}
+use Rattle.mill_dexel.specs.Samples.{placed, sample_at, split_of, centre_of, is_whole}
 use Rattle.mill_dexel.specs.Tops.{top_after_sample, top_after_move}
 use Rattle.mill_dexel.specs.Laws.{OverTopIsRemoved}
+use Rattle.mill_dexel.proofs.InnerCerts.{nearest_square}
+use Rattle.mill_dexel.proofs.Inner.{inner_holds, no_raise, raise_of, parts_some}
+use Rattle.mill_dexel.proofs.Places.{narrow_sample, sample_cases, inner_is, whole_place}
 use Rattle.mill_dexel.proofs.TopLaws.{lowered_under}
 
--- a move's tip at its first moment and at its last one
-point_of : (a b c d e f : ℤ) → a ≡ d → b ≡ e → c ≡ f → point_at a b c ≡ point_at d e f
-point_of a b c d e f p q r = cc
-
-pub tip_at_start : (m : Move) → tip_at m (pos 0) (pos 1) ≡ m.from
-tip_at_start m = point_of _ _ _ _ _ _ (start m.from.x m.to.x) (start m.from.y m.to.y) (start m.from.z m.to.z)
-  where
-    start : (a b : ℤ) → ((pos 1 -ℤ pos 0) *ℤ a) +ℤ (pos 0 *ℤ b) ≡ a
-    start a b = let one = one-mul-ℤ a in let zero = zero-mul-ℤ b in omega (arith, ints)
-
-pub tip_at_end : (m : Move) → tip_at m (pos 1) (pos 1) ≡ m.to
-tip_at_end m = point_of _ _ _ _ _ _ (last m.from.x m.to.x) (last m.from.y m.to.y) (last m.from.z m.to.z)
-  where
-    last : (a b : ℤ) → ((pos 1 -ℤ pos 1) *ℤ a) +ℤ (pos 1 *ℤ b) ≡ b
-    last a b = let one = one-mul-ℤ b in let zero = zero-mul-ℤ a in omega (arith, ints)
-
--- what the cutter holds at an end of the move, the move removes
-removes_at_start : (cutter : Cutter) (m : Move) (p : Pt3) → Holds cutter (pos 1) m.from (pos 1) p → Removes cutter m (pos 1) p
-removes_at_start cutter m p held = record {
-  k = pos 0;
-  m = pos 1;
-  moment = record { some = omega (arith, ints); after = omega (arith, ints); before = omega (arith, ints) };
-  inside = subst (λ (t : Pt3). Holds cutter (pos 1) t (pos 1) p) (sym (tip_at_start m)) held;
-}
-
-removes_at_end : (cutter : Cutter) (m : Move) (p : Pt3) → Holds cutter (pos 1) m.to (pos 1) p → Removes cutter m (pos 1) p
-removes_at_end cutter m p held = record {
-  k = pos 1;
-  m = pos 1;
-  moment = record { some = omega (arith, ints); after = omega (arith, ints); before = omega (arith, ints) };
-  inside = subst (λ (t : Pt3). Holds cutter (pos 1) t (pos 1) p) (sym (tip_at_end m)) held;
-}
-
 -- a sample that brings a top under h holds the point at h
-sample_holds : (cutter : Cutter) (tip : Pt3) (floor x y top h : ℤ) → IsCutter cutter → top_after_sample floor x y top (placed cutter tip) <ℤ h
-    → (top <ℤ h) ⊎ Holds cutter (pos 1) tip (pos 1) (point_at x y h)
-sample_holds cutter tip floor x y top h size under =
-    elim (lowered_under floor top h (cut_height_of cutter tip x y) under) [
+sample_holds : (s : Placed) (floor x y top h : ℤ) → IsCutter s.cutter → top_after_sample floor x y top (Some s) <ℤ h
+    → (top <ℤ h) ⊎ Holds s.cutter (pos 1) s.tip (pos 1) (point_at x y h)
+sample_holds s floor x y top h size under =
+    elim (lowered_under floor top h (cut_height_of s.cutter s.tip x y) under) [
       | inl before ↦ inl before
-      | inr cut ↦ inr ((cut_height_is_greatest cutter tip x y cut.0 (cutter_is_wide cutter (pos 10000) (omega (arith, ints)) size) cut.1.0).greatest h cut.1.1)
+      | inr cut ↦ inr ((cut_height_is_greatest s.cutter s.tip x y cut.0 (cutter_is_wide s.cutter (pos 10000) (omega (arith, ints)) size) cut.1.0).greatest h cut.1.1)
+    ]
+
+-- the moment k/2^d of a move, for k up to 2^d
+moment_is : (d k : ℕ) → k ≤ 2 ^ d → IsMoment (pos k) (pos (2 ^ d))
+moment_is d k h = by (2 ^ d) (pow_pos d) h
+  where
+    by : (n : ℕ) → 0 < n → k ≤ n → IsMoment (pos k) (pos n)
+    by n some under = record { some = omega (arith, ints); after = omega (arith, ints); before = omega (arith, ints) }
+
+-- at whole places a sample stands where the tip is
+on_place : (z w : ℤ) (n : ℕ) → 0 < n → divides n z ≡ true → divides n w ≡ true
+    → (square (pos n *ℤ round_half_up z n -ℤ z) +ℤ square (pos n *ℤ round_half_up w n -ℤ w)) ≤ℤ square (pos 0 *ℤ pos n)
+on_place z w n some hz hw = by (pos n *ℤ round_half_up z n) (pos n *ℤ round_half_up w n) (whole_place z n some hz) (whole_place w n some hw)
+  where
+    by : (p q : ℤ) → p ≡ z → q ≡ w → (square (p -ℤ z) +ℤ square (q -ℤ w)) ≤ℤ square (pos 0 *ℤ pos n)
+    by p q e f =
+        nearest_square (pos n) (p -ℤ z) (q -ℤ w) (pos 0) (omega (arith, ints)) (omega (arith, ints)) (omega (arith, ints)) (omega (arith, ints)) (omega (arith, ints))
+
+-- and else at most a half away from it, in x and in y
+near_place : (z w : ℤ) (n : ℕ) → 0 < n → (square (pos n *ℤ round_half_up z n -ℤ z) +ℤ square (pos n *ℤ round_half_up w n -ℤ w)) ≤ℤ square (pos 1 *ℤ pos n)
+near_place z w n some = by (pos n *ℤ round_half_up z n) (pos n *ℤ round_half_up w n) (half_low z n some) (half_high z n some) (half_low w n some) (half_high w n some)
+  where
+    by : (p q : ℤ) → (pos 2 *ℤ p) ≤ℤ (pos 2 *ℤ z +ℤ pos n) → (pos 2 *ℤ z) <ℤ (pos 2 *ℤ p +ℤ pos n)
+        → (pos 2 *ℤ q) ≤ℤ (pos 2 *ℤ w +ℤ pos n) → (pos 2 *ℤ w) <ℤ (pos 2 *ℤ q +ℤ pos n) → (square (p -ℤ z) +ℤ square (q -ℤ w)) ≤ℤ square (pos 1 *ℤ pos n)
+    by p q pl ph ql qh =
+        nearest_square (pos n) (p -ℤ z) (q -ℤ w) (pos 1) (omega (arith, ints)) (omega (arith, ints)) (omega (arith, ints)) (omega (arith, ints)) (omega (arith, ints))
+
+both_true : (a b : Bool) → (a && b) ≡ true → (a ≡ true) × (b ≡ true)
+both_true true true e = (refl, refl)
+both_true true false e = cc
+both_true false b e = cc
+
+same_radius : (cutter : Cutter) → cutter ≡ with_radius cutter (radius_of cutter)
+same_radius (Flat r) = refl
+same_radius (Ball r) = refl
+same_radius (Cone r a b) = refl
+
+radius_some : (r : ℤ) → (pos 1) ≤ℤ r → (pos 0) ≤ℤ r
+radius_some r h = omega (arith, ints)
+
+-- what a sample at a whole place holds, the cutter holds at that moment
+whole_holds : (cutter : Cutter) (m : Move) (d k : ℕ) (p : Pt3) → IsCutter cutter → is_whole m d k ≡ true → Holds cutter (pos 1) (centre_of m d k) (pos 1) p
+    → Holds cutter (pos (2 ^ d)) (tip_at m (pos k) (pos (2 ^ d))) (pos 1) p
+whole_holds cutter m d k p size whole held =
+    let c = centre_of m d k in
+    let both = both_true (divides (2 ^ d) (end_of m.from.x m.to.x d k)) (divides (2 ^ d) (end_of m.from.y m.to.y d k)) whole in
+    inner_holds cutter (radius_of cutter) (pos 0) (pos 0) (pos (2 ^ d)) p c (tip_at m (pos k) (pos (2 ^ d))) (radius_some (radius_of cutter) (radius_least cutter size)) (omega (arith, ints)) (parts_some d) (unchanged (radius_of cutter))
+    (no_raise cutter size)
+    (on_place (end_of m.from.x m.to.x d k) (end_of m.from.y m.to.y d k) (2 ^ d) (pow_pos d) both.0 both.1)
+    (ceil_div_high (end_of m.from.z m.to.z d k) (2 ^ d) (pow_pos d))
+    (subst (λ s. Holds s (pos 1) (point_at c.x c.y (c.z +ℤ pos 0)) (pos 1) p) (same_radius cutter) (subst (λ z. Holds cutter (pos 1) (point_at c.x c.y z) (pos 1) p) (sym (unchanged c.z)) held))
+  where
+    unchanged : (a : ℤ) → a +ℤ pos 0 ≡ a
+    unchanged a = omega (arith, ints)
+
+-- what the narrower cutter of a sample holds, the cutter holds at that moment
+narrow_holds : (cutter n : Cutter) (m : Move) (d k : ℕ) (p : Pt3) → IsCutter cutter → inner cutter ≡ Some n → Holds n (pos 1) (narrow_sample cutter m d k n).tip (pos 1) p
+    → Holds cutter (pos (2 ^ d)) (tip_at m (pos k) (pos (2 ^ d))) (pos 1) p
+narrow_holds cutter n m d k p size e held =
+    let c = centre_of m d k in
+    let narrow = inner_is cutter n size e in
+    inner_holds cutter (radius_of cutter -ℤ pos 1) (pos 1) (shift cutter (pos 1)) (pos (2 ^ d)) p c (tip_at m (pos k) (pos (2 ^ d))) (less (radius_of cutter) (radius_least cutter size)) (omega (arith, ints)) (parts_some d) (back (radius_of cutter))
+    (raise_of cutter size)
+    (near_place (end_of m.from.x m.to.x d k) (end_of m.from.y m.to.y d k) (2 ^ d) (pow_pos d))
+    (ceil_div_high (end_of m.from.z m.to.z d k) (2 ^ d) (pow_pos d))
+    (subst (λ s. Holds s (pos 1) (point_at c.x c.y (c.z +ℤ shift cutter (pos 1))) (pos 1) p) narrow.is held)
+  where
+    less : (r : ℤ) → (pos 1) ≤ℤ r → (pos 0) ≤ℤ (r -ℤ pos 1)
+    less r h = omega (arith, ints)
+
+    back : (r : ℤ) → (r -ℤ pos 1) +ℤ pos 1 ≡ r
+    back r = omega (arith, ints)
+
+-- a sample that brings a top under h removes the point at h
+sample_removes : (cutter : Cutter) (m : Move) (d k : ℕ) (floor x y top h : ℤ) → IsCutter cutter → k ≤ 2 ^ d → top_after_sample floor x y top (sample_at cutter m d k) <ℤ h
+    → (top <ℤ h) ⊎ Removes cutter m (pos 1) (point_at x y h)
+sample_removes cutter m d k floor x y top h size at_most =
+    sample_cases cutter m d k (λ s. top_after_sample floor x y top s <ℤ h → (top <ℤ h) ⊎ Removes cutter m (pos 1) (point_at x y h))
+    (λ whole under. elim (sample_holds (placed cutter (centre_of m d k)) floor x y top h size under) [
+      | inl before ↦ inl before
+      | inr held ↦ inr (removes (whole_holds cutter m d k (point_at x y h) size whole held))
+    ])
+    (λ under. inl under)
+    (λ n e under. elim (sample_holds (narrow_sample cutter m d k n) floor x y top h (inner_is cutter n size e).size under) [
+      | inl before ↦ inl before
+      | inr held ↦ inr (removes (narrow_holds cutter n m d k (point_at x y h) size e held))
+    ])
+  where
+    removes : Holds cutter (pos (2 ^ d)) (tip_at m (pos k) (pos (2 ^ d))) (pos 1) (point_at x y h) → Removes cutter m (pos 1) (point_at x y h)
+    removes held = record { k = pos k; m = pos (2 ^ d); moment = moment_is d k at_most; inside = held }
+
+-- so do the samples from start on
+samples_remove : (cutter : Cutter) (m : Move) (d : ℕ) (floor x y h : ℤ) (start n : ℕ) (top : ℤ) → IsCutter cutter → start + n ≤ 2 ^ d + 1
+    → fold (top_after_sample floor x y) top (map (sample_at cutter m d) (range_with_len start n)) <ℤ h → (top <ℤ h) ⊎ Removes cutter m (pos 1) (point_at x y h)
+samples_remove cutter m d floor x y h start zero top size within under = inl under
+samples_remove cutter m d floor x y h start (suc n) top size within under =
+    elim (samples_remove cutter m d floor x y h (start + 1) n (top_after_sample floor x y top (sample_at cutter m d start)) size (omega arith) under) [
+      | inl between ↦ sample_removes cutter m d start floor x y top h size (omega arith) between
+      | inr removes ↦ inr removes
     ]
 
 -- a move that brings a top under h removes the point at h
 pub move_removes : (job : Job) (x y top h : ℤ) (m : Move) → IsCutter job.cutter → top_after_move job x y top m <ℤ h
     → (top <ℤ h) ⊎ Removes job.cutter m (pos 1) (point_at x y h)
 move_removes job x y top h m size under =
-    elim (sample_holds job.cutter m.to job.floor x y (top_after_sample job.floor x y top (placed job.cutter m.from)) h size under) [
-      | inl between ↦ by (sample_holds job.cutter m.from job.floor x y top h size between)
-      | inr held ↦ inr (removes_at_end job.cutter m (point_at x y h) held)
-    ]
+    samples_remove job.cutter m (split_of job.sample m) job.floor x y h 0 (2 ^ split_of job.sample m + 1) top size (all (2 ^ split_of job.sample m + 1)) under
   where
-    by : (top <ℤ h) ⊎ Holds job.cutter (pos 1) m.from (pos 1) (point_at x y h) → (top <ℤ h) ⊎ Removes job.cutter m (pos 1) (point_at x y h)
-    by (inl before) = inl before
-    by (inr held) = inr (removes_at_start job.cutter m (point_at x y h) held)
+    all : (n : ℕ) → 0 + n ≤ n
+    all n = omega arith
 
 -- a list of moves that brings a top under h removes the point at h, by one of its moves
 pub moves_remove : (job : Job) (x y top h : ℤ) (moves : List Move) → IsCutter job.cutter → fold (top_after_move job x y) top moves <ℤ h

@@ -1,6 +1,6 @@
 -- The tops of a row after a list of moves: its entries, and one move more.
 use Rattle.std.proofs.Common.{◌≡◌, ℕ, zero, suc, ◌+◌, ◌<◌, refl, ap, ◌∙◌, length, get_or, arith}
-use Rattle.std.specs.Prelude.{ℤ, pos, ◌≤ℤ◌, List, [], ◌∷◌, ◌++◌, map, replicate}
+use Rattle.std.specs.Prelude.{ℤ, pos, ◌≤ℤ◌, List, [], ◌∷◌, ◌++◌, map, replicate, Option}
 use Rattle.std.specs.List.{range_with_len}
 use Rattle.std.proofs.lemmas.List.Sums.{fold-append}
 use Rattle.std.proofs.lemmas.List.FromFn.{length-map-range_with_len, get_or-map-range_with_len}
@@ -11,6 +11,7 @@ use Rattle.mill_job.specs.Columns.{row_count, column_count, column_x, column_y}
 use Rattle.mill_job.specs.Jobs.{IsFrom}
 use Rattle.mill_dexel.specs.Tops.{top_after_move, top_after, row_after, tops_after_move}
 use Rattle.mill_dexel.specs.Rows.{RowState, IsRowOf}
+use Rattle.mill_dexel.specs.declared.fail.RowFail.{RowFail}
 use Rattle.mill_dexel.proofs.TopLaws.{move_stays, top_after_stays}
 
 -- the top of column i of row j after the moves
@@ -62,7 +63,7 @@ tops_after_move-at job j start m (t ∷ tops) (suc i) d there =
     ∙ ap (λ (k : ℕ). top_after_move job (column_x job k) (column_y job j) (get_or tops i d) m) (omega arith)
 
 -- a row of the job is one after a move, too
-pub row_stays : (job : Job) (r : RowState) (m : Move) → IsRowOf job r → IsRowOf job (record { row = r.row; tops = tops_after_move job r.row 0 m r.tops })
+pub row_stays : (job : Job) (r : RowState) (m : Move) → IsRowOf job r → IsRowOf job (record r { tops = tops_after_move job r.row 0 m r.tops })
 row_stays job r m is_row = record {
   there = is_row.there;
   columns = length-tops_after_move job r.row 0 m r.tops ∙ is_row.columns;
@@ -75,12 +76,13 @@ row_stays job r m is_row = record {
         rw (tops_after_move-at job r.row 0 m r.tops i (pos 0) within)
         (move_stays job (column_x job (0 + i)) (column_y job r.row) (get_or r.tops i (pos 0)) m (All-get_or (IsFrom job.floor job.top) r.tops i (pos 0) within is_row.in_stock))
 
-pub turned_is_row : (job : Job) (r turned : RowState) (m : Move) → turned ≡ record { row = r.row; tops = tops_after_move job r.row 0 m r.tops } → IsRowOf job r → IsRowOf job turned
+pub turned_is_row : (job : Job) (r turned : RowState) (m : Move) → turned ≡ record r { tops = tops_after_move job r.row 0 m r.tops } → IsRowOf job r → IsRowOf job turned
 turned_is_row job r turned m e is_row = rw e (row_stays job r m is_row)
 
 -- the tops of a row of the job after a list of moves make a row of the job
-pub row_after_is_row : (job : Job) (j : ℕ) (moves : List Move) → j < row_count job → job.floor ≤ℤ job.top → IsRowOf job (record { row = j; tops = row_after job j moves })
-row_after_is_row job j moves there order = record {
+pub row_after_is_row : (job : Job) (j : ℕ) (moves : List Move) (done : ℕ) (failed : Option RowFail) → j < row_count job → job.floor ≤ℤ job.top
+    → IsRowOf job (record { row = j; tops = row_after job j moves; done = done; failed = failed })
+row_after_is_row job j moves done failed there order = record {
   there = there;
   columns = length-row_after job j moves;
   in_stock = All-from_get_or (IsFrom job.floor job.top) (row_after job j moves) (pos 0) each;

@@ -7,7 +7,8 @@ use Rattle.mill_base.specs.Sizes.{cut_height_of}
 use Rattle.mill_base.specs.declared.motion.Move.{Move}
 use Rattle.mill_job.specs.declared.job.Job.{Job}
 use Rattle.mill_job.specs.Jobs.{IsFrom}
-use Rattle.mill_dexel.specs.Samples.{Placed, samples}
+use Rattle.mill_dexel.specs.Samples.{samples}
+use Rattle.mill_dexel.specs.declared.sample.Placed.{Placed}
 use Rattle.mill_dexel.specs.Tops.{lowered_to, top_after_sample, top_after_move, top_after}
 use Rattle.mill_dexel.proofs.Heights.{greater_left, greater_right, greater_least, lesser_left, lesser_under}
 
@@ -22,14 +23,18 @@ lowered_stays floor high top (Some h) stays = record {
     over : (a b c : ℤ) → a ≤ℤ c → c ≤ℤ b → a ≤ℤ b
     over a b c l k = omega (arith, ints)
 
--- so does the top after each of a list of samples, and after each of a list of moves
-pub samples_stay : (floor high x y top : ℤ) (places : List Placed) → IsFrom floor high top → IsFrom floor high (fold (top_after_sample floor x y) top places)
+-- so does the top after a sample, after each of a list of samples, and after each of a list of moves
+sample_stays : (floor high x y top : ℤ) (s : Option Placed) → IsFrom floor high top → IsFrom floor high (top_after_sample floor x y top s)
+sample_stays floor high x y top None stays = stays
+sample_stays floor high x y top (Some s) stays = lowered_stays floor high top (cut_height_of s.cutter s.tip x y) stays
+
+pub samples_stay : (floor high x y top : ℤ) (places : List (Option Placed)) → IsFrom floor high top → IsFrom floor high (fold (top_after_sample floor x y) top places)
 samples_stay floor high x y top [] stays = stays
 samples_stay floor high x y top (s ∷ places) stays =
-    samples_stay floor high x y (top_after_sample floor x y top s) places (lowered_stays floor high top (cut_height_of s.cutter s.tip x y) stays)
+    samples_stay floor high x y (top_after_sample floor x y top s) places (sample_stays floor high x y top s stays)
 
 pub move_stays : (job : Job) (x y top : ℤ) (m : Move) → IsFrom job.floor job.top top → IsFrom job.floor job.top (top_after_move job x y top m)
-move_stays job x y top m stays = samples_stay job.floor job.top x y top (samples job.cutter m) stays
+move_stays job x y top m stays = samples_stay job.floor job.top x y top (samples job.cutter job.sample m) stays
 
 moves_stay : (job : Job) (x y top : ℤ) (moves : List Move) → IsFrom job.floor job.top top → IsFrom job.floor job.top (fold (top_after_move job x y) top moves)
 moves_stay job x y top [] stays = stays

@@ -1,33 +1,51 @@
 -- What one sample does to the tops of a row, and which columns and rows it leaves alone.
-use Rattle.std.specs.Prelude.{◌≡◌, ◌⊎◌, ℕ, ◌<◌, ◌≤◌, ℤ, ◌+ℤ◌, ◌≤ℤ◌, List, length}
-use Rattle.mill_base.specs.Sizes.{radius_of}
-use Rattle.mill_base.specs.declared.points.Pt3.{Pt3}
+use Rattle.std.specs.Prelude.{◌≡◌, ◌⊎◌, ℕ, ◌+◌, ◌<◌, ◌≤◌, neg_ℤ, ℤ, pos, ◌+ℤ◌, ◌≤ℤ◌, List, length, Option, None, Some, MatchOption}
+use Rattle.mill_base.specs.Numbers.{Within, greatest}
+use Rattle.mill_base.specs.Sizes.{IsCutter, radius_of, inner, shift}
+use Rattle.mill_base.specs.declared.cutter.Cutter.{Cutter}
 use Rattle.mill_job.specs.declared.job.Job.{Job}
 use Rattle.mill_job.specs.Columns.{column_count, column_x, column_y}
-use Rattle.mill_dexel.specs.Samples.{Placed}
+use Rattle.mill_dexel.specs.declared.sample.Placed.{Placed}
 use Rattle.mill_dexel.specs.Tops.{top_after_sample}
 use Rattle.mill_dexel.specs.Rows.{top_at}
 
--- each top of row j is lowered to where the sample's cutter cuts its column
-pub record IsCutBy (job : Job) (j : ℕ) (s : Placed) (old new : List ℤ) : Type 0 where
+-- each top of row j is lowered to where the sample's cutter, if there is one, cuts its column
+pub record IsCutBy (job : Job) (j : ℕ) (s : Option Placed) (old new : List ℤ) : Type 0 where
   pub columns : length new ≡ length old
   pub each : (i : ℕ) → i < length old → top_at new i ≡ top_after_sample job.floor (column_x job i) (column_y job j) (top_at old i) s
 
--- x is at least the cutter's radius under, or over, both a and b
-pub record IsUnderBoth (job : Job) (a b x : ℤ) : Type 0 where
-  pub first : (x +ℤ radius_of job.cutter) ≤ℤ a
-  pub second : (x +ℤ radius_of job.cutter) ≤ℤ b
+-- x is at least r under, or over, both a and b
+pub record IsUnderBy (r a b x : ℤ) : Type 0 where
+  pub first : (x +ℤ r) ≤ℤ a
+  pub second : (x +ℤ r) ≤ℤ b
 
-pub record IsOverBoth (job : Job) (a b x : ℤ) : Type 0 where
-  pub first : (a +ℤ radius_of job.cutter) ≤ℤ x
-  pub second : (b +ℤ radius_of job.cutter) ≤ℤ x
+pub record IsOverBy (r a b x : ℤ) : Type 0 where
+  pub first : (a +ℤ r) ≤ℤ x
+  pub second : (b +ℤ r) ≤ℤ x
 
--- all columns that stand nearer than the cutter's radius to the interval from a to b in x are among those from first on, before end
-pub record IsReach (job : Job) (a b : ℤ) (first «end» : ℕ) : Type 0 where
+-- all columns that stand nearer than r to the interval from a to b in x are among those from first on, before end
+pub record IsReachBy (job : Job) (r a b : ℤ) (first «end» : ℕ) : Type 0 where
   pub within : «end» ≤ column_count job
-  pub under : (i : ℕ) → i < first → IsUnderBoth job a b (column_x job i)
-  pub over : (i : ℕ) → «end» ≤ i → i < column_count job → IsOverBoth job a b (column_x job i)
+  pub under : (i : ℕ) → i < first → IsUnderBy r a b (column_x job i)
+  pub over : (i : ℕ) → «end» ≤ i → i < column_count job → IsOverBy r a b (column_x job i)
 
--- row j stands at least the cutter's radius away from the tip in y
-abbrev pub IsBeyond : Job → ℕ → Pt3 → Type 0
-IsBeyond job j tip = IsUnderBoth job tip.y tip.y (column_y job j) ⊎ IsOverBoth job tip.y tip.y (column_y job j)
+-- the same by the radius of the job's cutter and 2, beyond which a move passes each column
+abbrev pub IsReach : Job → ℤ → ℤ → ℕ → ℕ → Type 0
+IsReach job a b first «end» = IsReachBy job (radius_of job.cutter +ℤ pos 2) a b first «end»
+
+-- y is at least r away from the interval from a to b
+abbrev pub IsBeyond : ℤ → ℤ → ℤ → ℤ → Type 0
+IsBeyond r a b y = IsUnderBy r a b y ⊎ IsOverBy r a b y
+
+-- a sample of a job's moves: its cutter has a job's size, and its tip is in range but for a rise of up to 16
+pub record IsSample (s : Placed) : Type 0 where
+  pub cutter_ok : IsCutter s.cutter
+  pub x_ok : Within greatest s.tip.x
+  pub y_ok : Within greatest s.tip.y
+  pub z_least : neg_ℤ (pos 131071) ≤ℤ s.tip.z
+  pub z_most : s.tip.z ≤ℤ pos (131071 + 16)
+
+-- the cutter narrowed by 1, with how far it is raised, none at radius 1
+abbrev pub IsNarrowed : Cutter → Option (Cutter × ℤ) → Type 0
+IsNarrowed cutter narrowed = MatchOption narrowed (inner cutter ≡ None)
+    (λ n. (inner cutter ≡ Some n.0) × (n.1 ≡ shift cutter (pos 1)) × IsCutter n.0 × (pos 0 ≤ℤ n.1) × (n.1 ≤ℤ pos 16))

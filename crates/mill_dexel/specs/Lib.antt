@@ -2,4 +2,5 @@ pub mod Samples
 pub mod Tops
 pub mod Laws
 pub mod Rows
+pub mod Turns
 pub mod Cuts

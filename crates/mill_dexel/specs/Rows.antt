@@ -1,5 +1,5 @@
 -- A row of columns, and the first of its columns at which a rapid would cut.
-use Rattle.std.specs.Prelude.{◌≡◌, ℕ, ◌<◌, ℤ, pos, List, length, All, slice_index_or}
+use Rattle.std.specs.Prelude.{◌≡◌, ℕ, ◌<◌, ℤ, pos, List, length, All, Option, slice_index_or}
 use Rattle.mill_base.specs.Points.{point_at, point_tri}
 use Rattle.mill_base.specs.declared.points.Pt3.{Pt3}
 use Rattle.mill_base.specs.declared.points.Tri.{Tri}
@@ -7,13 +7,17 @@ use Rattle.mill_base.specs.declared.motion.Move.{Move}
 use Rattle.mill_job.specs.declared.job.Job.{Job}
 use Rattle.mill_job.specs.Columns.{row_count, column_count, column_x, column_y}
 use Rattle.mill_job.specs.Jobs.{IsFrom}
-use Rattle.mill_sweep.specs.Passes.{PassesPoint, FailsAt}
+use Rattle.mill_sweep.specs.Leaves.{span_of}
+use Rattle.mill_sweep.specs.Halving.{Blocks, PassesPoint, FailsAt}
 use Rattle.mill_sweep.specs.declared.leaf.Leaf.{Leaf}
+use Rattle.mill_dexel.specs.declared.fail.RowFail.{RowFail}
 
--- the number of a row, and the tops of its columns
+-- the number of a row, the tops of its columns, how many moves have cut it, and where one was stopped
 pub record RowState : Type 0 where
   pub row : ℕ
   pub tops : List ℤ
+  pub done : ℕ
+  pub failed : Option RowFail
 
 -- the top of column i
 abbrev pub top_at : List ℤ → ℕ → ℤ
@@ -50,3 +54,7 @@ pub record IsFirstStop (job : Job) (r : RowState) (m : Move) (i : ℕ) (leaf : L
   pub column : i < column_count job
   pub before : (k : ℕ) → k < i → PassesTop job r m k
   pub fails : FailsAt job.cutter m (point_tri (row_point job r i)) leaf
+
+-- the point at the top of column i blocks this segment of the move
+abbrev pub IsBlocked : Job → RowState → Move → ℕ → Leaf → Type 0
+IsBlocked job r m i leaf = Blocks job.cutter (span_of m leaf.d leaf.k) (point_tri (row_point job r i))

@@ -8,20 +8,22 @@ use Rattle.mill_base.specs.declared.points.Pt3.{Pt3}
 use Rattle.mill_base.specs.declared.motion.Move.{Move}
 use Rattle.mill_job.specs.declared.job.Job.{Job}
 use Rattle.mill_job.specs.Columns.{column_x, column_y, column_count}
-use Rattle.mill_dexel.specs.Samples.{Placed, samples}
+use Rattle.mill_dexel.specs.Samples.{samples}
+use Rattle.mill_dexel.specs.declared.sample.Placed.{Placed}
 
 -- a top cut down to a height, if there is one, but not under the floor
 abbrev pub lowered_to : ℤ → ℤ → Option ℤ → ℤ
 lowered_to floor top None = top
 lowered_to floor top (Some h) = greater floor (lesser top h)
 
--- a column's top after one sample
-abbrev pub top_after_sample : ℤ → ℤ → ℤ → ℤ → Placed → ℤ
-top_after_sample floor x y top s = lowered_to floor top (cut_height_of s.cutter s.tip x y)
+-- a column's top after one sample, if there is one
+abbrev pub top_after_sample : ℤ → ℤ → ℤ → ℤ → Option Placed → ℤ
+top_after_sample floor x y top None = top
+top_after_sample floor x y top (Some s) = lowered_to floor top (cut_height_of s.cutter s.tip x y)
 
 -- a column's top after one move
 abbrev pub top_after_move : Job → ℤ → ℤ → ℤ → Move → ℤ
-top_after_move job x y top m = fold (top_after_sample job.floor x y) top (samples job.cutter m)
+top_after_move job x y top m = fold (top_after_sample job.floor x y) top (samples job.cutter job.sample m)
 
 -- a column's top after a list of moves, from the job's top on
 abbrev pub top_after : Job → ℤ → ℤ → List Move → ℤ

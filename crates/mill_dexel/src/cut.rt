@@ -1,18 +1,19 @@
-ghost use Rattle.std.specs.Prelude.{◌≡◌, ◌<◌, length, slice_set};
-ghost use Rattle.mill_base.specs.Ranges.{IsInRange, MoveInRange};
+ghost use Rattle.std.specs.Prelude.{◌≡◌, ◌<◌, ◌≤ℤ◌, length, slice_set, IsTrue, IfSome, Some};
+ghost use Rattle.mill_base.specs.Ranges.{MoveInRange};
 ghost use Rattle.mill_job.specs.Columns.{row_count, column_count, column_x, column_y};
 ghost use Rattle.mill_job.specs.Jobs.{IsJob};
-ghost use Rattle.mill_dexel.specs.Samples.{placed};
 ghost use Rattle.mill_dexel.specs.Tops.{top_after_sample, tops_after_move};
 ghost use Rattle.mill_dexel.specs.Rows.{top_at};
-ghost use Rattle.mill_dexel.specs.Cuts.{IsCutBy};
+ghost use Rattle.mill_dexel.specs.Cuts.{IsCutBy, IsSample};
 
-use crate::reach::{is_beyond, reach_of};
-use mill_base::{Move, Pt3};
+use crate::reach::{is_beyond, reach_by};
+use crate::sample::{Placed, halvings, sample_at};
+use mill_base::{Move, power_of_two};
 use mill_job::Job;
-use mill_shape::cut_height;
+use mill_shape::{cut_height, shrink};
 
-/// Lowers the tops of a row to what the cutter leaves after the move.
+/// Lowers the tops of a row to what the cutter leaves after the move: at each of its samples in
+/// turn, none where the whole move is too far away from the row.
 pub(crate) fn cut_move(tops: &mut [i32], job: &Job, number: u32, step: &Move)
     requires job { IsJob job.now }
     requires row { number < row_count job.now }
@@ -20,40 +21,85 @@ pub(crate) fn cut_move(tops: &mut [i32], job: &Job, number: u32, step: &Move)
     requires step_ok { MoveInRange step.now }
     ensures { tops.new ≡ tops_after_move job.now number 0 step.now tops.old }
 {
-    cut_row(tops, job, number, step.from);
-    cut_row(tops, job, number, step.to);
+    if is_beyond(
+        job.row_y(number),
+        job.cutter.radius(),
+        step.from.y,
+        step.to.y,
+    ) {
+        return;
+    }
+    let narrowed = shrink(job.cutter);
+    let d = halvings(step, job.sample.unsigned_abs());
+    for k in 0..power_of_two(d) + 1 {
+        cut_sample(
+            tops,
+            job,
+            number,
+            sample_at(job.cutter, narrowed, step, d, k),
+        );
+    }
 }
 
-/// Lowers the tops of a row to where the cutter cuts with its tip at this point. Only columns
-/// within the cutter's radius in x are looked at, and none where the row is farther away in y.
-fn cut_row(tops: &mut [i32], job: &Job, number: u32, tip: Pt3)
+/// Lowers the tops of a row to where the sample's cutter cuts, if there is one.
+fn cut_sample(tops: &mut [i32], job: &Job, number: u32, sample: Option<Placed>)
     requires job { IsJob job.now }
     requires row { number < row_count job.now }
     requires columns { length tops.old ≡ column_count job.now }
-    requires tip_ok { IsInRange tip }
-    ensures { IsCutBy job.now number (placed job.now.cutter tip) tops.old tops.new }
+    requires sample_ok { IfSome sample IsSample }
+    ensures { IsCutBy job.now number sample tops.old tops.new }
 {
-    if is_beyond(job, number, tip) {
+    if let Some(sample) = sample {
+        cut_row(tops, job, number, sample);
+    }
+}
+
+/// Lowers the tops of a row to where the sample's cutter cuts. Only columns within its radius in x
+/// are looked at, and none where the row is farther away in y.
+fn cut_row(tops: &mut [i32], job: &Job, number: u32, sample: Placed)
+    requires job { IsJob job.now }
+    requires row { number < row_count job.now }
+    requires columns { length tops.old ≡ column_count job.now }
+    requires sample_ok { IsSample sample }
+    ensures { IsCutBy job.now number (Some sample) tops.old tops.new }
+{
+    let radius = sample.cutter.radius();
+    let tip = sample.tip;
+    if is_beyond(job.row_y(number), radius, tip.y, tip.y) {
         return;
     }
-    let reach = reach_of(job, tip, tip);
+    let reach = reach_by(job, radius, tip.x, tip.x);
     for column in reach.first..reach.end {
-        cut_column(tops, job, number, column, tip);
+        cut_column(tops, job, number, column, sample);
     }
 }
 
 /// Lowers the top of one column.
-fn cut_column(tops: &mut [i32], job: &Job, number: u32, column: u32, tip: Pt3)
+fn cut_column(tops: &mut [i32], job: &Job, number: u32, column: u32, sample: Placed)
     requires job { IsJob job.now }
     requires row { number < row_count job.now }
     requires columns { length tops.old ≡ column_count job.now }
     requires column { column < column_count job.now }
-    requires tip_ok { IsInRange tip }
-    ensures { tops.new ≡ slice_set tops.old column (top_after_sample job.now.floor (column_x job.now column) (column_y job.now number) (top_at tops.old column) (placed job.now.cutter tip)) }
+    requires sample_ok { IsSample sample }
+    ensures { tops.new ≡ slice_set tops.old column (top_after_sample job.now.floor (column_x job.now column) (column_y job.now number) (top_at tops.old column) (Some sample)) }
 {
-    let cut = cut_height(job.cutter, tip, job.column_x(column), job.row_y(number));
-    if let Some(height) = cut {
+    if is_free(tops[column as usize], job.floor, sample.tip.z) {
+        return;
+    }
+    let x = job.column_x(column);
+    if let Some(height) = cut_height(sample.cutter, sample.tip, x, job.row_y(number)) {
         let top = &mut tops[column as usize];
         *top = (*top).min(height).max(job.floor);
     }
+}
+
+/// Whether a column's top is from the floor to the tip's height, so that the cutter can't lower it.
+fn is_free(top: i32, floor: i32, tip: i32) -> bool
+    ensures low { IsTrue result → floor ≤ℤ top }
+    ensures high { IsTrue result → top ≤ℤ tip }
+{
+    if top < floor {
+        return false;
+    }
+    top <= tip
 }

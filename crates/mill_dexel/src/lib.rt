@@ -1,17 +1,25 @@
 //! The stock as rows of columns (dexels): the top of each column after the moves so far.
 //!
 //! It stands on `mill_shape`, `mill_sweep` and `mill_job`. Definitions: `specs/Samples` says where
-//! a move is sampled, `specs/Tops` what a column's top is after a list of moves, `specs/Rows` what
-//! a row is and where a rapid stops at it, `specs/Laws` what a top implies. A row looks only at the
-//! columns within the cutter's radius of a move (`specs/Cuts`).
+//! a move is sampled and by which cutter, `specs/Tops` what a column's top is after a list of moves,
+//! `specs/Rows` what a row is and where a rapid stops at it, `specs/Turns` what becomes of a row in a
+//! program, `specs/Laws` what a top implies. A row looks only at the columns within the cutter's
+//! radius of a sample (`specs/Cuts`), and of a rapid at those within the radius and 2.
 #![tactic(auto)]
 
 mod cut;
+mod fail;
 mod laws;
 mod reach;
 mod row;
+mod rows;
+mod sample;
 #[cfg(test)]
 mod tests;
+mod turns;
 
+pub use fail::RowFail;
 pub use laws::over_top_is_removed;
 pub use row::Row;
+pub use rows::rows_static;
+pub use turns::one_outcome;

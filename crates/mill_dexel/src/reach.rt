@@ -1,9 +1,8 @@
-ghost use Rattle.std.specs.Prelude.{◌≡◌, ℕ, ◌<◌, ◌≤◌, ◌*◌, ◌^◌, IsTrue, pos, ◌+ℤ◌, ◌≤ℤ◌, ◌<ℤ◌};
+ghost use Rattle.std.specs.Prelude.{ℕ, ◌<◌, ◌≤◌, ◌*◌, ◌^◌, IsTrue, pos, ◌+ℤ◌, ◌≤ℤ◌, ◌<ℤ◌};
 ghost use Rattle.mill_base.specs.Numbers.{Within};
-ghost use Rattle.mill_base.specs.Sizes.{radius_of};
-ghost use Rattle.mill_job.specs.Columns.{row_count, column_count, column_x as x_of_column};
+ghost use Rattle.mill_job.specs.Columns.{column_count, column_x as x_of_column};
 ghost use Rattle.mill_job.specs.Jobs.{IsJob};
-ghost use Rattle.mill_dexel.specs.Cuts.{IsReach, IsBeyond};
+ghost use Rattle.mill_dexel.specs.Cuts.{IsReach, IsReachBy, IsBeyond};
 
 use mill_base::Pt3;
 use mill_job::Job;
@@ -15,45 +14,45 @@ pub(crate) struct Reach {
     pub end: u32,
 }
 
-/// The columns that stand nearer than the cutter's radius to the interval between two points in x.
+/// How far a column is to be away, beyond the radius, from a whole move that passes it.
+const PASSES_BEYOND: i32 = 2;
+
+/// The columns that stand nearer than the cutter's radius and 2 to the interval between two points
+/// in x. A move between these points passes each other column.
 pub(crate) fn reach_of(job: &Job, from: Pt3, to: Pt3) -> Reach
     requires { IsJob job.now }
     ensures { IsReach job.now from.x to.x result.first result.end }
 {
+    reach_by(job, job.cutter.radius() + PASSES_BEYOND, from.x, to.x)
+}
+
+/// The columns that stand nearer than `distance` to the interval between two places in x.
+pub(crate) fn reach_by(job: &Job, distance: i32, from: i32, to: i32) -> Reach
+    requires { IsJob job.now }
+    ensures { IsReachBy job.now distance from to result.first result.end }
+{
     Reach {
-        first: columns_up_to(job, low_end(job, from, to)),
-        end: columns_up_to(job, high_end(job, from, to)),
+        first: columns_up_to(job, low_end(distance, from, to)),
+        end: columns_up_to(job, high_end(distance, from, to)),
     }
 }
 
-/// The greatest x that is the cutter's radius under both points.
-fn low_end(job: &Job, from: Pt3, to: Pt3) -> i64
-    requires { IsJob job.now }
+/// The greatest x that is `distance` under both places.
+fn low_end(distance: i32, from: i32, to: i32) -> i64
     ensures bound { Within (2 ^ 40) result }
-    ensures from { (result +ℤ radius_of job.now.cutter) ≤ℤ from.x }
-    ensures to { (result +ℤ radius_of job.now.cutter) ≤ℤ to.x }
+    ensures from { (result +ℤ distance) ≤ℤ from }
+    ensures to { (result +ℤ distance) ≤ℤ to }
 {
-    i64::from(from.x.min(to.x)) - radius(job)
+    i64::from(from.min(to)) - i64::from(distance)
 }
 
-/// The greatest x that is less than the cutter's radius over one of the points.
-fn high_end(job: &Job, from: Pt3, to: Pt3) -> i64
-    requires { IsJob job.now }
+/// The greatest x that is less than `distance` over one of the places.
+fn high_end(distance: i32, from: i32, to: i32) -> i64
     ensures bound { Within (2 ^ 40) result }
-    ensures from { (from.x +ℤ radius_of job.now.cutter) ≤ℤ (result +ℤ pos 1) }
-    ensures to { (to.x +ℤ radius_of job.now.cutter) ≤ℤ (result +ℤ pos 1) }
+    ensures from { (from +ℤ distance) ≤ℤ (result +ℤ pos 1) }
+    ensures to { (to +ℤ distance) ≤ℤ (result +ℤ pos 1) }
 {
-    i64::from(from.x.max(to.x)) + radius(job) - 1
-}
-
-/// The radius of the job's cutter.
-fn radius(job: &Job) -> i64
-    requires { IsJob job.now }
-    ensures value { result ≡ radius_of job.now.cutter }
-    ensures least { pos 1 ≤ℤ result }
-    ensures most { result ≤ℤ pos 10000 }
-{
-    i64::from(job.cutter.radius())
+    i64::from(from.max(to)) + i64::from(distance) - 1
 }
 
 /// How many columns stand at `x` or before it.
@@ -82,17 +81,13 @@ fn steps_up_to(span: u64, pitch: u64) -> u64
     span / pitch + 1
 }
 
-/// Whether the row stands at least the cutter's radius away from the tip in y.
-pub(crate) fn is_beyond(job: &Job, number: u32, tip: Pt3) -> bool
-    requires job { IsJob job.now }
-    requires row { number < row_count job.now }
-    ensures yes { IsTrue result → IsBeyond job.now number tip }
+/// Whether a row at `y` stands at least `distance` away from the interval between two places in y.
+pub(crate) fn is_beyond(y: i32, distance: i32, from: i32, to: i32) -> bool
+    ensures yes { IsTrue result → IsBeyond distance from to y }
 {
-    let y = i64::from(job.row_y(number));
-    let radius = radius(job);
-    let tip_y = i64::from(tip.y);
-    if y + radius <= tip_y {
+    let y = i64::from(y);
+    if y <= low_end(distance, from, to) {
         return true;
     }
-    tip_y + radius <= y
+    y > high_end(distance, from, to)
 }

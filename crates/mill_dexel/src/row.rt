@@ -1,24 +1,29 @@
-ghost use Rattle.std.specs.Prelude.{◌≡◌, ◌<◌, IfOk, IsTrue, MatchOption, replicate};
-ghost use Rattle.mill_base.specs.Ranges.{MoveInRange};
+ghost use Rattle.std.specs.Prelude.{◌≡◌, ◌<◌, false, length, None, IfOk, IfSome, IsTrue, MatchOption, replicate};
+ghost use Rattle.mill_base.specs.Ranges.{MoveInRange, MovesInRange};
+ghost use Rattle.mill_base.specs.declared.motion.Kind.TheVariants.{Rapid};
 ghost use Rattle.mill_job.specs.Columns.{row_count, column_count};
 ghost use Rattle.mill_job.specs.Jobs.{IsJob};
 ghost use Rattle.mill_dexel.specs.Tops.{tops_after_move};
-ghost use Rattle.mill_dexel.specs.Rows.{IsRowOf, PassesRow, IsFirstStop, row_point, uncut_tri};
+ghost use Rattle.mill_dexel.specs.Rows.{IsRowOf, PassesRow, IsFirstStop, IsBlocked, row_point, uncut_tri};
+ghost use Rattle.mill_dexel.specs.Turns.{ClearsRow, IsStopped, StopsRow, move_at, turned};
 
 use crate::cut::cut_move;
+use crate::fail::RowFail;
 use crate::reach::reach_of;
-use mill_base::{Move, Pt3, Tri, WantOfMemory};
+use mill_base::{Kind, Move, Pt3, Tri, WantOfMemory};
 use mill_job::Job;
 use mill_sweep::{Leaf, first_block_point, passes_tri};
 use std::alloc::Global;
 use std::marker::Model;
 
 /// A row of the stock's columns: for each, the height up to which it is still there, in units of
-/// 0.01 mm.
+/// 0.01 mm. It goes through the moves of a program one by one, up to a rapid that would cut it.
 #[derive(Drop)]
 pub struct Row {
     number: u32,
     tops: Vec<i32>,
+    done: u64,
+    failed: Option<RowFail>,
 }
 
 impl Model for Row {
@@ -26,21 +31,23 @@ impl Model for Row {
 
     ghost Value = { RowState };
 
-    ghost view = { λ r. record { row = r.number; tops = r.tops.items } };
+    ghost view = { λ r. record { row = r.number; tops = r.tops.items; done = r.done; failed = r.failed } };
 }
 
 impl Row {
-    /// The uncut row of this number.
+    /// The uncut row of this number, before the first move.
     pub fn new(alloc: Global, job: &Job, number: u64) -> Result<Row, WantOfMemory>
         requires job { IsJob job.now }
         requires row { number < row_count job.now }
         ensures row { IfOk result (λ r. IsRowOf job.now r) }
-        ensures uncut { IfOk result (λ r. r ≡ record { row = number; tops = replicate (column_count job.now) job.now.top }) }
+        ensures uncut { IfOk result (λ r. r ≡ record { row = number; tops = replicate (column_count job.now) job.now.top; done = 0; failed = None }) }
     {
         let tops = vec![in alloc; job.top; job.columns() as usize]?;
         Ok(Row {
             number: number as u32,
             tops,
+            done: 0,
+            failed: None,
         })
     }
 
@@ -51,12 +58,28 @@ impl Row {
         &self.tops
     }
 
-    /// The first column that the move doesn't pass, with the segment of the move at which the test
-    /// fails; none where it passes them all.
+    /// How many moves have had their turn and passed, and so the number of the next one.
+    pub fn done(&self) -> u64
+        ensures { result ≡ self.now.done }
+    {
+        self.done
+    }
+
+    /// Where the row stopped a rapid, if it did.
+    pub fn failed(&self) -> Option<RowFail>
+        ensures { result ≡ self.now.failed }
+    {
+        self.failed
+    }
+
+    /// The first column that the move doesn't pass at every moment, with the segment of the move at
+    /// which the test fails; none where it passes them all.
     pub fn rapid_turn(&self, job: &Job, step: &Move) -> Option<(u32, Leaf)>
         requires job { IsJob job.now }
         requires row { IsRowOf job.now self.now }
-        ensures { MatchOption result (PassesRow job.now self.now step.now) (λ s. IsFirstStop job.now self.now step.now s.0 s.1) }
+        requires step { MoveInRange step.now }
+        ensures first { MatchOption result (PassesRow job.now self.now step.now) (λ s. IsFirstStop job.now self.now step.now s.0 s.1) }
+        ensures blocked { IfSome result (λ s. IsBlocked job.now self.now step.now s.0 s.1) }
     {
         if self.is_passed_uncut(job, step) {
             return None;
@@ -83,10 +106,65 @@ impl Row {
         cut_move(&mut self.tops, job, number, step);
     }
 
+    /// The turn of move `t`, the row's next one, in a row that hasn't failed. A rapid is tested
+    /// first. A move that passes cuts, and the answer is true; where one fails, that is noted, nothing
+    /// is cut, and the answer is false.
+    pub fn turn(&mut self, job: &Job, moves: &[Move], t: u64) -> bool
+        requires job { IsJob job.now }
+        requires moves_ok { MovesInRange moves.now }
+        requires row { IsRowOf job.now self.old }
+        requires unfailed { self.old.failed ≡ None }
+        requires next { t ≡ self.old.done }
+        requires there { t < length moves.now }
+        ensures clears { IsTrue result → ClearsRow job.now self.old (move_at moves.now t) }
+        ensures cut { IsTrue result → self.new ≡ turned job.now (move_at moves.now t) self.old }
+        ensures stopped { result ≡ false → IsStopped job.now (move_at moves.now t) self.old self.new }
+        ensures row { IsRowOf job.now self.new }
+    {
+        let step = &moves[t as usize];
+        if let Some(fail) = self.stop(job, step) {
+            self.failed = Some(fail);
+            return false;
+        }
+        self.cut_turn(job, step);
+        self.done = t + 1;
+        true
+    }
+
+    /// The failure of the next move, where the row stops it: a rapid is tested, a feed never.
+    fn stop(&self, job: &Job, step: &Move) -> Option<RowFail>
+        requires job { IsJob job.now }
+        requires row { IsRowOf job.now self.now }
+        requires step { MoveInRange step.now }
+        ensures { MatchOption result (ClearsRow job.now self.now step.now) (StopsRow job.now self.now step.now) }
+    {
+        match step.kind {
+            Kind::Rapid => self.rapid_stop(job, step),
+            Kind::Feed => None,
+        }
+    }
+
+    /// The failure of the next move, where it is a rapid that doesn't pass the row.
+    fn rapid_stop(&self, job: &Job, step: &Move) -> Option<RowFail>
+        requires job { IsJob job.now }
+        requires row { IsRowOf job.now self.now }
+        requires step { MoveInRange step.now }
+        requires rapid { step.now.kind ≡ Rapid }
+        ensures { MatchOption result (ClearsRow job.now self.now step.now) (StopsRow job.now self.now step.now) }
+    {
+        let (col, leaf) = self.rapid_turn(job, step)?;
+        Some(RowFail {
+            at: self.done,
+            col,
+            leaf,
+        })
+    }
+
     /// Whether the move passes even the uncut row, and so every column of this one.
     fn is_passed_uncut(&self, job: &Job, step: &Move) -> bool
         requires job { IsJob job.now }
         requires row { IsRowOf job.now self.now }
+        requires step { MoveInRange step.now }
         ensures { IsTrue result → PassesRow job.now self.now step.now }
     {
         passes_tri(job.cutter, step, &uncut_row(job, self.number))

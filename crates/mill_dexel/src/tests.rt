@@ -1,6 +1,7 @@
 ghost use Rattle.std.specs.Prelude.{◌<◌};
 ghost use Rattle.mill_base.specs.Numbers.{Within, greatest};
 ghost use Rattle.mill_base.specs.Ranges.{MoveInRange};
+ghost use Rattle.mill_base.specs.Sizes.{IsCutter};
 ghost use Rattle.mill_job.specs.Columns.{row_count};
 ghost use Rattle.mill_job.specs.Jobs.{IsJob};
 
@@ -56,11 +57,10 @@ fn cuts_and_stops(rt: HostRuntime) -> Result<(), WantOfMemory> {
     assert_eq!(rt; row.tops(), [300, 300, 300].as_slice());
     row.cut_turn(&job, &plunge(Kind::Feed, 0, 200));
     assert_eq!(rt; row.tops(), [200, 200, 300].as_slice());
-    let whole = Leaf { d: 0, k: 0 };
     for (x, z, want) in [
-        (100, 250, Some((2, whole))),
+        (100, 250, Some((2, Leaf { d: 8, k: 170 }))),
         (0, 250, None),
-        (0, 199, Some((0, whole))),
+        (0, 199, Some((0, Leaf { d: 8, k: 254 }))),
     ] {
         assert_eq!(rt;
             row.rapid_turn(&job, &plunge(Kind::Rapid, x, z)),
@@ -79,5 +79,111 @@ fn cuts_down_to_the_floor(rt: HostRuntime) -> Result<(), WantOfMemory> {
     assert_eq!(rt; row.tops(), [300, 300, 300].as_slice());
     row.cut_turn(&job, &plunge(Kind::Feed, 200, -5));
     assert_eq!(rt; row.tops(), [300, 0, 0].as_slice());
+    Ok(())
+}
+
+/// One row of 41 columns, 5 apart, from 0 to 300, sampled at least every 50.
+fn long_row(cutter: Cutter) -> Job
+    requires { IsCutter cutter }
+    ensures job { IsJob result }
+    ensures row { 0 < row_count result }
+{
+    Job {
+        cutter,
+        floor: 0,
+        top: 300,
+        clear: 400,
+        area: Box2 {
+            x0: 0,
+            y0: 0,
+            x1: 200,
+            y1: 0,
+        },
+        home_x: 0,
+        home_y: 0,
+        pitch: 5,
+        sample: 50,
+        allowance: 0,
+        band: 0,
+        snap: Snap::Nearest,
+    }
+}
+
+// The samples stand at x = 0, 25.25, 50.5, 75.75 and 101: at 0 and 101 the cutter itself cuts, and at
+// 25, 51 and 76 the narrower one.
+#[test]
+fn narrower_beside_whole_places(rt: HostRuntime) -> Result<(), WantOfMemory> {
+    let along = Move {
+        kind: Kind::Feed,
+        from: Pt3 { x: 0, y: 0, z: 200 },
+        to: Pt3 {
+            x: 101,
+            y: 0,
+            z: 200,
+        },
+    };
+    let table: [(Cutter, [i32; 41]); 4] = [
+        (
+            Cutter::Flat { radius: 10 },
+            [
+                200, 200, 300, 300, 200, 200, 200, 300, 300, 200, 200, 200, 300, 300, 200, 200,
+                200, 300, 300, 200, 200, 200, 200, 300, 300, 300, 300, 300, 300, 300, 300, 300,
+                300, 300, 300, 300, 300, 300, 300, 300, 300,
+            ],
+        ),
+        (
+            Cutter::Ball { radius: 10 },
+            [
+                200, 201, 300, 300, 202, 201, 202, 300, 300, 203, 201, 201, 300, 300, 203, 201,
+                201, 300, 300, 202, 200, 200, 205, 300, 300, 300, 300, 300, 300, 300, 300, 300,
+                300, 300, 300, 300, 300, 300, 300, 300, 300,
+            ],
+        ),
+        (
+            Cutter::Cone {
+                radius: 10,
+                rise: 3,
+                run: 2,
+            },
+            [
+                200, 207, 300, 300, 209, 202, 209, 300, 300, 211, 203, 208, 300, 300, 211, 203,
+                208, 300, 300, 209, 201, 206, 213, 300, 300, 300, 300, 300, 300, 300, 300, 300,
+                300, 300, 300, 300, 300, 300, 300, 300, 300,
+            ],
+        ),
+        (
+            Cutter::Flat { radius: 1 },
+            [
+                200, 300, 300, 300, 300, 300, 300, 300, 300, 300, 300, 300, 300, 300, 300, 300,
+                300, 300, 300, 300, 300, 300, 300, 300, 300, 300, 300, 300, 300, 300, 300, 300,
+                300, 300, 300, 300, 300, 300, 300, 300, 300,
+            ],
+        ),
+    ];
+    for (cutter, tops) in table {
+        let job = long_row(cutter);
+        let mut row = Row::new(rt.alloc(), &job, 0)?;
+        row.cut_turn(&job, &along);
+        assert_eq!(rt; row.tops(), tops.as_slice(), "by {cutter:?}");
+    }
+    Ok(())
+}
+
+// A climb from 0 to 3 in two parts: its middle is at 1.5, and so at 2, rounded up.
+#[test]
+fn heights_are_rounded_up(rt: HostRuntime) -> Result<(), WantOfMemory> {
+    let job = long_row(Cutter::Flat { radius: 3 });
+    let mut row = Row::new(rt.alloc(), &job, 0)?;
+    let climb = Move {
+        kind: Kind::Feed,
+        from: Pt3 { x: 0, y: 0, z: 0 },
+        to: Pt3 { x: 100, y: 0, z: 3 },
+    };
+    row.cut_turn(&job, &climb);
+    let tops = row.tops();
+    assert!(rt; tops.len() == 41);
+    assert_eq!(rt; tops[0], 0);
+    assert_eq!(rt; tops[10], 2);
+    assert_eq!(rt; tops[20], 3);
     Ok(())
 }

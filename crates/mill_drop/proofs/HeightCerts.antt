@@ -1,9 +1,9 @@
 -- Written by tools/certificates.py from tools/certificates/mill_drop_heights.spec.
-use Rattle.std.proofs.Common.{◌≡◌, List, [], ◌∷◌, refl}
-use lib.IntN.{ℤ, pos, negsuc, neg_ℤ, ◌+ℤ◌, ◌-ℤ◌, ◌*ℤ◌}
+use Rattle.std.proofs.Common.{[], ◌∷◌, refl}
+use lib.IntN.{ℤ, pos, ◌+ℤ◌, ◌*ℤ◌}
 use lib.Signed.{◌<ℤ◌, ◌≤ℤ◌}
-use Rattle.mill_base.proofs.Ring.{E, Var, Num, Add, Sub, Mul, Neg, ring}
-use Rattle.mill_base.proofs.Cert.{H, Le, Lt, Eq, C, Hyp, TimesEq, Sq, Lit, Plus, Times, refute, prove_le, prove_le_by, prove_lt_by}
+use Rattle.mill_base.proofs.Ring.{Var, Num, Add, Mul}
+use Rattle.mill_base.proofs.Cert.{Le, Lt, Hyp, Plus, Times, prove_le_by}
 
 -- vars u v w a b c z; hyp hu: 0 <= u; hyp hv: 0 <= v; hyp hw: 0 <= w; hyp ha: a <= z; hyp hb: b <= z; hyp hc: c <= z; goal (u*a+v*b)+w*c <= ((u+v)+w)*z; mul hu * ha; mul hv * hb; mul hw * hc
 pub mean_low : (u v w a b c z : ℤ) → (pos 0) ≤ℤ u → (pos 0) ≤ℤ v → (pos 0) ≤ℤ w → a ≤ℤ z → b ≤ℤ z → c ≤ℤ z → (((u *ℤ a) +ℤ (v *ℤ b)) +ℤ (w *ℤ c)) ≤ℤ (((u +ℤ v) +ℤ w) *ℤ z)

@@ -1,12 +1,12 @@
 -- A cutter that holds some of a triangle holds some of it at each lesser height, and none at or over the triangle's top.
 use Rattle.std.specs.Prelude.{int_lt}
-use Rattle.std.proofs.Common.{◌≡◌, Bool, true, false, cond, sym, ap, ◌∙◌, subst, arith}
-use lib.IntN.{ℤ, pos, ◌+ℤ◌, ◌-ℤ◌, ◌*ℤ◌}
+use Rattle.std.proofs.Common.{◌≡◌, Bool, true, false, cond, ap, subst, arith}
+use lib.IntN.{ℤ, pos, ◌-ℤ◌, ◌*ℤ◌}
 use lib.Signed.{◌<ℤ◌, ◌≤ℤ◌}
 use Rattle.std.proofs.lemmas.Int.{ints}
 use Rattle.mill_base.specs.Numbers.{Within, greatest, greater}
 use Rattle.mill_base.specs.Ranges.{TriInRange}
-use Rattle.mill_base.specs.Points.{plus, minus, times, point_at, highest}
+use Rattle.mill_base.specs.Points.{minus, times, point_at, highest}
 use Rattle.mill_base.specs.Sizes.{IsCutter, IsWideCutter, radius_of}
 use Rattle.mill_base.specs.Cutters.{Inside}
 use Rattle.mill_base.specs.Contact.{Holds}

@@ -8,7 +8,6 @@ use Rattle.mill_base.specs.Points.{point_at}
 use Rattle.mill_base.specs.Sizes.{radius_of}
 use Rattle.mill_base.specs.declared.points.Pt3.{Pt3}
 use Rattle.mill_base.specs.declared.points.Tri.{Tri}
-use Rattle.mill_base.specs.declared.points.Box2.{Box2}
 use Rattle.mill_base.specs.declared.cutter.Cutter.{Cutter}
 use Rattle.mill_base.proofs.Integers.{one-mul-ℤ}
 use Rattle.mill_shape.proofs.Holding.{holds_around}

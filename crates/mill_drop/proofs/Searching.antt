@@ -1,5 +1,5 @@
 -- The search for the least height at which a triangle is free.
-use lib.IntN.{ℤ, pos, ◌-ℤ◌}
+use lib.IntN.{ℤ}
 use lib.Signed.{◌<ℤ◌, ◌≤ℤ◌}
 use Rattle.mill_base.specs.declared.points.Tri.{Tri}
 use Rattle.mill_base.specs.declared.cutter.Cutter.{Cutter}

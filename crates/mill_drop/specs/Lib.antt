@@ -1,3 +1,4 @@
 pub mod Drops
 pub mod Near
 pub mod Spindles
+pub mod Maps

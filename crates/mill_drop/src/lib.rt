@@ -2,15 +2,20 @@
 //!
 //! It stands on the part and its cells (mill_part, mill_cells) and on the contact crates. It
 //! promises that `drop_at` gives the least whole height at which the cutter doesn't gouge, exactly,
-//! for every triangle and cutter, and `drop_once` the same without cells. `specs/Drops` says what a drop height is.
+//! for every triangle and cutter, and `drop_once` the same without cells; `drop_map` gives the list of
+//! them over a lattice, whatever the number of threads. `specs/Drops` says what a drop height is, and
+//! `specs/Maps` in which order the nodes of a lattice come.
 #![tactic(auto)]
 
 mod contact;
 mod drop;
+mod map;
+mod nodes;
 mod once;
 mod search;
 #[cfg(test)]
 mod tests;
 
 pub use drop::drop_at;
+pub use map::drop_map;
 pub use once::drop_once;

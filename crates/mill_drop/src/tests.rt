@@ -4,8 +4,8 @@ ghost use Rattle.mill_base.specs.Ranges.{IsInRange};
 ghost use Rattle.mill_base.specs.Sizes.{IsCutter};
 ghost use Rattle.mill_cells.specs.Boxes.{boxes_of};
 
-use crate::drop_at;
-use mill_base::{Cutter, Pt3, Tri};
+use crate::{drop_at, drop_map};
+use mill_base::{Box2, Cutter, Lattice, Pt3, Tri};
 use mill_cells::Cells;
 use mill_part::Part;
 use std::test::Fail;
@@ -97,5 +97,32 @@ fn cutters_on_a_slope(rt: HostRuntime) -> Result<(), Fail> {
     assert_eq!(rt; shape.drop_at(flat, 0, 0, -2000), 100);
     assert_eq!(rt; shape.drop_at(ball, 0, 0, -2000), 42);
     assert_eq!(rt; shape.drop_at(cone, 0, 0, -2000), 50);
+    Ok(())
+}
+
+// The step doesn't divide the row: the positions are -200, -125, -50 and 0.
+#[test]
+fn heights_along_a_row(rt: HostRuntime) -> Result<(), Fail> {
+    let shape = shape_of(&rt, at(0, 0, 200), at(1000, 0, 200), at(0, 1000, 200))?;
+    let flat = Cutter::Flat { radius: 100 };
+    let lattice = Lattice {
+        area: Box2 {
+            x0: -200,
+            y0: 0,
+            x1: 0,
+            y1: 0,
+        },
+        step: 75,
+    };
+    let heights = drop_map(
+        &rt,
+        rt.alloc(),
+        &shape.part,
+        &shape.cells,
+        flat,
+        &lattice,
+        0,
+    )?;
+    assert_eq!(rt; heights.as_slice(), [0, 0, 200, 200].as_slice());
     Ok(())
 }

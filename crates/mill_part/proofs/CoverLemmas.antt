@@ -181,8 +181,9 @@ exact_after part floor band x y k height end before h = (under, λ le. covered_b
     under (inl low) = floor_under h floor height low before.kept
     under (inr over) = All-contains (λ t. (h : ℤ) → CoversColumn t band x y h → h ≤ℤ height) part over.tri all over.member h (covers_of_point part band x y h over)
 
-pub bound_after : (part : List Tri) (floor band x y : ℤ) (k : ℕ) (height : ℤ) → TrisInRange part → Within greatest floor → CoversBefore part floor band x y k height → Within greatest height
-bound_after part floor band x y k height ok floor_ok before = by before.reached
+-- a covered height that isn't under the floor is in range
+pub covered_bound : (part : List Tri) (floor band x y height : ℤ) → TrisInRange part → Within greatest floor → floor ≤ℤ height → Covered part floor band x y height → Within greatest height
+covered_bound part floor band x y height ok floor_ok kept reached = by reached
   where
     bounds : (f z : ℤ) → (negsuc 131070 ≤ℤ f) × (f ≤ℤ pos 131071) → f ≤ℤ z → z ≤ℤ pos 131071 → Within greatest z
     bounds f z b k m = let l = b.0 in record { within = omega (arith, ints) }
@@ -191,8 +192,11 @@ bound_after part floor band x y k height ok floor_ok before = by before.reached
     low f z b k = let l = b.1 in omega (arith, ints)
 
     by : Covered part floor band x y height → Within greatest height
-    by (inl le) = bounds floor height (coordinate_bounds floor floor_ok) before.kept (low floor height (coordinate_bounds floor floor_ok) le)
-    by (inr over) = bounds floor height (coordinate_bounds floor floor_ok) before.kept (in_range over.tri band x y height (ok over.tri over.member) (covers_of_point part band x y height over))
+    by (inl le) = bounds floor height (coordinate_bounds floor floor_ok) kept (low floor height (coordinate_bounds floor floor_ok) le)
+    by (inr over) = bounds floor height (coordinate_bounds floor floor_ok) kept (in_range over.tri band x y height (ok over.tri over.member) (covers_of_point part band x y height over))
+
+pub bound_after : (part : List Tri) (floor band x y : ℤ) (k : ℕ) (height : ℤ) → TrisInRange part → Within greatest floor → CoversBefore part floor band x y k height → Within greatest height
+bound_after part floor band x y k height ok floor_ok before = covered_bound part floor band x y height ok floor_ok before.kept before.reached
 
 -- one triangle's step, by the numbers that the program compares
 pub not_raised : (tri : Tri) (band x y top height : ℤ) → top ≡ highest tri → le_z top height ≡ true → (h : ℤ) → CoversColumn tri band x y h → h ≤ℤ height

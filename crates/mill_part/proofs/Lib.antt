@@ -8,6 +8,9 @@ pub mod FloorLemmas
 pub mod Greatest
 pub mod LineCerts
 pub mod LineLemmas
+pub mod NearCerts
+pub mod NearLemmas
+pub mod NearScan
 pub mod Ranges
 pub mod Stored
 pub mod TopLemmas

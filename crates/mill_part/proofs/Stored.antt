@@ -1,8 +1,8 @@
 -- Sums and differences of bounded numbers, as the program stores them in 64 bits.
-use Rattle.std.proofs.Common.{◌≡◌, ℕ, ◌^◌, true, false, [], ◌∷◌, refl, sym, ap, ◌∙◌, arith, FitsSigned, to_z, of_z}
+use Rattle.std.proofs.Common.{◌≡◌, ℕ, ◌^◌, ◌≤◌, true, false, [], ◌∷◌, refl, sym, ap, ◌∙◌, arith, FitsSigned, to_z, of_z}
 use Rattle.std.proofs.lemmas.Int.{ints, by_lt_z}
 use mir.Syntax.{w32, w64}
-use lib.IntN.{ℤ, pos, negsuc, ◌+ℤ◌, ◌-ℤ◌, ◌*ℤ◌}
+use lib.IntN.{ℤ, pos, negsuc, nat_abs, ◌+ℤ◌, ◌-ℤ◌, ◌*ℤ◌}
 use lib.Signed.{◌<ℤ◌, ◌≤ℤ◌, lt_z}
 use Rattle.mill_base.specs.Numbers.{Within, greatest}
 use Rattle.mill_base.proofs.Machine.{X, Read, Lit, Sum, Diff, stored, roomy, exact, stays, sum_fits, diff_fits, kept}
@@ -14,6 +14,19 @@ coordinate z h = kept w32 z 131071 h.within refl
 
 pub coordinate_bounds : (z : ℤ) → Within greatest z → (negsuc 131070 ≤ℤ z) × (z ≤ℤ pos 131071)
 coordinate_bounds z h = let k = h.within in (omega (arith, ints), omega (arith, ints))
+
+-- so is a band, and so are the ends of the stretch that it reaches about a coordinate
+band_within : (b : ℤ) → (pos 0) ≤ℤ b → b ≤ℤ pos 10000 → nat_abs b ≤ 10000
+band_within b least most = omega (arith, ints)
+
+pub band_kept : (b : ℤ) → (pos 0) ≤ℤ b → b ≤ℤ pos 10000 → stored w32 b ≡ b
+band_kept b least most = kept w32 b 10000 (band_within b least most) refl
+
+pub less_band : (z b : ℤ) → Within greatest z → (pos 0) ≤ℤ b → b ≤ℤ pos 10000 → stored w32 (stored w32 z -ℤ stored w32 b) ≡ z -ℤ b
+less_band z b h least most = exact (z ∷ b ∷ []) (131071 ∷ 10000 ∷ []) (Diff w32 (Read w32 0) (Read w32 1)) (h.within, (band_within b least most, tt)) refl
+
+pub more_band : (z b : ℤ) → Within greatest z → (pos 0) ≤ℤ b → b ≤ℤ pos 10000 → stored w32 (stored w32 z +ℤ stored w32 b) ≡ z +ℤ b
+more_band z b h least most = exact (z ∷ b ∷ []) (131071 ∷ 10000 ∷ []) (Sum w32 (Read w32 0) (Read w32 1)) (h.within, (band_within b least most, tt)) refl
 
 -- three numbers, and one of them less another
 abbrev pub sum3 : X

@@ -4,6 +4,7 @@ use Rattle.mill_base.specs.Points.{IsPointOf}
 use Rattle.mill_base.specs.Covers.{IsBeside}
 use Rattle.mill_base.specs.declared.points.Pt3.{Pt3}
 use Rattle.mill_base.specs.declared.points.Tri.{Tri}
+use Rattle.mill_base.specs.declared.points.Box2.{Box2}
 
 -- the sum of three numbers, each times its weight
 abbrev pub weigh : ℤ → ℤ → ℤ → ℤ → ℤ → ℤ → ℤ
@@ -33,6 +34,10 @@ pub record CoversColumn (tri : Tri) (band x y h : ℤ) : Type 0 where
   pub point : IsPointOf tri n p
   pub high : (n *ℤ h) ≤ℤ p.z
   pub beside : IsBeside band x y n p
+
+-- the square about (x, y) that reaches as far as band in x and in y
+abbrev pub square_about : ℤ → ℤ → ℤ → Box2
+square_about band x y = record { x0 = x -ℤ band; y0 = y -ℤ band; x1 = x +ℤ band; y1 = y +ℤ band }
 
 -- the greatest number that has a property; none if no number has it
 abbrev pub IsGreatest : (ℤ → Type 0) → Option ℤ → Type 0

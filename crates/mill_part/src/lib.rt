@@ -1,7 +1,8 @@
 //! The part: its triangles, its greatest height, and how high it covers a column.
 //!
-//! It stands on `mill_base` and `mill_geom`. It promises that the covered heights of a column, with
-//! any band, are exact, for every triangle, also one that stands for its edges or its point.
+//! It stands on `mill_base`, `mill_geom` and `mill_cells`. It promises that the covered heights of a
+//! column, with any band, are exact, for every triangle, also one that stands for its edges or its
+//! point; `Part::covered_height_near` finds them by a look at the triangles near the column alone.
 //! Definitions: `mill_base`'s `specs/Covers` say which heights are covered. Here `specs/Tops` is the
 //! part's greatest height, and `specs/Columns` and `specs/Lines` are the heights at which one
 //! triangle or one edge covers a column.

@@ -4,7 +4,7 @@ ghost use Rattle.mill_base.specs.Points.{highest as highest_of};
 ghost use Rattle.mill_base.specs.Ranges.{TriInRange};
 
 use crate::column::height_over;
-use mill_base::{Pt3, Tri};
+use mill_base::{Box2, Pt3, Tri};
 use mill_geom::reaches_cylinder;
 
 /// The greatest of a triangle's three heights.
@@ -38,7 +38,19 @@ pub struct Column {
 }
 
 impl Column {
-    ghost use Rattle.mill_part.specs.Columns.{CoversColumn};
+    ghost use Rattle.mill_part.specs.Columns.{CoversColumn, square_about};
+
+    /// The square about the column in which each point lies that covers it.
+    pub fn area(self) -> Box2
+        ensures { result ≡ square_about self.band self.x self.y }
+    {
+        Box2 {
+            x0: self.x - self.band,
+            y0: self.y - self.band,
+            x1: self.x + self.band,
+            y1: self.y + self.band,
+        }
+    }
 
     /// Whether some point of the triangle at least as high as `height` covers the column.
     pub fn is_covered(self, tri: &Tri, height: i32) -> bool

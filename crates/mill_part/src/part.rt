@@ -2,9 +2,11 @@ ghost use Rattle.std.specs.Prelude.{◌≡◌, ◌↔◌, ◌<◌, ◌^◌, ℤ,
 ghost use Rattle.mill_base.specs.Covers.{Covered, HasPointOver};
 ghost use Rattle.mill_base.specs.Numbers.{Within, greatest};
 ghost use Rattle.mill_base.specs.Ranges.{TrisInRange};
+ghost use Rattle.mill_cells.specs.Boxes.{boxes_of};
 
 use crate::near::{Column, highest};
 use mill_base::Tri;
+use mill_cells::Cells;
 use std::marker::Model;
 
 /// The part to be cut: the triangles of its surface, in the order in which they were given.
@@ -104,6 +106,30 @@ impl Part {
         let mut height = floor;
         for tri in self.tris() {
             height = column.raised(height, tri);
+        }
+        height
+    }
+
+    /// The same as `covered_height`, by a look at only those triangles whose boxes are near the
+    /// column. `cells` finds them, and is made of the part's triangles.
+    ///
+    /// It is for many columns: for one alone, making the cells is more work than the looks that they
+    /// save.
+    pub fn covered_height_near(&self, cells: &Cells, floor: i32, x: i32, y: i32, band: i32) -> i32
+        requires cells_ok { cells.now ≡ boxes_of self.now }
+        requires floor_ok { Within greatest floor }
+        requires x_ok { Within greatest x }
+        requires y_ok { Within greatest y }
+        requires band_least { pos 0 ≤ℤ band }
+        requires band_most { band ≤ℤ pos 10000 }
+        ensures exact { (h : ℤ) → Covered self.now floor band x y h ↔ (h ≤ℤ result) }
+        ensures bound { Within greatest result }
+    {
+        let tris = self.tris();
+        let column = Column { x, y, band };
+        let mut height = floor;
+        for number in cells.near(column.area()) {
+            height = column.raised(height, &tris[number as usize]);
         }
         height
     }

@@ -4,6 +4,7 @@ ghost use Rattle.mill_base.specs.Ranges.{IsInRange, TriInRange};
 
 use super::{Part, covered_below};
 use mill_base::{Pt3, Tri};
+use mill_cells::Cells;
 use std::process::Abort;
 use std::test::Fail;
 
@@ -197,6 +198,53 @@ fn stands_over_columns(rt: HostRuntime) -> Result<(), Fail> {
         assert!(rt; fits(y));
         let part = part_of(&rt, [tri].as_slice())?;
         assert_eq!(rt; part.covered_height(-50, x, y, 0), want, "at {x}, {y}");
+    }
+    Ok(())
+}
+
+// Two plates over squares of 256, and a post at (512, 1000) between them. The cells are of 256 too, so
+// that the post and the plates' edges lie on their borders.
+#[test]
+fn covers_by_near_triangles(rt: HostRuntime) -> Result<(), Fail> {
+    let plates = [
+        tri((0, 0, 200), (256, 0, 200), (256, 256, 200)),
+        tri((0, 0, 200), (256, 256, 200), (0, 256, 200)),
+        tri((768, 0, 300), (1024, 0, 300), (1024, 256, 300)),
+        tri((768, 0, 300), (1024, 256, 300), (768, 256, 300)),
+        tri((512, 1000, 500), (512, 1000, -40), (512, 1000, 90)),
+    ];
+    let part = part_of(&rt, plates.as_slice())?;
+    let size = Cells::size_for(part.tris());
+    assert_eq!(rt; size, 256);
+    let cells = Cells::new(rt.alloc(), part.tris(), size)?;
+    let table = [
+        (100, 100, 0, 200),
+        (256, 100, 0, 200),
+        (257, 100, 0, 0),
+        (256, 256, 0, 200),
+        (768, 256, 0, 300),
+        (512, 100, 256, 0),
+        (512, 100, 257, 300),
+        (512, 1000, 0, 500),
+        (513, 1000, 1, 0),
+        (513, 1000, 2, 500),
+        (513, 1000, 800, 500),
+        (-600, -800, 1000, 0),
+        (-600, -800, 1001, 200),
+        (100_000, 5, 10_000, 0),
+        (-131_071, 131_071, 10_000, 0),
+    ];
+    for (x, y, band, want) in table {
+        assert!(rt; fits(x));
+        assert!(rt; fits(y));
+        assert!(rt; is_band(band));
+        let near = part.covered_height_near(&cells, 0, x, y, band);
+        assert_eq!(rt; near, want, "{x}, {y}, {band}");
+        assert_eq!(rt;
+            part.covered_height(0, x, y, band),
+            want,
+            "{x}, {y}, {band}"
+        );
     }
     Ok(())
 }

@@ -93,10 +93,10 @@ free_is_clear cutter move tri d j k m cutter_ok range deep less (inr under) l to
     no a b p q = absurd (omega (arith, ints))
 
 -- the places of a leaf's halves
-left_place : (d j : ℕ) → j < 2 ^ d → 2 * j < 2 ^ (d + 1)
+pub left_place : (d j : ℕ) → j < 2 ^ d → 2 * j < 2 ^ (d + 1)
 left_place d j h = rw (parts_twice d) (omega arith)
 
-right_place : (d j : ℕ) → j < 2 ^ d → 2 * j + 1 < 2 ^ (d + 1)
+pub right_place : (d j : ℕ) → j < 2 ^ d → 2 * j + 1 < 2 ^ (d + 1)
 right_place d j h = rw (parts_twice d) (omega arith)
 
 -- so is a leaf whose halves both pass

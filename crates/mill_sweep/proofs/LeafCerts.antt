@@ -2,7 +2,7 @@ use Rattle.std.proofs.Common.{[], ◌∷◌, refl}
 use lib.IntN.{ℤ, pos, ◌+ℤ◌, ◌-ℤ◌, ◌*ℤ◌}
 use lib.Signed.{◌<ℤ◌, ◌≤ℤ◌}
 use Rattle.mill_base.proofs.Ring.{Var, Num, Add, Sub, Mul}
-use Rattle.mill_base.proofs.Cert.{Le, Lt, Hyp, Sq, Lit, Plus, Times, prove_le_by, prove_lt_by}
+use Rattle.mill_base.proofs.Cert.{Le, Lt, Hyp, Sq, Lit, Plus, Times, refute, prove_le_by, prove_lt_by}
 
 -- vars f t N j m k c e; hyp hl: j*m <= k*N; hyp hr: k*N <= (j+1)*m; hyp h0: (N-j)*f + j*t - N*c <= N*e; hyp h1: (N-(j+1))*f + (j+1)*t - N*c <= N*e; goal N*((m-k)*f + k*t - m*c) <= N*(m*e); mul hr * h0; mul hl * h1
 pub leaf_high : (f t N j m k c e : ℤ) → (j *ℤ m) ≤ℤ (k *ℤ N) → (k *ℤ N) ≤ℤ ((j +ℤ (pos 1)) *ℤ m) → ((((N -ℤ j) *ℤ f) +ℤ (j *ℤ t)) -ℤ (N *ℤ c)) ≤ℤ (N *ℤ e) → ((((N -ℤ (j +ℤ (pos 1))) *ℤ f) +ℤ ((j +ℤ (pos 1)) *ℤ t)) -ℤ (N *ℤ c)) ≤ℤ (N *ℤ e) → (N *ℤ ((((m -ℤ k) *ℤ f) +ℤ (k *ℤ t)) -ℤ (m *ℤ c))) ≤ℤ (N *ℤ (m *ℤ e))
@@ -95,3 +95,67 @@ ball_rises s low high c q h hz hc = prove_lt_by (s ∷ low ∷ high ∷ c ∷ q 
 -- vars s b low high; hyp h: s < (b*b)*(low*low); hyp hl: 0 < low; hyp hz: low <= high; goal s < (b*b)*(high*high); mul sq(b) * hz * hz; mul sq(b) * hl+ * hz
 pub cone_rises : (s b low high : ℤ) → s <ℤ ((b *ℤ b) *ℤ (low *ℤ low)) → (pos 0) <ℤ low → low ≤ℤ high → s <ℤ ((b *ℤ b) *ℤ (high *ℤ high))
 cone_rises s b low high h hl hz = prove_lt_by (s ∷ b ∷ low ∷ high ∷ []) (Lt (Var 0) (Mul (Mul (Var 1) (Var 1)) (Mul (Var 2) (Var 2))) ∷ Lt (Num (pos 0)) (Var 2) ∷ Le (Var 2) (Var 3) ∷ []) (Var 0) (Mul (Mul (Var 1) (Var 1)) (Mul (Var 3) (Var 3))) (Plus (Hyp 0) (Plus (Hyp 1) (Plus (Times (Times (Sq (Var 1)) (Hyp 3)) (Hyp 3)) (Times (Lit 2) (Times (Times (Sq (Var 1)) (Plus (Hyp 2) (Lit 1))) (Hyp 3)))))) 0 (h, (hl, (hz, tt))) refl
+
+-- vars N j f t g; hyp h0: 0 <= j; hyp h1: j <= N; hyp hf: g <= f; hyp ht: g <= t; goal N*g <= (N-j)*f + j*t; mul h1 * hf; mul h0 * ht
+pub end_least : (N j f t g : ℤ) → (pos 0) ≤ℤ j → j ≤ℤ N → g ≤ℤ f → g ≤ℤ t → (N *ℤ g) ≤ℤ (((N -ℤ j) *ℤ f) +ℤ (j *ℤ t))
+end_least N j f t g h0 h1 hf ht = prove_le_by (N ∷ j ∷ f ∷ t ∷ g ∷ []) (Le (Num (pos 0)) (Var 1) ∷ Le (Var 1) (Var 0) ∷ Le (Var 4) (Var 2) ∷ Le (Var 4) (Var 3) ∷ []) (Mul (Var 0) (Var 4)) (Add (Mul (Sub (Var 0) (Var 1)) (Var 2)) (Mul (Var 1) (Var 3))) (Plus (Hyp 0) (Plus (Times (Hyp 2) (Hyp 3)) (Times (Hyp 1) (Hyp 4)))) 0 (h0, (h1, (hf, (ht, tt)))) refl
+
+-- vars n g r z; hyp hn: 0 < n; hyp hr: 2*(n*r) <= 2*z+n; hyp hz: z <= n*g; goal r <= g; mul goal * hn; mul goal * hn+
+pub mean_most : (n g r z : ℤ) → (pos 0) <ℤ n → ((pos 2) *ℤ (n *ℤ r)) ≤ℤ (((pos 2) *ℤ z) +ℤ n) → z ≤ℤ (n *ℤ g) → r ≤ℤ g
+mean_most n g r z hn hr hz = prove_le_by (n ∷ g ∷ r ∷ z ∷ []) (Lt (Num (pos 0)) (Var 0) ∷ Le (Mul (Num (pos 2)) (Mul (Var 0) (Var 2))) (Add (Mul (Num (pos 2)) (Var 3)) (Var 0)) ∷ Le (Var 3) (Mul (Var 0) (Var 1)) ∷ []) (Var 2) (Var 1) (Plus (Times (Lit 2) (Hyp 0)) (Plus (Hyp 1) (Plus (Hyp 2) (Plus (Times (Lit 2) (Hyp 3)) (Times (Lit 2) (Times (Hyp 0) (Hyp 1))))))) 0 (hn, (hr, (hz, tt))) refl
+
+-- vars n g r z; hyp hn: 0 < n; hyp hr: 2*z < 2*(n*r)+n; hyp hz: n*g <= z; goal g <= r; mul goal * hn; mul goal * hn+
+pub mean_least : (n g r z : ℤ) → (pos 0) <ℤ n → ((pos 2) *ℤ z) <ℤ (((pos 2) *ℤ (n *ℤ r)) +ℤ n) → (n *ℤ g) ≤ℤ z → g ≤ℤ r
+mean_least n g r z hn hr hz = prove_le_by (n ∷ g ∷ r ∷ z ∷ []) (Lt (Num (pos 0)) (Var 0) ∷ Lt (Mul (Num (pos 2)) (Var 3)) (Add (Mul (Num (pos 2)) (Mul (Var 0) (Var 2))) (Var 0)) ∷ Le (Mul (Var 0) (Var 1)) (Var 3) ∷ []) (Var 1) (Var 2) (Plus (Times (Lit 2) (Hyp 0)) (Plus (Hyp 1) (Plus (Hyp 2) (Plus (Times (Lit 2) (Hyp 3)) (Times (Lit 2) (Times (Hyp 0) (Hyp 1))))))) 1 (hn, (hr, (hz, tt))) refl
+
+-- vars n q z g; hyp hn: 0 < n; hyp hq: z < n*q+n; hyp hz: n*g <= z; goal g <= q; mul goal * hn; mul goal * hn+
+pub quotient_least : (n q z g : ℤ) → (pos 0) <ℤ n → z <ℤ ((n *ℤ q) +ℤ n) → (n *ℤ g) ≤ℤ z → g ≤ℤ q
+quotient_least n q z g hn hq hz = prove_le_by (n ∷ q ∷ z ∷ g ∷ []) (Lt (Num (pos 0)) (Var 0) ∷ Lt (Var 2) (Add (Mul (Var 0) (Var 1)) (Var 0)) ∷ Le (Mul (Var 0) (Var 3)) (Var 2) ∷ []) (Var 3) (Var 1) (Plus (Hyp 0) (Plus (Hyp 2) (Plus (Hyp 3) (Times (Hyp 0) (Hyp 1))))) 0 (hn, (hq, (hz, tt))) refl
+
+-- vars u v w a b c mx r; hyp hu: 0 <= u; hyp hv: 0 <= v; hyp hw: 0 <= w; hyp ha: mx+r <= a; hyp hb: mx+r <= b; hyp hc: mx+r <= c; goal ((u+v)+w)*(mx+r) <= (u*a+v*b)+w*c; mul hu * ha; mul hv * hb; mul hw * hc
+pub point_east : (u v w a b c mx r : ℤ) → (pos 0) ≤ℤ u → (pos 0) ≤ℤ v → (pos 0) ≤ℤ w → (mx +ℤ r) ≤ℤ a → (mx +ℤ r) ≤ℤ b → (mx +ℤ r) ≤ℤ c → (((u +ℤ v) +ℤ w) *ℤ (mx +ℤ r)) ≤ℤ (((u *ℤ a) +ℤ (v *ℤ b)) +ℤ (w *ℤ c))
+point_east u v w a b c mx r hu hv hw ha hb hc = prove_le_by (u ∷ v ∷ w ∷ a ∷ b ∷ c ∷ mx ∷ r ∷ []) (Le (Num (pos 0)) (Var 0) ∷ Le (Num (pos 0)) (Var 1) ∷ Le (Num (pos 0)) (Var 2) ∷ Le (Add (Var 6) (Var 7)) (Var 3) ∷ Le (Add (Var 6) (Var 7)) (Var 4) ∷ Le (Add (Var 6) (Var 7)) (Var 5) ∷ []) (Mul (Add (Add (Var 0) (Var 1)) (Var 2)) (Add (Var 6) (Var 7))) (Add (Add (Mul (Var 0) (Var 3)) (Mul (Var 1) (Var 4))) (Mul (Var 2) (Var 5))) (Plus (Hyp 0) (Plus (Times (Hyp 1) (Hyp 4)) (Plus (Times (Hyp 2) (Hyp 5)) (Times (Hyp 3) (Hyp 6))))) 0 (hu, (hv, (hw, (ha, (hb, (hc, tt)))))) refl
+
+-- vars u v w a b c mx r; hyp hu: 0 <= u; hyp hv: 0 <= v; hyp hw: 0 <= w; hyp ha: a+r <= mx; hyp hb: b+r <= mx; hyp hc: c+r <= mx; goal (u*a+v*b)+w*c <= ((u+v)+w)*(mx-r); mul hu * ha; mul hv * hb; mul hw * hc
+pub point_west : (u v w a b c mx r : ℤ) → (pos 0) ≤ℤ u → (pos 0) ≤ℤ v → (pos 0) ≤ℤ w → (a +ℤ r) ≤ℤ mx → (b +ℤ r) ≤ℤ mx → (c +ℤ r) ≤ℤ mx → (((u *ℤ a) +ℤ (v *ℤ b)) +ℤ (w *ℤ c)) ≤ℤ (((u +ℤ v) +ℤ w) *ℤ (mx -ℤ r))
+point_west u v w a b c mx r hu hv hw ha hb hc = prove_le_by (u ∷ v ∷ w ∷ a ∷ b ∷ c ∷ mx ∷ r ∷ []) (Le (Num (pos 0)) (Var 0) ∷ Le (Num (pos 0)) (Var 1) ∷ Le (Num (pos 0)) (Var 2) ∷ Le (Add (Var 3) (Var 7)) (Var 6) ∷ Le (Add (Var 4) (Var 7)) (Var 6) ∷ Le (Add (Var 5) (Var 7)) (Var 6) ∷ []) (Add (Add (Mul (Var 0) (Var 3)) (Mul (Var 1) (Var 4))) (Mul (Var 2) (Var 5))) (Mul (Add (Add (Var 0) (Var 1)) (Var 2)) (Sub (Var 6) (Var 7))) (Plus (Hyp 0) (Plus (Times (Hyp 1) (Hyp 4)) (Plus (Times (Hyp 2) (Hyp 5)) (Times (Hyp 3) (Hyp 6))))) 0 (hu, (hv, (hw, (ha, (hb, (hc, tt)))))) refl
+
+-- vars n px mx R q; hyp hn: 0 < n; hyp hq: q <= 2; hyp hp: n*(mx+(R+2)) <= px; hyp hx: 1*px - n*mx < (R+q)*(1*n); goal false; mul hn+ * hq
+pub too_far_east : (n px mx R q : ℤ) → (pos 0) <ℤ n → q ≤ℤ (pos 2) → (n *ℤ (mx +ℤ (R +ℤ (pos 2)))) ≤ℤ px → (((pos 1) *ℤ px) -ℤ (n *ℤ mx)) <ℤ ((R +ℤ q) *ℤ ((pos 1) *ℤ n)) → ⊥
+too_far_east n px mx R q hn hq hp hx = refute (n ∷ px ∷ mx ∷ R ∷ q ∷ []) (Lt (Num (pos 0)) (Var 0) ∷ Le (Var 4) (Num (pos 2)) ∷ Le (Mul (Var 0) (Add (Var 2) (Add (Var 3) (Num (pos 2))))) (Var 1) ∷ Lt (Sub (Mul (Num (pos 1)) (Var 1)) (Mul (Var 0) (Var 2))) (Mul (Add (Var 3) (Var 4)) (Mul (Num (pos 1)) (Var 0))) ∷ []) (Plus (Hyp 2) (Plus (Hyp 3) (Times (Plus (Hyp 0) (Lit 1)) (Hyp 1)))) 0 (hn, (hq, (hp, (hx, tt)))) refl
+
+-- vars n px mx R q; hyp hn: 0 < n; hyp hq: q <= 2; hyp hp: px <= n*(mx-(R+2)); hyp hx: 0-(1*px - n*mx) < (R+q)*(1*n); goal false; mul hn+ * hq
+pub too_far_west : (n px mx R q : ℤ) → (pos 0) <ℤ n → q ≤ℤ (pos 2) → px ≤ℤ (n *ℤ (mx -ℤ (R +ℤ (pos 2)))) → ((pos 0) -ℤ (((pos 1) *ℤ px) -ℤ (n *ℤ mx))) <ℤ ((R +ℤ q) *ℤ ((pos 1) *ℤ n)) → ⊥
+too_far_west n px mx R q hn hq hp hx = refute (n ∷ px ∷ mx ∷ R ∷ q ∷ []) (Lt (Num (pos 0)) (Var 0) ∷ Le (Var 4) (Num (pos 2)) ∷ Le (Var 1) (Mul (Var 0) (Sub (Var 2) (Add (Var 3) (Num (pos 2))))) ∷ Lt (Sub (Num (pos 0)) (Sub (Mul (Num (pos 1)) (Var 1)) (Mul (Var 0) (Var 2)))) (Mul (Add (Var 3) (Var 4)) (Mul (Num (pos 1)) (Var 0))) ∷ []) (Plus (Hyp 2) (Plus (Hyp 3) (Times (Plus (Hyp 0) (Lit 1)) (Hyp 1)))) 0 (hn, (hq, (hp, (hx, tt)))) refl
+
+-- vars N j f t g; hyp h: N*g <= (N-j)*f + j*t; goal (2*N)*g <= (2*N-2*j)*f + (2*j)*t
+pub half_least : (N j f t g : ℤ) → (N *ℤ g) ≤ℤ (((N -ℤ j) *ℤ f) +ℤ (j *ℤ t)) → (((pos 2) *ℤ N) *ℤ g) ≤ℤ (((((pos 2) *ℤ N) -ℤ ((pos 2) *ℤ j)) *ℤ f) +ℤ (((pos 2) *ℤ j) *ℤ t))
+half_least N j f t g h = prove_le_by (N ∷ j ∷ f ∷ t ∷ g ∷ []) (Le (Mul (Var 0) (Var 4)) (Add (Mul (Sub (Var 0) (Var 1)) (Var 2)) (Mul (Var 1) (Var 3))) ∷ []) (Mul (Mul (Num (pos 2)) (Var 0)) (Var 4)) (Add (Mul (Sub (Mul (Num (pos 2)) (Var 0)) (Mul (Num (pos 2)) (Var 1))) (Var 2)) (Mul (Mul (Num (pos 2)) (Var 1)) (Var 3))) (Plus (Hyp 0) (Times (Lit 2) (Hyp 1))) 0 (h, tt) refl
+
+-- vars N j f t g; hyp h: (N-j)*f + j*t <= N*g; goal (2*N-2*j)*f + (2*j)*t <= (2*N)*g
+pub half_most : (N j f t g : ℤ) → (((N -ℤ j) *ℤ f) +ℤ (j *ℤ t)) ≤ℤ (N *ℤ g) → (((((pos 2) *ℤ N) -ℤ ((pos 2) *ℤ j)) *ℤ f) +ℤ (((pos 2) *ℤ j) *ℤ t)) ≤ℤ (((pos 2) *ℤ N) *ℤ g)
+half_most N j f t g h = prove_le_by (N ∷ j ∷ f ∷ t ∷ g ∷ []) (Le (Add (Mul (Sub (Var 0) (Var 1)) (Var 2)) (Mul (Var 1) (Var 3))) (Mul (Var 0) (Var 4)) ∷ []) (Add (Mul (Sub (Mul (Num (pos 2)) (Var 0)) (Mul (Num (pos 2)) (Var 1))) (Var 2)) (Mul (Mul (Num (pos 2)) (Var 1)) (Var 3))) (Mul (Mul (Num (pos 2)) (Var 0)) (Var 4)) (Plus (Hyp 0) (Times (Lit 2) (Hyp 1))) 0 (h, tt) refl
+
+-- vars N j f t g; hyp h: N*g <= (N-j)*f + j*t; hyp k: N*g <= (N-(j+1))*f + (j+1)*t; goal (2*N)*g <= (2*N-(2*j+1))*f + (2*j+1)*t
+pub joint_least : (N j f t g : ℤ) → (N *ℤ g) ≤ℤ (((N -ℤ j) *ℤ f) +ℤ (j *ℤ t)) → (N *ℤ g) ≤ℤ (((N -ℤ (j +ℤ (pos 1))) *ℤ f) +ℤ ((j +ℤ (pos 1)) *ℤ t)) → (((pos 2) *ℤ N) *ℤ g) ≤ℤ (((((pos 2) *ℤ N) -ℤ (((pos 2) *ℤ j) +ℤ (pos 1))) *ℤ f) +ℤ ((((pos 2) *ℤ j) +ℤ (pos 1)) *ℤ t))
+joint_least N j f t g h k = prove_le_by (N ∷ j ∷ f ∷ t ∷ g ∷ []) (Le (Mul (Var 0) (Var 4)) (Add (Mul (Sub (Var 0) (Var 1)) (Var 2)) (Mul (Var 1) (Var 3))) ∷ Le (Mul (Var 0) (Var 4)) (Add (Mul (Sub (Var 0) (Add (Var 1) (Num (pos 1)))) (Var 2)) (Mul (Add (Var 1) (Num (pos 1))) (Var 3))) ∷ []) (Mul (Mul (Num (pos 2)) (Var 0)) (Var 4)) (Add (Mul (Sub (Mul (Num (pos 2)) (Var 0)) (Add (Mul (Num (pos 2)) (Var 1)) (Num (pos 1)))) (Var 2)) (Mul (Add (Mul (Num (pos 2)) (Var 1)) (Num (pos 1))) (Var 3))) (Plus (Hyp 0) (Plus (Hyp 1) (Hyp 2))) 0 (h, (k, tt)) refl
+
+-- vars N j f t g; hyp h: (N-j)*f + j*t <= N*g; hyp k: (N-(j+1))*f + (j+1)*t <= N*g; goal (2*N-(2*j+1))*f + (2*j+1)*t <= (2*N)*g
+pub joint_most : (N j f t g : ℤ) → (((N -ℤ j) *ℤ f) +ℤ (j *ℤ t)) ≤ℤ (N *ℤ g) → (((N -ℤ (j +ℤ (pos 1))) *ℤ f) +ℤ ((j +ℤ (pos 1)) *ℤ t)) ≤ℤ (N *ℤ g) → (((((pos 2) *ℤ N) -ℤ (((pos 2) *ℤ j) +ℤ (pos 1))) *ℤ f) +ℤ ((((pos 2) *ℤ j) +ℤ (pos 1)) *ℤ t)) ≤ℤ (((pos 2) *ℤ N) *ℤ g)
+joint_most N j f t g h k = prove_le_by (N ∷ j ∷ f ∷ t ∷ g ∷ []) (Le (Add (Mul (Sub (Var 0) (Var 1)) (Var 2)) (Mul (Var 1) (Var 3))) (Mul (Var 0) (Var 4)) ∷ Le (Add (Mul (Sub (Var 0) (Add (Var 1) (Num (pos 1)))) (Var 2)) (Mul (Add (Var 1) (Num (pos 1))) (Var 3))) (Mul (Var 0) (Var 4)) ∷ []) (Add (Mul (Sub (Mul (Num (pos 2)) (Var 0)) (Add (Mul (Num (pos 2)) (Var 1)) (Num (pos 1)))) (Var 2)) (Mul (Add (Mul (Num (pos 2)) (Var 1)) (Num (pos 1))) (Var 3))) (Mul (Mul (Num (pos 2)) (Var 0)) (Var 4)) (Plus (Hyp 0) (Plus (Hyp 1) (Hyp 2))) 0 (h, (k, tt)) refl
+
+-- vars N j f t g; hyp h: N*g <= (N-(j+1))*f + (j+1)*t; goal (2*N)*g <= (2*N-(2*j+1+1))*f + (2*j+1+1)*t
+pub end_of_half_least : (N j f t g : ℤ) → (N *ℤ g) ≤ℤ (((N -ℤ (j +ℤ (pos 1))) *ℤ f) +ℤ ((j +ℤ (pos 1)) *ℤ t)) → (((pos 2) *ℤ N) *ℤ g) ≤ℤ (((((pos 2) *ℤ N) -ℤ ((((pos 2) *ℤ j) +ℤ (pos 1)) +ℤ (pos 1))) *ℤ f) +ℤ (((((pos 2) *ℤ j) +ℤ (pos 1)) +ℤ (pos 1)) *ℤ t))
+end_of_half_least N j f t g h = prove_le_by (N ∷ j ∷ f ∷ t ∷ g ∷ []) (Le (Mul (Var 0) (Var 4)) (Add (Mul (Sub (Var 0) (Add (Var 1) (Num (pos 1)))) (Var 2)) (Mul (Add (Var 1) (Num (pos 1))) (Var 3))) ∷ []) (Mul (Mul (Num (pos 2)) (Var 0)) (Var 4)) (Add (Mul (Sub (Mul (Num (pos 2)) (Var 0)) (Add (Add (Mul (Num (pos 2)) (Var 1)) (Num (pos 1))) (Num (pos 1)))) (Var 2)) (Mul (Add (Add (Mul (Num (pos 2)) (Var 1)) (Num (pos 1))) (Num (pos 1))) (Var 3))) (Plus (Hyp 0) (Times (Lit 2) (Hyp 1))) 0 (h, tt) refl
+
+-- vars N j f t g; hyp h: (N-(j+1))*f + (j+1)*t <= N*g; goal (2*N-(2*j+1+1))*f + (2*j+1+1)*t <= (2*N)*g
+pub end_of_half_most : (N j f t g : ℤ) → (((N -ℤ (j +ℤ (pos 1))) *ℤ f) +ℤ ((j +ℤ (pos 1)) *ℤ t)) ≤ℤ (N *ℤ g) → (((((pos 2) *ℤ N) -ℤ ((((pos 2) *ℤ j) +ℤ (pos 1)) +ℤ (pos 1))) *ℤ f) +ℤ (((((pos 2) *ℤ j) +ℤ (pos 1)) +ℤ (pos 1)) *ℤ t)) ≤ℤ (((pos 2) *ℤ N) *ℤ g)
+end_of_half_most N j f t g h = prove_le_by (N ∷ j ∷ f ∷ t ∷ g ∷ []) (Le (Add (Mul (Sub (Var 0) (Add (Var 1) (Num (pos 1)))) (Var 2)) (Mul (Add (Var 1) (Num (pos 1))) (Var 3))) (Mul (Var 0) (Var 4)) ∷ []) (Add (Mul (Sub (Mul (Num (pos 2)) (Var 0)) (Add (Add (Mul (Num (pos 2)) (Var 1)) (Num (pos 1))) (Num (pos 1)))) (Var 2)) (Mul (Add (Add (Mul (Num (pos 2)) (Var 1)) (Num (pos 1))) (Num (pos 1))) (Var 3))) (Mul (Mul (Num (pos 2)) (Var 0)) (Var 4)) (Plus (Hyp 0) (Times (Lit 2) (Hyp 1))) 0 (h, tt) refl
+
+-- vars N m e q z; hyp hn: 0 <= N; hyp he: e <= q; hyp h: z - N*m <= N*e; goal z <= N*(m+q); mul hn * he
+pub end_near_most : (N m e q z : ℤ) → (pos 0) ≤ℤ N → e ≤ℤ q → (z -ℤ (N *ℤ m)) ≤ℤ (N *ℤ e) → z ≤ℤ (N *ℤ (m +ℤ q))
+end_near_most N m e q z hn he h = prove_le_by (N ∷ m ∷ e ∷ q ∷ z ∷ []) (Le (Num (pos 0)) (Var 0) ∷ Le (Var 2) (Var 3) ∷ Le (Sub (Var 4) (Mul (Var 0) (Var 1))) (Mul (Var 0) (Var 2)) ∷ []) (Var 4) (Mul (Var 0) (Add (Var 1) (Var 3))) (Plus (Hyp 0) (Plus (Hyp 3) (Times (Hyp 1) (Hyp 2)))) 0 (hn, (he, (h, tt))) refl
+
+-- vars N m e q z; hyp hn: 0 <= N; hyp he: e <= q; hyp h: 0 - (z - N*m) <= N*e; goal N*(m-q) <= z; mul hn * he
+pub end_near_least : (N m e q z : ℤ) → (pos 0) ≤ℤ N → e ≤ℤ q → ((pos 0) -ℤ (z -ℤ (N *ℤ m))) ≤ℤ (N *ℤ e) → (N *ℤ (m -ℤ q)) ≤ℤ z
+end_near_least N m e q z hn he h = prove_le_by (N ∷ m ∷ e ∷ q ∷ z ∷ []) (Le (Num (pos 0)) (Var 0) ∷ Le (Var 2) (Var 3) ∷ Le (Sub (Num (pos 0)) (Sub (Var 4) (Mul (Var 0) (Var 1)))) (Mul (Var 0) (Var 2)) ∷ []) (Mul (Var 0) (Sub (Var 1) (Var 3))) (Var 4) (Plus (Hyp 0) (Plus (Hyp 3) (Times (Hyp 1) (Hyp 2)))) 0 (hn, (he, (h, tt))) refl

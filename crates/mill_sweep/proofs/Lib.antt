@@ -1,13 +1,17 @@
-mod BetweenCerts
-mod Between
 mod LeafCerts
 mod OuterCerts
 mod Spans
 mod Outer
 mod Depths
-mod Halves
+pub mod Halves
 mod Narrow
-mod Lower
+pub mod Lower
 mod Computed
 mod Rows
+pub mod Far
+mod Besides
+mod Placing
+mod Firsts
+mod Blocking
+mod ContactLemmas
 pub mod Passing

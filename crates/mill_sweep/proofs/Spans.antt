@@ -9,7 +9,7 @@ use Rattle.std.proofs.lemmas.Int.{ints, to_z_pos}
 use Rattle.std.proofs.lemmas.Nat.{pow_pos}
 use Rattle.mill_base.proofs.Divisions.{floor_div_low, half_within}
 use Rattle.mill_base.specs.Numbers.{floor_div, lesser, greatest}
-use Rattle.mill_shape.proofs.RootLemmas.{ceil_root_agrees}
+use Rattle.mill_shape.proofs.RootLemmas.{ceil_root_agrees, ceil_root_is}
 use Rattle.mill_sweep.specs.Leaves.{end_of, middle_of, farther_of, lower_of, diagonal_of}
 use Rattle.mill_sweep.proofs.LeafCerts.{end_high, end_low}
 
@@ -152,3 +152,15 @@ diagonal_is ex ey a b r hx hy ea eb reaches least =
     small : (r < 1048576) ⊎ (1048576 ≤ r) → a + b ≤ 137438953472 → r < 2 ^ 31
     small (inl less) most = omega arith
     small (inr more) most = absurd (let under = least (omega arith) in let root : 1048575 ≤ r - 1 = omega arith in let much : 1048575 * 1048575 ≤ (r - 1) * (r - 1) = mul-le-mul root root in omega arith)
+
+-- the diagonal of two lengths in range is at most 2^19
+pub diagonal_small : (ex ey : ℕ) → ex ≤ 262144 → ey ≤ 262144 → diagonal_of ex ey ≤ 524288
+diagonal_small ex ey hx hy =
+    let x : ex * ex ≤ 262144 * 262144 = mul-le-mul hx hx in
+    let y : ey * ey ≤ 262144 * 262144 = mul-le-mul hy hy in
+    let root = ceil_root_is (ex * ex + ey * ey) (omega arith) in
+    small (diagonal_of ex ey) (cases_lt (diagonal_of ex ey) 524289) root.least (omega arith)
+  where
+    small : {s : ℕ} (r : ℕ) → (r < 524289) ⊎ (524289 ≤ r) → (0 < r → (r - 1) * (r - 1) < s) → s ≤ 137438953472 → r ≤ 524288
+    small r (inl less) least most = omega arith
+    small r (inr more) least most = absurd (let under = least (omega arith) in let root : 524288 ≤ r - 1 = omega arith in let much : 524288 * 524288 ≤ (r - 1) * (r - 1) = mul-le-mul root root in omega arith)

@@ -1,6 +1,7 @@
 -- Which moves pass a triangle at every moment, by halving.
-use Rattle.std.specs.Prelude.{◌≡◌, ◌⊎◌, ℕ, zero, suc, ◌+◌, ◌*◌, ◌≤◌, pos, ◌<ℤ◌, ◌≤ℤ◌}
-use Rattle.mill_base.specs.Points.{highest, point_tri}
+use Rattle.std.specs.Prelude.{◌≡◌, ◌⊎◌, ℕ, zero, suc, ◌+◌, ◌*◌, ◌≤◌, ℤ, pos, ◌<ℤ◌, ◌≤ℤ◌}
+use Rattle.mill_base.specs.Numbers.{Within, greatest}
+use Rattle.mill_base.specs.Points.{highest, point_at, point_tri}
 use Rattle.mill_base.specs.Contact.{Touches}
 use Rattle.mill_base.specs.Sizes.{outer}
 use Rattle.mill_base.specs.declared.points.Pt3.{Pt3}
@@ -8,6 +9,7 @@ use Rattle.mill_base.specs.declared.points.Tri.{Tri}
 use Rattle.mill_base.specs.declared.motion.Move.{Move}
 use Rattle.mill_base.specs.declared.cutter.Cutter.{Cutter}
 use Rattle.mill_sweep.specs.Leaves.{depth_of, span_of, reach_of, zlow_of, outer_tip}
+use Rattle.mill_sweep.specs.Apart.{LieApart}
 use Rattle.mill_sweep.specs.declared.leaf.Leaf.{Leaf}
 use Rattle.mill_sweep.specs.declared.leaf.Span.{Span}
 
@@ -44,3 +46,28 @@ pub record FailsAt (cutter : Cutter) (m : Move) (tri : Tri) (leaf : Leaf) : Type
 -- the same for a point, which is a triangle of three equal corners
 abbrev pub PassesPoint : Cutter → Move → Pt3 → Type 0
 PassesPoint cutter m p = Passes cutter m (point_tri p)
+
+-- the leaf (d, k), with more further halvings, doesn't pass, and this is its failing leaf, which is blocked
+pub record FailsUnder (cutter : Cutter) (m : Move) (tri : Tri) (more d k : ℕ) (leaf : Leaf) : Type 0 where
+  pub fails : ¬ LeafPasses cutter m tri more d k
+  pub leads : LeadsTo cutter m tri more d k leaf
+  pub blocked : Blocks cutter (span_of m leaf.d leaf.k) tri
+
+-- a span of a leaf of a move in range: its numbers are in range
+pub record IsSpan (s : Span) : Type 0 where
+  pub x_ok : Within greatest s.x
+  pub y_ok : Within greatest s.y
+  pub low_ok : Within greatest s.zlow
+  pub reach_least : (pos 0) ≤ℤ s.reach
+
+-- a leaf of this span passes by itself
+abbrev pub IsFreeSpan : Cutter → Span → Tri → Type 0
+IsFreeSpan cutter s tri = ((s.reach ≤ℤ pos 1024) × (¬ Blocks cutter s tri)) ⊎ (highest tri ≤ℤ s.zlow)
+
+-- the middle of a leaf, at its lower end
+abbrev pub middle_point : Span → Pt3
+middle_point s = point_at s.x s.y s.zlow
+
+-- the triangle lies, in x or in y, at least r away from the box of two places
+abbrev pub LiesBeside : ℤ → Pt3 → Pt3 → Tri → Type 0
+LiesBeside r from to tri = LieApart r from.x to.x tri.a.x tri.b.x tri.c.x ⊎ LieApart r from.y to.y tri.a.y tri.b.y tri.c.y

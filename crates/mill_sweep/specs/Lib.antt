@@ -1,5 +1,4 @@
-pub mod Passes
-pub mod Laws
+pub mod Apart
 pub mod Leaves
 pub mod Halving
 pub mod Moments

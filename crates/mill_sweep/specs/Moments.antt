@@ -1,9 +1,9 @@
 -- What the test by halving implies at each moment of a move.
-use Rattle.std.specs.Prelude.{ℕ, ◌≤◌, ◌<◌, ◌^◌, ℤ, pos, ◌<ℤ◌, ◌≤ℤ◌}
+use Rattle.std.specs.Prelude.{◌⊎◌, ℕ, ◌≤◌, ◌<◌, ◌^◌, ℤ, pos, ◌+ℤ◌, ◌<ℤ◌, ◌≤ℤ◌}
 use Rattle.mill_base.specs.Points.{point_at}
 use Rattle.mill_base.specs.Motion.{IsMoment, tip_at}
 use Rattle.mill_base.specs.Contact.{Holds, Touches, Removes}
-use Rattle.mill_base.specs.Sizes.{outer, IsCutter}
+use Rattle.mill_base.specs.Sizes.{outer, radius_of, IsCutter}
 use Rattle.mill_base.specs.Ranges.{IsInRange, MoveInRange}
 use Rattle.mill_base.specs.declared.points.Pt3.{Pt3}
 use Rattle.mill_base.specs.declared.points.Tri.{Tri}
@@ -11,6 +11,7 @@ use Rattle.mill_base.specs.declared.motion.Move.{Move}
 use Rattle.mill_base.specs.declared.cutter.Cutter.{Cutter}
 use Rattle.mill_sweep.specs.Leaves.{depth_of, span_of, reach_of, IsMomentOf, outer_tip}
 use Rattle.mill_sweep.specs.Halving.{Passes, PassesPoint, FailsAt, Blocks}
+use Rattle.mill_sweep.specs.Apart.{IsUnderMove, LieApart}
 use Rattle.mill_sweep.specs.declared.leaf.Leaf.{Leaf}
 
 -- every point inside the cutter at a moment of a leaf is inside the leaf's outer cutter
@@ -29,7 +30,18 @@ abbrev pub PassingKeepsPoint : Type 0
 PassingKeepsPoint = (cutter : Cutter) (move : Move) (x y t h : ℤ) → IsCutter cutter → MoveInRange move → IsInRange (point_at x y t)
     → PassesPoint cutter move (point_at x y t) → h ≤ℤ t → ¬ Removes cutter move (pos 1) (point_at x y h)
 
--- a failing leaf has a reach of at most 2, and it isn't so that it isn't blocked; that it is blocked, is said by the code that decided it
+-- the triangle is no higher than both ends of the move, or lies at least the cutter's radius and 2 away from the whole move in x or in y
+abbrev pub IsFar : Cutter → Move → Tri → Type 0
+IsFar cutter m tri =
+    IsUnderMove m tri
+    ⊎ (LieApart (radius_of cutter +ℤ pos 2) m.from.x m.to.x tri.a.x tri.b.x tri.c.x
+    ⊎ LieApart (radius_of cutter +ℤ pos 2) m.from.y m.to.y tri.a.y tri.b.y tri.c.y)
+
+-- a move passes each triangle that is far from it, so such a triangle needs no halving
+abbrev pub FarPasses : Type 0
+FarPasses = (cutter : Cutter) (move : Move) (tri : Tri) → IsCutter cutter → MoveInRange move → IsFar cutter move tri → Passes cutter move tri
+
+-- a failing leaf has a reach of at most 2, and it isn't so that it isn't blocked; that it is blocked, is for the calls to say that decide it
 abbrev pub FailingIsBlocked : Type 0
 FailingIsBlocked = (cutter : Cutter) (move : Move) (tri : Tri) (leaf : Leaf) → IsCutter cutter → MoveInRange move
     → FailsAt cutter move tri leaf → (reach_of move leaf.d leaf.k ≤ 2) × (¬ (¬ Blocks cutter (span_of move leaf.d leaf.k) tri))

@@ -1,5 +1,5 @@
 ghost use Rattle.std.specs.Int.{div_ceil};
-ghost use Rattle.std.specs.Prelude.{◌≡◌, ◌+◌, ◌*◌, ◌^◌, ◌<◌, ◌≤◌, ◌+ℤ◌, ◌-ℤ◌, ◌*ℤ◌, pos, nat_abs, max};
+ghost use Rattle.std.specs.Prelude.{◌≡◌, ◌+◌, ◌*◌, ◌^◌, ◌<◌, ◌≤◌, ◌+ℤ◌, ◌-ℤ◌, ◌*ℤ◌, ◌≤ℤ◌, pos, nat_abs, max};
 ghost use Rattle.mill_base.specs.Numbers.{round_half_up as round_half_up_of, Within, greatest};
 ghost use Rattle.mill_base.specs.Ranges.{MoveInRange};
 ghost use Rattle.mill_sweep.specs.Leaves.{depth_of, span_of, end_of, middle_of, farther_of, lower_of, diagonal_of};
@@ -12,7 +12,12 @@ pub fn span(step: &Move, leaf: Leaf) -> Span
     requires move_ok { MoveInRange step.now }
     requires d_ok { leaf.d ≤ depth_of step.now }
     requires k_ok { leaf.k < 2 ^ leaf.d }
-    ensures { result ≡ span_of step.now leaf.d leaf.k }
+    ensures value { result ≡ span_of step.now leaf.d leaf.k }
+    ensures x_ok { Within greatest result.x }
+    ensures y_ok { Within greatest result.y }
+    ensures reach_ok { pos 0 ≤ℤ result.reach }
+    ensures reach_most { result.reach ≤ℤ pos (2 ^ 19) }
+    ensures zlow_ok { Within greatest result.zlow }
 {
     let x = stretch_of(step.from.x, step.to.x, leaf);
     let y = stretch_of(step.from.y, step.to.y, leaf);
@@ -38,8 +43,9 @@ fn stretch_of(from: i32, to: i32, leaf: Leaf) -> Stretch
     requires d_ok { leaf.d ≤ 18 }
     requires k_ok { leaf.k < 2 ^ leaf.d }
     ensures middle { result.middle ≡ middle_of from to leaf.d leaf.k }
+    ensures middle_ok { Within greatest result.middle }
     ensures farther { result.farther ≡ farther_of from to leaf.d leaf.k }
-    ensures bound { result.farther ≤ 2 ^ 18 }
+    ensures farther_ok { result.farther ≤ 2 ^ 18 }
 {
     let first = end_at(from, to, leaf.d, leaf.k);
     let last = end_at(from, to, leaf.d, leaf.k + 1);
@@ -118,7 +124,8 @@ fn lower_end(from: i32, to: i32, leaf: Leaf) -> i32
     requires to_ok { Within greatest to }
     requires d_ok { leaf.d ≤ 18 }
     requires k_ok { leaf.k < 2 ^ leaf.d }
-    ensures { result ≡ lower_of from to leaf.d leaf.k }
+    ensures value { result ≡ lower_of from to leaf.d leaf.k }
+    ensures bound { Within greatest result }
 {
     let first = end_at(from, to, leaf.d, leaf.k);
     let last = end_at(from, to, leaf.d, leaf.k + 1);
@@ -129,7 +136,9 @@ fn lower_end(from: i32, to: i32, leaf: Leaf) -> i32
 fn diagonal(ex: u32, ey: u32) -> i32
     requires ex_ok { ex ≤ 2 ^ 18 }
     requires ey_ok { ey ≤ 2 ^ 18 }
-    ensures { result ≡ pos (diagonal_of ex ey) }
+    ensures value { result ≡ pos (diagonal_of ex ey) }
+    ensures bound { pos 0 ≤ℤ result }
+    ensures most { result ≤ℤ pos (2 ^ 19) }
 {
     ceil_root(square(ex) + square(ey)) as i32
 }
@@ -188,5 +197,37 @@ mod tests {
             zlow: -1,
         };
         assert_eq!(rt; span(&below, Leaf { d: 0, k: 0 }), want);
+    }
+
+    // The leaves at which a flat and a ball are stopped by a point at (500, 0).
+    #[test]
+    fn spans_at_the_depth(rt: HostRuntime) {
+        let along = Move {
+            kind: Kind::Feed,
+            from: Pt3 {
+                x: 0,
+                y: 100,
+                z: 200,
+            },
+            to: Pt3 {
+                x: 1000,
+                y: 100,
+                z: 200,
+            },
+        };
+        let past = Span {
+            x: 486,
+            y: 100,
+            reach: 1,
+            zlow: 200,
+        };
+        assert_eq!(rt; span(&along, Leaf { d: 10, k: 497 }), past);
+        let into = Span {
+            x: 400,
+            y: 100,
+            reach: 1,
+            zlow: 200,
+        };
+        assert_eq!(rt; span(&along, Leaf { d: 10, k: 409 }), into);
     }
 }

@@ -1,24 +1,28 @@
-//! Which moves pass a triangle or a point: the test of a whole move, the leaves into which a move is
-//! halved for the test at every moment, and what passing means.
+//! Which moves pass a triangle or a point at every moment, by halving the move into leaves.
 //!
-//! It stands on `mill_base` and `mill_shape`. Definitions: `specs/Passes` is the test of a whole move
-//! and `specs/Laws` what it implies; `specs/Leaves` has the leaves of a move, `specs/Halving` the test
-//! by halving them, and `specs/Moments` what that implies.
+//! It stands on `mill_base`, `mill_shape` and the contact crates. Definitions: `specs/Leaves` says
+//! what the leaves of a move are and where they lie, `specs/Halving` which moves pass and which leaf
+//! of another move fails, `specs/Apart` when a triangle lies beside a move or under it, and
+//! `specs/Moments` what passing implies at each moment. `passes_tri` decides whether a move passes,
+//! and `first_block` names its failing leaf.
 #![tactic(auto)]
 
-mod block;
+mod beside;
+mod contact;
 mod gap;
-mod laws;
+mod halving;
 mod leaf;
 mod leaf_span;
+mod leaf_test;
 mod moments;
 mod move_depth;
-mod passes;
+#[cfg(test)]
+mod tests;
 
-pub use block::{first_block, first_block_point};
-pub use laws::{passing_is_clear, passing_keeps_point};
+pub use halving::{first_block, first_block_point, passes_point, passes_tri};
 pub use leaf::{Leaf, Span};
 pub use leaf_span::span;
-pub use moments::{failing_is_blocked, halving_is_clear, halving_keeps_point, outer_holds};
+pub use moments::{
+    failing_is_blocked, far_passes, halving_is_clear, halving_keeps_point, outer_holds,
+};
 pub use move_depth::depth;
-pub use passes::{passes_point, passes_tri};

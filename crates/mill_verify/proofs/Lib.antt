@@ -1,10 +1,15 @@
 mod ReadLemmas
 mod StockLemmas
+mod Turned
 mod Ranges
 mod Most
 mod Left
 mod Stops
+mod Prefix
 mod Stored
 mod Unique
 mod Safe
 mod Accepted
+mod Looking
+mod Scanning
+mod Limits

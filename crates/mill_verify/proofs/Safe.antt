@@ -13,8 +13,8 @@ use Rattle.mill_base.specs.Motion.{tip_at}
 use Rattle.mill_base.specs.Contact.{Holds, HoldsOver}
 use Rattle.mill_base.specs.Covers.{CoveredBelow}
 use Rattle.mill_base.specs.Ranges.{IsInRange, MovesInRange}
-use Rattle.mill_sweep.specs.Passes.{Passes}
-use Rattle.mill_sweep.specs.Laws.{PassingIsClear, PassingKeepsPoint}
+use Rattle.mill_sweep.specs.Halving.{Passes}
+use Rattle.mill_sweep.specs.Moments.{PassingIsClear, PassingKeepsPoint}
 use Rattle.mill_job.specs.declared.job.Job.{Job}
 use Rattle.mill_job.specs.Jobs.{IsJob}
 use Rattle.mill_job.specs.Columns.{IsColumn, column_x, column_y}

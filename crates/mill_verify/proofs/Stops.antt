@@ -1,56 +1,109 @@
--- Where a rapid is stopped first.
-use Rattle.std.specs.Prelude.{◌≡◌, ℕ, ◌+◌, ◌<◌, ℤ, List, length, take, slice_index_or}
-use Rattle.std.proofs.Common.{sym, ◌∙◌, ap, subst, inl, inr, arith}
-use Rattle.mill_base.specs.Points.{point_at, point_tri}
-use Rattle.mill_base.specs.declared.points.Pt3.{Pt3}
+-- Where a rapid is stopped first, row by row.
+use Rattle.std.specs.Prelude.{◌≡◌, ℕ, ◌+◌, ◌<◌, ◌≤◌, List, length, Option, Some, None, MatchOption}
+use Rattle.std.proofs.Common.{sym, subst, inl, inr, arith}
 use Rattle.mill_base.specs.declared.motion.Move.{Move}
-use Rattle.mill_sweep.specs.Passes.{PassesPoint, FailsAt}
-use Rattle.mill_sweep.specs.declared.leaf.Leaf.{Leaf}
 use Rattle.mill_job.specs.declared.job.Job.{Job}
-use Rattle.mill_job.specs.Columns.{IsColumn, row_count, column_count, column_x, column_y}
-use Rattle.mill_dexel.specs.Tops.{top_point}
-use Rattle.mill_dexel.specs.Rows.{RowState, PassesRow, IsFirstStop as IsRowStop, row_point}
-use Rattle.mill_verify.specs.Tests.{move_at, PassesColumn}
-use Rattle.mill_verify.specs.Stock.{IsRow}
-use Rattle.mill_verify.specs.Firsts.{IsFirstStop}
-use Rattle.mill_verify.proofs.ReadLemmas.{move_read}
+use Rattle.mill_job.specs.Columns.{row_count}
+use Rattle.mill_dexel.specs.Rows.{RowState}
+use Rattle.mill_dexel.specs.Turns.{IsRunOn}
+use Rattle.mill_dexel.specs.declared.fail.RowFail.{RowFail}
+use Rattle.mill_verify.specs.Tests.{PassesColumn}
+use Rattle.mill_verify.specs.Stock.{uncut_row}
+use Rattle.mill_verify.specs.Firsts.{ClearsStockThrough, IsFirstStop, IsStoppedBy, IsEarlierStop}
+use Rattle.mill_verify.specs.declared.stop.Stop.{Stop}
 use Rattle.mill_verify.proofs.Most.{below_suc}
-use Rattle.mill_verify.proofs.StockLemmas.{row_is}
-use Rattle.mill_dexel.proofs.RowLaws.{row_after-at}
+use Rattle.mill_verify.proofs.Turned.{RowClears, IsRowStop, row_passes, row_fails, row_ends}
 
--- the point at the top of a column of a row of the stock
-top_of_row : {job : Job} {moves : List Move} {j : ℕ} {row : RowState} (i : ℕ) → IsRow job moves j row → i < column_count job → row_point job row i ≡ top_point job moves j i
-top_of_row {job} {moves} {j} i is h =
-    ap (λ (r : RowState). row_point job r i) (row_is is) ∙ ap (λ (t : ℤ). point_at (column_x job i) (column_y job j) t) (row_after-at job j moves i _ h)
+-- every move passes test (iii) in the rows before n
+pub record AreClear (job : Job) (moves : List Move) (n : ℕ) : Type 0 where
+  pub clear : (k j : ℕ) → k < length moves → j < n → RowClears job moves k j
 
--- a column of the row that the move passes
-column_passes : {job : Job} {k j : ℕ} {row : RowState} (moves : List Move) (i : ℕ) (d : Move) → k < length moves → IsRow job (take k moves) j row → i < column_count job
-    → PassesPoint job.cutter (slice_index_or moves k d) (row_point job row i) → PassesColumn job moves k j i
-column_passes {job} {k} {row} moves i d there is h p =
-    subst (λ (v : Pt3). PassesPoint job.cutter (move_at moves k) v) (top_of_row i is h)
-    (subst (λ (v : Move). PassesPoint job.cutter v (row_point job row i)) (move_read moves k d there) p)
+-- of the rows before n, this is the first stop
+pub record IsStopAmong (job : Job) (moves : List Move) (n : ℕ) (stop : Stop) : Type 0 where
+  pub there : stop.at < length moves
+  pub row : stop.row < row_count job
+  pub before : (k j : ℕ) → k < stop.at → j < n → RowClears job moves k j
+  pub first : (j : ℕ) → j < stop.row → RowClears job moves stop.at j
+  pub stops : IsRowStop job moves stop.at stop.row stop.col stop.leaf
 
--- the move passes every column of the rows before n
-pub record PassesRowsBefore (job : Job) (moves : List Move) (k n : ℕ) : Type 0 where
-  pub passed : (a b : ℕ) → a < n → IsColumn job a b → PassesColumn job moves k a b
+-- the first stop of the rows before n, if there is one
+abbrev pub IsStopTo : Job → List Move → ℕ → Option Stop → Type 0
+IsStopTo job moves n None = AreClear job moves n
+IsStopTo job moves n (Some stop) = IsStopAmong job moves n stop
 
-pub passes_none : {job : Job} {moves : List Move} {k : ℕ} → PassesRowsBefore job moves k 0
-passes_none = record { passed = λ a b h c. absurd (omega (h, arith)) }
+pub stop_none : (job : Job) (moves : List Move) → AreClear job moves 0
+stop_none job moves = record { clear = λ k j h g. absurd (omega (g, arith)) }
 
--- one more row that the move passes
-pub passes_more : {job : Job} {moves : List Move} {k n : ℕ} {row : RowState} (d : Move) → k < length moves → IsRow job (take k moves) n row → PassesRowsBefore job moves k n
-    → PassesRow job row (slice_index_or moves k d) → PassesRowsBefore job moves k (n + 1)
-passes_more {job} {moves} {k} {n} d there is before passes = record { passed = λ a b h c. elim (below_suc n a h) [ inl less ↦ before.passed a b less c | inr same ↦ at_new a b same c ] }
-  where
-    at_new : (a b : ℕ) → a ≡ n → IsColumn job a b → PassesColumn job moves k a b
-    at_new a b same c = subst (λ (v : ℕ). PassesColumn job moves k v b) (sym same) (column_passes moves b d there is c.column (passes b c.column))
+-- what is so of the rows before n, and of row n, is so of the rows before n + 1
+rows_more : (P : ℕ → Type 0) (n : ℕ) → ((j : ℕ) → j < n → P j) → P n → (j : ℕ) → j < n + 1 → P j
+rows_more P n before here j h = elim (below_suc n j h) [ inl less ↦ before j less | inr same ↦ subst P (sym same) here ]
 
--- the first of a row that the move doesn't pass, after rows that it passes, is the first of all
-pub first_stop_from : {job : Job} {moves : List Move} {k j i : ℕ} {row : RowState} {leaf : Leaf} (d : Move) → k < length moves → j < row_count job → IsRow job (take k moves) j row
-    → PassesRowsBefore job moves k j → IsRowStop job row (slice_index_or moves k d) i leaf → IsFirstStop job moves k j i leaf
-first_stop_from {job} {moves} {k} {i} {row} {leaf} d there j_ok is before f = record {
-  column = record { row = j_ok; column = f.column };
-  first = λ a b c order. elim order [ inl less ↦ before.passed a b less c | inr same ↦ subst (λ (v : ℕ). PassesColumn job moves k v b) (sym same.0) (column_passes moves b d there is c.column (f.before b same.1)) ];
-  fails = subst (λ (v : Pt3). FailsAt job.cutter (move_at moves k) (point_tri v) leaf) (top_of_row i is f.column)
-      (subst (λ (v : Move). FailsAt job.cutter v (point_tri (row_point job row i)) leaf) (move_read moves k d there) f.fails);
+module _ (job : Job) (moves : List Move) (n : ℕ) (row : RowState) (here : n < row_count job) (run : IsRunOn job moves (uncut_row job n) row) where
+  -- a row that didn't fail leaves the first stop as it is
+  through : (first : Option Stop) → length moves ≤ row.done → IsStopTo job moves n first → IsStopTo job moves (n + 1) first
+  through None done h = record { clear = λ k j there below. rows_more (λ (v : ℕ). RowClears job moves k v) n (λ v less. h.clear k v there less) (row_passes k run (omega (there, done, arith))) j below }
+  through (Some stop) done h = record {
+    there = h.there;
+    row = h.row;
+    before = λ k j less below. let t = h.there in rows_more (λ (v : ℕ). RowClears job moves k v) n (λ v small. h.before k v less small) (row_passes k run (omega (less, t, done, arith))) j below;
+    first = h.first;
+    stops = h.stops;
+  }
+
+  -- a row that failed no earlier does, too
+  later : (first : Option Stop) (fail : RowFail) → row.failed ≡ Some fail → IsStoppedBy fail.at first → IsStopTo job moves n first → IsStopTo job moves (n + 1) first
+  later None fail e by h = absurd by
+  later (Some stop) fail e by h =
+      let turns = (row_fails fail run e).turns in
+      record {
+        there = h.there;
+        row = h.row;
+        before = λ k j less below. rows_more (λ (v : ℕ). RowClears job moves k v) n (λ v small. h.before k v less small) (row_passes k run (omega (less, by, turns, arith))) j below;
+        first = h.first;
+        stops = h.stops;
+      }
+
+  -- up to a move with no stop by then, the rows before n pass
+  clear_by : (first : Option Stop) (at : ℕ) → at < length moves → (¬ IsStoppedBy at first) → IsStopTo job moves n first → (k j : ℕ) → k ≤ at → j < n → RowClears job moves k j
+  clear_by None at there by h k j to below = h.clear k j (omega (there, to, arith)) below
+  clear_by (Some stop) at there by h k j to below = h.before k j (omega (by, to, arith)) below
+
+  -- a row that failed earlier is the first stop
+  earlier : (first : Option Stop) (fail : RowFail) → row.failed ≡ Some fail → (¬ IsStoppedBy fail.at first) → IsStopTo job moves n first
+      → IsStopAmong job moves (n + 1) (record { at = fail.at; row = n; col = fail.col; leaf = fail.leaf })
+  earlier first fail e by h =
+      let f = row_fails fail run e in
+      let turns = f.turns in
+      record {
+        there = f.there;
+        row = here;
+        before = λ k j less below. rows_more (λ (v : ℕ). RowClears job moves k v) n (λ v small. clear_by first fail.at f.there by h k v (omega (less, arith)) small) (row_passes k run (omega (less, turns, arith))) j below;
+        first = λ j less. clear_by first fail.at f.there by h fail.at j (omega arith) less;
+        stops = f.stop;
+      }
+
+  -- one row more
+  pub stop_more : (failed : Option RowFail) (first next : Option Stop) → failed ≡ row.failed → IsEarlierStop n failed first next → IsStopTo job moves n first → IsStopTo job moves (n + 1) next
+  stop_more failed first next is step h = by failed (sym is) step
+    where
+      by : (f : Option RowFail) → row.failed ≡ f → IsEarlierStop n f first next → IsStopTo job moves (n + 1) next
+      by None e s = subst (IsStopTo job moves (n + 1)) (sym s) (through first (row_ends run e) h)
+      by (Some fail) e (inl s) = subst (IsStopTo job moves (n + 1)) (sym s.0) (later first fail e s.1 h)
+      by (Some fail) e (inr s) = subst (IsStopTo job moves (n + 1)) (sym s.0) (earlier first fail e s.1 h)
+
+-- of all rows, it is the first of the stock
+pub stop_all : (job : Job) (moves : List Move) (n : ℕ) (first : Option Stop) → row_count job ≤ n → IsStopTo job moves n first
+    → MatchOption first (ClearsStockThrough job moves) (λ stop. IsFirstStop job moves stop.at stop.row stop.col stop.leaf)
+stop_all job moves n None all h = λ k there rapid j i column. let r = column.row in h.clear k j there (omega (r, all, arith)) rapid i column.column
+stop_all job moves n (Some stop) all h = record {
+  there = h.there;
+  before = λ e less rapid j i column. let r = column.row in h.before e j less (omega (r, all, arith)) rapid i column.column;
+  rapid = h.stops.rapid;
+  column = record { row = h.row; column = h.stops.column };
+  first = λ a b column order. elim order [
+    | inl less ↦ h.first a less h.stops.rapid b column.column
+    | inr same ↦ subst (λ (v : ℕ). PassesColumn job moves stop.at v b) (sym same.0) (h.stops.before b same.1)
+  ];
+  fails = h.stops.fails;
+  blocked = h.stops.blocked;
 }

@@ -1,16 +1,24 @@
 -- Where each test fails first, apart from the tests before it.
-use Rattle.std.specs.Prelude.{◌≡◌, ℕ, ◌<◌, ℤ, ◌-ℤ◌, ◌≤ℤ◌, List, length, take}
+use Rattle.std.specs.Prelude.{◌≡◌, ◌⊎◌, ℕ, ◌<◌, ◌≤◌, ℤ, ◌-ℤ◌, ◌≤ℤ◌, List, length, take, Option, Some, None, IfSome, IfNone}
 use Rattle.mill_base.specs.declared.points.Tri.{Tri}
 use Rattle.mill_base.specs.declared.motion.Move.{Move}
+use Rattle.mill_base.specs.declared.motion.Kind.TheVariants.{Rapid}
+use Rattle.mill_base.specs.declared.cutter.Cutter.{Cutter}
 use Rattle.mill_base.specs.Points.{point_tri}
 use Rattle.mill_base.specs.Covers.{Covered, IsHighestCovered}
-use Rattle.mill_sweep.specs.Passes.{FailsAt}
+use Rattle.mill_sweep.specs.Leaves.{span_of}
+use Rattle.mill_sweep.specs.Halving.{Passes, FailsAt, Blocks}
 use Rattle.mill_sweep.specs.declared.leaf.Leaf.{Leaf}
 use Rattle.mill_job.specs.declared.job.Job.{Job}
 use Rattle.mill_job.specs.Columns.{IsColumn, IsBefore, column_x, column_y, column_count}
 use Rattle.mill_dexel.specs.Tops.{top_after, top_point}
-use Rattle.mill_verify.specs.Tests.{move_at, tri_at, PassesTri, PassesColumn, IsCut}
-use Rattle.mill_verify.specs.Verdicts.{IsLeftOver, IsMostLeft}
+use Rattle.mill_dexel.specs.declared.fail.RowFail.{RowFail}
+use Rattle.mill_verify.specs.Tests.{move_at, tri_at, PassesTri, ClearsPart, PassesColumn, ClearsStock, IsOverFloor, IsCut, GoodBefore}
+use Rattle.mill_verify.specs.Verdicts.{IsLeftOver, IsMostLeft, IsRejection, IsBlocked, IsStopped, ShowsBlock}
+use Rattle.mill_verify.specs.declared.gouge.Gouge.{Gouge}
+use Rattle.mill_verify.specs.declared.limit.Limit.{Limit}
+use Rattle.mill_verify.specs.declared.part_fail.PartFail.{PartFail}
+use Rattle.mill_verify.specs.declared.stop.Stop.{Stop}
 
 -- triangle t is the first that move k doesn't pass, and the test fails at this leaf
 pub record IsFirstGouge (job : Job) (part : List Tri) (moves : List Move) (k t : ℕ) (leaf : Leaf) : Type 0 where
@@ -18,15 +26,76 @@ pub record IsFirstGouge (job : Job) (part : List Tri) (moves : List Move) (k t :
   pub first : (e : ℕ) → e < t → PassesTri job part moves k e
   pub fails : FailsAt job.cutter (move_at moves k) (tri_at part t) leaf
 
--- move k passes the top of every column
-abbrev pub PassesStock : Job → List Move → ℕ → Type 0
-PassesStock job moves k = (j i : ℕ) → IsColumn job j i → PassesColumn job moves k j i
+-- triangle t comes before the first gouge so far, if there is one
+abbrev pub ComesBefore : ℕ → Option Gouge → Type 0
+ComesBefore t None = Unit {0}
+ComesBefore t (Some gouge) = t < gouge.tri
 
--- column (j, i) is the first whose top move k doesn't pass, and the test fails at this leaf
+-- the triangle, of number t, is the gouge that is told: the move fails at it, and it blocks the leaf that is named
+pub record IsGouge (cutter : Cutter) (m : Move) (tri : Tri) (t : ℕ) (told : Option Gouge) : Type 0 where
+  pub leaf : Leaf
+  pub told_so : told ≡ Some (record { tri = t; leaf = leaf })
+  pub fails : FailsAt cutter m tri leaf
+  pub blocked : Blocks cutter (span_of m leaf.d leaf.k) tri
+
+-- with the triangle of number t, the first gouge so far becomes another: itself, where t doesn't come before it or the move passes the triangle; else the triangle's
+abbrev pub IsEarlier : Cutter → Move → Tri → ℕ → Option Gouge → Option Gouge → Type 0
+IsEarlier cutter m tri t first next =
+    ((next ≡ first) × ((¬ ComesBefore t first) ⊎ Passes cutter m tri))
+    ⊎ (ComesBefore t first × IsGouge cutter m tri t next)
+
+-- the moves from number s to before e clear the part
+abbrev pub ClearsBetween : Job → List Tri → List Move → ℕ → ℕ → Type 0
+ClearsBetween job part moves s e = (k : ℕ) → s ≤ k → k < e → ClearsPart job part moves k
+
+-- of the moves from number s to before e, this is the first that doesn't clear the part, with its first gouge, whose triangle blocks the leaf
+pub record IsFirstPartFail (job : Job) (part : List Tri) (moves : List Move) (s e : ℕ) (fail : PartFail) : Type 0 where
+  pub start : s ≤ fail.at
+  pub there : fail.at < e
+  pub before : ClearsBetween job part moves s fail.at
+  pub first : IsFirstGouge job part moves fail.at fail.gouge.tri fail.gouge.leaf
+  pub blocked : IsBlocked job part moves fail.at fail.gouge.tri fail.gouge.leaf
+
+-- the moves before this number pass test (i), and the move there, if there is one, doesn't
+pub record IsFloorEnd (job : Job) (moves : List Move) (end_at : ℕ) : Type 0 where
+  pub within : end_at ≤ length moves
+  pub over : (k : ℕ) → k < end_at → IsOverFloor job moves k
+  pub fails : end_at < length moves → ¬ IsOverFloor job moves end_at
+
+-- the moves before the end pass tests (i) and (ii); with no failure named these are all, and a failure that is named is the program's, provided that the moves before it are good
+pub record IsLimit (job : Job) (part : List Tri) (moves : List Move) (limit : Limit) : Type 0 where
+  pub within : limit.passed ≤ length moves
+  pub over : (k : ℕ) → k < limit.passed → IsOverFloor job moves k
+  pub clears : (k : ℕ) → k < limit.passed → ClearsPart job part moves k
+  pub whole : IfNone limit.fails (limit.passed ≡ length moves)
+  pub fails : IfSome limit.fails (λ reason. GoodBefore job part moves limit.passed → IsRejection job part moves reason)
+  pub shown : IfSome limit.fails (ShowsBlock job part moves)
+
+-- every move passes test (iii)
+abbrev pub ClearsStockThrough : Job → List Move → Type 0
+ClearsStockThrough job moves = (k : ℕ) → k < length moves → ClearsStock job moves k
+
+-- move k is the first that fails test (iii), at column (j, i) first, whose top blocks this leaf, at which the test fails
 pub record IsFirstStop (job : Job) (moves : List Move) (k j i : ℕ) (leaf : Leaf) : Type 0 where
+  pub there : k < length moves
+  pub before : (e : ℕ) → e < k → ClearsStock job moves e
+  pub rapid : (move_at moves k).kind ≡ Rapid
   pub column : IsColumn job j i
   pub first : (a b : ℕ) → IsColumn job a b → IsBefore a b j i → PassesColumn job moves k a b
   pub fails : FailsAt job.cutter (move_at moves k) (point_tri (top_point job (take k moves) j i)) leaf
+  pub blocked : IsStopped job moves k j i leaf
+
+-- there is a stop so far, at move k or before it
+abbrev pub IsStoppedBy : ℕ → Option Stop → Type 0
+IsStoppedBy k None = ⊥
+IsStoppedBy k (Some stop) = stop.at ≤ k
+
+-- with row j, which failed there if it did, the first stop so far becomes another: itself, where the row didn't fail or the stop is no later; else the row's
+abbrev pub IsEarlierStop : ℕ → Option RowFail → Option Stop → Option Stop → Type 0
+IsEarlierStop j None first next = next ≡ first
+IsEarlierStop j (Some fail) first next =
+    ((next ≡ first) × IsStoppedBy fail.at first)
+    ⊎ ((next ≡ Some (record { at = fail.at; row = j; col = fail.col; leaf = fail.leaf })) × ¬ IsStoppedBy fail.at first)
 
 -- a column at (x, y) with this top is cut to within the allowance, and is left this much over its greatest covered height
 pub record IsCutTo (job : Job) (part : List Tri) (x y top left : ℤ) : Type 0 where

@@ -3,3 +3,4 @@ pub mod Verdicts
 pub mod Claims
 pub mod Stock
 pub mod Firsts
+pub mod Near

@@ -4,7 +4,7 @@ use Rattle.mill_base.specs.declared.points.Tri.{Tri}
 use Rattle.mill_base.specs.declared.motion.Move.{Move}
 use Rattle.mill_base.specs.declared.motion.Kind.TheVariants.{Rapid, Feed}
 use Rattle.mill_base.specs.Points.{point_tri, point_at}
-use Rattle.mill_sweep.specs.Passes.{Passes, PassesPoint}
+use Rattle.mill_sweep.specs.Halving.{Passes, PassesPoint}
 use Rattle.mill_base.specs.Covers.{Covered}
 use Rattle.mill_job.specs.declared.job.Job.{Job}
 use Rattle.mill_job.specs.Columns.{IsColumn, column_x, column_y}
@@ -22,7 +22,7 @@ pub record IsOverFloor (job : Job) (moves : List Move) (k : ℕ) : Type 0 where
   pub start : job.floor ≤ℤ (move_at moves k).from.z
   pub «end» : job.floor ≤ℤ (move_at moves k).to.z
 
--- test (ii) of one triangle: move k passes it
+-- test (ii) of one triangle: move k passes it, by halving
 abbrev pub PassesTri : Job → List Tri → List Move → ℕ → ℕ → Type 0
 PassesTri job part moves k t = Passes job.cutter (move_at moves k) (tri_at part t)
 
@@ -30,7 +30,7 @@ PassesTri job part moves k t = Passes job.cutter (move_at moves k) (tri_at part 
 abbrev pub ClearsPart : Job → List Tri → List Move → ℕ → Type 0
 ClearsPart job part moves k = (t : ℕ) → t < length part → PassesTri job part moves k t
 
--- test (iii) of one column: move k passes the point at the top that the moves before it left
+-- test (iii) of one column: move k passes, by halving, the point at the top that the moves before it left
 abbrev pub PassesColumn : Job → List Move → ℕ → ℕ → ℕ → Type 0
 PassesColumn job moves k j i = PassesPoint job.cutter (move_at moves k) (top_point job (take k moves) j i)
 

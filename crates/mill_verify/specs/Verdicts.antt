@@ -3,7 +3,8 @@ use Rattle.std.specs.Prelude.{◌≡◌, ℕ, ◌<◌, ◌*◌, ℤ, ◌-ℤ◌,
 use Rattle.mill_base.specs.declared.points.Tri.{Tri}
 use Rattle.mill_base.specs.declared.motion.Move.{Move}
 use Rattle.mill_base.specs.declared.motion.Kind.TheVariants.{Rapid}
-use Rattle.mill_sweep.specs.Passes.{FailsAt}
+use Rattle.mill_sweep.specs.Leaves.{span_of}
+use Rattle.mill_sweep.specs.Halving.{FailsAt, Blocks}
 use Rattle.mill_sweep.specs.declared.leaf.Leaf.{Leaf}
 use Rattle.mill_base.specs.Points.{point_tri}
 use Rattle.mill_base.specs.Covers.{IsHighestCovered}
@@ -82,6 +83,25 @@ IsRejection job part moves (Left j i top) = FailsCut job part moves j i top
 abbrev pub IsVerdict : Job → List Tri → List Move → Verdict → Type 0
 IsVerdict job part moves (Accept count columns left) = Accepts job part moves count columns left
 IsVerdict job part moves (Reject reason) = IsRejection job part moves reason
+
+-- triangle t blocks this leaf of move k: it comes over the leaf's lower end, and some point of it is strictly inside the leaf's outer cutter
+abbrev pub IsBlocked : Job → List Tri → List Move → ℕ → ℕ → Leaf → Type 0
+IsBlocked job part moves k t leaf = Blocks job.cutter (span_of (move_at moves k) leaf.d leaf.k) (tri_at part t)
+
+-- the point at the top of column (j, i) before move k blocks this leaf of the move
+abbrev pub IsStopped : Job → List Move → ℕ → ℕ → ℕ → Leaf → Type 0
+IsStopped job moves k j i leaf = Blocks job.cutter (span_of (move_at moves k) leaf.d leaf.k) (point_tri (top_point job (take k moves) j i))
+
+-- a rejection by test (ii) or (iii) names a leaf that is blocked
+abbrev pub ShowsBlock : Job → List Tri → List Move → Reason → Type 0
+ShowsBlock job part moves (Floor k) = Unit {0}
+ShowsBlock job part moves (Gouge k t leaf) = IsBlocked job part moves k t leaf
+ShowsBlock job part moves (RapidCut k j i leaf) = IsStopped job moves k j i leaf
+ShowsBlock job part moves (Left j i top) = Unit {0}
+
+abbrev pub ShowsBlocks : Job → List Tri → List Move → Verdict → Type 0
+ShowsBlocks job part moves (Accept count columns left) = Unit {0}
+ShowsBlocks job part moves (Reject reason) = ShowsBlock job part moves reason
 
 -- a job, a part and a list of moves have at most one verdict
 abbrev pub OneVerdict : Type 0

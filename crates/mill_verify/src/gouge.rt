@@ -1,15 +1,21 @@
-ghost use Rattle.std.specs.Prelude.{◌<◌, length, MatchOption};
-ghost use Rattle.mill_base.specs.Ranges.{MovesInRange};
+ghost use Rattle.std.specs.Prelude.{◌≡◌, ◌<◌, length, IfSome, MatchOption};
+ghost use Rattle.mill_base.specs.Ranges.{MoveInRange, MovesInRange, TriInRange};
+ghost use Rattle.mill_base.specs.Sizes.{IsCutter};
+ghost use Rattle.mill_cells.specs.Boxes.{boxes_of};
 ghost use Rattle.mill_job.specs.Jobs.{IsJob};
 ghost use Rattle.mill_verify.specs.Tests.{ClearsPart};
-ghost use Rattle.mill_verify.specs.Firsts.{IsFirstGouge};
+ghost use Rattle.mill_verify.specs.Firsts.{IsEarlier, IsFirstGouge};
+ghost use Rattle.mill_verify.specs.Verdicts.{IsBlocked};
+ghost use Rattle.mill_verify.specs.Near.{IsLid};
 
-use mill_base::Move;
+use crate::area::{area_about, is_over};
+use mill_base::{Cutter, Move, Tri};
+use mill_cells::Cells;
 use mill_job::Job;
 use mill_part::Part;
 use mill_sweep::{Leaf, first_block};
 
-/// A triangle that a move doesn't pass, and the segment at which the test fails.
+/// A triangle that a move doesn't pass, and the leaf of the move that it blocks.
 #[derive(Clone, Copy)]
 pub struct Gouge {
     pub tri: u32,
@@ -17,24 +23,70 @@ pub struct Gouge {
 }
 
 /// Test (ii): the first triangle that move `number` doesn't pass, none where it clears the part.
-pub fn first_gouge(job: &Job, part: &Part, moves: &[Move], number: usize) -> Option<Gouge>
+///
+/// Only the triangles are tried whose boxes are near the move, by `cells`, which are those of the
+/// part's triangles. No triangle is tried where the move stays over `part_top`, and no part point
+/// is higher than that.
+pub fn first_gouge(
+    job: &Job,
+    part: &Part,
+    cells: &Cells,
+    part_top: i32,
+    moves: &[Move],
+    number: usize,
+) -> Option<Gouge>
     requires job_ok { IsJob job.now }
+    requires cells_ok { cells.now ≡ boxes_of part.now }
+    requires top_ok { IsLid part.now part_top }
     requires moves_ok { MovesInRange moves.now }
     requires there { number < length moves.now }
-    ensures { MatchOption
+    ensures first { MatchOption
         result
         (ClearsPart job.now part.now moves.now number)
         (λ gouge. IsFirstGouge job.now part.now moves.now number gouge.tri gouge.leaf) }
+    ensures blocked { IfSome result (λ gouge. IsBlocked
+        job.now
+        part.now
+        moves.now
+        number
+        gouge.tri
+        gouge.leaf) }
 {
     let step = &moves[number];
+    if is_over(step, part_top) {
+        return None;
+    }
     let tris = part.tris();
-    for (index, tri) in tris.iter().enumerate() {
-        if let Some(leaf) = first_block(job.cutter, step, tri) {
-            return Some(Gouge {
-                tri: index as u32,
-                leaf,
-            });
+    let mut first = None;
+    let mut near = cells.near(area_about(job.cutter, step));
+    while let Some(tri) = near.next() {
+        first = earlier(first, job.cutter, step, &tris[tri as usize], tri);
+    }
+    first
+}
+
+/// The first gouge of those triangles that were tried, and of the triangle of this number.
+///
+/// The cells give the triangles in no order; one that comes after the first gouge isn't tried.
+fn earlier(
+    first: Option<Gouge>,
+    cutter: Cutter,
+    step: &Move,
+    tri: &Tri,
+    number: u32,
+) -> Option<Gouge>
+    requires cutter_ok { IsCutter cutter }
+    requires move_ok { MoveInRange step.now }
+    requires tri_ok { TriInRange tri.now }
+    ensures { IsEarlier cutter step.now tri.now number first result }
+{
+    if let Some(gouge) = first {
+        if gouge.tri <= number {
+            return first;
         }
     }
-    None
+    match first_block(cutter, step, tri) {
+        Some(leaf) => Some(Gouge { tri: number, leaf }),
+        None => first,
+    }
 }

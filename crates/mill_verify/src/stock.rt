@@ -1,35 +1,43 @@
-ghost use Rattle.std.specs.Prelude.{◌≡◌, ◌+◌, ◌<◌, [], length, take, IfOk};
+ghost use Rattle.std.specs.Prelude.{◌≤◌, All, IfOk};
 ghost use Rattle.mill_base.specs.Ranges.{MovesInRange};
+ghost use Rattle.mill_dexel.specs.Rows.{IsRowOf};
 ghost use Rattle.mill_job.specs.Jobs.{IsJob};
-ghost use Rattle.mill_verify.specs.Stock.{IsStock};
+ghost use Rattle.mill_verify.specs.Stock.{AreTurned, AreUncut};
 
 use mill_base::{Move, WantOfMemory};
-use mill_dexel::Row;
+use mill_dexel::{Row, rows_static};
 use mill_job::Job;
 use std::alloc::Global;
+use std::thread::Threads;
+
+/// All rows of the stock, each after its turns: through all moves, or up to the first rapid that it
+/// stops. The rows are turned by `workers` threads.
+pub fn turned_rows<R: Threads + Sync>(
+    rt: &R,
+    alloc: Global,
+    job: &Job,
+    moves: &[Move],
+    workers: u32,
+) -> Result<Vec<Row>, WantOfMemory>
+    requires job_ok { IsJob job.now }
+    requires moves_ok { MovesInRange moves.now }
+    requires some { 1 ≤ workers }
+    requires few { workers ≤ 64 }
+    ensures { IfOk result (λ rows. AreTurned job.now moves.now rows.items) }
+{
+    let rows = make_rows(alloc, job)?;
+    Ok(rows_static(rt, job, rows, moves, workers))
+}
 
 /// All rows of the uncut stock.
-pub fn make_rows(alloc: Global, job: &Job) -> Result<Vec<Row>, WantOfMemory>
+fn make_rows(alloc: Global, job: &Job) -> Result<Vec<Row>, WantOfMemory>
     requires { IsJob job.now }
-    ensures { IfOk result (λ rows. IsStock job.now [] rows.items) }
+    ensures uncut { IfOk result (λ rows. AreUncut job.now rows.items) }
+    ensures rows_ok { IfOk result (λ rows. All (IsRowOf job.now) rows.items) }
 {
     let mut rows = Vec::new(alloc);
     for number in 0..job.rows() {
         rows.push(Row::new(alloc, job, u64::from(number))?)?;
     }
     Ok(rows)
-}
-
-/// Lets move `number` cut every row.
-pub fn cut_all(job: &Job, moves: &[Move], number: usize, rows: &mut [Row])
-    requires job_ok { IsJob job.now }
-    requires moves_ok { MovesInRange moves.now }
-    requires there { number < length moves.now }
-    requires rows_ok { IsStock job.now (take number moves.now) rows.old }
-    ensures { IsStock job.now (take (number + 1) moves.now) rows.new }
-{
-    let step = &moves[number];
-    for row in rows.iter_mut() {
-        row.cut_turn(job, step);
-    }
 }

@@ -1,67 +1,59 @@
-ghost use Rattle.std.specs.Prelude.{◌≡◌, ◌<◌, length, take, IsSome, IfNone, IfSome, MatchOption};
-ghost use Rattle.mill_base.specs.Ranges.{MovesInRange};
-ghost use Rattle.mill_base.specs.declared.motion.Kind.TheVariants.{Rapid};
+ghost use Rattle.std.specs.Prelude.{MatchOption, length};
 ghost use Rattle.mill_job.specs.Jobs.{IsJob};
-ghost use Rattle.mill_verify.specs.Tests.{move_at, ClearsStock};
-ghost use Rattle.mill_verify.specs.Stock.{IsStock};
-ghost use Rattle.mill_verify.specs.Firsts.{PassesStock, IsFirstStop};
+ghost use Rattle.mill_verify.specs.Firsts.{ClearsStockThrough, IsEarlierStop, IsFirstStop};
+ghost use Rattle.mill_verify.specs.Stock.{AreTurned};
 
-use mill_base::{Kind, Move};
-use mill_dexel::Row;
+use mill_base::Move;
+use mill_dexel::{Row, RowFail};
 use mill_job::Job;
 use mill_sweep::Leaf;
 
-/// A column whose top a move doesn't pass, and the segment at which the test fails.
+/// A rapid that doesn't pass the stock, the first column whose top it doesn't pass, and the leaf at
+/// which the test fails.
 #[derive(Clone, Copy)]
 pub struct Stop {
+    pub at: u64,
     pub row: u32,
     pub col: u32,
     pub leaf: Leaf,
 }
 
-/// Test (iii): where move `number` is a rapid, the first column whose top it doesn't pass, by row
-/// first; none where it clears the stock that the moves before it left.
-pub fn rapid_stop(job: &Job, moves: &[Move], number: usize, rows: &[Row]) -> Option<Stop>
+/// Test (iii): the first rapid that the stock stops, and its first column, by row first; none where
+/// every rapid clears the stock that the moves before it left. The rows have had their turns at
+/// these moves.
+pub fn first_stop(job: &Job, moves: &[Move], rows: &[Row]) -> Option<Stop>
     requires job_ok { IsJob job.now }
-    requires moves_ok { MovesInRange moves.now }
-    requires there { number < length moves.now }
-    requires rows_ok { IsStock job.now (take number moves.now) rows.now }
-    ensures clears { IfNone result (ClearsStock job.now moves.now number) }
-    ensures rapid { IsSome result → (move_at moves.now number).kind ≡ Rapid }
-    ensures stop { IfSome result (λ stop. IsFirstStop
-        job.now
-        moves.now
-        number
-        stop.row
-        stop.col
-        stop.leaf) }
-{
-    match moves[number].kind {
-        Kind::Rapid => first_stop(job, moves, number, rows),
-        Kind::Feed => None,
-    }
-}
-
-/// The first column whose top move `number` doesn't pass, by row first.
-fn first_stop(job: &Job, moves: &[Move], number: usize, rows: &[Row]) -> Option<Stop>
-    requires job_ok { IsJob job.now }
-    requires moves_ok { MovesInRange moves.now }
-    requires there { number < length moves.now }
-    requires rows_ok { IsStock job.now (take number moves.now) rows.now }
+    requires rows_ok { AreTurned job.now moves.now rows.now }
     ensures { MatchOption
         result
-        (PassesStock job.now moves.now number)
-        (λ stop. IsFirstStop job.now moves.now number stop.row stop.col stop.leaf) }
+        (ClearsStockThrough job.now moves.now)
+        (λ stop. IsFirstStop job.now moves.now stop.at stop.row stop.col stop.leaf) }
 {
-    let step = &moves[number];
+    let mut first = None;
     for (index, row) in rows.iter().enumerate() {
-        if let Some((col, leaf)) = row.rapid_turn(job, step) {
-            return Some(Stop {
-                row: index as u32,
-                col,
-                leaf,
-            });
+        first = earlier(first, index as u32, row.failed());
+    }
+    first
+}
+
+/// The first stop of the rows before row `number` and of that row, which failed there if it did.
+///
+/// A row that stops a later move, or the same one, comes after the first stop so far.
+fn earlier(first: Option<Stop>, number: u32, failed: Option<RowFail>) -> Option<Stop>
+    ensures { IsEarlierStop number failed first result }
+{
+    let Some(fail) = failed else {
+        return first;
+    };
+    if let Some(stop) = first {
+        if stop.at <= fail.at {
+            return first;
         }
     }
-    None
+    Some(Stop {
+        at: fail.at,
+        row: number,
+        col: fail.col,
+        leaf: fail.leaf,
+    })
 }

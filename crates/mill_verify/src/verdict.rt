@@ -7,14 +7,13 @@ pub enum Reason {
     Floor {
         at: u64,
     },
-    /// The move doesn't pass the triangle; the segment at which the test fails.
+    /// The move doesn't pass the triangle, which blocks this leaf of the move.
     Gouge {
         at: u64,
         tri: u32,
         leaf: Leaf,
     },
-    /// The rapid doesn't pass the point at the top of the column; the segment at which the test
-    /// fails.
+    /// The rapid doesn't pass the point at the top of the column, which blocks this leaf of the move.
     Rapid {
         at: u64,
         row: u32,

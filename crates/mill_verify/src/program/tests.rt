@@ -41,6 +41,33 @@ fn block_job(band: i32) -> Job
     }
 }
 
+/// The same block and columns for a ball, with an allowance of 100.
+fn ball_job() -> Job
+    ensures job { IsJob result }
+    ensures top { result.top ≡ pos 300 }
+    ensures start { home result ≡ point_at (pos 100) (pos 100) (pos 400) }
+{
+    Job {
+        cutter: Cutter::Ball { radius: 150 },
+        floor: 0,
+        top: 300,
+        clear: 400,
+        area: Box2 {
+            x0: 0,
+            y0: 0,
+            x1: 200,
+            y1: 200,
+        },
+        home_x: 100,
+        home_y: 100,
+        pitch: 100,
+        sample: 50,
+        allowance: 100,
+        band: 0,
+        snap: Snap::Nearest,
+    }
+}
+
 fn corner(x: i32, y: i32) -> Pt3
     requires x_ok { Within greatest x }
     requires y_ok { Within greatest y }
@@ -98,12 +125,41 @@ fn down_and_up(kind: Kind, height: i32) -> [Move; 2]
     ]
 }
 
+/// Over the plate's edge and on to (500, 100) at this height, and back along the same line.
+fn out_and_back(height: i32) -> [Move; 2]
+    requires { Within greatest height }
+    ensures range { MovesInRange result }
+    ensures follow { Follow (point_at (pos 100) (pos 100) (pos 400)) result }
+{
+    let home = Pt3 {
+        x: 100,
+        y: 100,
+        z: 400,
+    };
+    let low = Pt3 {
+        x: 500,
+        y: 100,
+        z: height,
+    };
+    [
+        Move {
+            kind: Kind::Feed,
+            from: home,
+            to: low,
+        },
+        Move {
+            kind: Kind::Feed,
+            from: low,
+            to: home,
+        },
+    ]
+}
+
 #[test]
 fn names_the_first_failing_test_or_accepts(rt: HostRuntime) {
     let alloc = rt.alloc();
     let job = block_job(0);
     let part = plate(alloc, 200).unwrap_or_else(|_| panic!(rt; "want of memory"));
-    let leaf = Leaf { d: 0, k: 0 };
     let accept = Verdict::Accept {
         moves: 2,
         columns: 9,
@@ -126,7 +182,7 @@ fn names_the_first_failing_test_or_accepts(rt: HostRuntime) {
             Verdict::Reject(Reason::Gouge {
                 at: 0,
                 tri: 0,
-                leaf,
+                leaf: Leaf { d: 8, k: 254 },
             }),
         ),
         (
@@ -136,13 +192,17 @@ fn names_the_first_failing_test_or_accepts(rt: HostRuntime) {
                 at: 0,
                 row: 0,
                 col: 0,
-                leaf,
+                leaf: Leaf { d: 7, k: 126 },
             }),
         ),
         (Kind::Feed, -1, Verdict::Reject(Reason::Floor { at: 0 })),
     ] {
         let moves = down_and_up(kind, height);
-        assert_eq!(rt; verify(alloc, &job, &part, &moves), Ok(want), "at {height}");
+        assert_eq!(rt;
+            verify(&rt, alloc, &job, &part, &moves, 2),
+            Ok(want),
+            "at {height}"
+        );
     }
 }
 
@@ -158,7 +218,7 @@ fn leaves_a_column_at_the_band(rt: HostRuntime) {
         col: 2,
         top: 200,
     });
-    assert_eq!(rt; verify(alloc, &job, &part, &moves), Ok(left));
+    assert_eq!(rt; verify(&rt, alloc, &job, &part, &moves, 2), Ok(left));
 }
 
 // Within a band of 51 it does.
@@ -173,5 +233,115 @@ fn covers_a_column_within_the_band(rt: HostRuntime) {
         columns: 9,
         most_left: 0,
     };
-    assert_eq!(rt; verify(alloc, &job, &part, &moves), Ok(accept));
+    assert_eq!(rt; verify(&rt, alloc, &job, &part, &moves, 2), Ok(accept));
+}
+
+// A slanted move whose lower end is under the plate passes where it comes down beyond the plate's
+// edge; a steeper one is stopped where it first comes under the plate, still over its edge.
+#[test]
+fn halves_a_slanted_move(rt: HostRuntime) {
+    let alloc = rt.alloc();
+    let job = block_job(0);
+    let part = plate(alloc, 200).unwrap_or_else(|_| panic!(rt; "want of memory"));
+    let uncut = Verdict::Reject(Reason::Left {
+        row: 0,
+        col: 0,
+        top: 300,
+    });
+    let gouge = Verdict::Reject(Reason::Gouge {
+        at: 0,
+        tri: 0,
+        leaf: Leaf { d: 9, k: 256 },
+    });
+    for (height, want) in [(100, uncut), (0, gouge)] {
+        let moves = out_and_back(height);
+        assert_eq!(rt;
+            verify(&rt, alloc, &job, &part, &moves, 2),
+            Ok(want),
+            "at {height}"
+        );
+    }
+}
+
+/// Two triangles at the height 200, the first of them to the east of the other.
+fn east_and_west(alloc: Global) -> Result<Part, WantOfMemory>
+    ensures { IfOk result (λ part. IsUnder part (pos 300)) }
+{
+    let mut tris = Vec::new(alloc);
+    tris.push(Tri {
+        a: corner(150, 0),
+        b: corner(200, 0),
+        c: corner(200, 200),
+    })?;
+    tris.push(Tri {
+        a: corner(0, 0),
+        b: corner(50, 0),
+        c: corner(50, 200),
+    })?;
+    Ok(Part::new(tris))
+}
+
+// The cells give the triangle in the west before the one in the east, which is the part's first.
+#[test]
+fn names_the_first_of_the_triangles_near(rt: HostRuntime) {
+    let alloc = rt.alloc();
+    let job = block_job(0);
+    let part = east_and_west(alloc).unwrap_or_else(|_| panic!(rt; "want of memory"));
+    let moves = down_and_up(Kind::Feed, 199);
+    let gouge = Verdict::Reject(Reason::Gouge {
+        at: 0,
+        tri: 0,
+        leaf: Leaf { d: 8, k: 254 },
+    });
+    assert_eq!(rt; verify(&rt, alloc, &job, &part, &moves, 2), Ok(gouge));
+}
+
+// A ball leaves 100 at the corners of what it cuts, and the rapid out of the cut passes the stock.
+#[test]
+fn accepts_a_rapid_out_of_a_cut(rt: HostRuntime) {
+    let alloc = rt.alloc();
+    let job = ball_job();
+    let part = plate(alloc, 200).unwrap_or_else(|_| panic!(rt; "want of memory"));
+    let moves = down_and_up(Kind::Feed, 200);
+    let accept = Verdict::Accept {
+        moves: 2,
+        columns: 9,
+        most_left: 100,
+    };
+    for workers in [1, 4, 64] {
+        assert_eq!(rt;
+            verify(&rt, alloc, &job, &part, &moves, workers),
+            Ok(accept),
+            "by {workers}"
+        );
+    }
+}
+
+// The lowest rapid that only touches the uncut stock passes, and cuts nothing.
+#[test]
+fn names_the_leaf_of_a_rapid(rt: HostRuntime) {
+    let alloc = rt.alloc();
+    let job = block_job(0);
+    let part = plate(alloc, 200).unwrap_or_else(|_| panic!(rt; "want of memory"));
+    let rapid = Verdict::Reject(Reason::Rapid {
+        at: 0,
+        row: 0,
+        col: 0,
+        leaf: Leaf { d: 7, k: 126 },
+    });
+    let left = Verdict::Reject(Reason::Left {
+        row: 0,
+        col: 0,
+        top: 300,
+    });
+    for workers in [1, 4, 64] {
+        for (height, want) in [(299, rapid), (300, left)] {
+            let moves = down_and_up(Kind::Rapid, height);
+            assert_eq!(rt;
+                verify(&rt, alloc, &job, &part, &moves, workers),
+                Ok(want),
+                "by {workers} at {height}"
+            );
+        }
+    }
 }

@@ -2,11 +2,11 @@ use Rattle.std.proofs.Common.{◌∙◌, List, sym, ap, map, string_bytes, true�
 use Rattle.std.specs.Prelude.{option_and_then, option_map}
 use Rattle.clap.specs.Words.{Row, Text}
 use Rattle.mill_command.specs.Requests.{faults, request_in, request_of}
-use Rattle.mill_command.proofs.Taken.{refused, taken, taken_asks, whole}
+use Rattle.mill_command.proofs.Taken.{refused, taken, taken_asks, whole, workers_bounded}
 use Rattle.mill_command.proofs.words.read_words.Goals as goal
 
 pub unreachable-requires : goal.unreachable-requires
-unreachable-requires c = true≢false (sym (taken_asks (map string_bytes c.args.words.now) c.in-Ok.ensures.kinds)
+unreachable-requires c = true≢false (sym (ap is_some (taken_asks (map string_bytes c.args.words.now) c.in-Ok.ensures.kinds).1)
     ∙ sym (ap (λ o. is_some (option_and_then (λ (m : Text × List Row). request_in m.0 m.1) o)) c.in-Ok.ensures.matches)
     ∙ ap is_some (sym c.command_of.ensures ∙ ap (option_map request_of) c.in-None.is))
 
@@ -22,3 +22,7 @@ returns-clause-reads c = taken (map string_bytes c.args.words.now) c.in-Ok.ensur
 
 pub returns-clause-whole : goal.returns-clause-whole
 returns-clause-whole c = whole (map string_bytes c.args.words.now)
+
+pub returns-clause-workers : goal.returns-clause-workers
+returns-clause-workers c = workers_bounded (map string_bytes c.args.words.now) c.in-Ok.ensures.kinds (request_of c.in-Some.command)
+    (sym (ap (option_and_then (λ (m : Text × List Row). request_in m.0 m.1)) c.in-Ok.ensures.matches) ∙ sym c.command_of.ensures ∙ ap (option_map request_of) c.in-Some.is)

@@ -1,6 +1,5 @@
-use Rattle.mill_dexel.specs.Samples.{placed}
 use Rattle.mill_dexel.proofs.CutRows.{IsCutBefore}
 use Rattle.mill_dexel.proofs.cut.cut_row.Given as goal
 
 abbrev pub invariant-loop-column : goal.invariant-loop-column
-invariant-loop-column l = IsCutBefore l.job l.number (placed l.job.cutter l.tip) l.column l.fn.tops l.tops
+invariant-loop-column l = IsCutBefore l.job l.number l.sample l.column l.fn.tops l.tops

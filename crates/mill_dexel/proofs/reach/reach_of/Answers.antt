@@ -1,10 +1,11 @@
 use Rattle.std.proofs.Common.{arith}
+use Rattle.std.specs.Prelude.{pos, ◌+ℤ◌}
 use Rattle.std.proofs.lemmas.Int.{ints}
+use Rattle.mill_base.specs.Sizes.{radius_of}
+use Rattle.mill_dexel.proofs.Reaches.{reach_same, passes_beyond}
 use Rattle.mill_dexel.proofs.reach.reach_of.Goals as goal
 
 pub returns : goal.returns
-returns c = record {
-  within = c.columns_up_to-2.ensures.bound;
-  under = λ i before. let near = c.columns_up_to.ensures.inside i before in record { first = omega (arith, ints); second = omega (arith, ints) };
-  over = λ i behind within. let far = c.columns_up_to-2.ensures.outside i behind within in record { first = omega (arith, ints); second = omega (arith, ints) };
-}
+returns c =
+    reach_same c.args.job.now _ _ _ (radius_of c.args.job.now.cutter +ℤ pos 2) c.args.from.x c.args.to.x c.reach_by.result.first c.reach_by.result.«end»
+    (passes_beyond c.args.job.now.cutter c.radius.result c.requires.cutter_ok c.radius.ensures) (omega (arith, ints)) (omega (arith, ints)) c.reach_by.ensures

@@ -1,5 +1,5 @@
 use Rattle.std.proofs.Common.{◌∙◌, ◌^◌, [], ◌∷◌, refl, w32, w64}
-use Rattle.mill_base.proofs.Machine.{Read, Cast, exact, cast_fits, kept}
+use Rattle.mill_base.proofs.Machine.{Read, Cast, exact, cast_fits, kept, stays}
 use Rattle.mill_base.specs.Numbers.{floor_div}
 use Rattle.mill_sweep.proofs.Computed.{lower_is, shift_is}
 use Rattle.mill_sweep.proofs.leaf_span.lower_end.Goals as goal
@@ -11,9 +11,17 @@ overflow_cast-result-2 c =
     rw (kept w64 c.min.result (2 ^ 36) low.1 refl, shift_is c.min.result (2 ^ c.args.leaf.d))
     (cast_fits w32 (floor_div c.min.result (2 ^ c.args.leaf.d) ∷ []) (131071 ∷ []) (Read w64 0) (low.2, tt) refl)
 
-pub returns : goal.returns
-returns c =
+pub returns-clause-value : goal.returns-clause-value
+returns-clause-value c =
     let low = lower_is c.args.from c.args.to c.end_at-first.result c.end_at-last.result c.min.result c.args.leaf.d c.args.leaf.k c.requires.from_ok c.requires.to_ok c.requires.k_ok
     c.end_at-first.ensures.bound c.end_at-last.ensures.bound c.end_at-first.ensures.value c.end_at-last.ensures.value c.min.ensures.value in
     rw (kept w64 c.min.result (2 ^ 36) low.1 refl, shift_is c.min.result (2 ^ c.args.leaf.d))
     (exact (floor_div c.min.result (2 ^ c.args.leaf.d) ∷ []) (131071 ∷ []) (Cast w32 (Read w64 0)) (low.2, tt) refl ∙ low.0)
+
+pub returns-clause-bound : goal.returns-clause-bound
+returns-clause-bound c =
+    let low =
+    lower_is c.args.from c.args.to c.end_at-first.result c.end_at-last.result c.min.result c.args.leaf.d c.args.leaf.k c.requires.from_ok c.requires.to_ok c.requires.k_ok
+    c.end_at-first.ensures.bound c.end_at-last.ensures.bound c.end_at-first.ensures.value c.end_at-last.ensures.value c.min.ensures.value in
+    rw (kept w64 c.min.result (2 ^ 36) low.1 refl, shift_is c.min.result (2 ^ c.args.leaf.d))
+    (record { within = stays (floor_div c.min.result (2 ^ c.args.leaf.d) ∷ []) (131071 ∷ []) (Cast w32 (Read w64 0)) 131071 (low.2, tt) refl })

@@ -22,8 +22,8 @@ span_at a b d e = record { x = a; y = b; reach = d; zlow = e }
 same : (a b d e k l m n : ℤ) → a ≡ k → b ≡ l → d ≡ m → e ≡ n → span_at a b d e ≡ span_at k l m n
 same a b d e k l m n p q r s = cc
 
-pub returns : goal.returns
-returns c =
+pub returns-clause-value : goal.returns-clause-value
+returns-clause-value c =
     let fits_x : FitsSigned w32 c.stretch_of-x.result.middle = search rules in
     let fits_y : FitsSigned w32 c.stretch_of-y.result.middle = search rules in
     let fits_reach : FitsSigned w32 c.diagonal.result = search rules in
@@ -39,6 +39,6 @@ returns c =
     let y : c.stretch_of-y.result.middle ≡ middle_of c.args.step.now.from.y c.args.step.now.to.y c.args.leaf.d c.args.leaf.k = rw (from_y, to_y) at c.stretch_of-y.ensures.middle in
     let ex : c.stretch_of-x.result.farther ≡ farther_of c.args.step.now.from.x c.args.step.now.to.x c.args.leaf.d c.args.leaf.k = rw (from_x, to_x) at c.stretch_of-x.ensures.farther in
     let ey : c.stretch_of-y.result.farther ≡ farther_of c.args.step.now.from.y c.args.step.now.to.y c.args.leaf.d c.args.leaf.k = rw (from_y, to_y) at c.stretch_of-y.ensures.farther in
-    let reach : c.diagonal.result ≡ pos (reach_of c.args.step.now c.args.leaf.d c.args.leaf.k) = rw (ex, ey) at c.diagonal.ensures in
-    let low : c.lower_end.result ≡ zlow_of c.args.step.now c.args.leaf.d c.args.leaf.k = rw (from_z, to_z) at c.lower_end.ensures in
+    let reach : c.diagonal.result ≡ pos (reach_of c.args.step.now c.args.leaf.d c.args.leaf.k) = rw (ex, ey) at c.diagonal.ensures.value in
+    let low : c.lower_end.result ≡ zlow_of c.args.step.now c.args.leaf.d c.args.leaf.k = rw (from_z, to_z) at c.lower_end.ensures.value in
     same _ _ _ _ _ _ _ _ (to_z-of_z w32 c.stretch_of-x.result.middle fits_x ∙ x) (to_z-of_z w32 c.stretch_of-y.result.middle fits_y ∙ y) (to_z-of_z w32 c.diagonal.result fits_reach ∙ reach) (to_z-of_z w32 c.lower_end.result fits_low ∙ low)

@@ -1,9 +1,62 @@
-use Rattle.std.proofs.Common.{below_more}
-use Rattle.mill_sweep.specs.Passes.{Passes}
-use Rattle.mill_verify.proofs.ReadLemmas.{at_both}
+use Rattle.std.specs.Prelude.{ℕ, ℤ, ◌<◌, List, length, Contains}
+use Rattle.std.proofs.Common.{◌↔◌, ◌∙◌, ap, subst, sym, w32, to_z, of_z}
+use Rattle.std.proofs.lemmas.Int.{to_z-of_z}
+use Rattle.std.proofs.lemmas.List.Elements.{Contains-get_or}
+use Rattle.mill_base.specs.declared.points.Box2.{Box2}
+use Rattle.mill_base.specs.declared.points.Tri.{Tri}
+use Rattle.mill_cells.specs.Boxes.{IsNear}
+use Rattle.mill_sweep.proofs.Far.{far_passes}
+use Rattle.mill_verify.specs.Firsts.{IsEarlier}
+use Rattle.mill_verify.specs.Near.{IsOver, area_of}
+use Rattle.mill_verify.specs.Tests.{move_at}
+use Rattle.mill_verify.proofs.ReadLemmas.{move_read, at_move, at_both}
+use Rattle.mill_verify.proofs.Looking.{over_clears, look_starts, next_within, tri_in_range, look_goes_on, look_ends}
 use Rattle.mill_verify.proofs.gouge.first_gouge.Goals as goal
 
-pub loop-index-preserved : goal.loop-index-preserved
-loop-index-preserved c =
-    below_more _ _ c.loop-index.invariant
-    (at_both (Passes c.args.job.now.cutter) c.args.moves.now c.args.number _ c.tris-tris.result.now c.args.part.now c.loop-index.index _ c.requires.there c.tris-tris.ensures.list c.loop-index-test.true c.in_default.ensures)
+pub returns-then-is_over-clause-first : goal.returns-then-is_over-clause-first
+returns-then-is_over-clause-first c =
+    let job = c.args.job.now in
+    let moves = c.args.moves.now in
+    let ranged = c.requires.moves_ok _ (Contains-get_or moves c.args.number _ c.requires.there) in
+    let over = at_move (λ m. IsOver m (to_z w32 (of_z w32 c.args.part_top))) moves c.args.number _ c.requires.there (c.is_over.ensures.yes c.if-is_over.true) in
+    over_clears job c.args.part.now moves c.args.number c.args.part_top far_passes c.requires.job_ok.cutter_ok ranged c.requires.top_ok.under
+    (subst (λ (z : ℤ). IsOver (move_at moves c.args.number) z) (to_z-of_z w32 c.args.part_top c.ranges.part_top) over)
+
+pub area_about-requires-clause-move_ok : goal.area_about-requires-clause-move_ok
+area_about-requires-clause-move_ok c = c.requires.moves_ok _ (Contains-get_or c.args.moves.now c.args.number _ c.requires.there)
+
+pub loop-tri-init : goal.loop-tri-init
+loop-tri-init c =
+    let job = c.args.job.now in
+    let moves = c.args.moves.now in
+    let ranged = c.requires.moves_ok _ (Contains-get_or moves c.args.number _ c.requires.there) in
+    let area = c.area_about.ensures ∙ ap (area_of job.cutter) (move_read moves c.args.number _ c.requires.there) in
+    look_starts job c.args.part.now moves c.args.number c.args.cells.now c.near-near.result far_passes c.requires.job_ok.cutter_ok ranged c.requires.cells_ok
+    (subst (λ (b : Box2). (i : ℕ) → Contains c.near-near.result i ↔ IsNear c.args.cells.now b i) area c.near-near.ensures.each)
+
+pub bounds-tris-tri : goal.bounds-tris-tri
+bounds-tris-tri c =
+    subst (λ (l : List Tri). c.in-Some.tri < length l) (sym c.tris-tris.ensures.list)
+    (next_within c.args.job.now c.args.part.now c.args.moves.now c.args.number c.loop-tri.near c.next.new.self c.in-Some.tri _ c.in-Some.ensures.steps c.loop-tri.invariant)
+
+pub earlier-first-requires-clause-move_ok : goal.earlier-first-requires-clause-move_ok
+earlier-first-requires-clause-move_ok c = c.requires.moves_ok _ (Contains-get_or c.args.moves.now c.args.number _ c.requires.there)
+
+pub earlier-first-requires-clause-tri_ok : goal.earlier-first-requires-clause-tri_ok
+earlier-first-requires-clause-tri_ok c =
+    let inside = subst (λ (l : List Tri). c.in-Some.tri < length l) (sym c.tris-tris.ensures.list)
+    (next_within c.args.job.now c.args.part.now c.args.moves.now c.args.number c.loop-tri.near c.next.new.self c.in-Some.tri _ c.in-Some.ensures.steps c.loop-tri.invariant) in
+    tri_in_range c.tris-tris.result.now c.args.part.now c.in-Some.tri _ c.tris-tris.ensures.list inside c.tris-tris.ensures.in_range
+
+pub loop-tri-preserved : goal.loop-tri-preserved
+loop-tri-preserved c =
+    let job = c.args.job.now in
+    let moves = c.args.moves.now in
+    let inside = subst (λ (l : List Tri). c.in-Some.tri < length l) (sym c.tris-tris.ensures.list)
+    (next_within job c.args.part.now moves c.args.number c.loop-tri.near c.next.new.self c.in-Some.tri _ c.in-Some.ensures.steps c.loop-tri.invariant) in
+    look_goes_on job c.args.part.now moves c.args.number c.loop-tri.near c.next.new.self c.in-Some.tri c.loop-tri.first c.earlier-first.result c.in-Some.ensures.steps c.loop-tri.invariant
+    (at_both (λ m t. IsEarlier job.cutter m t c.in-Some.tri c.loop-tri.first c.earlier-first.result) moves c.args.number _ c.tris-tris.result.now c.args.part.now c.in-Some.tri _ c.requires.there c.tris-tris.ensures.list inside
+    c.earlier-first.ensures)
+
+pub returns-clause-first : goal.returns-clause-first
+returns-clause-first c = look_ends c.args.job.now c.args.part.now c.args.moves.now c.args.number c.loop-tri.near c.loop-tri.first c.in_default.ensures.steps.0 c.loop-tri.invariant

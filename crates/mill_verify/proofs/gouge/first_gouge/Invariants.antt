@@ -1,6 +1,9 @@
-use Rattle.std.proofs.Common.{ℕ, ◌<◌}
-use Rattle.mill_verify.specs.Tests.{PassesTri}
+use Rattle.std.specs.Prelude.{length}
+use Rattle.mill_verify.proofs.Looking.{IsLooking}
 use Rattle.mill_verify.proofs.gouge.first_gouge.Given as goal
 
-abbrev pub invariant-loop-index : goal.invariant-loop-index
-invariant-loop-index l = (e : ℕ) → e < l.index → PassesTri l.job l.part l.moves l.number e
+abbrev pub invariant-loop-tri : goal.invariant-loop-tri
+invariant-loop-tri l = IsLooking l.job l.part l.moves l.number l.near l.first
+
+abbrev pub decreases-loop-tri : goal.decreases-loop-tri
+decreases-loop-tri l = length l.near

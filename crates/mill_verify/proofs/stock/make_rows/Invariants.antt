@@ -1,5 +1,5 @@
-use Rattle.mill_verify.proofs.StockLemmas.{AreUncut}
+use Rattle.mill_verify.proofs.StockLemmas.{AreMade}
 use Rattle.mill_verify.proofs.stock.make_rows.Given as goal
 
 abbrev pub invariant-loop-number : goal.invariant-loop-number
-invariant-loop-number l = AreUncut l.job l.number l.rows.items
+invariant-loop-number l = AreMade l.job l.number l.rows.items

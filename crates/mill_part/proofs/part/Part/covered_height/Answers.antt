@@ -1,16 +1,10 @@
-use Rattle.std.proofs.Common.{◌≤◌, FitsSigned, rules, to_z, refl, arith}
-use lib.IntN.{ℤ, pos, nat_abs}
-use lib.Signed.{◌≤ℤ◌}
+use Rattle.std.proofs.Common.{FitsSigned, rules, to_z}
 use Rattle.std.proofs.lemmas.List.Elements.{Contains-get_or}
 use mir.Syntax.{w32}
-use Rattle.std.proofs.lemmas.Int.{ints, to_z-of_z}
-use Rattle.mill_base.proofs.Machine.{kept}
-use Rattle.mill_part.proofs.Stored.{coordinate}
+use Rattle.std.proofs.lemmas.Int.{to_z-of_z}
+use Rattle.mill_part.proofs.Stored.{coordinate, band_kept}
 use Rattle.mill_part.proofs.CoverLemmas.{none_yet, one_more, exact_after, bound_after}
 use Rattle.mill_part.proofs.part.Part.covered_height.Goals as goal
-
-small : (b : ℤ) → (pos 0) ≤ℤ b → b ≤ℤ pos 10000 → nat_abs b ≤ 10000
-small b least most = omega (arith, ints)
 
 pub loop-tri-init : goal.loop-tri-init
 loop-tri-init c = none_yet _ _ _ _ _
@@ -36,7 +30,7 @@ returns-clause-exact c =
     let floor = coordinate c.args.floor c.requires.floor_ok in
     let x = coordinate c.args.x c.requires.x_ok in
     let y = coordinate c.args.y c.requires.y_ok in
-    let band = kept w32 c.args.band 10000 (small c.args.band c.requires.band_least c.requires.band_most) refl in
+    let band = band_kept c.args.band c.requires.band_least c.requires.band_most in
     let before = rw (floor, x, y, band, c.tris-tri-items.ensures.list) at c.loop-tri.invariant in
     exact_after c.args.self.now c.args.floor c.args.band c.args.x c.args.y c.loop-tri.tri-index _ (rw c.tris-tri-items.ensures.list at c.loop-tri-test.false) before
 
@@ -45,6 +39,6 @@ returns-clause-bound c =
     let floor = coordinate c.args.floor c.requires.floor_ok in
     let x = coordinate c.args.x c.requires.x_ok in
     let y = coordinate c.args.y c.requires.y_ok in
-    let band = kept w32 c.args.band 10000 (small c.args.band c.requires.band_least c.requires.band_most) refl in
+    let band = band_kept c.args.band c.requires.band_least c.requires.band_most in
     let before = rw (floor, x, y, band, c.tris-tri-items.ensures.list) at c.loop-tri.invariant in
     bound_after c.args.self.now c.args.floor c.args.band c.args.x c.args.y c.loop-tri.tri-index _ c.tris-tri-items.ensures.in_range c.requires.floor_ok before

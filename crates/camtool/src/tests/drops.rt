@@ -1,0 +1,150 @@
+// `drop`: the line and the status of each answer.
+use crate::ending::Status;
+use crate::run::run;
+use crate::tests::{BALL_JOB, CORNER, EMPTY, HIGH, JOB, PEAK, WIDE_JOB, store, words};
+use mill_io::MemSink;
+use std::test::Fail;
+
+#[test]
+fn drops_the_cutter(rt: HostRuntime) -> Result<(), Fail> {
+    let alloc = rt.alloc();
+    let texts: (&[u8], &[u8], &[u8]) = (WIDE_JOB, CORNER, b"");
+    let table: [((&[u8], &[u8], &[u8]), &str, &str, Status, &[u8]); 18] = [
+        (texts, "--x=-0.99", "--y=5.00", Status::Done, b"drop 2.00\n"),
+        (texts, "--x=-1.00", "--y=5.00", Status::Done, b"drop 0.00\n"),
+        (texts, "--x=-1", "--y=5", Status::Done, b"drop 0.00\n"),
+        (texts, "--x=5.00", "--y=-0.99", Status::Done, b"drop 2.00\n"),
+        (texts, "--x=10", "--y=-0.9", Status::Done, b"drop 2.00\n"),
+        (texts, "--x=-0.9", "--y=10", Status::Done, b"drop 2.00\n"),
+        (texts, "--x=11", "--y=-0.9", Status::Done, b"drop 0.00\n"),
+        (
+            texts,
+            "--x=1e0",
+            "--y=0.010e2",
+            Status::Done,
+            b"drop 2.00\n",
+        ),
+        (
+            (BALL_JOB, PEAK, b""),
+            "--x=0.6",
+            "--y=0",
+            Status::Done,
+            b"drop 2.80\n",
+        ),
+        (
+            (BALL_JOB, PEAK, b""),
+            "--x=0.61",
+            "--y=0",
+            Status::Done,
+            b"drop 2.80\n",
+        ),
+        (
+            (WIDE_JOB, EMPTY, b""),
+            "--x=0",
+            "--y=0",
+            Status::Done,
+            b"drop 0.00\n",
+        ),
+        (
+            texts,
+            "--x=0.005",
+            "--y=5",
+            Status::Refused,
+            b"refused word x off-grid\n",
+        ),
+        (
+            texts,
+            "--x=1",
+            "--y=1310.72",
+            Status::Refused,
+            b"refused word y out-of-range\n",
+        ),
+        (
+            texts,
+            "--x=",
+            "--y=",
+            Status::Refused,
+            b"refused word x spelling\n",
+        ),
+        (
+            texts,
+            "--x=0",
+            "--y=0.000000000000000000000000",
+            Status::Refused,
+            b"refused word y too-many-digits\n",
+        ),
+        (
+            (b"\xff", CORNER, b""),
+            "--x=0",
+            "--y=0",
+            Status::Refused,
+            b"refused job syntax\n",
+        ),
+        (
+            (WIDE_JOB, b"solid\n", b""),
+            "--x=0",
+            "--y=0",
+            Status::Refused,
+            b"refused part line 2 cut-short\n",
+        ),
+        (
+            (JOB, HIGH, b""),
+            "--x=0",
+            "--y=0",
+            Status::Refused,
+            b"refused part-top 3.01 top 3.00\n",
+        ),
+    ];
+    for (texts, x, y, status, line) in table {
+        let mut shelf = store(alloc, texts, &[])?;
+        let mut sink = MemSink::new(alloc, 200, &[])?;
+        let words = words(alloc, &["drop", "job", "part", x, y])?;
+        let ended = run(&rt, alloc, &words, &mut shelf, &mut sink);
+        assert_eq!(rt; sink.written(), line);
+        assert_eq!(rt; ended, status);
+    }
+    Ok(())
+}
+
+#[test]
+fn blames_what_failed_in_a_drop(rt: HostRuntime) -> Result<(), Fail> {
+    let alloc = rt.alloc();
+    let none: &[u64] = &[];
+    let table: [(&str, &[u64], &[u64], usize, Status, &[u8]); 5] = [
+        (
+            "--x=0",
+            &[0],
+            none,
+            200,
+            Status::ReadFault,
+            b"read fault job\n",
+        ),
+        (
+            "--x=0",
+            &[2],
+            none,
+            200,
+            Status::ReadFault,
+            b"read fault part\n",
+        ),
+        (
+            "--x=0.005",
+            &[0],
+            none,
+            200,
+            Status::Refused,
+            b"refused word x off-grid\n",
+        ),
+        ("--x=0", none, &[0], 200, Status::WriteFault, b""),
+        ("--x=0", none, none, 5, Status::WriteFault, b"drop "),
+    ];
+    for (x, reads, writes, room, status, line) in table {
+        let mut shelf = store(alloc, (WIDE_JOB, CORNER, b""), reads)?;
+        let mut sink = MemSink::new(alloc, room, writes)?;
+        let words = words(alloc, &["drop", "job", "part", "--y=5", x])?;
+        let ended = run(&rt, alloc, &words, &mut shelf, &mut sink);
+        assert_eq!(rt; sink.written(), line);
+        assert_eq!(rt; ended, status);
+    }
+    Ok(())
+}

@@ -1,0 +1,68 @@
+-- A row through the moves of a program, one turn a move: a rapid is tested first, and what passes cuts.
+use Rattle.std.specs.Prelude.{◌≡◌, ℕ, ◌+◌, ◌<◌, ◌≤◌, ℤ, pos, List, length, fold, Option, Some, None, MatchOption, slice_index_or, slice_range}
+use Rattle.mill_base.specs.Points.{point_at}
+use Rattle.mill_base.specs.declared.motion.Move.{Move}
+use Rattle.mill_base.specs.declared.motion.Kind.TheVariants.{Rapid, Feed}
+use Rattle.mill_job.specs.declared.job.Job.{Job}
+use Rattle.mill_dexel.specs.Tops.{tops_after_move}
+use Rattle.mill_dexel.specs.Rows.{RowState, PassesRow, IsFirstStop, IsBlocked}
+use Rattle.mill_dexel.specs.declared.fail.RowFail.{RowFail}
+
+-- move k; there is none past the end, so what stands there is never looked at
+abbrev pub move_at : List Move → ℕ → Move
+move_at moves k = slice_index_or moves k (record { kind = Feed; from = point_at (pos 0) (pos 0) (pos 0); to = point_at (pos 0) (pos 0) (pos 0) })
+
+-- the test of a move by a row: where it is a rapid, it passes each column
+abbrev pub ClearsRow : Job → RowState → Move → Type 0
+ClearsRow job r m = m.kind ≡ Rapid → PassesRow job r m
+
+-- the row after its next move, which passed
+abbrev pub turned : Job → Move → RowState → RowState
+turned job m r = record r { tops = tops_after_move job r.row 0 m r.tops; done = r.done + 1 }
+
+-- the row's next move is a rapid, and the failure names it, the first column that it doesn't pass, and the segment, which that column blocks
+pub record StopsRow (job : Job) (r : RowState) (m : Move) (fail : RowFail) : Type 0 where
+  pub rapid : m.kind ≡ Rapid
+  pub move : fail.at ≡ r.done
+  pub column : IsFirstStop job r m fail.col fail.leaf
+  pub blocked : IsBlocked job r m fail.col fail.leaf
+
+-- the row's next move was stopped: the failure is noted, and the rest is as it was
+pub record IsStopped (job : Job) (m : Move) (old new : RowState) : Type 0 where
+  pub fail : RowFail
+  pub stops : StopsRow job old m fail
+  pub noted : new ≡ record old { failed = Some fail }
+
+-- the tops of row j after a list of moves
+abbrev pub tops_after : Job → ℕ → List Move → List ℤ → List ℤ
+tops_after job j moves tops = fold (λ ts m. tops_after_move job j 0 m ts) tops moves
+
+-- a row as move k meets it: all moves from the row's next one on, before k, have cut
+abbrev pub row_before : Job → List Move → RowState → ℕ → RowState
+row_before job moves r k = record r { tops = tops_after job r.row (slice_range moves r.done k) r.tops; done = k }
+
+-- there is a move k, and the row lets it pass
+pub record PassesTurn (job : Job) (moves : List Move) (r : RowState) (k : ℕ) : Type 0 where
+  pub there : k < length moves
+  pub clears : ClearsRow job (row_before job moves r k) (move_at moves k)
+
+-- why a row's turns end before move k: there are no more moves, or that move fails
+abbrev pub EndsAt : Job → List Move → RowState → ℕ → Option RowFail → Type 0
+EndsAt job moves r k None = length moves ≤ k
+EndsAt job moves r k (Some fail) = (k < length moves) × StopsRow job (row_before job moves r k) (move_at moves k) fail
+
+-- the row went through its turns, from its next move on, to the end of the moves or to the first one that failed
+pub record IsRunOn (job : Job) (moves : List Move) (old new : RowState) : Type 0 where
+  pub onward : old.done ≤ new.done
+  pub passed : (k : ℕ) → old.done ≤ k → k < new.done → PassesTurn job moves old k
+  pub ends : EndsAt job moves old new.done new.failed
+  pub row : new.row ≡ old.row
+  pub tops : new.tops ≡ tops_after job old.row (slice_range moves old.done new.done) old.tops
+
+-- a row that had failed is as it was, and each other went through its turns
+abbrev pub IsTurned : Job → List Move → RowState → RowState → Type 0
+IsTurned job moves old new = MatchOption old.failed (IsRunOn job moves old new) (λ fail. new ≡ old)
+
+-- the moves determine what a row comes to
+abbrev pub OneOutcome : Type 0
+OneOutcome = (job : Job) (moves : List Move) (row a b : RowState) → IsTurned job moves row a → IsTurned job moves row b → a ≡ b

@@ -1,0 +1,102 @@
+ghost use Rattle.std.specs.Prelude.{◌≡◌, ◌≤◌, ◌^◌, All};
+ghost use Rattle.std.specs.List.{AllZip};
+ghost use Rattle.mill_base.specs.Ranges.{MovesInRange};
+ghost use Rattle.mill_job.specs.Jobs.{IsJob};
+ghost use Rattle.mill_dexel.specs.Rows.{IsRowOf};
+ghost use Rattle.mill_dexel.specs.Turns.{IsTurned};
+ghost use denote.Param.Send.{IsSync};
+
+use crate::row::Row;
+use crate::turns::run_on;
+use mill_base::Move;
+use mill_job::Job;
+use std::thread::{Threads, join_mut};
+
+/// Lets each row go through its turns, from its next move on, until the moves end or one fails. A
+/// row that had failed is left as it is.
+///
+/// The rows are handed in fixed chunks to `workers` threads, from 1 to 64. What becomes of a row
+/// doesn't depend on their number. No memory is taken.
+pub fn rows_static<R: Threads + Sync>(
+    rt: &R,
+    job: &Job,
+    mut rows: Vec<Row>,
+    moves: &[Move],
+    workers: u32,
+) -> Vec<Row>
+    requires job { IsJob job.now }
+    requires rows_ok { All (IsRowOf job.now) rows.items }
+    requires moves_ok { MovesInRange moves.now }
+    requires some { 1 ≤ workers }
+    requires few { workers ≤ 64 }
+    ensures turned { AllZip (IsTurned job.now moves.now) rows.items result.items }
+    ensures rows_ok { All (IsRowOf job.now) result.items }
+{
+    spread(rt, job, moves, workers, rows.as_mut_slice());
+    rows
+}
+
+/// Halves the rows among the workers, until each has its chunk.
+fn spread<R: Threads + Sync>(rt: &R, job: &Job, moves: &[Move], workers: u32, rows: &mut [Row])
+    requires job { IsJob job.now }
+    requires rows_ok { All (IsRowOf job.now) rows.old }
+    requires moves_ok { MovesInRange moves.now }
+    requires few { workers ≤ 64 }
+    ensures { AllZip (IsTurned job.now moves.now) rows.old rows.new }
+{
+    if workers <= 1 || rows.len() <= 1 {
+        run_all(job, moves, rows);
+        return;
+    }
+    let left_workers = workers / 2;
+    let right_workers = workers - left_workers;
+    let middle = share(rows.len(), left_workers, workers);
+    let (left, right) = rows.split_at_mut(middle);
+    join_mut(
+        rt,
+        &mut || -> ()
+            requires sync { IsSync R.row }
+            requires job { IsJob job.now }
+            requires rows_ok { All (IsRowOf job.now) left.now }
+            requires moves_ok { MovesInRange moves.now }
+            requires few { left_workers ≤ 64 }
+            ensures { AllZip (IsTurned job.entry.now moves.entry.now) left.entry.now left.exit.now }
+        { spread(rt, job, moves, left_workers, left) },
+        &mut || -> ()
+            requires sync { IsSync R.row }
+            requires job { IsJob job.now }
+            requires rows_ok { All (IsRowOf job.now) right.now }
+            requires moves_ok { MovesInRange moves.now }
+            requires few { right_workers ≤ 64 }
+            ensures { AllZip (IsTurned job.entry.now moves.entry.now) right.entry.now right.exit.now }
+        { spread(rt, job, moves, right_workers, right) },
+    );
+}
+
+/// How many of `count` rows are for `some` of all the workers, so that each gets about as many.
+fn share(count: usize, some: u32, workers: u32) -> usize
+    requires some { 1 ≤ workers }
+    requires part { some ≤ workers }
+    requires few { workers ≤ 64 }
+    requires count_ok { count ≤ 2 ^ 63 }
+    ensures { result ≤ count }
+{
+    let some = some as usize;
+    let workers = workers as usize;
+    count / workers * some + count % workers * some / workers
+}
+
+/// One worker's chunk, row by row.
+fn run_all(job: &Job, moves: &[Move], rows: &mut [Row])
+    requires job { IsJob job.now }
+    requires rows_ok { All (IsRowOf job.now) rows.old }
+    requires moves_ok { MovesInRange moves.now }
+    ensures { AllZip (IsTurned job.now moves.now) rows.old rows.new }
+{
+    for row in rows.iter_mut() {
+        run_on(row, job, moves);
+    }
+}
+
+#[cfg(test)]
+mod tests;

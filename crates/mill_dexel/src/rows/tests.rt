@@ -1,0 +1,142 @@
+ghost use Rattle.std.specs.Prelude.{◌≡◌, ◌<◌, ◌≤◌, All, IfOk};
+ghost use Rattle.mill_base.specs.Numbers.{Within, greatest};
+ghost use Rattle.mill_base.specs.Points.{point_at};
+ghost use Rattle.mill_base.specs.Ranges.{IsInRange, MoveInRange, MovesInRange};
+ghost use Rattle.mill_job.specs.Columns.{row_count};
+ghost use Rattle.mill_job.specs.Jobs.{IsJob};
+ghost use Rattle.mill_dexel.specs.Rows.{IsRowOf};
+
+use super::*;
+use crate::fail::RowFail;
+use mill_base::{Box2, Cutter, Kind, Pt3, WantOfMemory};
+use mill_decimal::Snap;
+use mill_sweep::Leaf;
+use std::alloc::Global;
+
+/// Five rows, at y = 0, 100, 200, 300 and 400, of three columns each, from 0 to 300.
+fn five_rows() -> Job
+    ensures job { IsJob result }
+    ensures row { 3 < row_count result }
+{
+    Job {
+        cutter: Cutter::Flat { radius: 150 },
+        floor: 0,
+        top: 300,
+        clear: 400,
+        area: Box2 {
+            x0: 0,
+            y0: 0,
+            x1: 200,
+            y1: 400,
+        },
+        home_x: 0,
+        home_y: 0,
+        pitch: 100,
+        sample: 100,
+        allowance: 0,
+        band: 0,
+        snap: Snap::Nearest,
+    }
+}
+
+fn place(x: i32, y: i32, z: i32) -> Pt3
+    requires x_ok { Within greatest x }
+    requires y_ok { Within greatest y }
+    requires z_ok { Within greatest z }
+    ensures { IsInRange result }
+{
+    Pt3 { x, y, z }
+}
+
+fn step(kind: Kind, from: Pt3, to: Pt3) -> Move
+    requires from_ok { IsInRange from }
+    requires to_ok { IsInRange to }
+    ensures { MoveInRange result }
+{
+    Move { kind, from, to }
+}
+
+/// A pocket to 200 over the first three rows and a rapid out of it. Then a rapid at 250 that comes
+/// too near to the fourth row, and a cut to 100 of two columns of the fifth.
+fn program() -> [Move; 4]
+    ensures { MovesInRange result }
+{
+    [
+        step(Kind::Feed, place(100, 100, 400), place(100, 100, 200)),
+        step(Kind::Rapid, place(100, 100, 200), place(100, 100, 400)),
+        step(Kind::Rapid, place(100, 100, 250), place(100, 200, 250)),
+        step(Kind::Feed, place(0, 400, 400), place(0, 400, 100)),
+    ]
+}
+
+/// Where the fourth row stops the third move.
+fn stop() -> RowFail {
+    RowFail {
+        at: 2,
+        col: 0,
+        leaf: Leaf { d: 7, k: 111 },
+    }
+}
+
+#[test]
+fn stops_at_a_rapid_that_fails(rt: HostRuntime) -> Result<(), WantOfMemory> {
+    let job = five_rows();
+    let moves = program();
+    let mut row = Row::new(rt.alloc(), &job, 3)?;
+    assert!(rt; row.turn(&job, &moves, 0));
+    assert!(rt; row.turn(&job, &moves, 1));
+    assert!(rt; !row.turn(&job, &moves, 2));
+    assert_eq!(rt; row.tops(), [300, 300, 300].as_slice());
+    assert_eq!(rt; row.done(), 2);
+    assert_eq!(rt; row.failed(), Some(stop()));
+    Ok(())
+}
+
+/// All rows of the uncut stock.
+fn uncut(alloc: Global, job: &Job) -> Result<Vec<Row>, WantOfMemory>
+    requires { IsJob job.now }
+    ensures { IfOk result (λ rows. All (IsRowOf job.now) rows.items) }
+{
+    let mut rows = Vec::new(alloc);
+    for number in 0..job.rows() {
+        rows.push(Row::new(alloc, job, u64::from(number))?)?;
+    }
+    Ok(rows)
+}
+
+/// All rows after the program, by so many workers.
+fn turned<R: Threads + Sync>(rt: &R, alloc: Global, workers: u32) -> Result<Vec<Row>, WantOfMemory>
+    requires some { 1 ≤ workers }
+    requires few { workers ≤ 64 }
+{
+    let job = five_rows();
+    let moves = program();
+    let rows = uncut(alloc, &job)?;
+    let rows = rows_static(rt, &job, rows, &moves, workers);
+    Ok(rows_static(rt, &job, rows, &moves, workers))
+}
+
+#[test]
+fn workers_change_nothing(rt: HostRuntime) -> Result<(), WantOfMemory> {
+    let alloc = rt.alloc();
+    let by_one = turned(&rt, alloc, 1)?;
+    let by_four = turned(&rt, alloc, 4)?;
+    let by_many = turned(&rt, alloc, 64)?;
+    let pocket = [200, 200, 200];
+    let want = [
+        (pocket, 4, None),
+        (pocket, 4, None),
+        (pocket, 4, None),
+        ([300, 300, 300], 2, Some(stop())),
+        ([100, 100, 300], 4, None),
+    ];
+    for rows in [&by_one, &by_four, &by_many] {
+        assert_eq!(rt; rows.len(), want.len());
+        for (row, (tops, done, failed)) in rows.iter().zip(want) {
+            assert_eq!(rt; row.tops(), tops.as_slice());
+            assert_eq!(rt; row.done(), done);
+            assert_eq!(rt; row.failed(), failed);
+        }
+    }
+    Ok(())
+}

@@ -1,0 +1,224 @@
+ghost use Rattle.std.specs.Prelude.{◌≡◌, ◌+◌, ◌*◌, ◌^◌, ◌≤◌, ◌*ℤ◌, ◌+ℤ◌, ◌≤ℤ◌, ◌&&◌, pos, nat_abs, nat_le, IfSome};
+ghost use Rattle.mill_base.specs.Numbers.{round_half_up, ceil_div, divides, Within, greatest};
+ghost use Rattle.mill_base.specs.Ranges.{IsInRange, MoveInRange};
+ghost use Rattle.mill_base.specs.Sizes.{IsCutter};
+ghost use Rattle.mill_sweep.specs.Leaves.{length_x, length_y, end_of};
+ghost use Rattle.mill_dexel.specs.Samples.{split_of, centre_of, is_whole as is_whole_at, sample_at as sample_of};
+ghost use Rattle.mill_dexel.specs.Cuts.{IsSample, IsNarrowed};
+
+use mill_base::{Cutter, Move, Pt3, power_of_two};
+
+/// A cutter with its tip at a whole point.
+#[derive(Clone, Copy)]
+pub(crate) struct Placed {
+    pub cutter: Cutter,
+    pub tip: Pt3,
+}
+
+/// The least number of halvings after which the parts of the move are at most `sample` long, in x
+/// and y together.
+pub(crate) fn halvings(step: &Move, sample: u32) -> u32
+    requires step_ok { MoveInRange step.now }
+    requires sample_least { 1 ≤ sample }
+    requires sample_most { sample ≤ 10000 }
+    ensures value { result ≡ split_of (pos sample) step.now }
+    ensures most { result ≤ 19 }
+{
+    let length = length(step);
+    for d in 0..19 {
+        if is_reached(length, sample, d) {
+            return d;
+        }
+    }
+    19
+}
+
+/// How far the move goes in x and y together.
+fn length(step: &Move) -> u32
+    requires { MoveInRange step.now }
+    ensures value { result ≡ length_x step.now + length_y step.now }
+    ensures bound { result ≤ 2 ^ 19 }
+{
+    step.to.x.abs_diff(step.from.x) + step.to.y.abs_diff(step.from.y)
+}
+
+/// Whether the length is at most `sample` times 2 to the power `d`.
+fn is_reached(length: u32, sample: u32, d: u32) -> bool
+    requires sample_ok { sample ≤ 10000 }
+    requires d_ok { d ≤ 19 }
+    ensures { result ≡ nat_le length (sample * 2 ^ d) }
+{
+    u64::from(length) <= u64::from(sample) * power_of_two(d)
+}
+
+/// The sample of the move at k/2^d: where the tip is at a whole place then, the cutter itself, and
+/// else the narrowed cutter beside it, raised. The tip's height is rounded up.
+pub(crate) fn sample_at(
+    cutter: Cutter,
+    narrowed: Option<(Cutter, i32)>,
+    step: &Move,
+    d: u32,
+    k: u64,
+) -> Option<Placed>
+    requires cutter_ok { IsCutter cutter }
+    requires narrowed_ok { IsNarrowed cutter narrowed }
+    requires step_ok { MoveInRange step.now }
+    requires d_ok { d ≤ 19 }
+    requires k_ok { k ≤ 2 ^ d }
+    ensures value { result ≡ sample_of cutter step.now d k }
+    ensures sample { IfSome result IsSample }
+{
+    let centre = centre_at(step, d, k);
+    let tip = centre.tip;
+    if centre.is_whole {
+        return Some(Placed { cutter, tip });
+    }
+    let (narrower, rise) = narrowed?;
+    Some(raised(narrower, tip, rise))
+}
+
+/// The cutter with its tip over the point by `rise`.
+fn raised(cutter: Cutter, point: Pt3, rise: i32) -> Placed
+    requires cutter_ok { IsCutter cutter }
+    requires point_ok { IsInRange point }
+    requires rise_least { pos 0 ≤ℤ rise }
+    requires rise_most { rise ≤ℤ pos 16 }
+    ensures value { result ≡ record { cutter = cutter; tip = record { x = point.x; y = point.y; z = point.z +ℤ rise } } }
+    ensures sample { IsSample result }
+{
+    Placed {
+        cutter,
+        tip: Pt3 {
+            x: point.x,
+            y: point.y,
+            z: point.z + rise,
+        },
+    }
+}
+
+/// Where a sample stands: the tip at a whole place, and whether it is there at that moment, in x and
+/// in y.
+#[derive(Clone, Copy)]
+struct Centre {
+    tip: Pt3,
+    is_whole: bool,
+}
+
+/// Where the sample at k/2^d stands.
+fn centre_at(step: &Move, d: u32, k: u64) -> Centre
+    requires step_ok { MoveInRange step.now }
+    requires d_ok { d ≤ 19 }
+    requires k_ok { k ≤ 2 ^ d }
+    ensures tip { result.tip ≡ centre_of step.now d k }
+    ensures tip_ok { IsInRange result.tip }
+    ensures whole { result.is_whole ≡ is_whole_at step.now d k }
+{
+    let x = place_at(step.from.x, step.to.x, d, k);
+    let y = place_at(step.from.y, step.to.y, d, k);
+    let tip = Pt3 {
+        x: x.nearest,
+        y: y.nearest,
+        z: height_at(step.from.z, step.to.z, d, k),
+    };
+    Centre {
+        tip,
+        is_whole: are_both(x.is_whole, y.is_whole),
+    }
+}
+
+/// Whether both are true.
+fn are_both(a: bool, b: bool) -> bool
+    ensures { result ≡ (a && b) }
+{
+    a && b
+}
+
+/// One coordinate of the tip at a moment of a move: the nearest whole one, halves up, and whether it
+/// is that.
+#[derive(Clone, Copy)]
+struct Place {
+    nearest: i32,
+    is_whole: bool,
+}
+
+/// The place of the tip along one axis at k/2^d.
+fn place_at(from: i32, to: i32, d: u32, k: u64) -> Place
+    requires from_ok { Within greatest from }
+    requires to_ok { Within greatest to }
+    requires d_ok { d ≤ 19 }
+    requires k_ok { k ≤ 2 ^ d }
+    ensures nearest { result.nearest ≡ round_half_up (end_of from to d k) (2 ^ d) }
+    ensures nearest_ok { Within greatest result.nearest }
+    ensures whole { result.is_whole ≡ divides (2 ^ d) (end_of from to d k) }
+{
+    let end = end_at(from, to, d, k);
+    Place {
+        nearest: nearest(end, d),
+        is_whole: is_whole(end, d),
+    }
+}
+
+/// The height of the tip at k/2^d, rounded up.
+fn height_at(from: i32, to: i32, d: u32, k: u64) -> i32
+    requires from_ok { Within greatest from }
+    requires to_ok { Within greatest to }
+    requires d_ok { d ≤ 19 }
+    requires k_ok { k ≤ 2 ^ d }
+    ensures value { result ≡ ceil_div (end_of from to d k) (2 ^ d) }
+    ensures bound { Within greatest result }
+{
+    rounded_up(end_at(from, to, d, k), d)
+}
+
+/// One coordinate of the tip at k/2^d, times 2^d.
+fn end_at(from: i32, to: i32, d: u32, k: u64) -> i64
+    requires from_ok { Within greatest from }
+    requires to_ok { Within greatest to }
+    requires d_ok { d ≤ 19 }
+    requires k_ok { k ≤ 2 ^ d }
+    ensures value { result ≡ end_of from to d k }
+    ensures bound { Within (2 ^ 37) result }
+    ensures within { nat_abs result ≤ 2 ^ d * greatest }
+{
+    weighed(power_of_two(d) - k, from) + weighed(k, to)
+}
+
+/// The whole number that is nearest to an end over 2^d, halves up.
+fn nearest(end: i64, d: u32) -> i32
+    requires end_ok { Within (2 ^ 37) end }
+    requires end_within { nat_abs end ≤ 2 ^ d * greatest }
+    requires d_ok { d ≤ 19 }
+    ensures value { result ≡ round_half_up end (2 ^ d) }
+    ensures bound { Within greatest result }
+{
+    ((2 * end + power_of_two(d) as i64) >> (d + 1)) as i32
+}
+
+/// An end over 2^d, rounded up.
+fn rounded_up(end: i64, d: u32) -> i32
+    requires end_ok { Within (2 ^ 37) end }
+    requires end_within { nat_abs end ≤ 2 ^ d * greatest }
+    requires d_ok { d ≤ 19 }
+    ensures value { result ≡ ceil_div end (2 ^ d) }
+    ensures bound { Within greatest result }
+{
+    -(-end >> d) as i32
+}
+
+/// Whether an end is a multiple of 2^d.
+fn is_whole(end: i64, d: u32) -> bool
+    requires { d ≤ 19 }
+    ensures { result ≡ divides (2 ^ d) end }
+{
+    end.unsigned_abs() & (power_of_two(d) - 1) == 0
+}
+
+/// The place times its weight.
+fn weighed(weight: u64, place: i32) -> i64
+    requires weight_ok { weight ≤ 2 ^ 19 }
+    requires place_ok { Within greatest place }
+    ensures value { result ≡ pos weight *ℤ place }
+    ensures bound { Within (2 ^ 36) result }
+{
+    weight as i64 * i64::from(place)
+}

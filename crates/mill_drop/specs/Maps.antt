@@ -1,0 +1,51 @@
+-- The drop heights over a lattice.
+use Rattle.std.specs.Prelude.{◌≡◌, ℕ, ◌<◌, ◌≤◌, ℤ, pos, ◌≤ℤ◌, List, map, length, slice_index_or}
+use Rattle.std.specs.List.{AllZip, flat_map}
+use Rattle.mill_base.specs.Numbers.{Within, greatest}
+use Rattle.mill_base.specs.Sizes.{IsCutter}
+use Rattle.mill_base.specs.Lattices.{lattice_xs, lattice_ys, node_count}
+use Rattle.mill_base.specs.declared.points.Tri.{Tri}
+use Rattle.mill_base.specs.declared.points.Box2.{Box2}
+use Rattle.mill_base.specs.declared.cutter.Cutter.{Cutter}
+use Rattle.mill_base.specs.declared.lattice.Lattice.{Lattice}
+use Rattle.mill_cells.specs.Boxes.{boxes_of}
+use Rattle.mill_drop.specs.Drops.{IsDropHeight}
+
+-- each x with each y, row by row: y in its order from row to row, and x in its order along each row
+abbrev pub rows_of : List ℤ → List ℤ → List (ℤ × ℤ)
+rows_of xs ys = flat_map (λ y. map (λ x. (x, y)) xs) ys
+
+-- the nodes of a lattice, row by row
+abbrev pub nodes_of : Lattice → List (ℤ × ℤ)
+nodes_of lattice = rows_of (lattice_xs lattice) (lattice_ys lattice)
+
+-- the node of number k
+abbrev pub node_at : Lattice → ℕ → ℤ × ℤ
+node_at lattice k = slice_index_or (nodes_of lattice) k (pos 0, pos 0)
+
+-- z is the drop height at the node
+abbrev pub IsHeightAt : Cutter → List Tri → ℤ → ℤ × ℤ → ℤ → Type 0
+IsHeightAt cutter part floor node z = IsDropHeight cutter part node.0 node.1 floor z
+
+-- the heights are the drop heights at the lattice's nodes, in their order
+abbrev pub AreDropHeights : Cutter → List Tri → ℤ → Lattice → List ℤ → Type 0
+AreDropHeights cutter part floor lattice heights = AllZip (IsHeightAt cutter part floor) (nodes_of lattice) heights
+
+-- its ends are in range and the right way round, its step is at least one unit, and it has at most 4,000,000 nodes
+pub record IsMapLattice (lattice : Lattice) : Type 0 where
+  pub x0_ok : Within greatest lattice.area.x0
+  pub x1_ok : Within greatest lattice.area.x1
+  pub y0_ok : Within greatest lattice.area.y0
+  pub y1_ok : Within greatest lattice.area.y1
+  pub x_order : lattice.area.x0 ≤ℤ lattice.area.x1
+  pub y_order : lattice.area.y0 ≤ℤ lattice.area.y1
+  pub step_ok : (pos 1) ≤ℤ lattice.step
+  pub few : node_count lattice ≤ 4000000
+
+-- what a drop height at the node of this number needs
+pub record IsNodeTask (part : List Tri) (cells : List Box2) (cutter : Cutter) (lattice : Lattice) (floor : ℤ) (number : ℕ) : Type 0 where
+  pub cells_ok : cells ≡ boxes_of part
+  pub cutter_ok : IsCutter cutter
+  pub lattice_ok : IsMapLattice lattice
+  pub floor_ok : Within greatest floor
+  pub number_ok : number < length (nodes_of lattice)

@@ -1,0 +1,114 @@
+-- A leaf passes a triangle that lies far beside it, at whatever depth the leaf stands.
+use Rattle.std.specs.Prelude.{ℕ, ◌+◌, ◌*◌, ◌^◌, ◌<◌, ◌≤◌, ◌⊎◌, ℤ, pos, ◌+ℤ◌, ◌-ℤ◌, ◌*ℤ◌, ◌≤ℤ◌}
+use Rattle.std.proofs.Common.{◌≡◌, inl, inr, arith}
+use Rattle.std.proofs.Math.Nat.{mul-le-mul}
+use Rattle.std.proofs.lemmas.Bool.{cases_lt}
+use Rattle.std.proofs.lemmas.Int.{ints}
+use Rattle.mill_base.specs.Ranges.{MoveInRange}
+use Rattle.mill_base.specs.Sizes.{IsCutter, radius_of}
+use Rattle.mill_base.specs.declared.points.Tri.{Tri}
+use Rattle.mill_base.specs.declared.motion.Move.{Move}
+use Rattle.mill_base.specs.declared.cutter.Cutter.{Cutter}
+use Rattle.mill_shape.proofs.RootLemmas.{ceil_root_is}
+use Rattle.mill_sweep.specs.Leaves.{depth_of, end_of, middle_of, farther_of, diagonal_of, reach_of}
+use Rattle.mill_sweep.specs.Halving.{LeafPasses}
+use Rattle.mill_sweep.specs.Apart.{LieApart}
+use Rattle.mill_sweep.proofs.Far.{IsBeside, middle_under, middle_over, far_leaf}
+use Rattle.mill_sweep.proofs.LeafCerts.{half_least, half_most, joint_least, joint_most, end_of_half_least, end_of_half_most, end_near_least, end_near_most}
+use Rattle.mill_sweep.proofs.Spans.{parts_twice, ends_near, farther_within}
+
+-- both ends of a leaf along one axis lie from low to high, over the parts
+record EndsFrom (low high f t : ℤ) (d k : ℕ) : Type 0 where
+  first_least : (pos (2 ^ d) *ℤ low) ≤ℤ end_of f t d k
+  first_most : end_of f t d k ≤ℤ (pos (2 ^ d) *ℤ high)
+  last_least : (pos (2 ^ d) *ℤ low) ≤ℤ end_of f t d (k + 1)
+  last_most : end_of f t d (k + 1) ≤ℤ (pos (2 ^ d) *ℤ high)
+
+-- and so do those of its halves
+module _ (low high f t : ℤ) (d k : ℕ) (e : EndsFrom low high f t d k) where
+  left_ends : EndsFrom low high f t (d + 1) (2 * k)
+  left_ends = record {
+    first_least = rw (parts_twice d) (half_least (pos (2 ^ d)) (pos k) f t low e.first_least);
+    first_most = rw (parts_twice d) (half_most (pos (2 ^ d)) (pos k) f t high e.first_most);
+    last_least = rw (parts_twice d) (joint_least (pos (2 ^ d)) (pos k) f t low e.first_least e.last_least);
+    last_most = rw (parts_twice d) (joint_most (pos (2 ^ d)) (pos k) f t high e.first_most e.last_most);
+  }
+
+  right_ends : EndsFrom low high f t (d + 1) (2 * k + 1)
+  right_ends = record {
+    first_least = rw (parts_twice d) (joint_least (pos (2 ^ d)) (pos k) f t low e.first_least e.last_least);
+    first_most = rw (parts_twice d) (joint_most (pos (2 ^ d)) (pos k) f t high e.first_most e.last_most);
+    last_least = rw (parts_twice d) (end_of_half_least (pos (2 ^ d)) (pos k) f t low e.last_least);
+    last_most = rw (parts_twice d) (end_of_half_most (pos (2 ^ d)) (pos k) f t high e.last_most);
+  }
+
+-- numbers that are far from x are far from m, which is near to x
+nearer : (r q x m a b c : ℤ) → (x -ℤ q) ≤ℤ m → m ≤ℤ (x +ℤ q) → LieApart (r +ℤ q) x x a b c → LieApart r m m a b c
+nearer r q x m a b c low high (inl over) = inl (record {
+  a_e = up a over.a_e;
+  b_e = up b over.b_e;
+  c_e = up c over.c_e;
+  a_f = up a over.a_e;
+  b_f = up b over.b_e;
+  c_f = up c over.c_e;
+})
+  where
+    up : (y : ℤ) → (x +ℤ (r +ℤ q)) ≤ℤ y → (m +ℤ r) ≤ℤ y
+    up y h = omega (arith, ints)
+nearer r q x m a b c low high (inr under) = inr (record {
+  a_e = down a under.a_e;
+  b_e = down b under.b_e;
+  c_e = down c under.c_e;
+  a_f = down a under.a_e;
+  b_f = down b under.b_e;
+  c_f = down c under.c_e;
+})
+  where
+    down : (y : ℤ) → (y +ℤ (r +ℤ q)) ≤ℤ x → (y +ℤ r) ≤ℤ m
+    down y h = omega (arith, ints)
+
+-- a side is at most the diagonal
+side_most : (ex ey : ℕ) → ex ≤ 262142 → ey ≤ 262142 → (ex ≤ diagonal_of ex ey) × (ey ≤ diagonal_of ex ey)
+side_most ex ey hx hy =
+    let x : ex * ex ≤ 262142 * 262142 = mul-le-mul hx hx in
+    let y : ey * ey ≤ 262142 * 262142 = mul-le-mul hy hy in
+    let reaches = (ceil_root_is (ex * ex + ey * ey) (omega arith)).reaches in
+    (root ex (diagonal_of ex ey) (ey * ey) reaches (cases_lt (diagonal_of ex ey) ex), root ey (diagonal_of ex ey) (ex * ex) (omega arith) (cases_lt (diagonal_of ex ey) ey))
+  where
+    root : (s r o : ℕ) → s * s + o ≤ r * r → (r < s) ⊎ (s ≤ r) → s ≤ r
+    root s r o h (inl less) = absurd (let up : (r + 1) * (r + 1) ≤ s * s = mul-le-mul (omega arith) (omega arith) in omega arith)
+    root s r o h (inr more) = more
+
+-- the ends of a leaf are at most its reach from its middle
+reached : (f t : ℤ) (d k q : ℕ) → farther_of f t d k ≤ q → EndsFrom (middle_of f t d k -ℤ pos q) (middle_of f t d k +ℤ pos q) f t d k
+reached f t d k q h =
+    let near = ends_near f t d k in
+    let n : (pos 0) ≤ℤ pos (2 ^ d) = omega (arith, ints) in
+    let e : pos (farther_of f t d k) ≤ℤ pos q = at_most (farther_of f t d k) q h in
+    record {
+      first_least = end_near_least (pos (2 ^ d)) (middle_of f t d k) (pos (farther_of f t d k)) (pos q) (end_of f t d k) n e near.first_below;
+      first_most = end_near_most (pos (2 ^ d)) (middle_of f t d k) (pos (farther_of f t d k)) (pos q) (end_of f t d k) n e near.first_above;
+      last_least = end_near_least (pos (2 ^ d)) (middle_of f t d k) (pos (farther_of f t d k)) (pos q) (end_of f t d (k + 1)) n e near.last_below;
+      last_most = end_near_most (pos (2 ^ d)) (middle_of f t d k) (pos (farther_of f t d k)) (pos q) (end_of f t d (k + 1)) n e near.last_above;
+    }
+  where
+    at_most : (a b : ℕ) → a ≤ b → pos a ≤ℤ pos b
+    at_most a b h = omega (arith, ints)
+
+pub leaf_beside_passes : (cutter : Cutter) (move : Move) (tri : Tri) (more d k : ℕ) → IsCutter cutter → MoveInRange move → d + more ≡ depth_of move → k < 2 ^ d
+    → IsBeside ((radius_of cutter +ℤ pos 2) +ℤ pos (reach_of move d k)) move tri d k → LeafPasses cutter move tri more d k
+leaf_beside_passes cutter move tri more d k cutter_ok range deep inside far =
+    let ex = farther_of move.from.x move.to.x d k in
+    let ey = farther_of move.from.y move.to.y d k in
+    let sides = side_most ex ey (farther_within move.from.x move.to.x d k range.from_ok.x_ok.within range.to_ok.x_ok.within inside) (farther_within move.from.y move.to.y d k range.from_ok.y_ok.within range.to_ok.y_ok.within inside) in
+    let q = pos (reach_of move d k) in
+    let x = middle_of move.from.x move.to.x d k in
+    let y = middle_of move.from.y move.to.y d k in
+    elim far [
+      | inl h ↦ far_leaf cutter move tri (λ i j. EndsFrom (x -ℤ q) (x +ℤ q) move.from.x move.to.x i j) (left_ends (x -ℤ q) (x +ℤ q) move.from.x move.to.x) (right_ends (x -ℤ q) (x +ℤ q) move.from.x move.to.x)
+          (λ i j e. inl (nearer (radius_of cutter +ℤ pos 2) q x (middle_of move.from.x move.to.x i j) tri.a.x tri.b.x tri.c.x (middle_over move.from.x move.to.x (x -ℤ q) i j e.first_least e.last_least) (middle_under move.from.x move.to.x (x +ℤ q) i j e.first_most e.last_most) h))
+          cutter_ok range more d k deep (reached move.from.x move.to.x d k (reach_of move d k) sides.0)
+      | inr h ↦ far_leaf cutter move tri (λ i j. EndsFrom (y -ℤ q) (y +ℤ q) move.from.y move.to.y i j) (left_ends (y -ℤ q) (y +ℤ q) move.from.y move.to.y) (right_ends (y -ℤ q) (y +ℤ q) move.from.y move.to.y)
+          (λ i j e. inr (nearer (radius_of cutter +ℤ pos 2) q y (middle_of move.from.y move.to.y i j) tri.a.y tri.b.y tri.c.y (middle_over move.from.y move.to.y (y -ℤ q) i j e.first_least e.last_least) (middle_under move.from.y move.to.y (y +ℤ q) i j e.first_most e.last_most) h))
+          cutter_ok range more d k deep (reached move.from.y move.to.y d k (reach_of move d k) sides.1)
+    ]

@@ -1,0 +1,63 @@
+-- Where the code puts a leaf's middle and its outer cutter, and how far it wants a triangle to be away.
+use Rattle.std.specs.Prelude.{◌≡◌, ◌≤◌, nat_abs, ℤ, pos, ◌+ℤ◌, ◌-ℤ◌, ◌≤ℤ◌}
+use Rattle.std.proofs.Common.{[], ◌∷◌, refl, subst, ap, ◌∙◌, arith, w32}
+use Rattle.std.proofs.lemmas.Int.{ints}
+use Rattle.mill_base.proofs.Machine.{Read, Lit, Sum, Diff, exact, kept, stored}
+use Rattle.mill_base.specs.Points.{point_at}
+use Rattle.mill_base.specs.Sizes.{HasRadius, IsCutter, radius_of, outer, shift}
+use Rattle.mill_base.specs.declared.points.Pt3.{Pt3}
+use Rattle.mill_base.specs.declared.cutter.Cutter.{Cutter}
+use Rattle.mill_base.specs.declared.cutter.Cutter.TheVariants.{Flat, Ball, Cone}
+use Rattle.mill_sweep.specs.Leaves.{outer_tip}
+use Rattle.mill_sweep.specs.Halving.{IsSpan}
+use Rattle.mill_sweep.specs.declared.leaf.Span.{Span}
+
+-- the radius of a job's cutter is at most 10,000
+radius_within : (r : ℤ) → HasRadius r (pos 10000) → nat_abs r ≤ 10000
+radius_within r h = let least = h.least in let most = h.within in omega (arith, ints)
+
+pub radius_small : (cutter : Cutter) → IsCutter cutter → nat_abs (radius_of cutter) ≤ 10000
+radius_small (Flat r) h = radius_within r h
+radius_small (Ball r) h = radius_within r h
+radius_small (Cone r a b) h = radius_within r h.0
+
+reach_within : (q : ℤ) → (pos 0) ≤ℤ q → q ≤ℤ pos 524288 → nat_abs q ≤ 524288
+reach_within q least most = omega (arith, ints)
+
+-- the distance from the whole move, and from a leaf
+pub from_move : (cutter : Cutter) (r : ℤ) → IsCutter cutter → r ≡ radius_of cutter → stored w32 (stored w32 r +ℤ pos 2) ≡ radius_of cutter +ℤ pos 2
+from_move cutter r ok e =
+    exact (r ∷ []) (10000 ∷ []) (Sum w32 (Read w32 0) (Lit (pos 2))) (rw e (radius_small cutter ok), tt) refl ∙ ap (λ (s : ℤ). s +ℤ pos 2) e
+
+pub from_leaf : (cutter : Cutter) (r q : ℤ) → IsCutter cutter → r ≡ radius_of cutter → (pos 0) ≤ℤ q → q ≤ℤ pos 524288
+    → stored w32 (stored w32 (stored w32 r +ℤ pos 2) +ℤ stored w32 q) ≡ (radius_of cutter +ℤ pos 2) +ℤ q
+from_leaf cutter r q ok e least most =
+    exact (r ∷ q ∷ []) (10000 ∷ 524288 ∷ []) (Sum w32 (Sum w32 (Read w32 0) (Lit (pos 2))) (Read w32 1)) (rw e (radius_small cutter ok), (reach_within q least most, tt)) refl
+    ∙ ap (λ (s : ℤ). (s +ℤ pos 2) +ℤ q) e
+
+-- points of equal coordinates
+pub same_point : (a b c k l m : ℤ) → a ≡ k → b ≡ l → c ≡ m → point_at a b c ≡ point_at k l m
+same_point a b c k l m p q r = cc
+
+-- what is so of the cutter that the code widens, where it puts it, is so of the span's outer cutter
+module _ (P : Cutter → Pt3 → Type 0) (cutter wide : Cutter) (s : Span) (low : ℤ) (ok : IsSpan s) (narrow : s.reach ≤ℤ pos 1024)
+    (wide_is : wide ≡ outer cutter (stored w32 s.reach)) (low_is : low ≡ shift cutter (stored w32 s.reach)) (low_least : (pos 0) ≤ℤ low) (low_most : low ≤ℤ pos 16384) where
+  reach_is : stored w32 s.reach ≡ s.reach
+  reach_is = kept w32 s.reach 1024 (small s.reach ok.reach_least narrow) refl
+    where
+      small : (q : ℤ) → (pos 0) ≤ℤ q → q ≤ℤ pos 1024 → nat_abs q ≤ 1024
+      small q least most = omega (arith, ints)
+
+  height_is : stored w32 (stored w32 s.zlow -ℤ stored w32 low) ≡ s.zlow -ℤ shift cutter s.reach
+  height_is =
+      exact (s.zlow ∷ low ∷ []) (131071 ∷ 16384 ∷ []) (Diff w32 (Read w32 0) (Read w32 1)) (ok.low_ok.within, (small low low_least low_most, tt)) refl
+      ∙ ap (λ (l : ℤ). s.zlow -ℤ l) (subst (λ (q : ℤ). low ≡ shift cutter q) reach_is low_is)
+    where
+      small : (q : ℤ) → (pos 0) ≤ℤ q → q ≤ℤ pos 16384 → nat_abs q ≤ 16384
+      small q least most = omega (arith, ints)
+
+  tip_is : point_at (stored w32 s.x) (stored w32 s.y) (stored w32 (stored w32 s.zlow -ℤ stored w32 low)) ≡ outer_tip cutter s
+  tip_is = same_point _ _ _ _ _ _ (kept w32 s.x 131071 ok.x_ok.within refl) (kept w32 s.y 131071 ok.y_ok.within refl) height_is
+
+  pub placed : P wide (point_at (stored w32 s.x) (stored w32 s.y) (stored w32 (stored w32 s.zlow -ℤ stored w32 low))) → P (outer cutter s.reach) (outer_tip cutter s)
+  placed h = subst (λ (w : Cutter). P w (outer_tip cutter s)) (subst (λ (q : ℤ). wide ≡ outer cutter q) reach_is wide_is) (subst (λ (p : Pt3). P wide p) tip_is h)

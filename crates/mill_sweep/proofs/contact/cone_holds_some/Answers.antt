@@ -1,0 +1,13 @@
+use Rattle.std.proofs.Common.{w32}
+use Rattle.std.proofs.lemmas.Int.{to_z-of_z}
+use Rattle.mill_base.specs.declared.cutter.Cutter.TheVariants.{Cone}
+use Rattle.mill_sweep.proofs.ContactLemmas.{touch_here, none_here}
+use Rattle.mill_sweep.proofs.contact.cone_holds_some.Goals as goal
+
+pub returns-in-Inside-clause-yes : goal.returns-in-Inside-clause-yes
+returns-in-Inside-clause-yes c = λ t. touch_here (Cone c.args.radius c.args.rise c.args.run) c.args.tip c.args.tri.now
+    (rw (to_z-of_z w32 c.args.radius c.ranges.radius, to_z-of_z w32 c.args.rise c.ranges.rise, to_z-of_z w32 c.args.run c.ranges.run) at c.in-Inside.ensures)
+
+pub returns-in-Apart-clause-no : goal.returns-in-Apart-clause-no
+returns-in-Apart-clause-no c = λ f. none_here (Cone c.args.radius c.args.rise c.args.run) c.args.tip c.args.tri.now _
+    (rw (to_z-of_z w32 c.args.radius c.ranges.radius, to_z-of_z w32 c.args.rise c.ranges.rise, to_z-of_z w32 c.args.run c.ranges.run) at c.in-Apart.ensures)

@@ -1,0 +1,59 @@
+ghost use Rattle.std.specs.Prelude.{◌≡◌, ◌≤ℤ◌, pos, false, IsTrue};
+ghost use Rattle.mill_base.specs.Contact.{Touches};
+ghost use Rattle.mill_base.specs.Points.{highest as highest_of};
+ghost use Rattle.mill_base.specs.Ranges.{TriInRange};
+ghost use Rattle.mill_base.specs.Sizes.{IsCutter, outer};
+ghost use Rattle.mill_sweep.specs.Halving.{Blocks, IsFreeSpan, IsSpan};
+ghost use Rattle.mill_sweep.specs.Leaves.{outer_tip};
+
+use crate::contact::holds_some;
+use crate::leaf::Span;
+use mill_base::{Cutter, Pt3, Tri};
+use mill_shape::widen;
+
+/// The greatest reach by which a cutter is widened, in units of 0.01 mm.
+const REACH_MOST: i32 = 1_024;
+
+/// Whether a leaf passes the triangle by itself: it lies no lower than the triangle's highest point,
+/// or its reach is small and its outer cutter holds no point of the triangle.
+pub(crate) fn is_free(cutter: Cutter, span: Span, tri: &Tri) -> bool
+    requires cutter_ok { IsCutter cutter }
+    requires span_ok { IsSpan span }
+    requires tri_ok { TriInRange tri.now }
+    ensures yes { IsTrue result → IsFreeSpan cutter span tri.now }
+    ensures no { result ≡ false → ¬ IsFreeSpan cutter span tri.now }
+    ensures blocked { result ≡ false → span.reach ≤ℤ pos 1024 → Blocks cutter span tri.now }
+{
+    if highest(tri) <= span.zlow {
+        return true;
+    }
+    if span.reach > REACH_MOST {
+        return false;
+    }
+    !outer_holds_some(cutter, span, tri)
+}
+
+/// Whether some point of the triangle is strictly inside the outer cutter of a leaf.
+fn outer_holds_some(cutter: Cutter, span: Span, tri: &Tri) -> bool
+    requires cutter_ok { IsCutter cutter }
+    requires span_ok { IsSpan span }
+    requires reach_most { span.reach ≤ℤ pos 1024 }
+    requires tri_ok { TriInRange tri.now }
+    ensures yes { IsTrue result → Touches (outer cutter span.reach) (pos 1) (outer_tip cutter span) tri.now }
+    ensures no { result ≡ false → ¬ Touches (outer cutter span.reach) (pos 1) (outer_tip cutter span) tri.now }
+{
+    let (wide, lowered) = widen(cutter, span.reach);
+    let tip = Pt3 {
+        x: span.x,
+        y: span.y,
+        z: span.zlow - lowered,
+    };
+    holds_some(wide, tip, tri)
+}
+
+/// The greatest of a triangle's three heights.
+fn highest(tri: &Tri) -> i32
+    ensures { result ≡ highest_of tri.now }
+{
+    tri.a.z.max(tri.b.z).max(tri.c.z)
+}

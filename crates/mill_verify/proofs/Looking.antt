@@ -1,0 +1,242 @@
+-- The first gouge of a move, triangle by triangle of those that are near.
+use Rattle.std.proofs.Common.{◌≡◌, ◌⊎◌, ◌↔◌, inl, inr, refl, ℕ, ◌<◌, Bool, true, false, List, [], ◌∷◌, length, get_or, sym, subst, arith}
+use Rattle.std.specs.Prelude.{Option, Some, None, MatchOption, int_lt}
+use Rattle.std.specs.List.{Contains}
+use Rattle.std.proofs.lemmas.Int.{ints}
+use Rattle.std.proofs.lemmas.List.{length-map, get_or-map}
+use Rattle.std.proofs.lemmas.List.Elements.{Contains-get_or}
+use lib.IntN.{ℤ, pos, ◌+ℤ◌, ◌-ℤ◌}
+use lib.Signed.{◌≤ℤ◌}
+use Rattle.mill_base.specs.Numbers.{lesser, greater}
+use Rattle.mill_base.specs.Covers.{IsUnder}
+use Rattle.mill_base.specs.Ranges.{MoveInRange, TriInRange, TrisInRange}
+use Rattle.mill_base.specs.Sizes.{IsCutter, radius_of}
+use Rattle.mill_base.specs.declared.points.Tri.{Tri}
+use Rattle.mill_base.specs.declared.points.Box2.{Box2}
+use Rattle.mill_base.specs.declared.motion.Move.{Move}
+use Rattle.mill_base.specs.declared.cutter.Cutter.{Cutter}
+use Rattle.mill_cells.specs.Boxes.{Meet, IsNear, box_of, boxes_of, origin_box}
+use Rattle.mill_cells.proofs.Lists.{nothing_in_nil, here, there, cons_cases}
+use Rattle.mill_sweep.specs.Halving.{FailsAt, Passes}
+use Rattle.mill_sweep.specs.Apart.{LieApart}
+use Rattle.mill_sweep.specs.Moments.{IsFar, FarPasses}
+use Rattle.mill_sweep.specs.declared.leaf.Leaf.{Leaf}
+use Rattle.mill_sweep.proofs.Passing.{radius_least}
+use Rattle.mill_job.specs.declared.job.Job.{Job}
+use Rattle.mill_verify.specs.declared.gouge.Gouge.{Gouge}
+use Rattle.mill_verify.specs.Tests.{move_at, tri_at, PassesTri, ClearsPart}
+use Rattle.mill_verify.specs.Verdicts.{IsBlocked}
+use Rattle.mill_verify.specs.Firsts.{ComesBefore, IsEarlier, IsFirstGouge, IsGouge}
+use Rattle.mill_verify.specs.Near.{IsOver, area_of, margin_of}
+
+-- some place is in both stretches
+record HasCommon (low high from to : ℤ) : Type 0 where
+  at : ℤ
+  right : low ≤ℤ at
+  left : at ≤ℤ high
+  right_too : from ≤ℤ at
+  left_too : at ≤ℤ to
+
+-- along one axis, three places lie at least r apart from two ends, or their stretch meets that of the ends, wider by r on each side
+along : (r f t a b c : ℤ) → (pos 0) ≤ℤ r → LieApart r f t a b c ⊎ HasCommon (lesser a (lesser b c)) (greater a (greater b c)) (lesser f t -ℤ r) (greater f t +ℤ r)
+along r f t a b c some = by (int_lt (greater f t +ℤ r) (lesser a (lesser b c))) refl (int_lt (greater a (greater b c)) (lesser f t -ℤ r)) refl
+  where
+    lows : (a b c : ℤ) → (lesser a (lesser b c) ≤ℤ a) × (lesser a (lesser b c) ≤ℤ b) × (lesser a (lesser b c) ≤ℤ c)
+    lows a b c = grind (arith, ints)
+
+    highs : (a b c : ℤ) → (a ≤ℤ greater a (greater b c)) × (b ≤ℤ greater a (greater b c)) × (c ≤ℤ greater a (greater b c))
+    highs a b c = grind (arith, ints)
+
+    ends : (f t : ℤ) → (lesser f t ≤ℤ f) × (lesser f t ≤ℤ t) × (f ≤ℤ greater f t) × (t ≤ℤ greater f t)
+    ends f t = grind (arith, ints)
+
+    over : (e h r l x : ℤ) → e ≤ℤ h → int_lt (h +ℤ r) l ≡ true → l ≤ℤ x → (e +ℤ r) ≤ℤ x
+    over e h r l x p q s = omega (p, q, s, arith, ints)
+
+    under : (e h r l x : ℤ) → x ≤ℤ h → int_lt h (l -ℤ r) ≡ true → l ≤ℤ e → (x +ℤ r) ≤ℤ e
+    under e h r l x p q s = omega (p, q, s, arith, ints)
+
+    common : (low high from to r : ℤ) → (pos 0) ≤ℤ r → low ≤ℤ high → from ≤ℤ to → int_lt (to +ℤ r) low ≡ false → int_lt high (from -ℤ r) ≡ false → HasCommon low high (from -ℤ r) (to +ℤ r)
+    common low high from to r some p q e g = record {
+      at = greater low (from -ℤ r);
+      right = grind (p, q, e, g, some, arith, ints);
+      left = grind (p, q, e, g, some, arith, ints);
+      right_too = grind (p, q, e, g, some, arith, ints);
+      left_too = grind (p, q, e, g, some, arith, ints);
+    }
+
+    through : (a b c : ℤ) → a ≤ℤ b → b ≤ℤ c → a ≤ℤ c
+    through a b c p q = omega (p, q, arith, ints)
+
+    by : (p : Bool) → int_lt (greater f t +ℤ r) (lesser a (lesser b c)) ≡ p → (q : Bool) → int_lt (greater a (greater b c)) (lesser f t -ℤ r) ≡ q
+        → LieApart r f t a b c ⊎ HasCommon (lesser a (lesser b c)) (greater a (greater b c)) (lesser f t -ℤ r) (greater f t +ℤ r)
+    by true e q g =
+        let l = lows a b c in
+        let n = ends f t in
+        inl (inl (record {
+          a_e = over f _ r _ a n.2 e l.0;
+          b_e = over f _ r _ b n.2 e l.1;
+          c_e = over f _ r _ c n.2 e l.2;
+          a_f = over t _ r _ a n.3 e l.0;
+          b_f = over t _ r _ b n.3 e l.1;
+          c_f = over t _ r _ c n.3 e l.2;
+        }))
+    by false e true g =
+        let h = highs a b c in
+        let n = ends f t in
+        inl (inr (record {
+          a_e = under f _ r _ a h.0 g n.0;
+          b_e = under f _ r _ b h.1 g n.0;
+          c_e = under f _ r _ c h.2 g n.0;
+          a_f = under t _ r _ a h.0 g n.1;
+          b_f = under t _ r _ b h.1 g n.1;
+          c_f = under t _ r _ c h.2 g n.1;
+        }))
+    by false e false g =
+        let n = ends f t in
+        inr (common _ _ _ _ r some (through _ a _ (lows a b c).0 (highs a b c).0) (through _ f _ n.0 n.2) e g)
+
+-- a triangle is far from the move, or its box meets the area about it
+far_or_near : (cutter : Cutter) (m : Move) (tri : Tri) → IsCutter cutter → IsFar cutter m tri ⊎ Meet (box_of tri) (area_of cutter m)
+far_or_near cutter m tri ok =
+    let some = wide (radius_of cutter) (radius_least cutter ok) in
+    elim (along (margin_of cutter) m.from.x m.to.x tri.a.x tri.b.x tri.c.x some) [
+      | inl apart ↦ inl (inr (inl apart))
+      | inr x ↦ elim (along (margin_of cutter) m.from.y m.to.y tri.a.y tri.b.y tri.c.y some) [
+        | inl apart ↦ inl (inr (inr apart))
+        | inr y ↦ inr (record {
+          x = x.at;
+          y = y.at;
+          in_first = record { right = x.right; left = x.left; over = y.right; under = y.left };
+          in_second = record { right = x.right_too; left = x.left_too; over = y.right_too; under = y.left_too };
+        })
+      ]
+    ]
+  where
+    wide : (r : ℤ) → (pos 1) ≤ℤ r → (pos 0) ≤ℤ (r +ℤ pos 2)
+    wide r h = omega (h, arith, ints)
+
+-- a move that stays over the part's top clears the part
+pub over_clears : (job : Job) (part : List Tri) (moves : List Move) (k : ℕ) (top : ℤ) → FarPasses → IsCutter job.cutter → MoveInRange (move_at moves k) → IsUnder part top → IsOver (move_at moves k) top
+    → ClearsPart job part moves k
+over_clears job part moves k top far ok ranged under over t inside =
+    let h = under (tri_at part t) (Contains-get_or part t _ inside) in
+    far job.cutter (move_at moves k) (tri_at part t) ok ranged (inl (record {
+      from = record { a = through _ _ _ h.0 over.from; b = through _ _ _ h.1 over.from; c = through _ _ _ h.2 over.from };
+      to = record { a = through _ _ _ h.0 over.to; b = through _ _ _ h.1 over.to; c = through _ _ _ h.2 over.to };
+    }))
+  where
+    through : (a b c : ℤ) → a ≤ℤ b → b ≤ℤ c → a ≤ℤ c
+    through a b c p q = omega (p, q, arith, ints)
+
+-- the triangle is one of the part's, the move fails at it, and it blocks the leaf
+pub record IsFound (job : Job) (part : List Tri) (moves : List Move) (k : ℕ) (gouge : Gouge) : Type 0 where
+  pub tri : gouge.tri < length part
+  pub fails : FailsAt job.cutter (move_at moves k) (tri_at part gouge.tri) gouge.leaf
+  pub blocked : IsBlocked job part moves k gouge.tri gouge.leaf
+
+-- the numbers left are those of triangles, the first gouge so far is one, and each triangle before it is passed or left
+pub record IsLooking (job : Job) (part : List Tri) (moves : List Move) (k : ℕ) (left : List ℕ) (first : Option Gouge) : Type 0 where
+  pub within : (t : ℕ) → Contains left t → t < length part
+  pub found : (gouge : Gouge) → first ≡ Some gouge → IsFound job part moves k gouge
+  pub others : (t : ℕ) → t < length part → ComesBefore t first → PassesTri job part moves k t ⊎ Contains left t
+
+-- before the first triangle, those near are left
+pub look_starts : (job : Job) (part : List Tri) (moves : List Move) (k : ℕ) (boxes : List Box2) (left : List ℕ) → FarPasses → IsCutter job.cutter → MoveInRange (move_at moves k) → boxes ≡ boxes_of part
+    → ((i : ℕ) → Contains left i ↔ IsNear boxes (area_of job.cutter (move_at moves k)) i) → IsLooking job part moves k left None
+look_starts job part moves k boxes left far ok ranged e each = record {
+  within = λ t c. subst (λ n. t < n) (length-map part box_of) (subst (λ (b : List Box2). IsNear b (area_of job.cutter (move_at moves k)) t) e ((each t).0 c)).within;
+  found = λ gouge same. absurd (cc);
+  others = λ t inside before. elim (far_or_near job.cutter (move_at moves k) (tri_at part t) ok) [
+    | inl away ↦ inl (far job.cutter (move_at moves k) (tri_at part t) ok ranged away)
+    | inr meet ↦ inr ((each t).1 (subst (λ (b : List Box2). IsNear b (area_of job.cutter (move_at moves k)) t) (sym e) (record {
+      within = subst (λ n. t < n) (sym (length-map part box_of)) inside;
+      meets = subst (λ (b : Box2). Meet b (area_of job.cutter (move_at moves k))) (sym (get_or-map box_of part t _ origin_box inside)) meet;
+    })))
+  ];
+}
+
+pub next_within : (job : Job) (part : List Tri) (moves : List Move) (k : ℕ) (left later : List ℕ) (i : ℕ) (first : Option Gouge) → left ≡ i ∷ later → IsLooking job part moves k left first → i < length part
+next_within job part moves k left later i first e h = h.within i (subst (λ (xs : List ℕ). Contains xs i) (sym e) (here i later))
+
+-- each triangle that is read is in range
+pub tri_in_range : (tris part : List Tri) (i : ℕ) (d : Tri) → tris ≡ part → i < length tris → TrisInRange part → TriInRange (get_or tris i d)
+tri_in_range tris part i d e h ok = ok _ (subst (λ (l : List Tri). Contains l (get_or tris i d)) e (Contains-get_or tris i d h))
+
+-- one more triangle
+pub look_goes_on : (job : Job) (part : List Tri) (moves : List Move) (k : ℕ) (left later : List ℕ) (i : ℕ) (first next : Option Gouge) → left ≡ i ∷ later → IsLooking job part moves k left first
+    → IsEarlier job.cutter (move_at moves k) (tri_at part i) i first next → IsLooking job part moves k later next
+look_goes_on job part moves k left later i first next e h new = elim new [
+  | inl same ↦ subst (λ (o : Option Gouge). IsLooking job part moves k later o) (sym same.0) (kept same.1)
+  | inr told ↦ changed told.0 told.1
+]
+  where
+    inside : (t : ℕ) → Contains later t → t < length part
+    inside t c = h.within t (subst (λ (xs : List ℕ). Contains xs t) (sym e) (there i later t c))
+
+    is_left : (t : ℕ) → Contains left t → (i ≡ t) ⊎ Contains later t
+    is_left t c = cons_cases i later t (subst (λ (xs : List ℕ). Contains xs t) e c)
+
+    kept : (¬ ComesBefore i first) ⊎ Passes job.cutter (move_at moves k) (tri_at part i) → IsLooking job part moves k later first
+    kept why = record {
+      within = inside;
+      found = h.found;
+      others = λ t there_is before. elim (h.others t there_is before) [
+        | inl passes ↦ inl passes
+        | inr c ↦ elim (is_left t c) [
+          | inl same ↦ elim why [
+            | inl after ↦ absurd (after (subst (λ n. ComesBefore n first) (sym same) before))
+            | inr passes ↦ inl (subst (λ n. PassesTri job part moves k n) same passes)
+          ]
+          | inr rest ↦ inr rest
+        ]
+      ];
+    }
+
+    sooner : (t : ℕ) (o : Option Gouge) → t < i → ComesBefore i o → ComesBefore t o
+    sooner t None less before = before
+    sooner t (Some gouge) less before = chain t i gouge.tri less before
+      where
+        chain : (a b c : ℕ) → a < b → b < c → a < c
+        chain a b c p q = omega (p, q, arith)
+
+    apart : (t n : ℕ) → t < n → n ≡ t → ⊥
+    apart t n p q = omega (p, q, arith)
+
+    one : (leaf : Leaf) (gouge : Gouge) → Some (record { tri = i; leaf = leaf }) ≡ Some gouge → gouge ≡ record { tri = i; leaf = leaf }
+    one leaf gouge same = cc
+
+    changed : ComesBefore i first → IsGouge job.cutter (move_at moves k) (tri_at part i) i next → IsLooking job part moves k later next
+    changed before g = subst (λ (o : Option Gouge). IsLooking job part moves k later o) (sym g.told_so) (record {
+      within = inside;
+      found = λ gouge same. subst (λ (v : Gouge). IsFound job part moves k v) (sym (one g.leaf gouge same)) (record {
+        tri = next_within job part moves k left later i first e h;
+        fails = g.fails;
+        blocked = g.blocked;
+      });
+      others = λ t there_is less. elim (h.others t there_is (sooner t first less before)) [
+        | inl passes ↦ inl passes
+        | inr c ↦ elim (is_left t c) [ inl same ↦ absurd (apart t i less same) | inr rest ↦ inr rest ]
+      ];
+    })
+
+-- after the last one, what was found is first
+pub look_ends : (job : Job) (part : List Tri) (moves : List Move) (k : ℕ) (left : List ℕ) (first : Option Gouge) → left ≡ [] → IsLooking job part moves k left first
+    → MatchOption first (ClearsPart job part moves k) (λ gouge. IsFirstGouge job part moves k gouge.tri gouge.leaf)
+look_ends job part moves k left None e h = λ t inside. elim (h.others t inside tt) [
+  | inl passes ↦ passes
+  | inr c ↦ absurd (nothing_in_nil t (subst (λ (xs : List ℕ). Contains xs t) e c))
+]
+look_ends job part moves k left (Some gouge) e h =
+    let f = h.found gouge refl in
+    record {
+      tri = f.tri;
+      first = λ t less. elim (h.others t (chain t gouge.tri (length part) less f.tri) less) [
+        | inl passes ↦ passes
+        | inr c ↦ absurd (nothing_in_nil t (subst (λ (xs : List ℕ). Contains xs t) e c))
+      ];
+      fails = f.fails;
+    }
+  where
+    chain : (a b c : ℕ) → a < b → b < c → a < c
+    chain a b c p q = omega (p, q, arith)
