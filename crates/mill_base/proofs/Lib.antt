@@ -6,6 +6,7 @@ pub mod Machine
 mod DivisionCerts
 pub mod Divisions
 mod Positions
+pub mod RootLemmas
 pub mod Squares
 pub mod ExitCerts
 pub mod Exit
