@@ -20,7 +20,9 @@ use Rattle.mill_dexel.specs.Samples.{sample_at, split_of}
 use Rattle.mill_dexel.specs.Tops.{lowered_to, top_after_sample, top_after_move, tops_after_move}
 use Rattle.mill_dexel.specs.Rows.{RowState, IsRowOf, top_at}
 use Rattle.mill_dexel.specs.Cuts.{IsCutBy, IsReachBy, IsBeyond}
-use Rattle.mill_dexel.proofs.Reaches.{beyond_far, far_keeps, free_keeps}
+use Rattle.mill_dexel.proofs.Reaches.{beyond_far, far_keeps, free_keeps, outside_keeps}
+use Rattle.mill_base.specs.Contact.{Holds}
+use Rattle.mill_base.specs.Points.{point_at}
 use Rattle.mill_dexel.proofs.RowLaws.{length-tops_after_move, tops_after_move-at}
 
 -- what the sample makes of the top of column k
@@ -191,3 +193,13 @@ pub free_is : (job : Job) (j i : ℕ) (s : Placed) (tops : List ℤ) → IsCutte
 free_is job j i s tops size low high =
     sym (set-get_or tops i (pos 0))
     ∙ ap (λ (t : ℤ). slice_set tops i t) (free_keeps s job.floor (column_x job i) (column_y job j) (top_at tops i) size low high)
+
+-- so does one from the floor on that isn't strictly inside the cutter
+pub clear_is : (job : Job) (j i : ℕ) (s : Placed) (tops : List ℤ) (x y top : ℤ) → IsCutter s.cutter → x ≡ column_x job i → y ≡ column_y job j → top ≡ top_at tops i
+    → job.floor ≤ℤ top → ¬ Holds s.cutter (pos 1) s.tip (pos 1) (point_at x y top) → tops ≡ slice_set tops i (cut_top job j s tops i)
+clear_is job j i s tops x y top size x_is y_is top_is low outside =
+    sym (set-get_or tops i (pos 0))
+    ∙ ap (λ (t : ℤ). slice_set tops i t) (sym top_is ∙ outside_keeps s job.floor x y top size low outside ∙ at_place)
+  where
+    at_place : top_after_sample job.floor x y top (Some s) ≡ cut_top job j s tops i
+    at_place = rw (x_is, y_is, top_is) refl

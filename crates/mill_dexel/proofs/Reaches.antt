@@ -4,6 +4,7 @@ use Rattle.std.specs.Prelude.{ℤ, pos, ◌+ℤ◌, ◌-ℤ◌, ◌*ℤ◌, ◌<
 use Rattle.std.proofs.lemmas.Int.{ints}
 use Rattle.std.proofs.Math.IntN.{pos-*ℤ-pos}
 use Rattle.mill_base.specs.Numbers.{square}
+use Rattle.mill_base.specs.Contact.{Holds}
 use Rattle.mill_base.specs.Points.{point_at, point_tri}
 use Rattle.mill_base.specs.Sizes.{IsCutter, radius_of, is_within, surface, cut_height_of}
 use Rattle.mill_base.specs.declared.points.Pt3.{Pt3}
@@ -150,3 +151,12 @@ column_outside i s p x0 x (negsuc q) pitch_ok e place h = absurd (omega (arith, 
 pub column_from_first : (i : ℕ) (x0 x pitch : ℤ) → (pos 0) ≤ℤ pitch → x <ℤ x0 → x <ℤ (x0 +ℤ pos i *ℤ pitch)
 column_from_first i x0 x (pos q) pitch_ok h = rw (pos-*ℤ-pos i q) (omega (arith, ints))
 column_from_first i x0 x (negsuc q) pitch_ok h = absurd (omega (arith, ints))
+
+-- a top from the floor on that isn't strictly inside the cutter stays as it is
+pub outside_keeps : (s : Placed) (floor x y top : ℤ) → IsCutter s.cutter → floor ≤ℤ top → ¬ Holds s.cutter (pos 1) s.tip (pos 1) (point_at x y top) → top ≡ top_after_sample floor x y top (Some s)
+outside_keeps s floor x y top size low outside =
+    kept_over floor top (cut_height_of s.cutter s.tip x y) low (λ h cut. at_most h cut (split_lt h top))
+  where
+    at_most : (h : ℤ) → cut_height_of s.cutter s.tip x y ≡ Some h → (h <ℤ top) ⊎ (top ≤ℤ h) → top ≤ℤ h
+    at_most h cut (inl under) = absurd (outside ((cut_height_is_greatest s.cutter s.tip x y h (cutter_is_wide s.cutter (pos 10000) (omega (arith, ints)) size) cut).greatest top under))
+    at_most h cut (inr over) = over

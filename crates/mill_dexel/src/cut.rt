@@ -1,4 +1,7 @@
-ghost use Rattle.std.specs.Prelude.{◌≡◌, ◌<◌, ◌≤ℤ◌, length, slice_set, IsTrue, IfSome, Some};
+ghost use Rattle.std.specs.Prelude.{◌≡◌, ◌↔◌, ◌<◌, ◌≤ℤ◌, pos, length, slice_set, IsTrue, IfSome, Some};
+ghost use Rattle.mill_base.specs.Contact.{Holds};
+ghost use Rattle.mill_base.specs.Numbers.{Within, greatest};
+ghost use Rattle.mill_base.specs.Points.{point_at};
 ghost use Rattle.mill_base.specs.Ranges.{MoveInRange};
 ghost use Rattle.mill_job.specs.Columns.{row_count, column_count, column_x, column_y};
 ghost use Rattle.mill_job.specs.Jobs.{IsJob};
@@ -8,9 +11,9 @@ ghost use Rattle.mill_dexel.specs.Cuts.{IsCutBy, IsSample};
 
 use crate::reach::{is_beyond, reach_by};
 use crate::sample::{Placed, halvings, sample_at};
-use mill_base::{Move, power_of_two};
+use mill_base::{Move, offset, power_of_two};
 use mill_job::Job;
-use mill_shape::{cut_height, shrink};
+use mill_shape::{cut_height, inside, shrink};
 
 /// Lowers the tops of a row to what the cutter leaves after the move: at each of its samples in
 /// turn, none where the whole move is too far away from the row.
@@ -83,11 +86,16 @@ fn cut_column(tops: &mut [i32], job: &Job, number: u32, column: u32, sample: Pla
     requires sample_ok { IsSample sample }
     ensures { tops.new ≡ slice_set tops.old column (top_after_sample job.now.floor (column_x job.now column) (column_y job.now number) (top_at tops.old column) (Some sample)) }
 {
-    if is_free(tops[column as usize], job.floor, sample.tip.z) {
+    let before = tops[column as usize];
+    if is_free(before, job.floor, sample.tip.z) {
         return;
     }
     let x = job.column_x(column);
-    if let Some(height) = cut_height(sample.cutter, sample.tip, x, job.row_y(number)) {
+    let y = job.row_y(number);
+    if is_clear(sample, job.floor, x, y, before) {
+        return;
+    }
+    if let Some(height) = cut_height(sample.cutter, sample.tip, x, y) {
         let top = &mut tops[column as usize];
         *top = (*top).min(height).max(job.floor);
     }
@@ -102,4 +110,29 @@ fn is_free(top: i32, floor: i32, tip: i32) -> bool
         return false;
     }
     top <= tip
+}
+
+/// Whether the top of the column at (x, y) is at the floor or over it and not strictly inside the
+/// sample's cutter, so that the cutter can't lower it. This takes no root, as a cut's height does.
+fn is_clear(sample: Placed, floor: i32, x: i32, y: i32, top: i32) -> bool
+    requires sample_ok { IsSample sample }
+    requires x_ok { Within greatest x }
+    requires y_ok { Within greatest y }
+    ensures low { IsTrue result → floor ≤ℤ top }
+    ensures outside { IsTrue result → ¬ Holds sample.cutter (pos 1) sample.tip (pos 1) (point_at x y top) }
+{
+    if top < floor {
+        return false;
+    }
+    !holds(sample, x, y, top)
+}
+
+/// Whether the whole point (x, y, z) is strictly inside the sample's cutter.
+fn holds(sample: Placed, x: i32, y: i32, z: i32) -> bool
+    requires sample_ok { IsSample sample }
+    ensures { IsTrue result ↔ Holds sample.cutter (pos 1) sample.tip (pos 1) (point_at x y z) }
+{
+    let tip = sample.tip;
+    let offset = [offset(x, tip.x), offset(y, tip.y), offset(z, tip.z)];
+    inside(sample.cutter, 1, offset)
 }

@@ -5,7 +5,7 @@ use mir.Syntax.{w32}
 use Rattle.mill_base.proofs.Machine.{stored}
 use Rattle.mill_shape.proofs.CutHeights.{cutter_is_wide}
 use Rattle.mill_dexel.specs.Rows.{top_at}
-use Rattle.mill_dexel.proofs.CutRows.{lowered_is, kept_is, free_is}
+use Rattle.mill_dexel.proofs.CutRows.{lowered_is, kept_is, free_is, clear_is}
 use Rattle.mill_dexel.proofs.cut.cut_column.Goals as goal
 
 pub returns-then-is_free : goal.returns-then-is_free
@@ -19,12 +19,19 @@ pub returns-in-Some : goal.returns-in-Some
 returns-in-Some c =
     let top = top_at c.args.tops.now c.args.column in
     ap (λ (t : ℤ). slice_set c.args.tops.now c.args.column t)
-    (lowered_is c.args.job.now c.args.number c.args.column c.args.sample c.args.tops.now (stored w32 c.column_x-x.result) (stored w32 c.row_y.result)
+    (lowered_is c.args.job.now c.args.number c.args.column c.args.sample c.args.tops.now (stored w32 c.column_x-x.result) (stored w32 c.row_y-y.result)
     c.in-Some.height (stored w32 top) (stored w32 c.in-Some.height) c.min.result (stored w32 c.min.result) (stored w32 c.args.job.now.floor) c.max.result (stored w32 c.max.result)
     c.in-Some.ensures.value (omega (arith, ints)) (omega (arith, ints)) (omega (arith, ints)) (omega (arith, ints))
     c.min.ensures.value (omega (arith, ints)) (omega (arith, ints)) c.max.ensures.value (omega (arith, ints)))
 
 pub returns-in_default : goal.returns-in_default
 returns-in_default c =
-    kept_is c.args.job.now c.args.number c.args.column c.args.sample c.args.tops.now (stored w32 c.column_x-x.result) (stored w32 c.row_y.result)
+    kept_is c.args.job.now c.args.number c.args.column c.args.sample c.args.tops.now (stored w32 c.column_x-x.result) (stored w32 c.row_y-y.result)
     c.in_default.ensures.value (omega (arith, ints)) (omega (arith, ints))
+
+pub returns-then-is_clear : goal.returns-then-is_clear
+returns-then-is_clear c =
+    let top = top_at c.args.tops.now c.args.column in
+    clear_is c.args.job.now c.args.number c.args.column c.args.sample c.args.tops.now (stored w32 c.column_x-x.result) (stored w32 c.row_y-y.result) (stored w32 top)
+    c.requires.sample_ok.cutter_ok (omega (arith, ints)) (omega (arith, ints)) (omega (arith, ints))
+    (omega (arith, ints, c.is_clear.ensures.low c.if-is_clear.true)) (c.is_clear.ensures.outside c.if-is_clear.true)
