@@ -1,4 +1,5 @@
 pub mod BoxLemmas
+pub mod Borders
 pub mod Counting
 pub mod FrameLemmas
 pub mod Given

@@ -36,7 +36,7 @@ impl Model for Cells {
 impl Cells {
     /// The size of cells that suits these triangles, in units of 0.01 mm: the least power of two
     /// at which there are at most 2^20 cells, and cells and entries in them together are at most
-    /// eight for each triangle and eight more.
+    /// four for each triangle and four more.
     pub fn size_for(tris: &[Tri]) -> i32
         requires in_range { TrisInRange tris.now }
         requires count { length tris.now < 2 ^ 32 }

@@ -2,9 +2,9 @@ ghost use Rattle.std.specs.Prelude.{◌≡◌, ◌+◌, ◌<◌, ◌≤◌, ◌^
 ghost use Rattle.std.specs.List.{IsDistinct};
 ghost use Rattle.mill_cells.specs.Boxes.{IsNear, IsInside, IsCommon, Meet};
 ghost use Rattle.mill_cells.specs.Grids.{IsGrid};
-ghost use Rattle.mill_cells.specs.Walks.{do_meet, do_overlap, is_first_cell};
+ghost use Rattle.mill_cells.specs.Walks.{do_meet, do_overlap, begins_at, is_first_cell};
 
-use crate::frame::Block;
+use crate::frame::{Block, Frame, border};
 use crate::grid::Grid;
 use mill_base::Box2;
 use std::marker::Model;
@@ -71,6 +71,9 @@ struct Walk<'a> {
     /// The cell that was entered last.
     column: u32,
     row: u32,
+    /// A box over that cell is given in it if it begins there or further on, in x and in y.
+    west: i32,
+    south: i32,
     /// Which entries of that cell are still to be looked at.
     place: usize,
     end: usize,
@@ -79,6 +82,7 @@ struct Walk<'a> {
 impl<'a> Walk<'a> {
     ghost use Rattle.std.specs.Prelude.{◌∷◌, [], MatchOption};
     ghost use Rattle.mill_cells.specs.Boxes.{box_at};
+    ghost use Rattle.mill_cells.specs.Frames.{block_of};
     ghost use Rattle.mill_cells.specs.Walks.{IsWalk, rest_of, shows, walk_over};
 
     /// The walk from the first cell of the area on.
@@ -110,6 +114,8 @@ impl<'a> Walk<'a> {
             entered: 0,
             column: 0,
             row: 0,
+            west: 0,
+            south: 0,
             place: 0,
             end: 0,
         }
@@ -163,6 +169,9 @@ impl<'a> Walk<'a> {
         let width = self.block.width();
         self.column = self.block.first_column + self.entered % width;
         self.row = self.block.first_row + self.entered / width;
+        let Frame { bounds, size, .. } = self.grid.frame;
+        self.west = border(bounds.x0, size, self.block.first_column, self.column);
+        self.south = border(bounds.y0, size, self.block.first_row, self.row);
         let cell = self.row as usize * self.grid.frame.columns as usize + self.column as usize;
         self.place = self.grid.starts[cell];
         self.end = self.grid.starts[cell + 1];
@@ -171,25 +180,20 @@ impl<'a> Walk<'a> {
 
     /// Whether a box of the present cell meets the area, and no earlier cell of the walk has it.
     fn gives(&self, number: u32) -> bool
-        requires walk { IsWalk self.now }
         requires number { number < length self.now.grid.now.boxes.items }
+        requires first { begins_at self.now.west self.now.south (box_at self.now.grid.now.boxes.items number) ≡ is_first_cell (block_of self.now.grid.now.frame self.now.area) (block_of self.now.grid.now.frame (box_at self.now.grid.now.boxes.items number)) self.now.column self.now.row }
         ensures { result ≡ shows self.now.grid.now.frame self.now.area self.now.column self.now.row (box_at self.now.grid.now.boxes.items number) }
     {
         let found = self.grid.boxes[number as usize];
-        if !meet(found, self.area) {
-            return false;
-        }
-        let covered = self.grid.frame.block(found);
-        is_first(self.block, covered, self.column, self.row)
+        meet(found, self.area) && begins(found, self.west, self.south)
     }
 }
 
-/// Whether the cell in this column and row is the first one that two blocks share.
-fn is_first(area: Block, covered: Block, column: u32, row: u32) -> bool
-    ensures { result ≡ is_first_cell area covered column row }
+/// Whether a box begins at these borders or further on.
+fn begins(found: Box2, west: i32, south: i32) -> bool
+    ensures { result ≡ begins_at west south found }
 {
-    column == area.first_column.max(covered.first_column)
-        && row == area.first_row.max(covered.first_row)
+    west <= found.x0 && south <= found.y0
 }
 
 /// Whether some point is in both boxes, whose ends are the right way round.
