@@ -18,7 +18,7 @@ use Rattle.mill_cells.specs.Walks.{TellFirst, do_overlap, do_meet, is_first_cell
 use Rattle.mill_cells.specs.declared.frame.Frame.{Frame}
 use Rattle.mill_cells.specs.declared.frame.Block.{Block}
 use Rattle.mill_cells.specs.declared.grid.Grid.{Grid}
-use Rattle.mill_cells.specs.declared.near.Walk.{Walk}
+use Rattle.mill_cells.specs.declared.walk.Walk.{Walk}
 use Rattle.mill_cells.proofs.BoxLemmas.{not_less}
 use Rattle.mill_cells.proofs.FrameLemmas.{block_in, cell_mono, covers_at, has_cell_yes}
 use Rattle.mill_cells.proofs.Lists.{nothing_in_nil, Contains-filter, filter_keeps, distinct-append, distinct-filter, distinct-nil}

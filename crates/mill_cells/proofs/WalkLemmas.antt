@@ -14,7 +14,7 @@ use Rattle.mill_cells.specs.Walks.{TellFirst, begins_at, is_first_cell, shows, c
 use Rattle.mill_cells.specs.declared.frame.Frame.{Frame}
 use Rattle.mill_cells.specs.declared.frame.Block.{Block}
 use Rattle.mill_cells.specs.declared.grid.Grid.{Grid}
-use Rattle.mill_cells.specs.declared.near.Walk.{Walk}
+use Rattle.mill_cells.specs.declared.walk.Walk.{Walk}
 use lib.IntN.{ℤ}
 use Rattle.mill_cells.proofs.Borders.{borders_tell}
 use Rattle.mill_cells.proofs.FrameLemmas.{InFrame, block_in, block_is}

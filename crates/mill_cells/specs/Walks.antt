@@ -6,7 +6,7 @@ use Rattle.mill_cells.specs.Frames.{block_of, area_of, width_of}
 use Rattle.mill_cells.specs.Grids.{IsGrid, numbers_in}
 use Rattle.mill_cells.specs.declared.frame.Frame.{Frame}
 use Rattle.mill_cells.specs.declared.frame.Block.{Block}
-use Rattle.mill_cells.specs.declared.near.Walk.{Walk}
+use Rattle.mill_cells.specs.declared.walk.Walk.{Walk}
 use Rattle.mill_cells.specs.declared.grid.Grid.{Grid}
 use Rattle.std.specs.Borrow.{Bor}
 

@@ -16,4 +16,4 @@ sorted-requires-clause-frame c =
 
 pub sorted-requires-clause-inside : goal.sorted-requires-clause-inside
 sorted-requires-clause-inside c =
-    boxes_inside c.args.tris.now c.over-frame.result c.bounds.result _ c.loop-tri.boxes.items c.loop-tri.tri-index c.requires.in_range c.bounds.ensures c.over-frame.ensures c.loop-tri-test.false c.loop-tri.invariant
+    boxes_inside c.args.tris.now c.over-frame.result c.bounds.result _ c.loop-tri.boxes.items c.loop-tri.tri-index c.requires.in_range c.bounds.ensures c.over-frame.ensures c.loop-tri-test.false c.loop-tri.invariant.boxes

@@ -4,7 +4,7 @@ use Rattle.mill_cells.specs.Boxes.{box_at}
 use Rattle.mill_cells.specs.Walks.{begins_at, is_first_cell, shows, rest_of}
 use Rattle.mill_cells.specs.Frames.{block_of}
 use Rattle.mill_cells.proofs.WalkLemmas.{stepped, step_walks, first_tells, gives_yes, gives_no}
-use Rattle.mill_cells.proofs.near.Walk.next_in_cell.Goals as goal
+use Rattle.mill_cells.proofs.walk.Walk.next_in_cell.Goals as goal
 
 pub loop-self-preserved : goal.loop-self-preserved
 loop-self-preserved c =

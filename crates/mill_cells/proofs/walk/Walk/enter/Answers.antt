@@ -5,7 +5,7 @@ use Rattle.std.proofs.lemmas.List.{get_or_read}
 use Rattle.mill_cells.proofs.WalkLemmas.{walk_block, cell_is, enter_walks, enter_rest}
 use Rattle.mill_cells.proofs.Borders.{border_stored}
 use Rattle.mill_cells.proofs.FrameLemmas.{column_room, row_room}
-use Rattle.mill_cells.proofs.near.Walk.enter.Goals as goal
+use Rattle.mill_cells.proofs.walk.Walk.enter.Goals as goal
 
 pub width-width-requires : goal.width-width-requires
 width-width-requires c = walk_block c.args.self.now c.requires.walk
