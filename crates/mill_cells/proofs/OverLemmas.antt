@@ -6,7 +6,7 @@ use Rattle.std.proofs.lemmas.Bool.{and_parts}
 use Rattle.std.proofs.lemmas.List.Elements.{All-contains}
 use Rattle.std.proofs.lemmas.Int.{ints}
 use lib.IntN.{ℤ}
-use lib.Signed.{◌<ℤ◌, ◌≤ℤ◌, lt_z}
+use lib.Signed.{◌<ℤ◌, ◌≤ℤ◌, lt_z, le_z}
 use Rattle.mill_cells.specs.Boxes.{box_at}
 use Rattle.mill_cells.specs.Frames.{cell_count, block_of}
 use Rattle.mill_cells.specs.Grids.{numbers_in, IsGrid}
@@ -18,8 +18,8 @@ use Rattle.mill_cells.specs.declared.grid.Grid.{Grid}
 use Rattle.mill_cells.specs.declared.walk.Walk.{Walk}
 use Rattle.mill_cells.proofs.BoxLemmas.{not_less, is_less, le_trans_ℤ}
 use Rattle.mill_cells.proofs.Lists.{Contains-filter}
-use Rattle.mill_cells.proofs.PassedLemmas.{All-members, none_passed, one_passed}
-use Rattle.mill_cells.proofs.WalkLemmas.{part_none, stepped, gives_yes, gives_no}
+use Rattle.mill_cells.proofs.PassedLemmas.{All-members, none_passed, one_passed, passed_on, next_on}
+use Rattle.mill_cells.proofs.WalkLemmas.{part_none, stepped, step_walks, gives_yes, gives_no}
 
 -- the walk has come further in its cell, and passed over some
 pub record IsOverIn (height : ℤ) (old new : Walk) : Type 0 where
@@ -67,6 +67,51 @@ pub over_yes : (w : Walk) (height : ℤ) (tops : List ℤ) → IsWalk w → w.pl
 over_yes w height tops h less e =
     let p = and_parts _ _ e in
     record { passed = none_passed tops height (rest_of w) (get_or w.grid.now.entries.items w.place 0 ∷ rest_of (stepped w)) (gives_yes w h less p.1); over = is_less height _ p.0 }
+
+-- what a step in a cell makes of a walk that has passed over some
+pub over_found : (old w : Walk) (height : ℤ) (i : ℕ) → IsOverIn height old w → w.place < w.end → i ≡ get_or w.grid.now.entries.items w.place 0
+    → (lt_z height (height_at w.grid.now.tops.items i) && shows_in w i) ≡ true → IsNext old.grid.now.tops.items height (rest_of old) i (rest_of (stepped w))
+over_found old w height i h less e is =
+    let n = over_yes w height w.grid.now.tops.items h.walk less (subst (λ (j : ℕ). (lt_z height (height_at w.grid.now.tops.items j) && shows_in w j) ≡ true) e is) in
+    let m = subst (λ (j : ℕ). IsNext w.grid.now.tops.items height (rest_of w) j (rest_of (stepped w))) (sym e) n in
+    next_on old.grid.now.tops.items height (rest_of old) (rest_of w) (rest_of (stepped w)) i h.passed
+    (subst (λ (tops : List ℤ). IsNext tops height (rest_of w) i (rest_of (stepped w))) h.tops m)
+
+pub over_left : (old w : Walk) (height : ℤ) (i : ℕ) → IsOverIn height old w → w.place < w.end → i ≡ get_or w.grid.now.entries.items w.place 0
+    → (lt_z height (height_at w.grid.now.tops.items i) && shows_in w i) ≡ false → IsOverIn height old (stepped w)
+over_left old w height i h less e isn't = record {
+  walk = step_walks w less h.walk;
+  passed = passed_on old.grid.now.tops.items height (rest_of old) (rest_of w) (rest_of (stepped w)) h.passed
+      (subst (λ (tops : List ℤ). ArePassed tops height (rest_of w) (rest_of (stepped w))) h.tops
+      (over_no w height w.grid.now.tops.items h.walk less (subst (λ (j : ℕ). (lt_z height (height_at w.grid.now.tops.items j) && shows_in w j) ≡ false) e isn't)));
+  entered = h.entered;
+  cells = h.cells;
+  tops = h.tops;
+}
+
+-- what a cell makes of it
+pub next_over_found : (old w new : Walk) (height : ℤ) (i : ℕ) → IsOver height old w → IsNext w.grid.now.tops.items height (rest_of w) i (rest_of new)
+    → IsNext old.grid.now.tops.items height (rest_of old) i (rest_of new)
+next_over_found old w new height i h n =
+    next_on old.grid.now.tops.items height (rest_of old) (rest_of w) (rest_of new) i h.passed (subst (λ (tops : List ℤ). IsNext tops height (rest_of w) i (rest_of new)) h.tops n)
+
+pub next_over_none : (old w new : Walk) (height : ℤ) → IsOver height old w → ArePassed w.grid.now.tops.items height (rest_of w) (rest_of new) → rest_of new ≡ []
+    → ArePassed old.grid.now.tops.items height (rest_of old) []
+next_over_none old w new height h p none =
+    passed_on old.grid.now.tops.items height (rest_of old) (rest_of w) [] h.passed
+    (subst (λ (tops : List ℤ). ArePassed tops height (rest_of w) []) h.tops (subst (ArePassed w.grid.now.tops.items height (rest_of w)) none p))
+
+pub over_on : (old w mid new : Walk) (height : ℤ) → IsOver height old w → ArePassed w.grid.now.tops.items height (rest_of w) (rest_of mid) → mid.grid.now.tops.items ≡ w.grid.now.tops.items
+    → ArePassed mid.grid.now.tops.items height (rest_of mid) (rest_of new) → new.grid.now.tops.items ≡ mid.grid.now.tops.items → IsWalk new → IsOver height old new
+over_on old w mid new height h p em q en walk =
+    let tops = old.grid.now.tops.items in
+    let p' = subst (λ (ts : List ℤ). ArePassed ts height (rest_of w) (rest_of mid)) h.tops p in
+    let q' = subst (λ (ts : List ℤ). ArePassed ts height (rest_of mid) (rest_of new)) (em ∙ h.tops) q in
+    record {
+      walk = walk;
+      passed = passed_on tops height (rest_of old) (rest_of mid) (rest_of new) (passed_on tops height (rest_of old) (rest_of w) (rest_of mid) h.passed p') q';
+      tops = en ∙ (em ∙ h.tops);
+    }
 
 -- the walk past its next cell
 abbrev pub skipped : Walk → Walk
@@ -117,3 +162,6 @@ skip_passes w height cell h less done e within low = record {
   split = skip_splits w less done;
   under = under_lid w height cell h (e ∙ ap (λ (b : Block). row_in b w.entered * w.grid.now.frame.columns + column_in b w.entered) h.block) within low;
 }
+
+pub at_most : (a b : ℤ) → le_z a b ≡ true → a ≤ℤ b
+at_most a b e = grind (arith, ints)

@@ -1,6 +1,6 @@
 -- Numbers that are passed over, since their tops aren't over a height.
-use Rattle.std.proofs.Common.{◌≡◌, ◌⊎◌, ℕ, suc, ◌+◌, ◌<◌, List, [], ◌∷◌, ◌++◌, length, get_or, map, append_assoc, refl, sym, subst, ap, ◌∙◌, inl, inr, arith}
-use Rattle.std.specs.Prelude.{nat_eq, All}
+use Rattle.std.proofs.Common.{◌≡◌, ◌⊎◌, ℕ, suc, ◌+◌, ◌<◌, List, [], ◌∷◌, ◌++◌, length, get_or, map, append_assoc, refl, sym, subst, ap, ◌∙◌, inl, inr, Option, Some, None, arith}
+use Rattle.std.specs.Prelude.{nat_eq, All, MatchOption}
 use Rattle.std.specs.List.{Contains, IsDistinct}
 use Rattle.std.proofs.lemmas.List.{length-append, get_or-map}
 use Rattle.std.proofs.lemmas.List.Elements.{All-nil, All-cons, All-append, All-contains, Contains-append_cases, Contains-append_right, Contains-get_or}
@@ -76,7 +76,13 @@ none_comes height old new same h none = record {
   none = none;
 }
 
--- a client's invariant goes on, and ends with all dealt with
+pub which_comes : (height : ℤ) (old new : Ahead) (next : Option ℕ) → new.tops ≡ old.tops
+    → MatchOption next (ArePassed old.tops height old.numbers [] × (new.numbers ≡ [])) (λ i. IsNext old.tops height old.numbers i new.numbers)
+    → MatchOption next (NoneComes height old new) (λ i. Comes height old i new)
+which_comes height old new None same h = none_comes height old new same h.0 h.1
+which_comes height old new (Some i) same h = comes height old new i same h
+
+-- a caller's invariant goes on, and ends with all dealt with
 pub deals_on : (First Before After : ℕ → Type 0) (height : ℤ) (old new : Ahead) (i : ℕ) → Comes height old i new → ((j : ℕ) → Before j → After j) → After i
     → ((j : ℕ) → height_at old.tops j ≤ℤ height → After j) → AreDealt First Before old.numbers → AreDealt First After new.numbers
 deals_on First Before After height old new i h kept now under before j first = elim (before j first) [
