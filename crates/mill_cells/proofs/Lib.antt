@@ -1,8 +1,12 @@
 pub mod BoxLemmas
+pub mod Borders
 pub mod Counting
 pub mod FrameLemmas
 pub mod Given
+pub mod LidLemmas
 pub mod Lists
+pub mod OverLemmas
+pub mod PassedLemmas
 pub mod Passing
 pub mod Placements
 pub mod SizeLemmas

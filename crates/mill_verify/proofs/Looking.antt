@@ -1,5 +1,5 @@
 -- The first gouge of a move, triangle by triangle of those that are near.
-use Rattle.std.proofs.Common.{◌≡◌, ◌⊎◌, ◌↔◌, inl, inr, refl, ℕ, ◌<◌, Bool, true, false, List, [], ◌∷◌, length, get_or, sym, subst, arith}
+use Rattle.std.proofs.Common.{◌≡◌, ◌⊎◌, ◌↔◌, inl, inr, refl, ℕ, ◌<◌, Bool, true, false, List, [], ◌∷◌, length, map, get_or, sym, subst, ap, ◌∙◌, arith}
 use Rattle.std.specs.Prelude.{Option, Some, None, MatchOption, int_lt}
 use Rattle.std.specs.List.{Contains}
 use Rattle.std.proofs.lemmas.Int.{ints}
@@ -8,6 +8,7 @@ use Rattle.std.proofs.lemmas.List.Elements.{Contains-get_or}
 use lib.IntN.{ℤ, pos, ◌+ℤ◌, ◌-ℤ◌}
 use lib.Signed.{◌≤ℤ◌}
 use Rattle.mill_base.specs.Numbers.{lesser, greater}
+use Rattle.mill_base.specs.Points.{highest}
 use Rattle.mill_base.specs.Covers.{IsUnder}
 use Rattle.mill_base.specs.Ranges.{MoveInRange, TriInRange, TrisInRange}
 use Rattle.mill_base.specs.Sizes.{IsCutter, radius_of}
@@ -15,8 +16,10 @@ use Rattle.mill_base.specs.declared.points.Tri.{Tri}
 use Rattle.mill_base.specs.declared.points.Box2.{Box2}
 use Rattle.mill_base.specs.declared.motion.Move.{Move}
 use Rattle.mill_base.specs.declared.cutter.Cutter.{Cutter}
-use Rattle.mill_cells.specs.Boxes.{Meet, IsNear, box_of, boxes_of, origin_box}
-use Rattle.mill_cells.proofs.Lists.{nothing_in_nil, here, there, cons_cases}
+use Rattle.mill_cells.specs.Boxes.{Meet, IsNear, box_of, origin_box}
+use Rattle.mill_cells.specs.Sorted.{Sorted, sorted_of, height_at}
+use Rattle.mill_cells.specs.Ahead.{Ahead, Comes, NoneComes}
+use Rattle.mill_cells.proofs.PassedLemmas.{top_is}
 use Rattle.mill_sweep.specs.Halving.{FailsAt, Passes}
 use Rattle.mill_sweep.specs.Apart.{LieApart}
 use Rattle.mill_sweep.specs.Moments.{IsFar, FarPasses}
@@ -135,50 +138,99 @@ pub record IsFound (job : Job) (part : List Tri) (moves : List Move) (k : ℕ) (
   pub fails : FailsAt job.cutter (move_at moves k) (tri_at part gouge.tri) gouge.leaf
   pub blocked : IsBlocked job part moves k gouge.tri gouge.leaf
 
--- the numbers left are those of triangles, the first gouge so far is one, and each triangle before it is passed or left
-pub record IsLooking (job : Job) (part : List Tri) (moves : List Move) (k : ℕ) (left : List ℕ) (first : Option Gouge) : Type 0 where
-  pub within : (t : ℕ) → Contains left t → t < length part
+-- a triangle whose top isn't over the lower of the move's ends is passed
+low_passes : (cutter : Cutter) (m : Move) (tri : Tri) → FarPasses → IsCutter cutter → MoveInRange m → highest tri ≤ℤ lesser m.from.z m.to.z → Passes cutter m tri
+low_passes cutter m tri far ok ranged low =
+    let h = corners tri.a.z tri.b.z tri.c.z in
+    far cutter m tri ok ranged (inl (record {
+      from = record { a = through _ _ _ _ h.0 low (low_left m.from.z m.to.z); b = through _ _ _ _ h.1 low (low_left m.from.z m.to.z); c = through _ _ _ _ h.2 low (low_left m.from.z m.to.z) };
+      to = record { a = through _ _ _ _ h.0 low (low_right m.from.z m.to.z); b = through _ _ _ _ h.1 low (low_right m.from.z m.to.z); c = through _ _ _ _ h.2 low (low_right m.from.z m.to.z) };
+    }))
+  where
+    low_left : (a b : ℤ) → lesser a b ≤ℤ a
+    low_left a b = grind (arith, ints)
+
+    low_right : (a b : ℤ) → lesser a b ≤ℤ b
+    low_right a b = grind (arith, ints)
+
+    left : (a b : ℤ) → a ≤ℤ greater a b
+    left a b = grind (arith, ints)
+
+    right : (a b : ℤ) → b ≤ℤ greater a b
+    right a b = grind (arith, ints)
+
+    on : (a b c : ℤ) → a ≤ℤ b → b ≤ℤ c → a ≤ℤ c
+    on a b c p q = omega (p, q, arith, ints)
+
+    corners : (a b c : ℤ) → (a ≤ℤ greater a (greater b c)) × (b ≤ℤ greater a (greater b c)) × (c ≤ℤ greater a (greater b c))
+    corners a b c = (left a (greater b c), on _ _ _ (left b c) (right a (greater b c)), on _ _ _ (right b c) (right a (greater b c)))
+
+    through : (a b c d : ℤ) → a ≤ℤ b → b ≤ℤ c → c ≤ℤ d → a ≤ℤ d
+    through a b c d p q r = omega (p, q, r, arith, ints)
+
+-- the numbers left are those of triangles, whose tops are known; the first gouge so far is one, and each triangle before it is passed or left
+pub record IsLooking (job : Job) (part : List Tri) (moves : List Move) (k : ℕ) (near : Ahead) (first : Option Gouge) : Type 0 where
+  pub tops : near.tops ≡ map highest part
+  pub within : (t : ℕ) → Contains near.numbers t → t < length part
   pub found : (gouge : Gouge) → first ≡ Some gouge → IsFound job part moves k gouge
-  pub others : (t : ℕ) → t < length part → ComesBefore t first → PassesTri job part moves k t ⊎ Contains left t
+  pub others : (t : ℕ) → t < length part → ComesBefore t first → PassesTri job part moves k t ⊎ Contains near.numbers t
 
 -- before the first triangle, those near are left
-pub look_starts : (job : Job) (part : List Tri) (moves : List Move) (k : ℕ) (boxes : List Box2) (left : List ℕ) → FarPasses → IsCutter job.cutter → MoveInRange (move_at moves k) → boxes ≡ boxes_of part
-    → ((i : ℕ) → Contains left i ↔ IsNear boxes (area_of job.cutter (move_at moves k)) i) → IsLooking job part moves k left None
-look_starts job part moves k boxes left far ok ranged e each = record {
-  within = λ t c. subst (λ n. t < n) (length-map part box_of) (subst (λ (b : List Box2). IsNear b (area_of job.cutter (move_at moves k)) t) e ((each t).0 c)).within;
+pub look_starts : (job : Job) (part : List Tri) (moves : List Move) (k : ℕ) (sorted : Sorted) (near : Ahead) → FarPasses → IsCutter job.cutter → MoveInRange (move_at moves k) → sorted ≡ sorted_of part
+    → near.tops ≡ sorted.tops → ((i : ℕ) → Contains near.numbers i ↔ IsNear sorted.boxes (area_of job.cutter (move_at moves k)) i) → IsLooking job part moves k near None
+look_starts job part moves k sorted near far ok ranged e tops each = record {
+  tops = tops ∙ ap (λ (s : Sorted). s.tops) e;
+  within = λ t c. subst (λ n. t < n) (length-map part box_of) (subst (λ (s : Sorted). IsNear s.boxes (area_of job.cutter (move_at moves k)) t) e ((each t).0 c)).within;
   found = λ gouge same. absurd (cc);
   others = λ t inside before. elim (far_or_near job.cutter (move_at moves k) (tri_at part t) ok) [
     | inl away ↦ inl (far job.cutter (move_at moves k) (tri_at part t) ok ranged away)
-    | inr meet ↦ inr ((each t).1 (subst (λ (b : List Box2). IsNear b (area_of job.cutter (move_at moves k)) t) (sym e) (record {
+    | inr meet ↦ inr ((each t).1 (subst (λ (s : Sorted). IsNear s.boxes (area_of job.cutter (move_at moves k)) t) (sym e) (record {
       within = subst (λ n. t < n) (sym (length-map part box_of)) inside;
       meets = subst (λ (b : Box2). Meet b (area_of job.cutter (move_at moves k))) (sym (get_or-map box_of part t _ origin_box inside)) meet;
     })))
   ];
 }
 
-pub next_within : (job : Job) (part : List Tri) (moves : List Move) (k : ℕ) (left later : List ℕ) (i : ℕ) (first : Option Gouge) → left ≡ i ∷ later → IsLooking job part moves k left first → i < length part
-next_within job part moves k left later i first e h = h.within i (subst (λ (xs : List ℕ). Contains xs i) (sym e) (here i later))
+pub next_within : (job : Job) (part : List Tri) (moves : List Move) (k : ℕ) (low : ℤ) (near later : Ahead) (i : ℕ) (first : Option Gouge) → Comes low near i later → IsLooking job part moves k near first → i < length part
+next_within job part moves k low near later i first next h = h.within i next.number
 
 -- each triangle that is read is in range
 pub tri_in_range : (tris part : List Tri) (i : ℕ) (d : Tri) → tris ≡ part → i < length tris → TrisInRange part → TriInRange (get_or tris i d)
 tri_in_range tris part i d e h ok = ok _ (subst (λ (l : List Tri). Contains l (get_or tris i d)) e (Contains-get_or tris i d h))
 
+-- a triangle whose top isn't over the height of the move's lower end is passed
+passed_by : (job : Job) (part : List Tri) (moves : List Move) (k : ℕ) (low : ℤ) (tops : List ℤ) (t : ℕ) → FarPasses → IsCutter job.cutter → MoveInRange (move_at moves k)
+    → low ≡ lesser (move_at moves k).from.z (move_at moves k).to.z → tops ≡ map highest part → t < length part → height_at tops t ≤ℤ low → PassesTri job part moves k t
+passed_by job part moves k low tops t far ok ranged low_is tops_are inside under =
+    low_passes job.cutter (move_at moves k) (tri_at part t) far ok ranged
+    (subst (λ (h : ℤ). highest (tri_at part t) ≤ℤ h) low_is
+    (subst (λ (h : ℤ). h ≤ℤ low) (top_is part t _ inside) (subst (λ (l : List ℤ). height_at l t ≤ℤ low) tops_are under)))
+
 -- one more triangle
-pub look_goes_on : (job : Job) (part : List Tri) (moves : List Move) (k : ℕ) (left later : List ℕ) (i : ℕ) (first next : Option Gouge) → left ≡ i ∷ later → IsLooking job part moves k left first
+pub look_goes_on : (job : Job) (part : List Tri) (moves : List Move) (k : ℕ) (low : ℤ) (near later : Ahead) (i : ℕ) (first next : Option Gouge) → FarPasses → IsCutter job.cutter → MoveInRange (move_at moves k)
+    → low ≡ lesser (move_at moves k).from.z (move_at moves k).to.z → Comes low near i later → IsLooking job part moves k near first
     → IsEarlier job.cutter (move_at moves k) (tri_at part i) i first next → IsLooking job part moves k later next
-look_goes_on job part moves k left later i first next e h new = elim new [
+look_goes_on job part moves k low near later i first next far ok ranged low_is e h new = elim new [
   | inl same ↦ subst (λ (o : Option Gouge). IsLooking job part moves k later o) (sym same.0) (kept same.1)
   | inr told ↦ changed told.0 told.1
 ]
   where
-    inside : (t : ℕ) → Contains later t → t < length part
-    inside t c = h.within t (subst (λ (xs : List ℕ). Contains xs t) (sym e) (there i later t c))
+    inside : (t : ℕ) → Contains later.numbers t → t < length part
+    inside t c = h.within t (e.rest t c)
 
-    is_left : (t : ℕ) → Contains left t → (i ≡ t) ⊎ Contains later t
-    is_left t c = cons_cases i later t (subst (λ (xs : List ℕ). Contains xs t) e c)
+    tops : later.tops ≡ map highest part
+    tops = e.tops ∙ h.tops
+
+    is_left : (t : ℕ) → Contains near.numbers t → (i ≡ t) ⊎ Contains later.numbers t ⊎ PassesTri job part moves k t
+    is_left t c = elim (e.each t c) [
+      | inl same ↦ inl same
+      | inr (inl rest) ↦ inr (inl rest)
+      | inr (inr under) ↦ inr (inr (passed_by job part moves k low near.tops t far ok ranged low_is h.tops (h.within t c) under))
+    ]
 
     kept : (¬ ComesBefore i first) ⊎ Passes job.cutter (move_at moves k) (tri_at part i) → IsLooking job part moves k later first
     kept why = record {
+      tops = tops;
       within = inside;
       found = h.found;
       others = λ t there_is before. elim (h.others t there_is before) [
@@ -188,7 +240,8 @@ look_goes_on job part moves k left later i first next e h new = elim new [
             | inl after ↦ absurd (after (subst (λ n. ComesBefore n first) (sym same) before))
             | inr passes ↦ inl (subst (λ n. PassesTri job part moves k n) same passes)
           ]
-          | inr rest ↦ inr rest
+          | inr (inl rest) ↦ inr rest
+          | inr (inr passes) ↦ inl passes
         ]
       ];
     }
@@ -208,35 +261,44 @@ look_goes_on job part moves k left later i first next e h new = elim new [
 
     changed : ComesBefore i first → IsGouge job.cutter (move_at moves k) (tri_at part i) i next → IsLooking job part moves k later next
     changed before g = subst (λ (o : Option Gouge). IsLooking job part moves k later o) (sym g.told_so) (record {
+      tops = tops;
       within = inside;
       found = λ gouge same. subst (λ (v : Gouge). IsFound job part moves k v) (sym (one g.leaf gouge same)) (record {
-        tri = next_within job part moves k left later i first e h;
+        tri = h.within i e.number;
         fails = g.fails;
         blocked = g.blocked;
       });
       others = λ t there_is less. elim (h.others t there_is (sooner t first less before)) [
         | inl passes ↦ inl passes
-        | inr c ↦ elim (is_left t c) [ inl same ↦ absurd (apart t i less same) | inr rest ↦ inr rest ]
+        | inr c ↦ elim (is_left t c) [
+          | inl same ↦ absurd (apart t i less same)
+          | inr (inl rest) ↦ inr rest
+          | inr (inr passes) ↦ inl passes
+        ]
       ];
     })
 
--- after the last one, what was found is first
-pub look_ends : (job : Job) (part : List Tri) (moves : List Move) (k : ℕ) (left : List ℕ) (first : Option Gouge) → left ≡ [] → IsLooking job part moves k left first
+-- after the last one, each triangle that is left is under the move, and what was found is first
+pub look_ends : (job : Job) (part : List Tri) (moves : List Move) (k : ℕ) (low : ℤ) (near later : Ahead) (first : Option Gouge) → FarPasses → IsCutter job.cutter → MoveInRange (move_at moves k)
+    → low ≡ lesser (move_at moves k).from.z (move_at moves k).to.z → NoneComes low near later → IsLooking job part moves k near first
     → MatchOption first (ClearsPart job part moves k) (λ gouge. IsFirstGouge job part moves k gouge.tri gouge.leaf)
-look_ends job part moves k left None e h = λ t inside. elim (h.others t inside tt) [
-  | inl passes ↦ passes
-  | inr c ↦ absurd (nothing_in_nil t (subst (λ (xs : List ℕ). Contains xs t) e c))
-]
-look_ends job part moves k left (Some gouge) e h =
-    let f = h.found gouge refl in
-    record {
-      tri = f.tri;
-      first = λ t less. elim (h.others t (chain t gouge.tri (length part) less f.tri) less) [
-        | inl passes ↦ passes
-        | inr c ↦ absurd (nothing_in_nil t (subst (λ (xs : List ℕ). Contains xs t) e c))
-      ];
-      fails = f.fails;
-    }
+look_ends job part moves k low near later first far ok ranged low_is e h = by first h
   where
     chain : (a b c : ℕ) → a < b → b < c → a < c
     chain a b c p q = omega (p, q, arith)
+
+    by : (first : Option Gouge) → IsLooking job part moves k near first → MatchOption first (ClearsPart job part moves k) (λ gouge. IsFirstGouge job part moves k gouge.tri gouge.leaf)
+    by None h = λ t inside. elim (h.others t inside tt) [
+      | inl passes ↦ passes
+      | inr c ↦ passed_by job part moves k low near.tops t far ok ranged low_is h.tops inside (e.each t c)
+    ]
+    by (Some gouge) h =
+        let f = h.found gouge refl in
+        record {
+          tri = f.tri;
+          first = λ t less. elim (h.others t (chain t gouge.tri (length part) less f.tri) less) [
+            | inl passes ↦ passes
+            | inr c ↦ passed_by job part moves k low near.tops t far ok ranged low_is h.tops (h.within t c) (e.each t c)
+          ];
+          fails = f.fails;
+        }

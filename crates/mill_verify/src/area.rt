@@ -58,5 +58,12 @@ pub fn is_over(step: &Move, height: i32) -> bool
     ensures yes { IsTrue result → IsOver step.now height }
     ensures no { result ≡ false → ¬ IsOver step.now height }
 {
-    step.from.z.min(step.to.z) >= height
+    low_end(step) >= height
+}
+
+/// The height of the lower of the move's ends.
+pub fn low_end(step: &Move) -> i32
+    ensures { result ≡ lesser step.now.from.z step.now.to.z }
+{
+    step.from.z.min(step.to.z)
 }

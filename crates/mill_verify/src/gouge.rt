@@ -1,14 +1,14 @@
 ghost use Rattle.std.specs.Prelude.{◌≡◌, ◌<◌, length, IfSome, MatchOption};
 ghost use Rattle.mill_base.specs.Ranges.{MoveInRange, MovesInRange, TriInRange};
 ghost use Rattle.mill_base.specs.Sizes.{IsCutter};
-ghost use Rattle.mill_cells.specs.Boxes.{boxes_of};
+ghost use Rattle.mill_cells.specs.Sorted.{sorted_of};
 ghost use Rattle.mill_job.specs.Jobs.{IsJob};
 ghost use Rattle.mill_verify.specs.Tests.{ClearsPart};
 ghost use Rattle.mill_verify.specs.Firsts.{IsEarlier, IsFirstGouge};
 ghost use Rattle.mill_verify.specs.Verdicts.{IsBlocked};
 ghost use Rattle.mill_verify.specs.Near.{IsLid};
 
-use crate::area::{area_about, is_over};
+use crate::area::{area_about, is_over, low_end};
 use mill_base::{Cutter, Move, Tri};
 use mill_cells::Cells;
 use mill_job::Job;
@@ -25,8 +25,8 @@ pub struct Gouge {
 /// Test (ii): the first triangle that move `number` doesn't pass, none where it clears the part.
 ///
 /// Only the triangles are tried whose boxes are near the move, by `cells`, which are those of the
-/// part's triangles. No triangle is tried where the move stays over `part_top`, and no part point
-/// is higher than that.
+/// part's triangles, and that come over the lower of the move's ends. No triangle is tried where the
+/// move stays over `part_top`, and no part point is higher than that.
 pub fn first_gouge(
     job: &Job,
     part: &Part,
@@ -36,7 +36,7 @@ pub fn first_gouge(
     number: usize,
 ) -> Option<Gouge>
     requires job_ok { IsJob job.now }
-    requires cells_ok { cells.now ≡ boxes_of part.now }
+    requires cells_ok { cells.now ≡ sorted_of part.now }
     requires top_ok { IsLid part.now part_top }
     requires moves_ok { MovesInRange moves.now }
     requires there { number < length moves.now }
@@ -57,9 +57,10 @@ pub fn first_gouge(
         return None;
     }
     let tris = part.tris();
+    let low = low_end(step);
     let mut first = None;
-    let mut near = cells.near(area_about(job.cutter, step));
-    while let Some(tri) = near.next() {
+    let mut near = cells.near_over(area_about(job.cutter, step));
+    while let Some(tri) = near.next_over(low) {
         first = earlier(first, job.cutter, step, &tris[tri as usize], tri);
     }
     first

@@ -1,7 +1,8 @@
-use Rattle.std.proofs.Common.{FitsSigned, rules, to_z}
+use Rattle.std.proofs.Common.{ap, FitsSigned, rules, to_z}
 use Rattle.std.proofs.lemmas.List.Elements.{Contains-get_or}
 use mir.Syntax.{w32}
 use Rattle.std.proofs.lemmas.Int.{to_z-of_z}
+use Rattle.mill_cells.specs.Sorted.{Sorted}
 use Rattle.mill_part.proofs.Stored.{coordinate}
 use Rattle.mill_drop.proofs.Dropping.{no_tri, drop_starts, next_within, drop_goes_on, drop_ends}
 use Rattle.mill_drop.proofs.drop.drop_at.Goals as goal
@@ -13,8 +14,8 @@ loop-number-init c =
     let floor = coordinate c.args.floor c.requires.floor_ok in
     let square = rw (x, y) at c.square_around.ensures in
     let each = rw square at c.near-near.ensures.each in
-    rw (x, y, floor, c.tris-tris.ensures.list) (drop_starts c.args.cutter c.args.part.now no_tri c.args.x c.args.y c.args.floor c.args.cells.now c.near-near.result
-    c.requires.cutter_ok c.requires.floor_ok c.requires.cells_ok each)
+    rw (x, y, floor, c.tris-tris.ensures.list) (drop_starts c.args.cutter c.args.part.now no_tri c.args.x c.args.y c.args.floor c.args.cells.now.boxes c.near-near.result
+    c.requires.cutter_ok c.requires.floor_ok (ap (λ (s : Sorted). s.boxes) c.requires.cells_ok) each)
 
 pub bounds-tris-number : goal.bounds-tris-number
 bounds-tris-number c = next_within c.args.cutter c.tris-tris.result.now no_tri _ _ _ c.loop-number.near c.next.new.self c.in-Some.number _ c.in-Some.ensures.steps c.loop-number.invariant

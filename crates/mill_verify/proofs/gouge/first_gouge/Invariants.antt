@@ -6,4 +6,4 @@ abbrev pub invariant-loop-tri : goal.invariant-loop-tri
 invariant-loop-tri l = IsLooking l.job l.part l.moves l.number l.near l.first
 
 abbrev pub decreases-loop-tri : goal.decreases-loop-tri
-decreases-loop-tri l = length l.near
+decreases-loop-tri l = length l.near.numbers
