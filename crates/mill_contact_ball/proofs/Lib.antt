@@ -11,6 +11,8 @@ pub mod Triangles
 pub mod PlaceCerts
 pub mod Places
 pub mod Boxes
+pub mod GapCerts
+pub mod Gaps
 pub mod ShadowCerts
 pub mod Shadows
 pub mod Along

@@ -21,6 +21,7 @@ mod beside;
 mod centre;
 mod edge;
 mod face;
+mod gap;
 mod meeting;
 #[cfg(test)]
 mod tests;
@@ -29,6 +30,7 @@ mod weights;
 
 use crate::beside::box_side;
 use crate::centre::offset_from_centre;
+use crate::gap::is_box_close;
 use crate::meeting::{meets_ball, side_of_ball};
 use mill_base::{Cutter, Pt3, Tri};
 use mill_geom::{Axis, Offset, Touch, turned};
@@ -80,8 +82,8 @@ pub fn touch(tri: &Tri, cutter: Cutter, tip: Pt3, axis: Axis) -> Touch
     touch_ball(tri, cutter.radius(), tip, axis)
 }
 
-/// Whether some point of the triangle is in the ball about the origin or in the cylinder over it:
-/// most triangles aren't near, which their boxes show.
+/// Whether some point of the triangle is in the ball about the origin or in the cylinder over it. Of
+/// most triangles none is: their boxes show it.
 fn meets_here(a: Offset, b: Offset, c: Offset, radius: i64) -> bool
     requires a_ok { OffsetInRange a }
     requires b_ok { OffsetInRange b }
@@ -91,7 +93,7 @@ fn meets_here(a: Offset, b: Offset, c: Offset, radius: i64) -> bool
     ensures yes { IsTrue result → MeetsBall radius a b c }
     ensures no { result ≡ false → ¬ MeetsBall radius a b c }
 {
-    if let Some(_side) = box_side(a, b, c, radius) {
+    if !is_box_close(a, b, c, radius) {
         return false;
     }
     meets_ball(a, b, c, radius)

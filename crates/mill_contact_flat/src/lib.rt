@@ -19,7 +19,9 @@ ghost use Rattle.mill_geom.specs.Sides.{IsTouch, TouchesAt, along};
 ghost use Rattle.mill_contact_flat.specs.Corners.{IsCornerInside};
 
 use mill_base::{Cutter, Pt3, Tri};
-use mill_geom::{Axis, Offset, Touch, box_side, offset_from, side, touches_triangle, turned};
+use mill_geom::{
+    Axis, Offset, Touch, box_gap, box_side, highest, offset_from, side, touches_triangle, turned,
+};
 
 #[cfg(test)]
 mod tests;
@@ -103,8 +105,17 @@ fn touches_near(a: Offset, b: Offset, c: Offset, radius: i64) -> bool
     touches_triangle(a, b, c, radius)
 }
 
-/// Whether some point of the triangle is nearer to the axis than the radius and over the level: most
-/// triangles aren't near, which their boxes show.
+/// Whether the square of a distance is less than the radius's.
+fn is_less(gap: i64, radius: i64) -> bool
+    requires gap_ok { Within (2 ^ 39) gap }
+    requires r_ok { Within 16384 radius }
+    ensures { IsTrue result ↔ (gap <ℤ (radius *ℤ radius)) }
+{
+    gap < radius * radius
+}
+
+/// Whether some point of the triangle is nearer to the axis than the radius and over the level. Most
+/// triangles aren't: their boxes show it.
 fn touches_here(a: Offset, b: Offset, c: Offset, radius: i64) -> bool
     requires a_ok { OffsetInRange a }
     requires b_ok { OffsetInRange b }
@@ -114,7 +125,10 @@ fn touches_here(a: Offset, b: Offset, c: Offset, radius: i64) -> bool
     ensures yes { IsTrue result → TouchesTriangle radius a b c }
     ensures no { result ≡ false → ¬ TouchesTriangle radius a b c }
 {
-    if let Some(_side) = box_side(a, b, c, radius) {
+    if highest(a, b, c) <= 0 {
+        return false;
+    }
+    if !is_less(box_gap(a, b, c), radius) {
         return false;
     }
     touches_near(a, b, c, radius)

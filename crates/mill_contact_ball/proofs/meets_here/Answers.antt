@@ -1,12 +1,11 @@
 use Rattle.std.proofs.Common.{refl, w64}
 use Rattle.mill_base.proofs.Machine.{kept}
-use Rattle.mill_contact_ball.proofs.Along.{side_none}
 use Rattle.mill_contact_ball.proofs.meets_here.Goals as goal
 
-pub returns-in-Some-clause-no : goal.returns-in-Some-clause-no
-returns-in-Some-clause-no c =
+pub returns-then-not-is_box_close-clause-no : goal.returns-then-not-is_box_close-clause-no
+returns-then-not-is_box_close-clause-no c =
     let r = kept w64 c.args.radius 16384 c.requires.r_ok.within refl in
-    λ h. side_none c.in-Some._side c.args.radius c.args.a c.args.b c.args.c (rw r at c.in-Some.ensures.apart)
+    λ h. rw r at (c.is_box_close.ensures.far c.if-not-is_box_close.true)
 
 pub returns-clause-yes : goal.returns-clause-yes
 returns-clause-yes c =
