@@ -1,3 +1,4 @@
+pub mod Sized
 pub mod SlideCerts
 pub mod Slide
 pub mod FootCerts
@@ -10,6 +11,8 @@ pub mod Triangles
 pub mod PlaceCerts
 pub mod Places
 pub mod Boxes
+pub mod GapCerts
+pub mod Gaps
 pub mod ShadowCerts
 pub mod Shadows
 pub mod Along

@@ -1,11 +1,12 @@
 -- Points of edges and triangles in the open sphere of radius r about the origin, each by its weights.
 use Rattle.std.specs.Prelude.{◌⊎◌, ◌^◌, ℤ, pos, ◌+ℤ◌, ◌-ℤ◌, ◌*ℤ◌, ◌<ℤ◌, ◌≤ℤ◌}
-use Rattle.mill_base.specs.Numbers.{Within, square}
+use Rattle.mill_base.specs.Numbers.{Within, square, lesser}
 use Rattle.mill_base.specs.declared.points.Pt3.{Pt3}
 use Rattle.mill_geom.specs.declared.offset.Offset.{Offset}
 use Rattle.mill_geom.specs.Offsets.{mean2, mean3, AllFrom, AllTo}
 use Rattle.mill_geom.specs.Contacts.{TouchesTriangle}
 use Rattle.mill_geom.specs.Sides.{slid_by}
+use Rattle.mill_geom.specs.Gaps.{highest_of, box_gap_of}
 use Rattle.mill_contact_ball.specs.declared.weights.EdgeWeights.{EdgeWeights}
 use Rattle.mill_contact_ball.specs.declared.weights.Weights.{Weights}
 
@@ -81,3 +82,7 @@ pub record IsBoxNear (r : ℤ) (a b c : Offset) : Type 0 where
   pub x_to : ¬ AllTo (pos 0 -ℤ r) a.x b.x c.x
   pub y_from : ¬ AllFrom r a.y b.y c.y
   pub y_to : ¬ AllTo (pos 0 -ℤ r) a.y b.y c.y
+
+-- the upright box of the triangle, drawn down without end, comes nearer to the origin than r
+abbrev pub IsBoxClose : ℤ → Offset → Offset → Offset → Type 0
+IsBoxClose r a b c = (square (lesser (highest_of a b c) (pos 0)) +ℤ box_gap_of a b c) <ℤ square r
