@@ -8,7 +8,7 @@ use Rattle.mill_job.specs.Jobs.{IsJob}
 use Rattle.mill_shape.proofs.Over.{holds_over}
 use Rattle.mill_part.proofs.Below.{covered_below}
 use Rattle.mill_sweep.proofs.Halves.{passing_is_clear}
-use Rattle.mill_sweep.specs.Moments.{PassingKeepsPoint}
+use Rattle.mill_sweep.proofs.Lower.{passing_keeps_point}
 use Rattle.mill_verify.specs.Verdicts.{IsVerdict, Accepts}
 use Rattle.mill_verify.specs.Claims.{CutsSafely}
 use Rattle.mill_verify.specs.declared.verdict.Verdict.{Verdict}
@@ -16,12 +16,12 @@ use Rattle.mill_verify.specs.declared.verdict.Verdict.TheVariants.{Accept, Rejec
 use Rattle.mill_dexel.proofs.Removal.{over_top_is_removed}
 use Rattle.mill_verify.proofs.Safe.{safe}
 
-accepted : PassingKeepsPoint → (job : Job) (part : List Tri) (moves : List Move) (count columns : ℕ) (left : ℤ) → IsJob job → MovesInRange moves → Accepts job part moves count columns left → CutsSafely job part moves
-accepted keeps job part moves count columns left ok moves_ok a =
-    safe job part moves ok moves_ok passing_is_clear keeps over_top_is_removed covered_below holds_over count columns left a
+accepted : (job : Job) (part : List Tri) (moves : List Move) (count columns : ℕ) (left : ℤ) → IsJob job → MovesInRange moves → Accepts job part moves count columns left → CutsSafely job part moves
+accepted job part moves count columns left ok moves_ok a =
+    safe job part moves ok moves_ok passing_is_clear passing_keeps_point over_top_is_removed covered_below holds_over count columns left a
 
 -- if the verdict is an acceptance, the program cuts safely
-pub accepted_is_safe : PassingKeepsPoint → (job : Job) (part : List Tri) (moves : List Move) (v : Verdict) → IsJob job → MovesInRange moves → IsVerdict job part moves v
+pub accepted_is_safe : (job : Job) (part : List Tri) (moves : List Move) (v : Verdict) → IsJob job → MovesInRange moves → IsVerdict job part moves v
     → (count columns : ℕ) (left : ℤ) → v ≡ Accept count columns left → CutsSafely job part moves
-accepted_is_safe keeps job part moves (Accept n m x) ok moves_ok h count columns left e = accepted keeps job part moves n m x ok moves_ok h
-accepted_is_safe keeps job part moves (Reject r) ok moves_ok h count columns left e = absurd (cc)
+accepted_is_safe job part moves (Accept n m x) ok moves_ok h count columns left e = accepted job part moves n m x ok moves_ok h
+accepted_is_safe job part moves (Reject r) ok moves_ok h count columns left e = absurd (cc)

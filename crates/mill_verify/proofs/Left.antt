@@ -1,7 +1,8 @@
 -- What is left over a column's greatest covered height, and the most of it.
-use Rattle.std.specs.Prelude.{◌≡◌, ℕ, ◌+◌, ◌<◌, ℤ, pos, ◌-ℤ◌, ◌<ℤ◌, ◌≤ℤ◌, List}
+use Rattle.std.specs.Prelude.{◌≡◌, ℕ, ◌+◌, ◌<◌, ◌≤◌, ℤ, pos, ◌-ℤ◌, ◌<ℤ◌, ◌≤ℤ◌, List, Result, Ok, Err, MatchResult, refl}
 use Rattle.std.specs.Int.{int_min, int_max}
 use Rattle.std.proofs.Common.{sym, subst, inl, inr, arith}
+use Rattle.std.proofs.lemmas.Bool.{cases_lt}
 use Rattle.std.proofs.lemmas.Int.{ints, clamps, by_lt_z}
 use Rattle.mill_base.specs.Covers.{Covered}
 use Rattle.mill_base.specs.declared.points.Tri.{Tri}
@@ -11,8 +12,9 @@ use Rattle.mill_job.specs.Columns.{column_x, column_y, row_count, column_count}
 use Rattle.mill_dexel.specs.Tops.{top_after}
 use Rattle.mill_verify.specs.Tests.{IsCut}
 use Rattle.mill_verify.specs.Verdicts.{IsLeftOver}
-use Rattle.mill_verify.specs.Firsts.{IsCutTo, IsRowLeft, IsRowUncut, IsStockLeft, IsFirstUncut}
-use Rattle.mill_verify.proofs.Most.{IsMostOf, most_none, most_more, below_suc}
+use Rattle.mill_verify.specs.Firsts.{IsCutTo, IsRowLeft, IsRowUncut, IsMostOf, LeftInRow, AreRowsLeft, IsFirstUncutOf, IsBoth, IsStockLeft, IsFirstUncut}
+use Rattle.mill_verify.specs.declared.remains.Uncut.{Uncut}
+use Rattle.mill_verify.proofs.Most.{most_none, most_more, most_both, below_suc}
 
 -- covered is the greatest covered height of the column, whatever lies over it
 pub record IsCover (part : List Tri) (floor band x y covered : ℤ) : Type 0 where
@@ -62,10 +64,10 @@ left_over_same {a} {b} p q =
 -- the columns of row j before n are cut, and this is the most that any of them is left over
 pub record IsRowLeftTo (job : Job) (part : List Tri) (moves : List Move) (j n : ℕ) (left : ℤ) : Type 0 where
   pub cut : (i : ℕ) → i < n → IsCut job part moves j i
-  pub most : IsMostOf (IsLeftOver job part moves j) n left
+  pub most : IsMostOf (IsLeftOver job part moves j) 0 n left
 
 pub row_left_none : {job : Job} {part : List Tri} {moves : List Move} {j : ℕ} {left : ℤ} → left ≡ pos 0 → IsRowLeftTo job part moves j 0 left
-row_left_none {left} e = record { cut = λ i h. absurd (omega (h, arith)); most = most_none _ left e }
+row_left_none {left} e = record { cut = λ i h. absurd (omega (h, arith)); most = most_none _ 0 left e }
 
 pub row_left_more : {job : Job} {part : List Tri} {moves : List Move} {j n : ℕ} {most left next : ℤ} → IsRowLeftTo job part moves j n most
     → IsCutTo job part (column_x job n) (column_y job j) (top_after job (column_x job n) (column_y job j) moves) left → next ≡ int_max most left → IsRowLeftTo job part moves j (n + 1) next
@@ -73,49 +75,95 @@ row_left_more {job} {part} {moves} {j} {n} {most} {left} {next} so_far h e =
     let here : IsLeftOver job part moves j n left = left_over_of h in
     record {
       cut = λ i less. elim (below_suc n i less) [ inl before ↦ so_far.cut i before | inr same ↦ subst (λ (v : ℕ). IsCut job part moves j v) (sym same) h.cut ];
-      most = most_more (IsLeftOver job part moves j) n most left next so_far.most here (λ x k. left_over_same k here) (left_over_low here) e;
+      most = most_more (IsLeftOver job part moves j) 0 n most left next (omega arith) so_far.most here (λ x k. left_over_same k here) (left_over_low here) e;
     }
 
 pub row_left_all : {job : Job} {part : List Tri} {moves : List Move} {j n : ℕ} {left : ℤ} → n ≡ column_count job → 0 < column_count job → IsRowLeftTo job part moves j n left → IsRowLeft job part moves j left
 row_left_all {job} {part} {moves} {j} {n} {left} e some h =
-    let m : IsMostOf (IsLeftOver job part moves j) (column_count job) left = subst (λ (v : ℕ). IsMostOf (IsLeftOver job part moves j) v left) e h.most in
+    let m : IsMostOf (IsLeftOver job part moves j) 0 (column_count job) left = subst (λ (v : ℕ). IsMostOf (IsLeftOver job part moves j) 0 v left) e h.most in
     let found = m.there some in
-    record { cut = λ i less. h.cut i (subst (λ (v : ℕ). i < v) (sym e) less); col = found.0; column = found.1; there = found.2; most = λ i other less k. m.bound i other less k }
+    record { cut = λ i less. h.cut i (subst (λ (v : ℕ). i < v) (sym e) less); col = found.0; column = found.2; there = found.3; most = λ i other less k. m.bound i other (omega arith) less k }
 
--- some column of row j is left over by this much
-abbrev LeftInRow : Job → List Tri → List Move → ℕ → ℤ → Type 0
-LeftInRow job part moves j left = (i : ℕ) × (i < column_count job) × IsLeftOver job part moves j i left
+pub rows_left_none : {job : Job} {part : List Tri} {moves : List Move} {s : ℕ} {left : ℤ} → left ≡ pos 0 → AreRowsLeft job part moves s s left
+rows_left_none {s} {left} e = record { cut = λ a b h k. absurd (omega (h, k, arith)); most = most_none _ s left e }
 
--- the columns of the rows before n are cut, and this is the most that any of them is left over
-pub record IsStockLeftTo (job : Job) (part : List Tri) (moves : List Move) (n : ℕ) (left : ℤ) : Type 0 where
-  pub cut : (a b : ℕ) → a < n → b < column_count job → IsCut job part moves a b
-  pub most : IsMostOf (LeftInRow job part moves) n left
-
-pub stock_left_none : {job : Job} {part : List Tri} {moves : List Move} {left : ℤ} → left ≡ pos 0 → IsStockLeftTo job part moves 0 left
-stock_left_none {left} e = record { cut = λ a b h. absurd (omega (h, arith)); most = most_none _ left e }
-
-pub stock_left_more : {job : Job} {part : List Tri} {moves : List Move} {n : ℕ} {most left next : ℤ} → IsStockLeftTo job part moves n most → IsRowLeft job part moves n left
-    → next ≡ int_max most left → IsStockLeftTo job part moves (n + 1) next
-stock_left_more {job} {part} {moves} {n} {most} {left} {next} so_far h e = record {
-  cut = λ a b less c. elim (below_suc n a less) [ inl before ↦ so_far.cut a b before c | inr same ↦ subst (λ (v : ℕ). IsCut job part moves v b) (sym same) (h.cut b c) ];
-  most = most_more (LeftInRow job part moves) n most left next so_far.most (h.col, h.column, h.there) (λ x k. h.most k.0 x k.1 k.2) (left_over_low h.there) e;
+-- one more row
+pub rows_left_more : {job : Job} {part : List Tri} {moves : List Move} {s n : ℕ} {most left next : ℤ} → s ≤ n → AreRowsLeft job part moves s n most → IsRowLeft job part moves n left
+    → next ≡ int_max most left → AreRowsLeft job part moves s (n + 1) next
+rows_left_more {job} {part} {moves} {s} {n} {most} {left} {next} order so_far h e = record {
+  cut = λ a b low less c. elim (below_suc n a less) [ inl before ↦ so_far.cut a b low before c | inr same ↦ subst (λ (v : ℕ). IsCut job part moves v b) (sym same) (h.cut b c) ];
+  most = most_more (LeftInRow job part moves) s n most left next order so_far.most (h.col, h.column, h.there) (λ x k. h.most k.0 x k.1 k.2) (left_over_low h.there) e;
 }
 
-pub stock_left_all : {job : Job} {part : List Tri} {moves : List Move} {n : ℕ} {left : ℤ} → n ≡ row_count job → 0 < row_count job → IsStockLeftTo job part moves n left → IsStockLeft job part moves left
+pub rows_left_end : {job : Job} {part : List Tri} {moves : List Move} {s n e : ℕ} {left : ℤ} → n ≡ e → AreRowsLeft job part moves s n left → AreRowsLeft job part moves s e left
+rows_left_end {job} {part} {moves} {s} {left} same h = subst (λ (v : ℕ). AreRowsLeft job part moves s v left) same h
+
+-- two ranges of rows that meet
+rows_left_both : {job : Job} {part : List Tri} {moves : List Move} (s m e : ℕ) (a b : ℤ) → s ≤ m → m ≤ e → AreRowsLeft job part moves s m a → AreRowsLeft job part moves m e b
+    → AreRowsLeft job part moves s e (int_max a b)
+rows_left_both {job} {part} {moves} s m e a b first second left right = record {
+  cut = λ j i low high c. elim (cases_lt j m) [ inl less ↦ left.cut j i low less c | inr rest ↦ right.cut j i rest high c ];
+  most = most_both (LeftInRow job part moves) s m e a b (int_max a b) first second left.most right.most refl;
+}
+
+stock_left_all : {job : Job} {part : List Tri} {moves : List Move} {n : ℕ} {left : ℤ} → n ≡ row_count job → 0 < row_count job → AreRowsLeft job part moves 0 n left → IsStockLeft job part moves left
 stock_left_all {job} {part} {moves} {n} {left} e some h =
-    let m : IsMostOf (LeftInRow job part moves) (row_count job) left = subst (λ (v : ℕ). IsMostOf (LeftInRow job part moves) v left) e h.most in
+    let m : IsMostOf (LeftInRow job part moves) 0 (row_count job) left = subst (λ (v : ℕ). IsMostOf (LeftInRow job part moves) 0 v left) e h.most in
     let found = m.there some in
     record {
-      cut = λ j i c. h.cut j i (subst (λ (v : ℕ). j < v) (sym e) c.row) c.column;
-      most = record { row = found.0; col = found.2.0; column = record { row = found.1; column = found.2.1 }; there = found.2.2; most = λ j i other c k. m.bound j other c.row (i, c.column, k) };
+      cut = λ j i c. h.cut j i (omega arith) (subst (λ (v : ℕ). j < v) (sym e) c.row) c.column;
+      most = record {
+        row = found.0;
+        col = found.3.0;
+        column = record { row = found.2; column = found.3.1 };
+        there = found.3.2;
+        most = λ j i other c k. m.bound j other (omega arith) c.row (i, c.column, k);
+      };
     }
 
--- the first of a row after rows that are cut is the first of all
-pub first_uncut_from : {job : Job} {part : List Tri} {moves : List Move} {j i r : ℕ} {top left : ℤ} → j < row_count job → IsStockLeftTo job part moves j left → r ≡ j → IsRowUncut job part moves j i top
-    → IsFirstUncut job part moves r i top
-first_uncut_from {job} {part} {moves} {j} {i} {r} {top} there before e h = subst (λ (v : ℕ). IsFirstUncut job part moves v i top) (sym e) (record {
-  column = record { row = there; column = h.column };
-  first = λ a b c order. elim order [ inl less ↦ before.cut a b less c.column | inr same ↦ subst (λ (v : ℕ). IsCut job part moves v b) (sym same.0) (h.first b same.1) ];
-  fails = h.fails;
-  shown = h.shown;
-})
+-- the first of a row after rows that are cut is the first of the range
+pub row_uncut_of : {job : Job} {part : List Tri} {moves : List Move} {s e j i r : ℕ} {top left : ℤ} → s ≤ j → j < e → AreRowsLeft job part moves s j left → r ≡ j → IsRowUncut job part moves j i top
+    → IsFirstUncutOf job part moves s e r i top
+row_uncut_of {job} {part} {moves} {s} {e} {i} {top} start there so_far is h =
+    subst (λ (v : ℕ). IsFirstUncutOf job part moves s e v i top) (sym is) (record { start = start; there = there; before = so_far.cut; row = h })
+
+-- the first of all rows is the first of the stock
+first_uncut_all : {job : Job} {part : List Tri} {moves : List Move} {n j i : ℕ} {top : ℤ} → n ≡ row_count job → IsFirstUncutOf job part moves 0 n j i top → IsFirstUncut job part moves j i top
+first_uncut_all {job} {part} {moves} {j} e h = record {
+  column = record { row = subst (λ (v : ℕ). j < v) e h.there; column = h.row.column };
+  first = λ a b c order. elim order [ inl less ↦ h.before a b (omega arith) less c.column | inr same ↦ subst (λ (v : ℕ). IsCut job part moves v b) (sym same.0) (h.row.first b same.1) ];
+  fails = h.row.fails;
+  shown = h.row.shown;
+}
+
+-- what the test of a range of rows says
+abbrev pub AreTold : Job → List Tri → List Move → ℕ → ℕ → Result ℤ Uncut → Type 0
+AreTold job part moves s e told = MatchResult told (AreRowsLeft job part moves s e) (λ uncut. IsFirstUncutOf job part moves s e uncut.row uncut.col uncut.top)
+
+-- what two ranges that meet say together is what their rows say
+pub both_told : (job : Job) (part : List Tri) (moves : List Move) (s m e : ℕ) (left right told : Result ℤ Uncut) → s ≤ m → m ≤ e → AreTold job part moves s m left → AreTold job part moves m e right
+    → IsBoth left right told → AreTold job part moves s e told
+both_told job part moves s m e (Err uncut) right told first second l r is =
+    subst (AreTold job part moves s e) (sym is) (record { start = l.start; there = within l.there; before = l.before; row = l.row })
+  where
+    within : uncut.row < m → uncut.row < e
+    within h = omega (h, second, arith)
+
+both_told job part moves s m e (Ok most) (Err uncut) told first second l r is =
+    subst (AreTold job part moves s e) (sym is) (record {
+      start = after r.start;
+      there = r.there;
+      before = λ a b low less c. elim (cases_lt a m) [ inl in_left ↦ l.cut a b low in_left c | inr in_right ↦ r.before a b in_right less c ];
+      row = r.row;
+    })
+  where
+    after : m ≤ uncut.row → s ≤ uncut.row
+    after h = omega (h, first, arith)
+
+both_told job part moves s m e (Ok most) (Ok other) told first second l r is = subst (AreTold job part moves s e) (sym is) (rows_left_both s m e most other first second l r)
+
+-- what is said of all rows is said of the stock
+pub stock_told : (job : Job) (part : List Tri) (moves : List Move) (n : ℕ) (told : Result ℤ Uncut) → n ≡ row_count job → 0 < row_count job → AreTold job part moves 0 n told
+    → MatchResult told (IsStockLeft job part moves) (λ uncut. IsFirstUncut job part moves uncut.row uncut.col uncut.top)
+stock_told job part moves n (Ok left) all some h = stock_left_all all some h
+stock_told job part moves n (Err uncut) all some h = first_uncut_all all h

@@ -12,4 +12,6 @@ mod Safe
 mod Accepted
 mod Looking
 mod Scanning
+mod Striping
 mod Limits
+mod Repeats

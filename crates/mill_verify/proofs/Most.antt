@@ -1,19 +1,15 @@
 -- The greatest of what is left over, so far.
-use Rattle.std.specs.Prelude.{Bool, true, false, cond, int_lt, refl, ◌≡◌, ◌⊎◌, ℕ, zero, suc, ◌+◌, ◌<◌, ℤ, pos, ◌<ℤ◌, ◌≤ℤ◌}
+use Rattle.std.specs.Prelude.{Bool, true, false, cond, int_lt, refl, ◌≡◌, ◌⊎◌, ℕ, zero, suc, ◌+◌, ◌<◌, ◌≤◌, ℤ, pos, ◌<ℤ◌, ◌≤ℤ◌}
 use Rattle.std.specs.Int.{int_max}
 use Rattle.std.specs.Ordering.{int_cmp, is_lt, ord_max}
 use Rattle.std.specs.declared.cmp.Ordering.TheVariants.{Less, Equal, Greater}
 use Rattle.std.proofs.Common.{subst, inl, inr, arith}
+use Rattle.std.proofs.lemmas.Bool.{cases_lt}
 use Rattle.std.proofs.lemmas.Int.{ints, clamps, by_lt_z}
+use Rattle.mill_verify.specs.Firsts.{IsMostOf}
 
--- most is the greatest number that L holds of an index below n; 0 where there is none
-pub record IsMostOf (L : ℕ → ℤ → Type 0) (n : ℕ) (most : ℤ) : Type 0 where
-  pub none : n ≡ 0 → most ≡ pos 0
-  pub there : 0 < n → (i : ℕ) × (i < n) × L i most
-  pub bound : (i : ℕ) (x : ℤ) → i < n → L i x → x ≤ℤ most
-
-pub most_none : (L : ℕ → ℤ → Type 0) (most : ℤ) → most ≡ pos 0 → IsMostOf L 0 most
-most_none L most e = record { none = λ _. e; there = λ h. absurd (omega (h, arith)); bound = λ i x h k. absurd (omega (h, arith)) }
+pub most_none : (L : ℕ → ℤ → Type 0) (s : ℕ) (most : ℤ) → most ≡ pos 0 → IsMostOf L s s most
+most_none L s most e = record { low = omega (e, arith, ints); none = λ _. e; there = λ h. absurd (omega (h, arith)); bound = λ i x h k l. absurd (omega (h, k, arith)) }
 
 -- below the next number is below this one, or this one
 pub below_suc : (n i : ℕ) → i < n + 1 → (i < n) ⊎ (i ≡ n)
@@ -22,32 +18,64 @@ below_suc zero (suc i) h = absurd (omega (h, arith))
 below_suc (suc n) zero h = inl (omega arith)
 below_suc (suc n) (suc i) h = elim (below_suc n i (omega (h, arith))) [ inl k ↦ inl (omega (k, arith)) | inr k ↦ inr (omega (k, arith)) ]
 
--- one more index, at which left is the greatest
-pub most_more : (L : ℕ → ℤ → Type 0) (n : ℕ) (most left next : ℤ) → IsMostOf L n most → L n left → ((x : ℤ) → L n x → x ≤ℤ left) → (pos 0) ≤ℤ left → next ≡ int_max most left → IsMostOf L (n + 1) next
-most_more L n most left next so_far here best low e = record {
+-- an index alone, at which left is the greatest
+most_one : (L : ℕ → ℤ → Type 0) (n : ℕ) (left : ℤ) → L n left → ((x : ℤ) → L n x → x ≤ℤ left) → (pos 0) ≤ℤ left → IsMostOf L n (n + 1) left
+most_one L n left here best low = record {
+  low = low;
   none = λ h. absurd (omega (h, arith));
-  there = λ _. by_lt_z {P = (i : ℕ) × (i < n + 1) × L i next} most left at_new at_old;
-  bound = λ i x h k. elim (below_suc n i h) [ inl b ↦ under_old x (so_far.bound i x b k) | inr b ↦ under_new x (best x (subst (λ (v : ℕ). L v x) b k)) ];
+  there = λ _. (n, omega arith, omega arith, here);
+  bound = λ i x h k l. best x (subst (λ (v : ℕ). L v x) (only i h k) l);
 }
   where
-    new_is : left ≡ next → (i : ℕ) × (i < n + 1) × L i next
-    new_is same = (n, omega arith, subst (λ (v : ℤ). L n v) same here)
+    only : (i : ℕ) → n ≤ i → i < n + 1 → i ≡ n
+    only i h k = omega (h, k, arith)
 
-    at_new : most <ℤ left → (i : ℕ) × (i < n + 1) × L i next
-    at_new h = new_is (omega (e, h, arith, ints, clamps))
+-- two ranges that meet
+pub most_both : (L : ℕ → ℤ → Type 0) (s m e : ℕ) (a b next : ℤ) → s ≤ m → m ≤ e → IsMostOf L s m a → IsMostOf L m e b → next ≡ int_max a b → IsMostOf L s e next
+most_both L s m e a b next first second left right is = record {
+  low = omega (is, left.low, arith, ints, clamps);
+  none = λ h. neither (left.none (omega (h, second, arith))) (right.none (omega (h, first, arith)));
+  there = λ h. by_lt_z {P = (i : ℕ) × (s ≤ i) × (i < e) × L i next} a b (at_right h) (at_left h);
+  bound = λ i x h k l. elim (cases_lt i m) [ inl less ↦ under_left x (left.bound i x h less l) | inr rest ↦ under_right x (right.bound i x rest k l) ];
+}
+  where
+    neither : a ≡ pos 0 → b ≡ pos 0 → next ≡ pos 0
+    neither p q = omega (is, p, q, arith, ints, clamps)
 
-    at_old : left ≤ℤ most → (i : ℕ) × (i < n + 1) × L i next
-    at_old h = by n (omega arith)
+    in_left : s < m → a ≡ next → (i : ℕ) × (s ≤ i) × (i < e) × L i next
+    in_left some same = let found = left.there some in (found.0, found.1, omega (found.2, second, arith), subst (λ (v : ℤ). L found.0 v) same found.3)
+
+    in_right : m < e → b ≡ next → (i : ℕ) × (s ≤ i) × (i < e) × L i next
+    in_right some same = let found = right.there some in (found.0, omega (found.1, first, arith), found.2, subst (λ (v : ℤ). L found.0 v) same found.3)
+
+    at_right : s < e → a <ℤ b → (i : ℕ) × (s ≤ i) × (i < e) × L i next
+    at_right h over = elim (cases_lt m e) [
+      | inl some ↦ in_right some (omega (is, over, arith, ints, clamps))
+      | inr none ↦ absurd (nothing (right.none none))
+    ]
       where
-        by : (v : ℕ) → n ≡ v → (i : ℕ) × (i < n + 1) × L i next
-        by zero p = new_is (omega (e, h, so_far.none p, low, arith, ints, clamps))
-        by (suc v) p = let old = so_far.there (omega (p, arith)) in (old.0, omega (old.1, arith), subst (λ (w : ℤ). L old.0 w) (omega (e, h, arith, ints, clamps)) old.2)
+        nothing : b ≡ pos 0 → ⊥
+        nothing q = omega (q, over, left.low, arith, ints)
 
-    under_old : (x : ℤ) → x ≤ℤ most → x ≤ℤ next
-    under_old x h = omega (e, h, arith, ints, clamps)
+    at_left : s < e → b ≤ℤ a → (i : ℕ) × (s ≤ i) × (i < e) × L i next
+    at_left h under = elim (cases_lt s m) [
+      | inl some ↦ in_left some (omega (is, under, arith, ints, clamps))
+      | inr none ↦ in_right (omega (h, none, arith)) (same (left.none none))
+    ]
+      where
+        same : a ≡ pos 0 → b ≡ next
+        same p = omega (is, p, under, right.low, arith, ints, clamps)
 
-    under_new : (x : ℤ) → x ≤ℤ left → x ≤ℤ next
-    under_new x h = omega (e, h, arith, ints, clamps)
+    under_left : (x : ℤ) → x ≤ℤ a → x ≤ℤ next
+    under_left x h = omega (is, h, arith, ints, clamps)
+
+    under_right : (x : ℤ) → x ≤ℤ b → x ≤ℤ next
+    under_right x h = omega (is, h, arith, ints, clamps)
+
+-- one more index, at which left is the greatest
+pub most_more : (L : ℕ → ℤ → Type 0) (s n : ℕ) (most left next : ℤ) → s ≤ n → IsMostOf L s n most → L n left → ((x : ℤ) → L n x → x ≤ℤ left) → (pos 0) ≤ℤ left → next ≡ int_max most left
+    → IsMostOf L s (n + 1) next
+most_more L s n most left next order so_far here best low e = most_both L s n (n + 1) most left next order (omega arith) so_far (most_one L n left here best low) e
 
 -- the greater by comparison is the greater
 pub max_is : (a b : ℤ) → ord_max int_cmp a b ≡ int_max a b

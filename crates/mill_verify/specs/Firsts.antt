@@ -1,5 +1,6 @@
 -- Where each test fails first, apart from the tests before it.
-use Rattle.std.specs.Prelude.{◌≡◌, ◌⊎◌, ℕ, ◌<◌, ◌≤◌, ℤ, ◌-ℤ◌, ◌≤ℤ◌, List, length, take, Option, Some, None, IfSome, IfNone}
+use Rattle.std.specs.Prelude.{◌≡◌, ◌⊎◌, ℕ, ◌<◌, ◌≤◌, ◌-◌, ◌/◌, ◌%◌, ℤ, pos, ◌-ℤ◌, ◌≤ℤ◌, List, length, take, Option, Some, None, IfSome, IfNone, Result, Ok, Err}
+use Rattle.std.specs.Int.{int_max}
 use Rattle.mill_base.specs.declared.points.Tri.{Tri}
 use Rattle.mill_base.specs.declared.motion.Move.{Move}
 use Rattle.mill_base.specs.declared.motion.Kind.TheVariants.{Rapid}
@@ -18,6 +19,8 @@ use Rattle.mill_verify.specs.Verdicts.{IsLeftOver, IsMostLeft, IsRejection, IsBl
 use Rattle.mill_verify.specs.declared.gouge.Gouge.{Gouge}
 use Rattle.mill_verify.specs.declared.limit.Limit.{Limit}
 use Rattle.mill_verify.specs.declared.part_fail.PartFail.{PartFail}
+use Rattle.mill_verify.specs.declared.part_fail.Stripes.{Stripes}
+use Rattle.mill_verify.specs.declared.remains.Uncut.{Uncut}
 use Rattle.mill_verify.specs.declared.stop.Stop.{Stop}
 
 -- triangle t is the first that move k doesn't pass, and the test fails at this leaf
@@ -55,6 +58,48 @@ pub record IsFirstPartFail (job : Job) (part : List Tri) (moves : List Move) (s 
   pub before : ClearsBetween job part moves s fail.at
   pub first : IsFirstGouge job part moves fail.at fail.gouge.tri fail.gouge.leaf
   pub blocked : IsBlocked job part moves fail.at fail.gouge.tri fail.gouge.leaf
+
+-- the moves from the start on stand in blocks of 64, which go to the stripes in turn: this is the stripe of move k
+abbrev pub stripe_of : Stripes → ℕ → ℕ
+stripe_of stripes k = (k - stripes.start) / 64 % stripes.count
+
+-- move k is in one of the stripes from the first to before the last
+pub record IsInStripes (stripes : Stripes) (k : ℕ) : Type 0 where
+  pub start : stripes.start ≤ k
+  pub first : stripes.first ≤ stripe_of stripes k
+  pub last : stripe_of stripes k < stripes.last
+
+-- these are some of at most 64 stripes, in which stand some of the moves
+pub record AreStripes (moves : List Move) (stripes : Stripes) : Type 0 where
+  pub order : stripes.start ≤ stripes.«end»
+  pub there : stripes.«end» ≤ length moves
+  pub few : stripes.count ≤ 64
+  pub some : stripes.first < stripes.last
+  pub within : stripes.last ≤ stripes.count
+
+-- the moves before number e that are in these stripes clear the part
+abbrev pub ClearsStripesTo : Job → List Tri → List Move → Stripes → ℕ → Type 0
+ClearsStripesTo job part moves stripes e = (k : ℕ) → k < e → IsInStripes stripes k → ClearsPart job part moves k
+
+-- all moves that are in these stripes clear the part
+abbrev pub ClearsStripes : Job → List Tri → List Move → Stripes → Type 0
+ClearsStripes job part moves stripes = ClearsStripesTo job part moves stripes stripes.«end»
+
+-- of the moves that are in these stripes, this is the first that doesn't clear the part, with its first gouge, whose triangle blocks the leaf
+pub record IsFirstStripesFail (job : Job) (part : List Tri) (moves : List Move) (stripes : Stripes) (fail : PartFail) : Type 0 where
+  pub there : fail.at < stripes.«end»
+  pub stripe : IsInStripes stripes fail.at
+  pub before : ClearsStripesTo job part moves stripes fail.at
+  pub first : IsFirstGouge job part moves fail.at fail.gouge.tri fail.gouge.leaf
+  pub blocked : IsBlocked job part moves fail.at fail.gouge.tri fail.gouge.leaf
+
+-- of two answers this is the one whose move comes before that of the other
+abbrev pub IsEarlierFail : Option PartFail → Option PartFail → Option PartFail → Type 0
+IsEarlierFail None right told = told ≡ right
+IsEarlierFail (Some fail) None told = told ≡ Some fail
+IsEarlierFail (Some fail) (Some other) told =
+    ((told ≡ Some fail) × (fail.at ≤ other.at))
+    ⊎ ((told ≡ Some other) × (other.at < fail.at))
 
 -- the moves before this number pass test (i), and the move there, if there is one, doesn't
 pub record IsFloorEnd (job : Job) (moves : List Move) (end_at : ℕ) : Type 0 where
@@ -118,6 +163,35 @@ pub record IsRowUncut (job : Job) (part : List Tri) (moves : List Move) (j i : �
   pub first : (e : ℕ) → e < i → IsCut job part moves j e
   pub fails : ¬ IsCut job part moves j i
   pub shown : top ≡ top_after job (column_x job i) (column_y job j) moves
+
+-- most is the greatest number that L holds of an index from s to before e; 0 where there is none
+pub record IsMostOf (L : ℕ → ℤ → Type 0) (s e : ℕ) (most : ℤ) : Type 0 where
+  pub low : pos 0 ≤ℤ most
+  pub none : e ≤ s → most ≡ pos 0
+  pub there : s < e → (i : ℕ) × (s ≤ i) × (i < e) × L i most
+  pub bound : (i : ℕ) (x : ℤ) → s ≤ i → i < e → L i x → x ≤ℤ most
+
+-- some column of row j is left over by this much
+abbrev pub LeftInRow : Job → List Tri → List Move → ℕ → ℤ → Type 0
+LeftInRow job part moves j left = (i : ℕ) × (i < column_count job) × IsLeftOver job part moves j i left
+
+-- every column of the rows from s to before e is cut, and this is the most that any of them is left over; 0 where there is no row
+pub record AreRowsLeft (job : Job) (part : List Tri) (moves : List Move) (s e : ℕ) (left : ℤ) : Type 0 where
+  pub cut : (j i : ℕ) → s ≤ j → j < e → i < column_count job → IsCut job part moves j i
+  pub most : IsMostOf (LeftInRow job part moves) s e left
+
+-- of the rows from s to before e, column (j, i) is the first that isn't cut, and has this top
+pub record IsFirstUncutOf (job : Job) (part : List Tri) (moves : List Move) (s e j i : ℕ) (top : ℤ) : Type 0 where
+  pub start : s ≤ j
+  pub there : j < e
+  pub before : (a b : ℕ) → s ≤ a → a < j → b < column_count job → IsCut job part moves a b
+  pub row : IsRowUncut job part moves j i top
+
+-- what two ranges of rows say together: the first column that isn't cut, of the left one first, else the greater of what is left
+abbrev pub IsBoth : Result ℤ Uncut → Result ℤ Uncut → Result ℤ Uncut → Type 0
+IsBoth (Err uncut) right told = told ≡ Err uncut
+IsBoth (Ok most) (Err uncut) told = told ≡ Err uncut
+IsBoth (Ok most) (Ok other) told = told ≡ Ok (int_max most other)
 
 -- every column is cut, and this is the most that any is left over
 pub record IsStockLeft (job : Job) (part : List Tri) (moves : List Move) (left : ℤ) : Type 0 where

@@ -1,8 +1,8 @@
-ghost use Rattle.std.specs.Prelude.{◌≡◌, ◌≤◌, ◌<◌, length, MatchOption};
+ghost use Rattle.std.specs.Prelude.{◌≡◌, ◌+◌, ◌≤◌, ◌<◌, length, MatchOption};
 ghost use Rattle.mill_base.specs.Ranges.{MovesInRange};
 ghost use Rattle.mill_cells.specs.Sorted.{sorted_of};
 ghost use Rattle.mill_job.specs.Jobs.{IsJob};
-ghost use Rattle.mill_verify.specs.Firsts.{ClearsBetween, IsFirstPartFail};
+ghost use Rattle.mill_verify.specs.Firsts.{AreStripes, ClearsBetween, ClearsStripes, IsEarlierFail, IsFirstPartFail, IsFirstStripesFail};
 ghost use Rattle.mill_verify.specs.Near.{IsLid};
 ghost use denote.Param.Send.{IsSync};
 
@@ -13,6 +13,10 @@ use mill_job::Job;
 use mill_part::Part;
 use std::thread::{Threads, join};
 
+/// How many moves stand in a block. Moves near each other take about the same time, so blocks in
+/// turn give each worker about as much to do.
+const BLOCK: usize = 64;
+
 /// A move that doesn't clear the part, and its first gouge.
 #[derive(Clone, Copy)]
 pub struct PartFail {
@@ -20,12 +24,22 @@ pub struct PartFail {
     pub gouge: Gouge,
 }
 
+/// The moves from number `start` to before `end` stand in blocks of 64, and block `b` is in stripe
+/// `b % count`. These are the stripes from `first` to before `last`.
+#[derive(Clone, Copy)]
+pub struct Stripes {
+    pub start: usize,
+    pub end: usize,
+    pub count: usize,
+    pub first: usize,
+    pub last: usize,
+}
+
 /// Test (ii): of the moves from number `start` to before `end`, the first that doesn't clear the
 /// part; none where they all do.
 ///
-/// The range is halved among `workers` threads, at most 64, until each has its part, and the answer
-/// of the left half comes before that of the right. The cells are those of the part's triangles, and
-/// no part point is higher than `part_top`.
+/// Blocks of 64 moves are handed in turn to `workers` threads, at most 64. The cells are those of
+/// the part's triangles, and no part point is higher than `part_top`.
 pub fn first_part_fail<R: Threads + Sync>(
     rt: &R,
     job: &Job,
@@ -50,13 +64,64 @@ pub fn first_part_fail<R: Threads + Sync>(
         (ClearsBetween job.now part.now moves.now start end)
         (IsFirstPartFail job.now part.now moves.now start end) }
 {
-    if workers <= 1 || end - start <= 1 {
-        return scan(job, part, cells, part_top, moves, start, end);
+    let count = stripe_count(end - start, workers);
+    let stripes = Stripes {
+        start,
+        end,
+        count,
+        first: 0,
+        last: count,
+    };
+    first_in_stripes(rt, job, part, cells, part_top, moves, stripes)
+}
+
+/// How many stripes this many moves are in: one for each worker, and no more than there are blocks.
+fn stripe_count(moves: usize, workers: u32) -> usize
+    requires { workers ≤ 64 }
+    ensures some { 1 ≤ result }
+    ensures few { result ≤ 64 }
+{
+    let blocks = moves / BLOCK + 1;
+    blocks.min(workers as usize).max(1)
+}
+
+/// The first move in the stripes that doesn't clear the part; none where they all do.
+///
+/// The stripes are halved until each thread has one. The earlier of two answers is the answer.
+fn first_in_stripes<R: Threads + Sync>(
+    rt: &R,
+    job: &Job,
+    part: &Part,
+    cells: &Cells,
+    part_top: i32,
+    moves: &[Move],
+    stripes: Stripes,
+) -> Option<PartFail>
+    requires job_ok { IsJob job.now }
+    requires cells_ok { cells.now ≡ boxes_of part.now }
+    requires top_ok { IsLid part.now part_top }
+    requires moves_ok { MovesInRange moves.now }
+    requires few { length moves.now ≤ 1000000 }
+    requires stripes_ok { AreStripes moves.now stripes }
+    ensures { MatchOption
+        result
+        (ClearsStripes job.now part.now moves.now stripes)
+        (IsFirstStripesFail job.now part.now moves.now stripes) }
+{
+    let some = stripes.last - stripes.first;
+    if some <= 1 {
+        return scan_stripe(job, part, cells, part_top, moves, stripes);
     }
-    let left_workers = workers / 2;
-    let right_workers = workers - left_workers;
-    let middle = start + share(end - start, left_workers, workers);
-    let (left, right) = join(
+    let middle = stripes.first + some / 2;
+    let left = Stripes {
+        last: middle,
+        ..stripes
+    };
+    let right = Stripes {
+        first: middle,
+        ..stripes
+    };
+    let (left_fail, right_fail) = join(
         rt,
         || -> Option<PartFail>
             requires sync { IsSync R.row }
@@ -64,75 +129,80 @@ pub fn first_part_fail<R: Threads + Sync>(
             requires cells_ok { cells.now ≡ sorted_of part.now }
             requires top_ok { IsLid part.now part_top }
             requires moves_ok { MovesInRange moves.now }
-            requires order { start ≤ middle }
-            requires there { middle ≤ length moves.now }
             requires few { length moves.now ≤ 1000000 }
-            requires few_workers { left_workers ≤ 64 }
+            requires stripes_ok { AreStripes moves.now left }
             ensures { MatchOption
                 result
-                (ClearsBetween job.entry.now part.entry.now moves.entry.now start middle)
-                (IsFirstPartFail job.entry.now part.entry.now moves.entry.now start middle) }
-        {
-            first_part_fail(
-                rt,
-                job,
-                part,
-                cells,
-                part_top,
-                moves,
-                start,
-                middle,
-                left_workers,
-            )
-        },
+                (ClearsStripes job.entry.now part.entry.now moves.entry.now left)
+                (IsFirstStripesFail job.entry.now part.entry.now moves.entry.now left) }
+        { first_in_stripes(rt, job, part, cells, part_top, moves, left) },
         || -> Option<PartFail>
             requires sync { IsSync R.row }
             requires job_ok { IsJob job.now }
             requires cells_ok { cells.now ≡ sorted_of part.now }
             requires top_ok { IsLid part.now part_top }
             requires moves_ok { MovesInRange moves.now }
-            requires order { middle ≤ end }
-            requires there { end ≤ length moves.now }
             requires few { length moves.now ≤ 1000000 }
-            requires few_workers { right_workers ≤ 64 }
+            requires stripes_ok { AreStripes moves.now right }
             ensures { MatchOption
                 result
-                (ClearsBetween job.entry.now part.entry.now moves.entry.now middle end)
-                (IsFirstPartFail job.entry.now part.entry.now moves.entry.now middle end) }
-        {
-            first_part_fail(
-                rt,
-                job,
-                part,
-                cells,
-                part_top,
-                moves,
-                middle,
-                end,
-                right_workers,
-            )
-        },
+                (ClearsStripes job.entry.now part.entry.now moves.entry.now right)
+                (IsFirstStripesFail job.entry.now part.entry.now moves.entry.now right) }
+        { first_in_stripes(rt, job, part, cells, part_top, moves, right) },
     );
-    match left {
-        Some(fail) => Some(fail),
-        None => right,
-    }
+    earlier(left_fail, right_fail)
 }
 
-/// How many of `count` moves are for `some` of all the workers, so that each gets about as many.
-fn share(count: usize, some: u32, workers: u32) -> usize
-    requires some { 1 ≤ workers }
-    requires part { some ≤ workers }
-    requires few { workers ≤ 64 }
-    requires count_ok { count ≤ 1000000 }
-    ensures { result ≤ count }
+/// The answer whose move comes before that of the other.
+fn earlier(left: Option<PartFail>, right: Option<PartFail>) -> Option<PartFail>
+    ensures { IsEarlierFail left right result }
 {
-    let some = some as usize;
-    let workers = workers as usize;
-    count * some / workers
+    let Some(fail) = left else {
+        return right;
+    };
+    let Some(other) = right else {
+        return left;
+    };
+    if other.at < fail.at {
+        return right;
+    }
+    left
 }
 
-/// One worker's moves, one by one.
+/// One worker's stripe, block by block.
+fn scan_stripe(
+    job: &Job,
+    part: &Part,
+    cells: &Cells,
+    part_top: i32,
+    moves: &[Move],
+    stripe: Stripes,
+) -> Option<PartFail>
+    requires job_ok { IsJob job.now }
+    requires cells_ok { cells.now ≡ boxes_of part.now }
+    requires top_ok { IsLid part.now part_top }
+    requires moves_ok { MovesInRange moves.now }
+    requires few { length moves.now ≤ 1000000 }
+    requires stripe_ok { AreStripes moves.now stripe }
+    requires one { stripe.last ≤ stripe.first + 1 }
+    ensures { MatchOption
+        result
+        (ClearsStripes job.now part.now moves.now stripe)
+        (IsFirstStripesFail job.now part.now moves.now stripe) }
+{
+    let turn = stripe.count * BLOCK;
+    let mut block = stripe.start + stripe.first * BLOCK;
+    while block < stripe.end {
+        let block_end = stripe.end.min(block + BLOCK);
+        if let Some(fail) = scan(job, part, cells, part_top, moves, block, block_end) {
+            return Some(fail);
+        }
+        block += turn;
+    }
+    None
+}
+
+/// The moves of a block, one by one.
 fn scan(
     job: &Job,
     part: &Part,

@@ -22,7 +22,6 @@ use mill_cells::Cells;
 use mill_dexel::Row;
 use mill_job::Job;
 use mill_part::Part;
-use mill_sweep::halving_keeps_point;
 use std::alloc::Global;
 use std::thread::Threads;
 
@@ -70,12 +69,10 @@ pub fn verify<R: Threads + Sync>(
         → result ≡ Ok (Verdict.Reject (Reason.Rapid number row col leaf))
         → IsStopped job.now moves.now number row col leaf }
 {
-    // The law by which a rapid that passes the tops removes nothing of the stock.
-    halving_keeps_point();
     let cells = cells_of(alloc, part)?;
     let limit = part_limit(rt, job, part, &cells, moves, workers);
     let rows = turned_rows(rt, alloc, job, &moves[..limit.passed], workers)?;
-    Ok(verdict_of(job, part, &cells, moves, limit, &rows))
+    Ok(verdict_of(rt, job, part, &cells, moves, limit, &rows, workers))
 }
 
 /// The part's triangles in cells of the size that suits them.
@@ -87,18 +84,21 @@ fn cells_of(alloc: Global, part: &Part) -> Result<Cells, WantOfMemory>
 }
 
 /// The verdict, from how far the moves pass tests (i) and (ii), and the rows after those that do.
-fn verdict_of(
+fn verdict_of<R: Threads + Sync>(
+    rt: &R,
     job: &Job,
     part: &Part,
     cells: &Cells,
     moves: &[Move],
     limit: Limit,
     rows: &[Row],
+    workers: u32,
 ) -> Verdict
     requires job_ok { IsJob job.now }
     requires cells_ok { cells.now ≡ sorted_of part.now }
     requires limit_ok { IsLimit job.now part.now moves.now limit }
     requires rows_ok { AreTurned job.now (take limit.passed moves.now) rows.now }
+    requires few_workers { workers ≤ 64 }
     ensures verdict { IsVerdict job.now part.now moves.now result }
     ensures shown { ShowsBlocks job.now part.now moves.now result }
 {
@@ -113,19 +113,28 @@ fn verdict_of(
     if let Some(reason) = limit.fails {
         return Verdict::Reject(reason);
     }
-    last_verdict(job, part, cells, moves, rows)
+    last_verdict(rt, job, part, cells, moves, rows, workers)
 }
 
 /// The verdict after the last move, all moves being good.
-fn last_verdict(job: &Job, part: &Part, cells: &Cells, moves: &[Move], rows: &[Row]) -> Verdict
+fn last_verdict<R: Threads + Sync>(
+    rt: &R,
+    job: &Job,
+    part: &Part,
+    cells: &Cells,
+    moves: &[Move],
+    rows: &[Row],
+    workers: u32,
+) -> Verdict
     requires job_ok { IsJob job.now }
     requires cells_ok { cells.now ≡ sorted_of part.now }
     requires good { GoodBefore job.now part.now moves.now (length moves.now) }
     requires rows_ok { IsStock job.now moves.now rows.now }
+    requires few_workers { workers ≤ 64 }
     ensures verdict { IsVerdict job.now part.now moves.now result }
     ensures shown { ShowsBlocks job.now part.now moves.now result }
 {
-    match stock_left(job, part, cells, moves, rows) {
+    match stock_left(rt, job, part, cells, moves, rows, workers) {
         Ok(most_left) => Verdict::Accept {
             moves: moves.len() as u64,
             columns: job.column_total(),

@@ -1,17 +1,19 @@
-ghost use Rattle.std.specs.Prelude.{◌≡◌, ◌<◌, ◌-ℤ◌, MatchOption, MatchResult};
+ghost use Rattle.std.specs.Prelude.{◌≡◌, ◌<◌, ◌≤◌, ◌-ℤ◌, length, MatchOption, MatchResult};
 ghost use Rattle.mill_base.specs.Numbers.{Within, greatest};
 ghost use Rattle.mill_base.specs.Covers.{Covered};
 ghost use Rattle.mill_cells.specs.Sorted.{sorted_of};
 ghost use Rattle.mill_job.specs.Jobs.{IsJob, IsFrom};
 ghost use Rattle.mill_job.specs.Columns.{row_count};
 ghost use Rattle.mill_verify.specs.Stock.{IsRow, IsStock};
-ghost use Rattle.mill_verify.specs.Firsts.{IsCutTo, IsRowLeft, IsRowUncut, IsStockLeft, IsFirstUncut};
+ghost use Rattle.mill_verify.specs.Firsts.{AreRowsLeft, IsBoth, IsCutTo, IsFirstUncut, IsFirstUncutOf, IsRowLeft, IsRowUncut, IsStockLeft};
+ghost use denote.Param.Send.{IsSync};
 
 use mill_base::Move;
 use mill_cells::Cells;
 use mill_dexel::Row;
 use mill_job::Job;
 use mill_part::Part;
+use std::thread::{Threads, join};
 
 /// A column that isn't cut, and its top.
 #[derive(Clone, Copy)]
@@ -22,25 +24,195 @@ pub struct Uncut {
 }
 
 /// Test (iv): how much is left over the part at most, or the first column that isn't cut, by row
-/// first. `moves` are those that made the rows, and `cells` are those of the part's triangles.
-pub fn stock_left(
+/// first, by `workers` threads. `moves` are those that made the rows, and `cells` are those of the
+/// part's triangles.
+pub fn stock_left<R: Threads + Sync>(
+    rt: &R,
     job: &Job,
     part: &Part,
     cells: &Cells,
     moves: &[Move],
     rows: &[Row],
+    workers: u32,
 ) -> Result<i32, Uncut>
     requires job_ok { IsJob job.now }
     requires cells_ok { cells.now ≡ sorted_of part.now }
     requires rows_ok { IsStock job.now moves.now rows.now }
+    requires few_workers { workers ≤ 64 }
     ensures { MatchResult
         result
         (IsStockLeft job.now part.now moves.now)
         (λ uncut. IsFirstUncut job.now part.now moves.now uncut.row uncut.col uncut.top) }
 {
+    let end = rows.len();
+    rows_left(rt, job, part, cells, moves, rows, 0, end, workers)
+}
+
+/// Test (iv) on the rows from number `start` to before `end`; 0 is left where there is none.
+///
+/// The rows are halved among `workers` threads, at most 64, until each has its own, and the first
+/// column of the left half comes before that of the right.
+fn rows_left<R: Threads + Sync>(
+    rt: &R,
+    job: &Job,
+    part: &Part,
+    cells: &Cells,
+    moves: &[Move],
+    rows: &[Row],
+    start: usize,
+    end: usize,
+    workers: u32,
+) -> Result<i32, Uncut>
+    requires job_ok { IsJob job.now }
+    requires cells_ok { cells.now ≡ boxes_of part.now }
+    requires rows_ok { IsStock job.now moves.now rows.now }
+    requires order { start ≤ end }
+    requires there { end ≤ length rows.now }
+    requires few_workers { workers ≤ 64 }
+    ensures { MatchResult
+        result
+        (AreRowsLeft job.now part.now moves.now start end)
+        (λ uncut. IsFirstUncutOf
+            job.now
+            part.now
+            moves.now
+            start
+            end
+            uncut.row
+            uncut.col
+            uncut.top) }
+{
+    if workers <= 1 || end - start <= 1 {
+        return scan_rows(job, part, cells, moves, rows, start, end);
+    }
+    let left_workers = workers / 2;
+    let right_workers = workers - left_workers;
+    let middle = start + share(end - start, left_workers, workers);
+    let (left, right) = join(
+        rt,
+        || -> Result<i32, Uncut>
+            requires sync { IsSync R.row }
+            requires job_ok { IsJob job.now }
+            requires cells_ok { cells.now ≡ boxes_of part.now }
+            requires rows_ok { IsStock job.now moves.now rows.now }
+            requires order { start ≤ middle }
+            requires there { middle ≤ length rows.now }
+            requires few_workers { left_workers ≤ 64 }
+            ensures { MatchResult
+                result
+                (AreRowsLeft job.entry.now part.entry.now moves.entry.now start middle)
+                (λ uncut. IsFirstUncutOf
+                    job.entry.now
+                    part.entry.now
+                    moves.entry.now
+                    start
+                    middle
+                    uncut.row
+                    uncut.col
+                    uncut.top) }
+        {
+            rows_left(
+                rt,
+                job,
+                part,
+                cells,
+                moves,
+                rows,
+                start,
+                middle,
+                left_workers,
+            )
+        },
+        || -> Result<i32, Uncut>
+            requires sync { IsSync R.row }
+            requires job_ok { IsJob job.now }
+            requires cells_ok { cells.now ≡ boxes_of part.now }
+            requires rows_ok { IsStock job.now moves.now rows.now }
+            requires order { middle ≤ end }
+            requires there { end ≤ length rows.now }
+            requires few_workers { right_workers ≤ 64 }
+            ensures { MatchResult
+                result
+                (AreRowsLeft job.entry.now part.entry.now moves.entry.now middle end)
+                (λ uncut. IsFirstUncutOf
+                    job.entry.now
+                    part.entry.now
+                    moves.entry.now
+                    middle
+                    end
+                    uncut.row
+                    uncut.col
+                    uncut.top) }
+        {
+            rows_left(
+                rt,
+                job,
+                part,
+                cells,
+                moves,
+                rows,
+                middle,
+                end,
+                right_workers,
+            )
+        },
+    );
+    both(left, right)
+}
+
+/// How many of `count` rows are for `some` of all the workers, so that each gets about as many.
+fn share(count: usize, some: u32, workers: u32) -> usize
+    requires some { 1 ≤ workers }
+    requires part { some ≤ workers }
+    requires few { workers ≤ 64 }
+    requires count_ok { count ≤ 4000000 }
+    ensures { result ≤ count }
+{
+    let some = some as usize;
+    let workers = workers as usize;
+    count * some / workers
+}
+
+/// What the rows of two ranges say together, of which the left one comes first.
+fn both(left: Result<i32, Uncut>, right: Result<i32, Uncut>) -> Result<i32, Uncut>
+    ensures { IsBoth left right result }
+{
+    let most = left?;
+    let other = right?;
+    Ok(most.max(other))
+}
+
+/// One worker's rows, one by one.
+fn scan_rows(
+    job: &Job,
+    part: &Part,
+    cells: &Cells,
+    moves: &[Move],
+    rows: &[Row],
+    start: usize,
+    end: usize,
+) -> Result<i32, Uncut>
+    requires job_ok { IsJob job.now }
+    requires cells_ok { cells.now ≡ boxes_of part.now }
+    requires rows_ok { IsStock job.now moves.now rows.now }
+    requires order { start ≤ end }
+    requires there { end ≤ length rows.now }
+    ensures { MatchResult
+        result
+        (AreRowsLeft job.now part.now moves.now start end)
+        (λ uncut. IsFirstUncutOf
+            job.now
+            part.now
+            moves.now
+            start
+            end
+            uncut.row
+            uncut.col
+            uncut.top) }
+{
     let mut most = 0;
-    for (index, row) in rows.iter().enumerate() {
-        match row_left(job, part, cells, moves, index as u32, row) {
+    for index in start..end {
+        match row_left(job, part, cells, moves, index as u32, &rows[index]) {
             Ok(left) => most = most.max(left),
             Err(uncut) => return Err(uncut),
         }

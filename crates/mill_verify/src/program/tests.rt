@@ -1,9 +1,9 @@
-ghost use Rattle.std.specs.Prelude.{◌≡◌, ◌≤ℤ◌, pos, IfOk};
+ghost use Rattle.std.specs.Prelude.{◌≡◌, ◌≤◌, ◌≤ℤ◌, pos, length, IfOk};
 ghost use Rattle.mill_base.specs.Numbers.{Within, greatest};
 ghost use Rattle.mill_base.specs.Points.{point_at};
 ghost use Rattle.mill_base.specs.Covers.{IsUnder};
 ghost use Rattle.mill_base.specs.Motion.{Follow};
-ghost use Rattle.mill_base.specs.Ranges.{MovesInRange};
+ghost use Rattle.mill_base.specs.Ranges.{IsInRange, MovesInRange};
 ghost use Rattle.mill_job.specs.Columns.{home};
 ghost use Rattle.mill_job.specs.Jobs.{IsJob};
 
@@ -341,6 +341,85 @@ fn names_the_leaf_of_a_rapid(rt: HostRuntime) {
                 verify(&rt, alloc, &job, &part, &moves, workers),
                 Ok(want),
                 "by {workers} at {height}"
+            );
+        }
+    }
+}
+
+/// In the middle at 200, and at 199 under the plate in these two turns.
+fn bottom(turn: u32, first: u32, second: u32) -> Pt3
+    ensures { IsInRange result }
+{
+    let z = if turn == first || turn == second {
+        199
+    } else {
+        200
+    };
+    Pt3 { x: 100, y: 100, z }
+}
+
+/// Down in the middle and up again, 150 times: 300 moves, of which those in two turns scrape the
+/// plate.
+fn downs_and_ups(alloc: Global, first: u32, second: u32) -> Result<Vec<Move>, WantOfMemory>
+    ensures range { IfOk result (λ moves. MovesInRange moves.items) }
+    ensures follow { IfOk
+        result
+        (λ moves. Follow (point_at (pos 100) (pos 100) (pos 400)) moves.items) }
+    ensures few { IfOk result (λ moves. length moves.items ≤ 1000000) }
+{
+    let home = Pt3 {
+        x: 100,
+        y: 100,
+        z: 400,
+    };
+    let mut moves = Vec::new(alloc);
+    for turn in 0..150 {
+        let low = bottom(turn, first, second);
+        moves.push(Move {
+            kind: Kind::Feed,
+            from: home,
+            to: low,
+        })?;
+        moves.push(Move {
+            kind: Kind::Feed,
+            from: low,
+            to: home,
+        })?;
+    }
+    Ok(moves)
+}
+
+// Move 124, the last but four of its block of 64, scrapes the plate, and so does one near the start of
+// a later block. Among two, three or four workers the later block is now in an earlier stripe, now
+// in a later one, and now in the same. The last program scrapes nowhere.
+#[test]
+fn names_the_first_move_of_all_stripes(rt: HostRuntime) {
+    let alloc = rt.alloc();
+    let job = block_job(0);
+    let part = plate(alloc, 200).unwrap_or_else(|_| panic!(rt; "want of memory"));
+    let gouge = Verdict::Reject(Reason::Gouge {
+        at: 124,
+        tri: 0,
+        leaf: Leaf { d: 8, k: 254 },
+    });
+    let accept = Verdict::Accept {
+        moves: 300,
+        columns: 9,
+        most_left: 0,
+    };
+    for (first, second, want) in [
+        (62, 65, gouge),
+        (62, 100, gouge),
+        (62, 130, gouge),
+        (150, 150, accept),
+    ] {
+        let moves = downs_and_ups(alloc, first, second)
+            .unwrap_or_else(|_| panic!(rt; "want of memory"));
+        for workers in [1, 2, 3, 4, 64] {
+            assert_eq!(rt;
+                verify(&rt, alloc, &job, &part, &moves, workers),
+                Ok(want),
+                "by {workers} at {second}"
             );
         }
     }

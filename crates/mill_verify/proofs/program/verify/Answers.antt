@@ -3,4 +3,4 @@ use Rattle.mill_verify.proofs.program.verify.Goals as goal
 
 pub returns-clause-safe : goal.returns-clause-safe
 returns-clause-safe g c count columns left e =
-    accepted_is_safe c.halving_keeps_point.ensures c.args.job.now c.args.part.now c.args.moves.now c.verdict_of.result c.requires.job_ok c.requires.moves_ok c.verdict_of.ensures.verdict count columns left (cc)
+    accepted_is_safe c.args.job.now c.args.part.now c.args.moves.now c.verdict_of.result c.requires.job_ok c.requires.moves_ok c.verdict_of.ensures.verdict count columns left (cc)

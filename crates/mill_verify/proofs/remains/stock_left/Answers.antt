@@ -1,30 +1,6 @@
-use Rattle.std.proofs.Common.{◌∙◌, to_z, of_z, w32, refl, arith}
-use Rattle.std.proofs.lemmas.Int.{ints, clamps}
-use Rattle.mill_verify.proofs.Ranges.{rows_few, some_rows}
-use Rattle.mill_verify.proofs.Most.{max_is}
-use Rattle.mill_verify.proofs.StockLemmas.{row_there, row_read}
-use Rattle.mill_verify.proofs.Left.{stock_left_none, stock_left_more, stock_left_all, first_uncut_from}
+use Rattle.mill_verify.proofs.Ranges.{some_rows}
+use Rattle.mill_verify.proofs.Left.{stock_told}
 use Rattle.mill_verify.proofs.remains.stock_left.Goals as goal
 
-pub loop-index-init : goal.loop-index-init
-loop-index-init c = stock_left_none refl
-
-pub overflow_cast-index : goal.overflow_cast-index
-overflow_cast-index c = omega (arith, rows_few c.requires.job_ok, c.requires.rows_ok.count)
-
-pub row_left-requires-clause-there : goal.row_left-requires-clause-there
-row_left-requires-clause-there c = row_there c.requires.rows_ok c.loop-index-test.true
-
-pub row_left-requires-clause-row_ok : goal.row_left-requires-clause-row_ok
-row_left-requires-clause-row_ok c = row_read c.requires.rows_ok c.loop-index-test.true c.index-rows-index.is
-
-pub returns-in-Err : goal.returns-in-Err
-returns-in-Err c = first_uncut_from (row_there c.requires.rows_ok c.loop-index-test.true) c.loop-index.invariant c.in-Err.ensures.0 c.in-Err.ensures.1
-
-pub loop-index-preserved : goal.loop-index-preserved
-loop-index-preserved c =
-    let greater = c.max-most.ensures ∙ max_is (to_z w32 c.loop-index.most-bits) (to_z w32 (of_z w32 c.in-Ok.left)) in
-    stock_left_more c.loop-index.invariant c.in-Ok.ensures (omega (arith, ints, clamps, greater))
-
 pub returns : goal.returns
-returns c = stock_left_all (omega (arith, c.requires.rows_ok.count)) (some_rows c.args.job.now) c.loop-index.invariant
+returns g c = stock_told c.args.job.now c.args.part.now c.args.moves.now _ c.rows_left.result c.requires.rows_ok.count (some_rows c.args.job.now) c.rows_left.ensures
