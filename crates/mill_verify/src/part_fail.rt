@@ -98,7 +98,7 @@ fn first_in_stripes<R: Threads + Sync>(
     stripes: Stripes,
 ) -> Option<PartFail>
     requires job_ok { IsJob job.now }
-    requires cells_ok { cells.now ≡ boxes_of part.now }
+    requires cells_ok { cells.now ≡ sorted_of part.now }
     requires top_ok { IsLid part.now part_top }
     requires moves_ok { MovesInRange moves.now }
     requires few { length moves.now ≤ 1000000 }
@@ -179,7 +179,7 @@ fn scan_stripe(
     stripe: Stripes,
 ) -> Option<PartFail>
     requires job_ok { IsJob job.now }
-    requires cells_ok { cells.now ≡ boxes_of part.now }
+    requires cells_ok { cells.now ≡ sorted_of part.now }
     requires top_ok { IsLid part.now part_top }
     requires moves_ok { MovesInRange moves.now }
     requires few { length moves.now ≤ 1000000 }

@@ -64,7 +64,7 @@ fn rows_left<R: Threads + Sync>(
     workers: u32,
 ) -> Result<i32, Uncut>
     requires job_ok { IsJob job.now }
-    requires cells_ok { cells.now ≡ boxes_of part.now }
+    requires cells_ok { cells.now ≡ sorted_of part.now }
     requires rows_ok { IsStock job.now moves.now rows.now }
     requires order { start ≤ end }
     requires there { end ≤ length rows.now }
@@ -73,14 +73,14 @@ fn rows_left<R: Threads + Sync>(
         result
         (AreRowsLeft job.now part.now moves.now start end)
         (λ uncut. IsFirstUncutOf
-            job.now
-            part.now
-            moves.now
-            start
-            end
-            uncut.row
-            uncut.col
-            uncut.top) }
+        job.now
+        part.now
+        moves.now
+        start
+        end
+        uncut.row
+        uncut.col
+        uncut.top) }
 {
     if workers <= 1 || end - start <= 1 {
         return scan_rows(job, part, cells, moves, rows, start, end);
@@ -93,7 +93,7 @@ fn rows_left<R: Threads + Sync>(
         || -> Result<i32, Uncut>
             requires sync { IsSync R.row }
             requires job_ok { IsJob job.now }
-            requires cells_ok { cells.now ≡ boxes_of part.now }
+            requires cells_ok { cells.now ≡ sorted_of part.now }
             requires rows_ok { IsStock job.now moves.now rows.now }
             requires order { start ≤ middle }
             requires there { middle ≤ length rows.now }
@@ -102,14 +102,14 @@ fn rows_left<R: Threads + Sync>(
                 result
                 (AreRowsLeft job.entry.now part.entry.now moves.entry.now start middle)
                 (λ uncut. IsFirstUncutOf
-                    job.entry.now
-                    part.entry.now
-                    moves.entry.now
-                    start
-                    middle
-                    uncut.row
-                    uncut.col
-                    uncut.top) }
+                job.entry.now
+                part.entry.now
+                moves.entry.now
+                start
+                middle
+                uncut.row
+                uncut.col
+                uncut.top) }
         {
             rows_left(
                 rt,
@@ -126,7 +126,7 @@ fn rows_left<R: Threads + Sync>(
         || -> Result<i32, Uncut>
             requires sync { IsSync R.row }
             requires job_ok { IsJob job.now }
-            requires cells_ok { cells.now ≡ boxes_of part.now }
+            requires cells_ok { cells.now ≡ sorted_of part.now }
             requires rows_ok { IsStock job.now moves.now rows.now }
             requires order { middle ≤ end }
             requires there { end ≤ length rows.now }
@@ -135,14 +135,14 @@ fn rows_left<R: Threads + Sync>(
                 result
                 (AreRowsLeft job.entry.now part.entry.now moves.entry.now middle end)
                 (λ uncut. IsFirstUncutOf
-                    job.entry.now
-                    part.entry.now
-                    moves.entry.now
-                    middle
-                    end
-                    uncut.row
-                    uncut.col
-                    uncut.top) }
+                job.entry.now
+                part.entry.now
+                moves.entry.now
+                middle
+                end
+                uncut.row
+                uncut.col
+                uncut.top) }
         {
             rows_left(
                 rt,
@@ -193,7 +193,7 @@ fn scan_rows(
     end: usize,
 ) -> Result<i32, Uncut>
     requires job_ok { IsJob job.now }
-    requires cells_ok { cells.now ≡ boxes_of part.now }
+    requires cells_ok { cells.now ≡ sorted_of part.now }
     requires rows_ok { IsStock job.now moves.now rows.now }
     requires order { start ≤ end }
     requires there { end ≤ length rows.now }
@@ -201,14 +201,14 @@ fn scan_rows(
         result
         (AreRowsLeft job.now part.now moves.now start end)
         (λ uncut. IsFirstUncutOf
-            job.now
-            part.now
-            moves.now
-            start
-            end
-            uncut.row
-            uncut.col
-            uncut.top) }
+        job.now
+        part.now
+        moves.now
+        start
+        end
+        uncut.row
+        uncut.col
+        uncut.top) }
 {
     let mut most = 0;
     for index in start..end {
