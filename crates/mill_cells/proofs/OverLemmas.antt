@@ -1,20 +1,17 @@
 -- A walk that passes over the triangles whose tops aren't over a height.
-use Rattle.std.proofs.Common.{◌≡◌, ℕ, suc, ◌+◌, ◌-◌, ◌*◌, ◌<◌, ◌≤◌, Bool, true, false, ◌&&◌, List, [], ◌∷◌, ◌++◌, get_or, refl, sym, subst, ap, ◌∙◌, arith}
-use Rattle.std.specs.Prelude.{slice_range, filter}
-use Rattle.std.specs.List.{Contains}
+use Rattle.std.proofs.Common.{◌≡◌, ℕ, suc, ◌+◌, ◌-◌, ◌*◌, ◌<◌, Bool, true, false, ◌&&◌, List, [], ◌∷◌, ◌++◌, get_or, refl, sym, subst, ap, ◌∙◌, arith}
 use Rattle.std.proofs.lemmas.Bool.{and_parts}
 use Rattle.std.proofs.lemmas.List.Elements.{All-contains}
 use Rattle.std.proofs.lemmas.Int.{ints}
 use lib.IntN.{ℤ}
-use lib.Signed.{◌<ℤ◌, ◌≤ℤ◌, lt_z, le_z}
+use lib.Signed.{◌≤ℤ◌, lt_z, le_z}
 use Rattle.mill_cells.specs.Boxes.{box_at}
 use Rattle.mill_cells.specs.Frames.{cell_count, block_of}
-use Rattle.mill_cells.specs.Grids.{numbers_in, IsGrid}
+use Rattle.mill_cells.specs.Grids.{numbers_in}
 use Rattle.mill_cells.specs.Passed.{ArePassed, IsNext}
 use Rattle.mill_cells.specs.Sorted.{height_at, AreUnder}
 use Rattle.mill_cells.specs.Walks.{shows, column_in, row_in, given_in, given_from, rest_of, moved, IsWalk}
 use Rattle.mill_cells.specs.declared.frame.Block.{Block}
-use Rattle.mill_cells.specs.declared.grid.Grid.{Grid}
 use Rattle.mill_cells.specs.declared.walk.Walk.{Walk}
 use Rattle.mill_cells.proofs.BoxLemmas.{not_less, is_less, le_trans_ℤ}
 use Rattle.mill_cells.proofs.Lists.{Contains-filter}

@@ -93,8 +93,17 @@ fn finds_the_top_near(rt: HostRuntime) -> Result<(), Fail> {
         (50, 60, -9, -9),
         (50, 500, 7, 8),
     ] {
-        let area = Box2 { x0, y0: 0, x1, y1: 9 };
-        assert_eq!(rt; top_near(&cells, &tris, area, floor), top, "from {x0} over {floor}");
+        let area = Box2 {
+            x0,
+            y0: 0,
+            x1,
+            y1: 9,
+        };
+        assert_eq!(rt;
+            top_near(&cells, &tris, area, floor),
+            top,
+            "from {x0} over {floor}"
+        );
     }
     Ok(())
 }
@@ -113,11 +122,7 @@ fn gives_what_is_over_a_height(rt: HostRuntime) -> Result<(), Fail> {
         x1: 100,
         y1: 10,
     };
-    for (height, first, second) in [
-        (4, Some(0), Some(1)),
-        (5, Some(1), None),
-        (8, None, None),
-    ] {
+    for (height, first, second) in [(4, Some(0), Some(1)), (5, Some(1), None), (8, None, None)] {
         let mut near = cells.near_over(area);
         assert_eq!(rt; near.next_over(height), first, "over {height}");
         assert_eq!(rt; near.next_over(height), second, "over {height}");

@@ -1,4 +1,3 @@
-use Rattle.std.proofs.Common.{arith}
 use Rattle.mill_cells.proofs.WalkLemmas.{cell_is}
 use Rattle.mill_cells.proofs.walk.Walk.next_cell.Goals as goal
 
