@@ -248,12 +248,18 @@ none_near g all i h none n =
     none (record { x = m.x; y = m.y; in_first = inner_point g.frame.bounds (box_at g.boxes.items i) m.x m.y (h.inside i n.within) m.in_first; in_second = m.in_second })
 
 -- a walk that begins
+first_is : (first width : ℕ) → 0 < width → first ≡ first + 0 % width
+first_is first width some = let z : 0 * width + 0 ≡ 0 = omega arith in let m : 0 % width ≡ 0 = rw z at (mod-mul-add 0 width 0 some) in omega (arith, m)
+
+first_row_is : (first width : ℕ) → 0 < width → first ≡ first + 0 / width
+first_row_is first width some = let z : 0 * width + 0 ≡ 0 = omega arith in let d : 0 / width ≡ 0 = rw z at (div-mul-add 0 width 0 some) in omega (arith, d)
+
 none_tell : (g : Bor Grid) (area : Box2) → TellFirst g.now.frame g.now.boxes.items area 0 0 (pos 0) (pos 0) (slice_range g.now.entries.items 0 0)
 none_tell g area = subst (TellFirst g.now.frame g.now.boxes.items area 0 0 (pos 0) (pos 0)) (sym (between_none g.now.entries.items 0)) (λ k d less. absurd (omega arith))
 
 pub new_walk : (g : Bor Grid) (area : Box2) (block : Block) (cells : ℕ) → IsGrid g.now → IsInside g.now.frame.bounds area → block ≡ block_of g.now.frame area → cells ≤ area_of block → IsWalk (walk_over g area block cells)
 new_walk g area block cells h ia e le =
-    record { grid = h; inside = ia; block = e; cells = le; entered = omega arith; order = omega arith; room = omega arith; borders = none_tell g area }
+    record { grid = h; inside = ia; block = e; cells = le; entered = omega arith; next_column = first_is block.first_column (width_of block) (omega arith); next_row = first_row_is block.first_row (width_of block) (omega arith); order = omega arith; room = omega arith; borders = none_tell g area }
 
 pub new_rest : (g : Bor Grid) (area : Box2) (block : Block) (cells : ℕ) → rest_of (walk_over g area block cells) ≡ given_from g.now.frame g.now.boxes.items area 0 cells
 new_rest g area block cells =

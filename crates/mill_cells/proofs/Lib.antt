@@ -11,6 +11,7 @@ pub mod Passing
 pub mod Placements
 pub mod SizeLemmas
 pub mod Summing
+pub mod TestLemmas
 pub mod UpTo
 pub mod WalkLemmas
 pub mod Walked

@@ -1,20 +1,17 @@
 -- A walk that passes over the triangles whose tops aren't over a height.
-use Rattle.std.proofs.Common.{◌≡◌, ℕ, suc, ◌+◌, ◌-◌, ◌*◌, ◌<◌, ◌≤◌, Bool, true, false, ◌&&◌, List, [], ◌∷◌, ◌++◌, get_or, refl, sym, subst, ap, ◌∙◌, arith}
-use Rattle.std.specs.Prelude.{slice_range, filter}
-use Rattle.std.specs.List.{Contains}
+use Rattle.std.proofs.Common.{◌≡◌, ℕ, suc, ◌+◌, ◌-◌, ◌*◌, ◌<◌, Bool, true, false, ◌&&◌, List, [], ◌∷◌, ◌++◌, get_or, refl, sym, subst, ap, ◌∙◌, arith}
 use Rattle.std.proofs.lemmas.Bool.{and_parts}
 use Rattle.std.proofs.lemmas.List.Elements.{All-contains}
 use Rattle.std.proofs.lemmas.Int.{ints}
 use lib.IntN.{ℤ}
-use lib.Signed.{◌<ℤ◌, ◌≤ℤ◌, lt_z, le_z}
+use lib.Signed.{◌≤ℤ◌, lt_z, le_z}
 use Rattle.mill_cells.specs.Boxes.{box_at}
 use Rattle.mill_cells.specs.Frames.{cell_count, block_of}
-use Rattle.mill_cells.specs.Grids.{numbers_in, IsGrid}
+use Rattle.mill_cells.specs.Grids.{numbers_in}
 use Rattle.mill_cells.specs.Passed.{ArePassed, IsNext}
 use Rattle.mill_cells.specs.Sorted.{height_at, AreUnder}
-use Rattle.mill_cells.specs.Walks.{shows, column_in, row_in, given_in, given_from, rest_of, IsWalk}
+use Rattle.mill_cells.specs.Walks.{shows, column_in, row_in, given_in, given_from, rest_of, moved, IsWalk}
 use Rattle.mill_cells.specs.declared.frame.Block.{Block}
-use Rattle.mill_cells.specs.declared.grid.Grid.{Grid}
 use Rattle.mill_cells.specs.declared.walk.Walk.{Walk}
 use Rattle.mill_cells.proofs.BoxLemmas.{not_less, is_less, le_trans_ℤ}
 use Rattle.mill_cells.proofs.Lists.{Contains-filter}
@@ -113,24 +110,9 @@ over_on old w mid new height h p em q en walk =
       tops = en ∙ (em ∙ h.tops);
     }
 
--- the walk past its next cell
-abbrev pub skipped : Walk → Walk
-skipped w = record w { entered = w.entered + 1 }
-
-pub skip_walks : (w : Walk) → w.entered < w.cells → IsWalk w → IsWalk (skipped w)
-skip_walks w less h = record {
-  grid = h.grid;
-  inside = h.inside;
-  block = h.block;
-  cells = h.cells;
-  entered = omega arith;
-  order = h.order;
-  room = h.room;
-  borders = h.borders;
-}
-
-skip_splits : (w : Walk) → w.entered < w.cells → w.place ≡ w.end → rest_of w ≡ given_in w.grid.now.frame w.grid.now.boxes.items w.area w.entered ++ rest_of (skipped w)
-skip_splits w less done =
+-- what is given in the next cell comes first
+skip_splits : (w : Walk) (column row : ℕ) → w.entered < w.cells → w.place ≡ w.end → rest_of w ≡ given_in w.grid.now.frame w.grid.now.boxes.items w.area w.entered ++ rest_of (moved w column row)
+skip_splits w column row less done =
     let n : w.cells - w.entered ≡ suc (w.cells - (w.entered + 1)) = omega arith in
     let none = part_none (shows_in w) w.grid.now.entries.items w.place w.end done in
     ap (λ (xs : List ℕ). xs ++ given_from w.grid.now.frame w.grid.now.boxes.items w.area w.entered (w.cells - w.entered)) none
@@ -154,14 +136,19 @@ under_lid w height cell h e within low =
     let k = Contains-filter (λ j. shows f w.area column row (box_at boxes j)) (numbers_in f boxes (row * f.columns + column)) i c in
     le_trans_ℤ (height_at tops i) (height_at w.grid.now.lids.items cell) height (All-contains (λ j. height_at tops j ≤ℤ height_at w.grid.now.lids.items cell) (numbers_in f boxes (row * f.columns + column)) i at k.0) low)
 
-pub skip_passes : (w : Walk) (height : ℤ) (cell : ℕ) → IsWalk w → w.entered < w.cells → w.place ≡ w.end
-    → cell ≡ row_in w.block w.entered * w.grid.now.frame.columns + column_in w.block w.entered → cell < cell_count w.grid.now.frame → height_at w.grid.now.lids.items cell ≤ℤ height
-    → ArePassed w.grid.now.tops.items height (rest_of w) (rest_of (skipped w))
-skip_passes w height cell h less done e within low = record {
+pub skip_passes : (w : Walk) (height : ℤ) (cell column row : ℕ) → IsWalk w → w.entered < w.cells → w.place ≡ w.end
+    → cell ≡ w.next_row * w.grid.now.frame.columns + w.next_column → cell < cell_count w.grid.now.frame → height_at w.grid.now.lids.items cell ≤ℤ height
+    → ArePassed w.grid.now.tops.items height (rest_of w) (rest_of (moved w column row))
+skip_passes w height cell column row h less done e within low = record {
   passed = given_in w.grid.now.frame w.grid.now.boxes.items w.area w.entered;
-  split = skip_splits w less done;
-  under = under_lid w height cell h (e ∙ ap (λ (b : Block). row_in b w.entered * w.grid.now.frame.columns + column_in b w.entered) h.block) within low;
+  split = skip_splits w column row less done;
+  under = under_lid w height cell h (e ∙ next_at w h) within low;
 }
+  where
+    next_at : (w : Walk) → IsWalk w → w.next_row * w.grid.now.frame.columns + w.next_column
+        ≡ row_in (block_of w.grid.now.frame w.area) w.entered * w.grid.now.frame.columns + column_in (block_of w.grid.now.frame w.area) w.entered
+    next_at w h =
+        rw (h.next_row, h.next_column) (ap (λ (b : Block). row_in b w.entered * w.grid.now.frame.columns + column_in b w.entered) h.block)
 
 pub at_most : (a b : ℤ) → le_z a b ≡ true → a ≤ℤ b
 at_most a b e = grind (arith, ints)

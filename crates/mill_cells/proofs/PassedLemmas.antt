@@ -1,16 +1,16 @@
 -- Numbers that are passed over, since their tops aren't over a height.
-use Rattle.std.proofs.Common.{◌≡◌, ◌⊎◌, ℕ, suc, ◌+◌, ◌<◌, List, [], ◌∷◌, ◌++◌, length, get_or, map, append_assoc, refl, sym, subst, ap, ◌∙◌, inl, inr, Option, Some, None, arith}
+use Rattle.std.proofs.Common.{◌≡◌, ℕ, ◌<◌, List, [], ◌∷◌, ◌++◌, length, get_or, map, append_assoc, sym, subst, ap, ◌∙◌, inl, inr, Option, Some, None, arith}
 use Rattle.std.specs.Prelude.{nat_eq, All, MatchOption}
 use Rattle.std.specs.List.{Contains, IsDistinct}
 use Rattle.std.proofs.lemmas.List.{length-append, get_or-map}
 use Rattle.std.proofs.lemmas.List.Elements.{All-nil, All-cons, All-append, All-contains, Contains-append_cases, Contains-append_right, Contains-get_or}
 use lib.IntN.{ℤ, pos}
-use lib.Signed.{◌<ℤ◌, ◌≤ℤ◌}
+use lib.Signed.{◌≤ℤ◌}
 use Rattle.mill_base.specs.Points.{highest}
 use Rattle.mill_base.specs.declared.points.Tri.{Tri}
 use Rattle.mill_cells.specs.Ahead.{Ahead, Comes, NoneComes, AreDealt}
 use Rattle.mill_cells.specs.Passed.{ArePassed, IsNext}
-use Rattle.mill_cells.specs.Sorted.{height_at, AreUnder}
+use Rattle.mill_cells.specs.Sorted.{height_at}
 use Rattle.mill_cells.proofs.Lists.{nothing_in_nil, here, there, cons_cases}
 
 -- the top of a triangle in the list

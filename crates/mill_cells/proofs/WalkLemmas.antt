@@ -1,16 +1,16 @@
 -- A walk through the cells of an area.
-use Rattle.std.proofs.Common.{◌≡◌, ℕ, suc, ◌+◌, ◌-◌, ◌*◌, ◌/◌, ◌%◌, ◌<◌, ◌≤◌, Bool, true, false, mul_comm, List, [], ◌∷◌, ◌++◌, length, get_or, refl, sym, subst, ap, ◌∙◌, arith}
+use Rattle.std.proofs.Common.{◌≡◌, ℕ, suc, ◌+◌, ◌-◌, ◌*◌, ◌/◌, ◌%◌, ◌<◌, ◌≤◌, Bool, true, false, mul_comm, add-mul, List, [], ◌∷◌, ◌++◌, length, get_or, refl, sym, subst, ap, ◌∙◌, inl, inr, arith}
 use Rattle.std.specs.Prelude.{slice_index, slice_range, filter, All}
 use Rattle.std.proofs.lemmas.List.Elements.{All-head, All-rest}
-use Rattle.std.proofs.lemmas.Bool.{cond-true, cond-false}
+use Rattle.std.proofs.lemmas.Bool.{cases_lt, cond-true, cond-false}
 use Rattle.std.proofs.lemmas.List.{drop_more}
 use Rattle.std.proofs.lemmas.List.Edits.{between_none}
-use Rattle.std.proofs.lemmas.Nat.{div_below, mod_below, mul-add-lt}
+use Rattle.std.proofs.lemmas.Nat.{div_below, mod_below, mul-add-lt, div-add-mod', div-mul-add, mod-mul-add}
 use Rattle.mill_base.specs.declared.points.Box2.{Box2}
 use Rattle.mill_cells.specs.Boxes.{box_at}
 use Rattle.mill_cells.specs.Frames.{border_of, cell_count, block_of, width_of, height_of, area_of, IsBlock}
 use Rattle.mill_cells.specs.Grids.{numbers_in, start_of, IsGrid}
-use Rattle.mill_cells.specs.Walks.{TellFirst, begins_at, is_first_cell, shows, column_in, row_in, given_from, rest_of, IsWalk}
+use Rattle.mill_cells.specs.Walks.{TellFirst, begins_at, is_first_cell, shows, column_in, row_in, given_from, rest_of, moved, IsWalk}
 use Rattle.mill_cells.specs.declared.frame.Frame.{Frame}
 use Rattle.mill_cells.specs.declared.frame.Block.{Block}
 use Rattle.mill_cells.specs.declared.grid.Grid.{Grid}
@@ -65,6 +65,8 @@ step_walks w less h = record {
   block = h.block;
   cells = h.cells;
   entered = h.entered;
+  next_column = h.next_column;
+  next_row = h.next_row;
   order = omega arith;
   room = h.room;
   borders = All-rest (λ i. begins_at w.west w.south (box_at w.grid.now.boxes.items i) ≡ is_first_cell (block_of w.grid.now.frame w.area) (block_of w.grid.now.frame (box_at w.grid.now.boxes.items i)) w.column w.row)
@@ -114,10 +116,9 @@ enters g area entered cells s t column row h ec er within es et less =
     let part = part_is g (row * g.frame.columns + column) s t h within es et in
     rw (n, part, ec, er) refl
 
--- the walk in its next cell
-abbrev pub entered_at : Walk → ℕ → ℕ → ℤ → ℤ → ℕ → ℕ → Walk
-entered_at w column row west south s t =
-    record { grid = w.grid; area = w.area; block = w.block; cells = w.cells; entered = w.entered + 1; column = column; row = row; west = west; south = south; place = s; «end» = t }
+-- the walk at the begin of its next cell
+abbrev pub begun_at : Walk → ℤ → ℤ → ℕ → ℕ → Walk
+begun_at w west south s t = record w { column = w.next_column; row = w.next_row; west = west; south = south; place = s; «end» = t }
 
 walk_cell : (w : Walk) → IsWalk w → w.entered < w.cells
     → (column_in w.block w.entered ≤ w.block.last_column) × (row_in w.block w.entered ≤ w.block.last_row) × (column_in w.block w.entered < w.grid.now.frame.columns) × (row_in w.block w.entered < w.grid.now.frame.rows)
@@ -128,57 +129,89 @@ walk_cell w h more =
 pub walk_block : (w : Walk) → IsWalk w → IsBlock w.block
 walk_block w h = subst IsBlock (sym h.block) (block_is w.grid.now.frame w.area h.grid.frame.bounds h.grid.frame.some h.inside)
 
--- the next cell, by a width that is the block's
-pub cell_is : (w : Walk) (width : ℕ) → IsWalk w → w.entered < w.cells → width ≡ width_of w.block
-    → (w.block.first_row + w.entered / width ≤ w.block.last_row) × ((w.block.first_row + w.entered / width) * w.grid.now.frame.columns + (w.block.first_column + w.entered % width) < cell_count w.grid.now.frame)
-    × (w.block.first_column + w.entered % width < w.grid.now.frame.columns) × (w.block.first_row + w.entered / width < w.grid.now.frame.rows)
-cell_is w width h more e = let k = walk_cell w h more in rw e (k.1, k.4, k.2, k.3)
+-- the next cell lies in its block and in the frame
+pub cell_is : (w : Walk) → IsWalk w → w.entered < w.cells
+    → (w.next_row ≤ w.block.last_row) × (w.next_row * w.grid.now.frame.columns + w.next_column < cell_count w.grid.now.frame) × (w.next_column < w.grid.now.frame.columns) × (w.next_row < w.grid.now.frame.rows)
+    × (w.next_column ≤ w.block.last_column)
+cell_is w h more = let k = walk_cell w h more in rw (h.next_column, h.next_row) (k.1, k.4, k.2, k.3, k.0)
 
-pub enter_walks : (w : Walk) (width s t : ℕ) (west south : ℤ) → IsWalk w → w.entered < w.cells → width ≡ width_of w.block
-    → west ≡ border_of w.grid.now.frame.bounds.x0 w.grid.now.frame.size w.block.first_column (w.block.first_column + w.entered % width)
-    → south ≡ border_of w.grid.now.frame.bounds.y0 w.grid.now.frame.size w.block.first_row (w.block.first_row + w.entered / width)
-    → s ≡ slice_index w.grid.now.starts.items ((w.block.first_row + w.entered / width) * w.grid.now.frame.columns + (w.block.first_column + w.entered % width))
-    → t ≡ slice_index w.grid.now.starts.items (((w.block.first_row + w.entered / width) * w.grid.now.frame.columns + (w.block.first_column + w.entered % width)) + 1)
-    → IsWalk (entered_at w (w.block.first_column + w.entered % width) (w.block.first_row + w.entered / width) west south s t)
-enter_walks w width s t west south h more e ew es' es et =
-    let k = cell_is w width h more e in
-    let column = w.block.first_column + w.entered % width in
-    let row = w.block.first_row + w.entered / width in
-    let cell = row * w.grid.now.frame.columns + column in
+pub enter_walks : (w : Walk) (cell s t : ℕ) (west south : ℤ) → IsWalk w → w.entered < w.cells → cell ≡ w.next_row * w.grid.now.frame.columns + w.next_column → cell < cell_count w.grid.now.frame
+    → west ≡ border_of w.grid.now.frame.bounds.x0 w.grid.now.frame.size w.block.first_column w.next_column
+    → south ≡ border_of w.grid.now.frame.bounds.y0 w.grid.now.frame.size w.block.first_row w.next_row
+    → s ≡ slice_index w.grid.now.starts.items cell → t ≡ slice_index w.grid.now.starts.items (cell + 1) → IsWalk (begun_at w west south s t)
+enter_walks w cell s t west south h more e within ew es' es et =
+    let k = cell_is w h more in
     let f = w.grid.now.frame in
     let boxes = w.grid.now.boxes.items in
-    let a = h.grid.starts cell (omega (arith, k.1)) in
-    let b = h.grid.starts (cell + 1) (omega (arith, k.1)) in
+    let a = h.grid.starts cell (omega arith) in
+    let b = h.grid.starts (cell + 1) (omega arith) in
+    let part : slice_range w.grid.now.entries.items s t ≡ numbers_in f boxes (w.next_row * f.columns + w.next_column) = part_is w.grid.now cell s t h.grid within es et ∙ ap (numbers_in f boxes) e in
     record {
       grid = h.grid;
       inside = h.inside;
       block = h.block;
       cells = h.cells;
-      entered = omega arith;
+      entered = h.entered;
+      next_column = h.next_column;
+      next_row = h.next_row;
       order = omega (arith, es, et, a, b, start_mono f boxes cell (cell + 1) (omega arith));
-      room = omega (arith, et, b, h.grid.size, start_mono f boxes (cell + 1) (cell_count f) (omega (arith, k.1)));
-      borders = subst (TellFirst f boxes w.area column row west south) (sym (part_is w.grid.now cell s t h.grid k.1 es et))
-          (borders_tell w.grid.now w.area column row west south h.grid k.2 (omega (arith, ap (λ (c : Block). c.first_column) h.block)) (omega (arith, ap (λ (c : Block). c.first_row) h.block))
-          (ew ∙ ap (λ (c : Block). border_of f.bounds.x0 f.size c.first_column column) h.block) (es' ∙ ap (λ (c : Block). border_of f.bounds.y0 f.size c.first_row row) h.block));
+      room = omega (arith, et, b, h.grid.size, start_mono f boxes (cell + 1) (cell_count f) (omega arith));
+      borders = subst (TellFirst f boxes w.area w.next_column w.next_row west south) (sym part)
+          (borders_tell w.grid.now w.area w.next_column w.next_row west south h.grid k.2 (omega (arith, h.next_column, ap (λ (c : Block). c.first_column) h.block)) (omega (arith, h.next_row, ap (λ (c : Block). c.first_row) h.block))
+          (ew ∙ ap (λ (c : Block). border_of f.bounds.x0 f.size c.first_column w.next_column) h.block) (es' ∙ ap (λ (c : Block). border_of f.bounds.y0 f.size c.first_row w.next_row) h.block));
     }
 
-pub enter_rest : (w : Walk) (width s t : ℕ) (west south : ℤ) → IsWalk w → w.entered < w.cells → w.place ≡ w.end → width ≡ width_of w.block
-    → s ≡ slice_index w.grid.now.starts.items ((w.block.first_row + w.entered / width) * w.grid.now.frame.columns + (w.block.first_column + w.entered % width))
-    → t ≡ slice_index w.grid.now.starts.items (((w.block.first_row + w.entered / width) * w.grid.now.frame.columns + (w.block.first_column + w.entered % width)) + 1)
-    → rest_of (entered_at w (w.block.first_column + w.entered % width) (w.block.first_row + w.entered / width) west south s t) ≡ rest_of w
-enter_rest w width s t west south h more done e es et =
-    let k = cell_is w width h more e in
-    let wide : width ≡ width_of (block_of w.grid.now.frame w.area) = e ∙ ap width_of h.block in
-    enters w.grid.now w.area w.entered w.cells s t (w.block.first_column + w.entered % width) (w.block.first_row + w.entered / width) h.grid
-    (column_is w.block (block_of w.grid.now.frame w.area) w.entered width h.block wide) (row_is w.block (block_of w.grid.now.frame w.area) w.entered width h.block wide) k.1 es et more
+pub enter_rest : (w : Walk) (cell s t : ℕ) (west south : ℤ) (column row : ℕ) → IsWalk w → w.entered < w.cells → w.place ≡ w.end → cell ≡ w.next_row * w.grid.now.frame.columns + w.next_column → cell < cell_count w.grid.now.frame
+    → s ≡ slice_index w.grid.now.starts.items cell → t ≡ slice_index w.grid.now.starts.items (cell + 1) → rest_of (moved (begun_at w west south s t) column row) ≡ rest_of w
+enter_rest w cell s t west south column row h more done e within es et =
+    enters w.grid.now w.area w.entered w.cells s t w.next_column w.next_row h.grid
+    (h.next_column ∙ ap (λ (b : Block). column_in b w.entered) h.block) (h.next_row ∙ ap (λ (b : Block). row_in b w.entered) h.block) (subst (λ (k : ℕ). k < cell_count w.grid.now.frame) e within)
+    (es ∙ ap (slice_index w.grid.now.starts.items) e) (et ∙ ap (λ (k : ℕ). slice_index w.grid.now.starts.items (k + 1)) e) more
     ∙ sym (ap (λ (xs : List ℕ). xs ++ given_from w.grid.now.frame w.grid.now.boxes.items w.area w.entered (w.cells - w.entered))
     (part_none (λ i. shows w.grid.now.frame w.area w.column w.row (box_at w.grid.now.boxes.items i)) w.grid.now.entries.items w.place w.end done))
-  where
-    column_is : (b d : Block) (n width : ℕ) → b ≡ d → width ≡ width_of d → b.first_column + n % width ≡ column_in d n
-    column_is b d n width eb ew = rw (eb, ew) refl
 
-    row_is : (b d : Block) (n width : ℕ) → b ≡ d → width ≡ width_of d → b.first_row + n / width ≡ row_in d n
-    row_is b d n width eb ew = rw (eb, ew) refl
+-- the cell after one in a block, counted row by row
+pub next_along : (b : Block) (n column row : ℕ) → IsBlock b → column ≡ column_in b n → row ≡ row_in b n → (column ≡ b.last_column → ⊥) → (column + 1 ≡ column_in b (n + 1)) × (row ≡ row_in b (n + 1))
+next_along b n column row h ec er other =
+    let width = width_of b in
+    let whole : n / width * width + n % width ≡ n = div-add-mod' n width in
+    let under : n % width < width = mod_below n width (omega arith) in
+    let narrow : n % width + 1 < width = not_last (n % width) (omega (arith, h.columns)) (λ e. other (omega (arith, h.columns))) in
+    let one : n / width * width + (n % width + 1) ≡ n + 1 = omega arith in
+    let m : (n + 1) % width ≡ n % width + 1 = rw one at (mod-mul-add (n / width) width (n % width + 1) narrow) in
+    let d : (n + 1) / width ≡ n / width = rw one at (div-mul-add (n / width) width (n % width + 1) narrow) in
+    (omega (arith, m), omega (arith, d))
+  where
+    not_last : (r : ℕ) → r ≤ b.last_column - b.first_column → (r ≡ b.last_column - b.first_column → ⊥) → r + 1 < width_of b
+    not_last r le ne = elim (cases_lt r (b.last_column - b.first_column)) [
+      | inl less ↦ omega arith
+      | inr more ↦ absurd (ne (omega arith))
+    ]
+
+pub next_above : (b : Block) (n column row : ℕ) → IsBlock b → column ≡ column_in b n → row ≡ row_in b n → column ≡ b.last_column → (b.first_column ≡ column_in b (n + 1)) × (row + 1 ≡ row_in b (n + 1))
+next_above b n column row h ec er last =
+    let width = width_of b in
+    let whole : n / width * width + n % width ≡ n = div-add-mod' n width in
+    let end : n % width + 1 ≡ width = omega (arith, h.columns) in
+    let one : (n / width + 1) * width + 0 ≡ n + 1 = omega (arith, add-mul (n / width) 1 width) in
+    let m : (n + 1) % width ≡ 0 = rw one at (mod-mul-add (n / width + 1) width 0 (omega arith)) in
+    let d : (n + 1) / width ≡ n / width + 1 = rw one at (div-mul-add (n / width + 1) width 0 (omega arith)) in
+    (omega (arith, m), omega (arith, d))
+
+-- a walk whose next cell is passed
+pub moved_walks : (w : Walk) (column row : ℕ) → IsWalk w → w.entered < w.cells → (column ≡ column_in w.block (w.entered + 1)) × (row ≡ row_in w.block (w.entered + 1)) → IsWalk (moved w column row)
+moved_walks w column row h more e = record {
+  grid = h.grid;
+  inside = h.inside;
+  block = h.block;
+  cells = h.cells;
+  entered = omega arith;
+  next_column = e.0;
+  next_row = e.1;
+  order = h.order;
+  room = h.room;
+  borders = h.borders;
+}
 
 -- the number at the walk's place is given, or the walk goes on
 pub gives_yes : (w : Walk) → IsWalk w → w.place < w.end → shows w.grid.now.frame w.area w.column w.row (box_at w.grid.now.boxes.items (get_or w.grid.now.entries.items w.place 0)) ≡ true

@@ -66,10 +66,16 @@ pub record IsWalk (w : Walk) : Type 0 where
   pub block : w.block ≡ block_of w.grid.now.frame w.area
   pub cells : w.cells ≤ area_of w.block
   pub entered : w.entered ≤ w.cells
+  pub next_column : w.next_column ≡ column_in w.block w.entered
+  pub next_row : w.next_row ≡ row_in w.block w.entered
   pub order : w.place ≤ w.end
   pub room : w.end ≤ length w.grid.now.entries.items
   pub borders : TellFirst w.grid.now.frame w.grid.now.boxes.items w.area w.column w.row w.west w.south (slice_range w.grid.now.entries.items w.place w.end)
 
 -- a walk before its first cell
 abbrev pub walk_over : Bor Grid → Box2 → Block → ℕ → Walk
-walk_over grid area block cells = record { grid = grid; area = area; block = block; cells = cells; entered = 0; column = 0; row = 0; west = pos 0; south = pos 0; place = 0; «end» = 0 }
+walk_over grid area block cells = record { grid = grid; area = area; block = block; cells = cells; entered = 0; next_column = block.first_column; next_row = block.first_row; column = 0; row = 0; west = pos 0; south = pos 0; place = 0; «end» = 0 }
+
+-- a walk whose next cell is passed, and the one in this column and row comes next
+abbrev pub moved : Walk → ℕ → ℕ → Walk
+moved w column row = record w { entered = w.entered + 1; next_column = column; next_row = row }

@@ -1,9 +1,11 @@
 //! A grid of square cells over a part's triangles, by which the triangles near an area are found.
 //!
 //! It stands on mill_base. `Cells::near` promises every triangle whose box in x and y meets an
-//! area, each once, and no other; `Cells::size_for` a size of cells that keeps the grid small on
-//! any mesh. Its definitions are in `specs/`: Boxes says when boxes meet, Frames which cells a box
-//! covers, Sizes which sizes are fit.
+//! area, each once, and no other; `Cells::near_over` those of them that are over a height, which may
+//! rise, and passes over whole cells under it; `Cells::size_for` a size of cells that keeps the grid
+//! small on any mesh. Its definitions are in `specs/`: Boxes says when boxes meet, Frames which cells
+//! a box covers, Sizes which sizes are fit, Sorted what a caller sees of the grid, and Ahead which
+//! triangle comes next.
 #![tactic(auto)]
 
 mod boxes;

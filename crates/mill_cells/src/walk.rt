@@ -22,6 +22,9 @@ pub struct Walk<'a> {
     /// How many of them there are, and how many were entered.
     cells: u32,
     entered: u32,
+    /// The cell that comes next, if one does.
+    next_column: u32,
+    next_row: u32,
     /// The cell that was entered last.
     column: u32,
     row: u32,
@@ -37,7 +40,7 @@ impl<'a> Walk<'a> {
     ghost use Rattle.std.specs.Prelude.{◌∷◌, [], ◌&&◌, int_lt, MatchOption};
     ghost use Rattle.mill_cells.specs.Boxes.{box_at};
     ghost use Rattle.mill_cells.specs.Frames.{block_of};
-    ghost use Rattle.mill_cells.specs.Walks.{IsWalk, rest_of, shows, walk_over, column_in, row_in};
+    ghost use Rattle.mill_cells.specs.Walks.{IsWalk, rest_of, shows, walk_over, moved};
     ghost use Rattle.mill_cells.specs.Passed.{ArePassed, IsNext};
     ghost use Rattle.mill_cells.specs.Sorted.{height_at};
 
@@ -69,6 +72,8 @@ impl<'a> Walk<'a> {
             block,
             cells,
             entered: 0,
+            next_column: block.first_column,
+            next_row: block.first_row,
             column: 0,
             row: 0,
             west: 0,
@@ -162,7 +167,7 @@ impl<'a> Walk<'a> {
         ensures rest { ArePassed self.old.grid.now.tops.items height (rest_of self.old) (rest_of self.new) }
     {
         if self.grid.lids[self.next_cell()] <= height {
-            self.entered += 1;
+            self.pass();
         } else {
             self.enter();
         }
@@ -172,13 +177,10 @@ impl<'a> Walk<'a> {
     fn next_cell(&self) -> usize
         requires walk { IsWalk self.now }
         requires more { self.now.entered < self.now.cells }
-        ensures value { result ≡ row_in self.now.block self.now.entered * self.now.grid.now.frame.columns + column_in self.now.block self.now.entered }
+        ensures value { result ≡ self.now.next_row * self.now.grid.now.frame.columns + self.now.next_column }
         ensures bound { result < cell_count self.now.grid.now.frame }
     {
-        let width = self.block.width();
-        let column = self.block.first_column + self.entered % width;
-        let row = self.block.first_row + self.entered / width;
-        row as usize * self.grid.frame.columns as usize + column as usize
+        self.next_row as usize * self.grid.frame.columns as usize + self.next_column as usize
     }
 
     /// Goes on to the next cell.
@@ -192,16 +194,31 @@ impl<'a> Walk<'a> {
         ensures tops { self.new.grid.now.tops.items ≡ self.old.grid.now.tops.items }
         ensures rest { rest_of self.new ≡ rest_of self.old }
     {
-        let width = self.block.width();
-        self.column = self.block.first_column + self.entered % width;
-        self.row = self.block.first_row + self.entered / width;
+        let cell = self.next_cell();
         let Frame { bounds, size, .. } = self.grid.frame;
+        self.column = self.next_column;
+        self.row = self.next_row;
         self.west = border(bounds.x0, size, self.block.first_column, self.column);
         self.south = border(bounds.y0, size, self.block.first_row, self.row);
-        let cell = self.row as usize * self.grid.frame.columns as usize + self.column as usize;
         self.place = self.grid.starts[cell];
         self.end = self.grid.starts[cell + 1];
+        self.pass();
+    }
+
+    /// Makes the cell after the next one the next, along the row or at the begin of the row above.
+    fn pass(&mut self)
+        requires walk { IsWalk self.old }
+        requires more { self.old.entered < self.old.cells }
+        ensures walk { IsWalk self.new }
+        ensures moved { self.new ≡ moved self.old self.new.next_column self.new.next_row }
+    {
         self.entered += 1;
+        if self.next_column == self.block.last_column {
+            self.next_column = self.block.first_column;
+            self.next_row += 1;
+        } else {
+            self.next_column += 1;
+        }
     }
 
     /// Whether a box of the present cell meets the area, and no earlier cell of the walk has it.

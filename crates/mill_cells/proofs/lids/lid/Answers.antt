@@ -1,4 +1,4 @@
-use Rattle.std.proofs.Common.{◌+◌, ◌≤ℤ◌, ℤ, ℕ, List, sym, subst, get_or, take, take_all, rules, w32, to_z, of_z}
+use Rattle.std.proofs.Common.{◌+◌, ◌≤ℤ◌, ℤ, sym, subst, get_or, take, take_all, rules, w32, to_z}
 use Rattle.std.proofs.lemmas.Int.{to_z-of_z}
 use Rattle.mill_cells.specs.Sorted.{height_at, AreUnder}
 use Rattle.mill_cells.proofs.LidLemmas.{under_more}

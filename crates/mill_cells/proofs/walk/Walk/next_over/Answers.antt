@@ -1,4 +1,4 @@
-use Rattle.std.proofs.Common.{ℤ, ℕ, List, [], subst, ◌∙◌, arith, w32, to_z, of_z}
+use Rattle.std.proofs.Common.{ℤ, [], subst, w32, to_z, of_z}
 use Rattle.std.proofs.lemmas.Int.{to_z-of_z}
 use Rattle.mill_cells.specs.Passed.{ArePassed, IsNext}
 use Rattle.mill_cells.specs.Walks.{rest_of}
