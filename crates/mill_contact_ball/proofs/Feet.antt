@@ -33,6 +33,22 @@ pub record Face (r d f i j k : ℤ) : Type 0 where
   pub feet : Weights i j k
   pub near : (d *ℤ d) <ℤ ((r *ℤ r) *ℤ f)
 
+-- the plane is as far as each of its points in the ball
+near_down : (r : ℤ) (a b c : Offset) (nx ny nz d f i j k u v w : ℤ) → Parts r a b c nx ny nz d f i j k
+    → form (mean (timed r a) (timed r b) (timed r c) u v w) (mean (timed r a) (timed r b) (timed r c) u v w) <ℤ pos 0
+    → (nx *ℤ (mean (timed r a) (timed r b) (timed r c) u v w).x +ℤ ny *ℤ (mean (timed r a) (timed r b) (timed r c) u v w).y) +ℤ nz *ℤ (mean (timed r a) (timed r b) (timed r c) u v w).z ≡ ((u +ℤ v) +ℤ w) *ℤ d
+    → (d *ℤ d) <ℤ ((r *ℤ r) *ℤ f)
+near_down r a b c nx ny nz d f i j k u v w q h on =
+    let m = mean (timed r a) (timed r b) (timed r c) u v w in
+    let sum = (u +ℤ v) +ℤ w in
+    square_down sum (d *ℤ d) ((r *ℤ r) *ℤ f) (cauchy_plane m.x m.y m.z m.n nx ny nz sum d f r h (same_radius r u v w) on q.size q.some)
+
+pub ball_near : (r : ℤ) (a b c : Offset) (nx ny nz d f i j k u v w : ℤ) → Parts r a b c nx ny nz d f i j k
+    → form (mean (timed r a) (timed r b) (timed r c) u v w) (mean (timed r a) (timed r b) (timed r c) u v w) <ℤ pos 0 → (d *ℤ d) <ℤ ((r *ℤ r) *ℤ f)
+ball_near r a b c nx ny nz d f i j k u v w q h =
+    near_down r a b c nx ny nz d f i j k u v w q h
+    (both_ways _ _ (plane_le u v w a.x a.y a.z b.x b.y b.z c.x c.y c.z nx ny nz d q.at_a q.at_b q.at_c) (plane_ge u v w a.x a.y a.z b.x b.y b.z c.x c.y c.z nx ny nz d q.at_a q.at_b q.at_c))
+
 -- what is in the ball shows on an edge or at the foot
 pub ball_face : (r : ℤ) (a b c : Offset) (nx ny nz d f i j k u v w : ℤ) → Parts r a b c nx ny nz d f i j k → (Rim (timed r a) (timed r b) (timed r c) → ⊥) → Weights u v w
     → form (mean (timed r a) (timed r b) (timed r c) u v w) (mean (timed r a) (timed r b) (timed r c) u v w) <ℤ pos 0 → Face r d f i j k
@@ -40,7 +56,7 @@ ball_face r a b c nx ny nz d f i j k u v w q free s h =
     let m = mean (timed r a) (timed r b) (timed r c) u v w in
     let sum = (u +ℤ v) +ℤ w in
     let on = both_ways _ _ (plane_le u v w a.x a.y a.z b.x b.y b.z c.x c.y c.z nx ny nz d q.at_a q.at_b q.at_c) (plane_ge u v w a.x a.y a.z b.x b.y b.z c.x c.y c.z nx ny nz d q.at_a q.at_b q.at_c) in
-    let near = square_down sum (d *ℤ d) ((r *ℤ r) *ℤ f) (cauchy_plane m.x m.y m.z m.n nx ny nz sum d f r h (same_radius r u v w) on q.size q.some) in
+    let near = near_down r a b c nx ny nz d f i j k u v w q h on in
     let g = mean (timed r a) (timed r b) (timed r c) i j k in
     let en = same_radius r i j k ∙ ap (λ t. r *ℤ t) q.sum in
     let slope : Slope (timed r a) (timed r b) (timed r c) u v w i j k = record {

@@ -7,6 +7,8 @@ pub mod LineCerts
 pub mod Lines
 pub mod EdgeCerts
 pub mod Edges
+pub mod CornerCerts
+pub mod Rims
 pub mod Triangles
 pub mod PlaceCerts
 pub mod Places

@@ -8,9 +8,9 @@ use Rattle.mill_geom.specs.declared.offset.Offset.{Offset}
 use Rattle.mill_contact_ball.specs.declared.vector.Vector.{Vector}
 use Rattle.mill_contact_ball.specs.declared.weights.Weights.{Weights}
 use Rattle.mill_contact_ball.specs.Vectors.{IsCross, IsSum, dot_of, height_of}
-use Rattle.mill_contact_ball.specs.Spheres.{IsSpot, MeetsSphere, RimClear}
+use Rattle.mill_contact_ball.specs.Spheres.{IsSpot, MeetsSphere, RimClear, HasFoot}
 use Rattle.mill_contact_ball.proofs.Slide.{mean, form, three, Rim}
-use Rattle.mill_contact_ball.proofs.Feet.{timed, Parts, Face, ball_face, face_ball}
+use Rattle.mill_contact_ball.proofs.Feet.{timed, Parts, Face, ball_near, ball_face, face_ball}
 use Rattle.mill_contact_ball.proofs.FootCerts.{normal_a, normal_b, normal_c, foot_at, cramer_x, cramer_y, cramer_z, size_some}
 use Rattle.mill_contact_ball.proofs.Lines.{line_none}
 use Rattle.mill_contact_ball.proofs.LineCerts.{zero_x_le, zero_x_ge, zero_y_le, zero_y_ge, zero_z_le, zero_z_ge}
@@ -180,3 +180,22 @@ foot_found r a b c bc ca ab n d f i j k crosses ed ef ei ej ek near hi hj hk =
     let vj = rw ej at hj in
     let wk = rw ek at hk in
     rw (ei, ej, ek) (foot_spot r a b c bc ca ab n crosses (size_some (height_of n a) r (dot_of n n) near_is) (record { feet = record { u_ok = ui; v_ok = vj; w_ok = wk }; near = near_is }))
+
+-- a plane as far from the centre as the radius holds no point of the sphere
+pub plane_none : (r : ℤ) (a b c : Offset) (bc ca ab n : Vector) (d f : ℤ) → Crosses a b c bc ca ab n → d ≡ height_of n a → f ≡ dot_of n n → (pos 0) <ℤ f
+    → ((d *ℤ d) <ℤ ((r *ℤ r) *ℤ f) → ⊥) → MeetsSphere r a b c → ⊥
+plane_none r a b c bc ca ab n d f k ed ef some far t =
+    far (rw (ed, ef) (ball_near r a b c n.x n.y n.z (height_of n a) (dot_of n n) (dot_of n bc) (dot_of n ca) (dot_of n ab) t.at.u t.at.v t.at.w (parts r a b c bc ca ab n k (rw ef at some)) (spot_form r a b c t.at t.spot)))
+
+-- the foot in the triangle decides, where the plane is near and the edges are clear
+pub foot_met : (r : ℤ) (a b c : Offset) (bc ca ab n : Vector) (d f : ℤ) → Crosses a b c bc ca ab n → d ≡ height_of n a → f ≡ dot_of n n → (d *ℤ d) <ℤ ((r *ℤ r) *ℤ f) → HasFoot n bc ca ab
+    → MeetsSphere r a b c
+foot_met r a b c bc ca ab n d f k ed ef near h =
+    let near_is = rw (ed, ef) at near in
+    record {
+      at = record { u = dot_of n bc; v = dot_of n ca; w = dot_of n ab };
+      spot = foot_spot r a b c bc ca ab n k (size_some (height_of n a) r (dot_of n n) near_is) (record { feet = record { u_ok = h.first; v_ok = h.second; w_ok = h.third }; near = near_is });
+    }
+
+pub foot_missed : (r : ℤ) (a b c : Offset) (bc ca ab n : Vector) → Crosses a b c bc ca ab n → RimClear r a b c → (HasFoot n bc ca ab → ⊥) → MeetsSphere r a b c → ⊥
+foot_missed r a b c bc ca ab n k clear refuted = no_foot r a b c bc ca ab n k clear (λ t. refuted (record { first = t.feet.u_ok; second = t.feet.v_ok; third = t.feet.w_ok }))

@@ -7,8 +7,10 @@ use Rattle.mill_geom.specs.Offsets.{mean2, mean3, AllFrom, AllTo}
 use Rattle.mill_geom.specs.Contacts.{TouchesTriangle}
 use Rattle.mill_geom.specs.Sides.{slid_by}
 use Rattle.mill_geom.specs.Gaps.{highest_of, box_gap_of}
+use Rattle.mill_contact_ball.specs.declared.vector.Vector.{Vector}
 use Rattle.mill_contact_ball.specs.declared.weights.EdgeWeights.{EdgeWeights}
 use Rattle.mill_contact_ball.specs.declared.weights.Weights.{Weights}
+use Rattle.mill_contact_ball.specs.Vectors.{form_of, dot_of}
 
 -- the offset d over the denominator n is nearer to the origin than r
 pub record InSphere (r n : ℤ) (d : Pt3) : Type 0 where
@@ -86,3 +88,15 @@ pub record IsBoxNear (r : ℤ) (a b c : Offset) : Type 0 where
 -- the upright box of the triangle, drawn down without end, comes nearer to the origin than r
 abbrev pub IsBoxClose : ℤ → Offset → Offset → Offset → Type 0
 IsBoxClose r a b c = (square (lesser (highest_of a b c) (pos 0)) +ℤ box_gap_of a b c) <ℤ square r
+
+-- no corner is in the sphere
+pub record CornersOut (r : ℤ) (a b c : Offset) : Type 0 where
+  pub first : (pos 0) ≤ℤ form_of r a a
+  pub second : (pos 0) ≤ℤ form_of r b b
+  pub third : (pos 0) ≤ℤ form_of r c c
+
+-- the foot of the origin on a plane lies in the triangle: its weights, by the normal and the corners' cross products, aren't negative
+pub record HasFoot (n bc ca ab : Vector) : Type 0 where
+  pub first : (pos 0) ≤ℤ dot_of n bc
+  pub second : (pos 0) ≤ℤ dot_of n ca
+  pub third : (pos 0) ≤ℤ dot_of n ab

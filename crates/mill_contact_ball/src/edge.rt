@@ -1,9 +1,19 @@
-ghost use Rattle.std.specs.Prelude.{◌≡◌, ◌^◌, ◌↔◌, ◌*ℤ◌, ◌<ℤ◌, IsTrue, IfSome, None};
+ghost use Rattle.std.specs.Prelude.{◌≡◌, ◌^◌, ◌↔◌, ◌*ℤ◌, ◌<ℤ◌, ◌≤ℤ◌, pos, false, IsTrue, IfSome, None};
 ghost use Rattle.mill_base.specs.Numbers.{Within};
 ghost use Rattle.mill_geom.specs.Offsets.{OffsetInRange};
 ghost use Rattle.mill_geom.specs.Forms.{PairHits};
 ghost use Rattle.mill_contact_ball.specs.Vectors.{form_of};
-ghost use Rattle.mill_contact_ball.specs.Spheres.{IsLow, IsEdgeSpot, EdgeMeets, EdgeWeightsInRange, IsSpot, WeightsInRange, RimClear};
+ghost use Rattle.mill_contact_ball.specs.Spheres.{
+  IsLow,
+  IsEdgeSpot,
+  EdgeMeets,
+  EdgeWeightsInRange,
+  IsSpot,
+  WeightsInRange,
+  RimClear,
+  CornersOut,
+  MeetsSphere,
+};
 
 use crate::weights::{EdgeWeights, Weights};
 use mill_geom::Offset;
@@ -95,4 +105,69 @@ pub fn rim_spot(a: Offset, b: Offset, c: Offset, radius: i64) -> Option<Weights>
         v: 0,
         w: s.u as i128,
     })
+}
+
+/// Whether the corner is nearer to the origin than the radius.
+fn is_corner_in(p: Offset, radius: i64) -> bool
+    requires p_ok { OffsetInRange p }
+    requires r_ok { Within 16384 radius }
+    ensures yes { IsTrue result → form_of radius p p <ℤ pos 0 }
+    ensures no { result ≡ false → pos 0 ≤ℤ form_of radius p p }
+{
+    form(p, p, radius) < 0
+}
+
+/// Whether some corner of the triangle is nearer to the origin than the radius.
+pub fn has_corner_in(a: Offset, b: Offset, c: Offset, radius: i64) -> bool
+    requires a_ok { OffsetInRange a }
+    requires b_ok { OffsetInRange b }
+    requires c_ok { OffsetInRange c }
+    requires r_ok { Within 16384 radius }
+    ensures yes { IsTrue result → MeetsSphere radius a b c }
+    ensures no { result ≡ false → CornersOut radius a b c }
+{
+    if is_corner_in(a, radius) {
+        return true;
+    }
+    if is_corner_in(b, radius) {
+        return true;
+    }
+    is_corner_in(c, radius)
+}
+
+/// Whether some point between two ends that aren't nearer to the origin than the radius is.
+fn dips(p: Offset, q: Offset, radius: i64) -> bool
+    requires p_ok { OffsetInRange p }
+    requires q_ok { OffsetInRange q }
+    requires r_ok { Within 16384 radius }
+    requires p_out { pos 0 ≤ℤ form_of radius p p }
+    requires q_out { pos 0 ≤ℤ form_of radius q q }
+    ensures yes { IsTrue result → EdgeMeets radius p q }
+    ensures no { result ≡ false → ¬ EdgeMeets radius p q }
+{
+    let mixed = form(p, q, radius);
+    if mixed >= 0 {
+        return false;
+    }
+    is_minor_negative(form(p, p, radius), mixed, form(q, q, radius))
+}
+
+/// Whether some point of an edge of the triangle is nearer to the origin than the radius, where no
+/// corner is.
+pub fn meets_rim(a: Offset, b: Offset, c: Offset, radius: i64) -> bool
+    requires a_ok { OffsetInRange a }
+    requires b_ok { OffsetInRange b }
+    requires c_ok { OffsetInRange c }
+    requires r_ok { Within 16384 radius }
+    requires out { CornersOut radius a b c }
+    ensures yes { IsTrue result → MeetsSphere radius a b c }
+    ensures no { result ≡ false → RimClear radius a b c }
+{
+    if dips(a, b, radius) {
+        return true;
+    }
+    if dips(b, c, radius) {
+        return true;
+    }
+    dips(c, a, radius)
 }

@@ -1,10 +1,11 @@
-ghost use Rattle.std.specs.Prelude.{◌≡◌, ◌^◌, ◌↔◌, ◌*ℤ◌, ◌<ℤ◌, IsTrue, IfSome, None};
+ghost use Rattle.std.specs.Prelude.{◌≡◌, ◌^◌, ◌↔◌, ◌*ℤ◌, ◌<ℤ◌, false, IsTrue, IfSome, None};
 ghost use Rattle.mill_base.specs.Numbers.{Within};
 ghost use Rattle.mill_geom.specs.Offsets.{OffsetInRange};
-ghost use Rattle.mill_contact_ball.specs.Spheres.{IsSpot, WeightsInRange, RimClear, MeetsSphere};
+ghost use Rattle.mill_contact_ball.specs.Vectors.{VectorWithin};
+ghost use Rattle.mill_contact_ball.specs.Spheres.{IsSpot, WeightsInRange, RimClear, CornersOut, HasFoot, MeetsSphere};
 
-use crate::edge::rim_spot;
-use crate::vector::{cross, dot, height, sum};
+use crate::edge::{meets_rim, rim_spot};
+use crate::vector::{Vector, cross, dot, height, sum};
 use crate::weights::Weights;
 use mill_geom::Offset;
 
@@ -70,4 +71,52 @@ pub fn sphere_spot(a: Offset, b: Offset, c: Offset, radius: i64) -> Option<Weigh
         return Some(s);
     }
     foot(a, b, c, radius)
+}
+
+/// Whether the foot of the origin on the triangle's plane lies in the triangle, from the plane's
+/// normal and the cross products of the corners that make it up.
+fn is_foot_inside(normal: Vector, bc: Vector, ca: Vector, ab: Vector) -> bool
+    requires normal_ok { VectorWithin (2 ^ 41) normal }
+    requires bc_ok { VectorWithin (2 ^ 41) bc }
+    requires ca_ok { VectorWithin (2 ^ 41) ca }
+    requires ab_ok { VectorWithin (2 ^ 41) ab }
+    ensures yes { IsTrue result → HasFoot normal bc ca ab }
+    ensures no { result ≡ false → ¬ HasFoot normal bc ca ab }
+{
+    if dot(normal, bc) < 0 {
+        return false;
+    }
+    if dot(normal, ca) < 0 {
+        return false;
+    }
+    dot(normal, ab) >= 0
+}
+
+/// Whether some point of the triangle is nearer to the origin than the radius, where no corner is: by
+/// the plane first, then by the foot of the origin on it, and last by the edges.
+pub fn meets_inner(a: Offset, b: Offset, c: Offset, radius: i64) -> bool
+    requires a_ok { OffsetInRange a }
+    requires b_ok { OffsetInRange b }
+    requires c_ok { OffsetInRange c }
+    requires r_ok { Within 16384 radius }
+    requires out { CornersOut radius a b c }
+    ensures yes { IsTrue result → MeetsSphere radius a b c }
+    ensures no { result ≡ false → ¬ MeetsSphere radius a b c }
+{
+    let bc = cross(b, c);
+    let ca = cross(c, a);
+    let ab = cross(a, b);
+    let across = sum(bc, ca, ab);
+    let height = height(across, a);
+    let size = dot(across, across);
+    if !is_plane_near(height, size, radius) {
+        if size > 0 {
+            return false;
+        }
+        return meets_rim(a, b, c, radius);
+    }
+    if is_foot_inside(across, bc, ca, ab) {
+        return true;
+    }
+    meets_rim(a, b, c, radius)
 }

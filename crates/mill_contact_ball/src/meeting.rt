@@ -4,7 +4,8 @@ ghost use Rattle.mill_geom.specs.Offsets.{OffsetInRange};
 ghost use Rattle.mill_geom.specs.Sides.{IsOnSide};
 ghost use Rattle.mill_contact_ball.specs.Spheres.{MeetsBall, MeetsAt, WeightsInRange, flat_of, x_of};
 
-use crate::face::sphere_spot;
+use crate::edge::has_corner_in;
+use crate::face::{meets_inner, sphere_spot};
 use crate::weights::Weights;
 use mill_geom::{Offset, Side, side, touches_triangle};
 
@@ -19,10 +20,13 @@ pub fn meets_ball(a: Offset, b: Offset, c: Offset, radius: i64) -> bool
     ensures yes { IsTrue result → MeetsBall radius a b c }
     ensures no { result ≡ false → ¬ MeetsBall radius a b c }
 {
+    if has_corner_in(a, b, c, radius) {
+        return true;
+    }
     if touches_triangle(a, b, c, radius) {
         return true;
     }
-    sphere_spot(a, b, c, radius).is_some()
+    meets_inner(a, b, c, radius)
 }
 
 /// The offset's image on the plane through the origin across x.
