@@ -50,10 +50,10 @@ fn touches_cone(a: Corner, b: Corner, c: Corner, cone: Cone) -> bool
     ensures yes { IsTrue result → TouchesCone cone a b c }
     ensures no { result ≡ false → ¬ TouchesCone cone a b c }
 {
-    if touches_some_edge(a, b, c, cone) {
+    if is_pierced(a, b, c) {
         return true;
     }
-    if is_pierced(a, b, c) {
+    if touches_some_edge(a, b, c, cone) {
         return true;
     }
     touches_on_level(a, b, c, cone)

@@ -7,30 +7,27 @@ use crate::corner::{Cone, Corner};
 use crate::quadratic::{Blend, Form, hits_between};
 
 /// The dot product of two corners in x and y, less the square of the radius.
-pub fn upper_product(p: Corner, q: Corner, cone: Cone) -> i128
+pub fn upper_product(p: Corner, q: Corner, cone: Cone) -> i64
     requires p_ok { CornerInRange p }
     requires q_ok { CornerInRange q }
     requires cone_ok { IsCone cone }
     ensures value { result ≡ upper_of cone p q }
     ensures bound { Within (2 ^ 53) result }
 {
-    let r = cone.radius as i128;
-    p.x as i128 * q.x as i128 + p.y as i128 * q.y as i128 - r * r
+    p.x * q.x + p.y * q.y - cone.radius * cone.radius
 }
 
 /// The dot product of two corners in x and y, times the square of the rise, less the product of
 /// their heights, times the square of the run.
-fn lower_product(p: Corner, q: Corner, cone: Cone) -> i128
+fn lower_product(p: Corner, q: Corner, cone: Cone) -> i64
     requires p_ok { CornerInRange p }
     requires q_ok { CornerInRange q }
     requires cone_ok { IsCone cone }
     ensures value { result ≡ lower_of cone p q }
     ensures bound { Within (2 ^ 53) result }
 {
-    let rise = cone.rise as i128;
-    let run = cone.run as i128;
-    let across = p.x as i128 * q.x as i128 + p.y as i128 * q.y as i128;
-    rise * rise * across - run * run * (p.z as i128 * q.z as i128)
+    let across = p.x * q.x + p.y * q.y;
+    cone.rise * cone.rise * across - cone.run * cone.run * (p.z * q.z)
 }
 
 /// The form that decides over the height at which the cone reaches its radius.

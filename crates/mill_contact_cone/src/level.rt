@@ -34,7 +34,7 @@ fn is_alone(p: Corner, q: Corner, s: Corner) -> bool
 
 /// The form of the two points in which the edges from `p` come to that height, from the forms and
 /// heights of the corners.
-fn mixed_form(pp: i128, pq: i128, ps: i128, qs: i128, p: i64, q: i64, s: i64) -> i128
+fn mixed_form(pp: i64, pq: i64, ps: i64, qs: i64, p: i64, q: i64, s: i64) -> i128
     requires pp_ok { Within (2 ^ 53) pp }
     requires pq_ok { Within (2 ^ 53) pq }
     requires ps_ok { Within (2 ^ 53) ps }
@@ -45,10 +45,11 @@ fn mixed_form(pp: i128, pq: i128, ps: i128, qs: i128, p: i64, q: i64, s: i64) ->
     ensures value { result ≡ mixed_form_of pp pq ps qs p q s }
     ensures bound { Within (2 ^ 108) result }
 {
-    let p = p as i128;
-    let q = q as i128;
-    let s = s as i128;
-    p * p * qs - p * s * pq - p * q * ps + q * s * pp
+    let first = (p * p) as i128 * qs as i128;
+    let second = (p * s) as i128 * pq as i128;
+    let third = (p * q) as i128 * ps as i128;
+    let last = (q * s) as i128 * pp as i128;
+    first - second - third + last
 }
 
 /// The form of the two points in which the edges from `p` come to that height.

@@ -5,9 +5,9 @@ ghost use Rattle.mill_contact_cone.specs.Quadratics.{FormInRange, BlendInRange, 
 /// The quadratic form `a * u * u + 2 * h * u * v + b * v * v`.
 #[derive(Clone, Copy, Debug, PartialEq, Eq)]
 pub struct Form {
-    pub a: i128,
-    pub h: i128,
-    pub b: i128,
+    pub a: i64,
+    pub h: i64,
+    pub b: i64,
 }
 
 /// A point of a segment: `u` times its first end and `v` times its last, over `u + v`.
@@ -25,11 +25,10 @@ fn polar(form: Form, p: Blend, q: Blend) -> i128
     ensures value { result ≡ polar_of form p q }
     ensures bound { Within (2 ^ 108) result }
 {
-    let pu = p.u as i128;
-    let pv = p.v as i128;
-    let qu = q.u as i128;
-    let qv = q.v as i128;
-    pu * qu * form.a + (pu * qv + pv * qu) * form.h + pv * qv * form.b
+    let first = (p.u * q.u) as i128 * form.a as i128;
+    let mixed = (p.u * q.v + p.v * q.u) as i128 * form.h as i128;
+    let last = (p.v * q.v) as i128 * form.b as i128;
+    first + mixed + last
 }
 
 /// Whether the form takes both signs.
@@ -37,7 +36,7 @@ fn has_both_signs(form: Form) -> bool
     requires form_ok { FormInRange form }
     ensures { IsTrue result ↔ ((form.a *ℤ form.b) <ℤ (form.h *ℤ form.h)) }
 {
-    form.a * form.b < form.h * form.h
+    form.a as i128 * (form.b as i128) < form.h as i128 * form.h as i128
 }
 
 /// Whether the form is negative at some blend from `from` to `to`.

@@ -1,6 +1,5 @@
 use Rattle.std.proofs.Common.{ℕ, ◌^◌, List, [], ◌∷◌, refl, w64}
-use mir.Syntax.{w128}
-use Rattle.mill_base.proofs.Machine.{Read, Cast, Sum, Diff, Prod, exact, stays, sum_fits, diff_fits, prod_fits}
+use Rattle.mill_base.proofs.Machine.{Read, Sum, Diff, Prod, exact, stays, sum_fits, diff_fits, prod_fits}
 use Rattle.mill_contact_cone.proofs.Sizes.{rise_within, run_within}
 use Rattle.mill_contact_cone.proofs.edge.lower_product.Goals as goal
 
@@ -10,44 +9,44 @@ bounds = 524288 ∷ 524288 ∷ 524288 ∷ 524288 ∷ 524288 ∷ 524288 ∷ 100 �
 
 pub overflow_mul-across : goal.overflow_mul-across
 unfolding bounds
-overflow_mul-across c = prod_fits w128 (c.args.p.x ∷ c.args.q.x ∷ c.args.p.y ∷ c.args.q.y ∷ c.args.p.z ∷ c.args.q.z ∷ c.args.cone.rise ∷ c.args.cone.run ∷ []) bounds (Cast w128 (Read w64 0)) (Cast w128 (Read w64 1)) (c.requires.p_ok.x_ok.within, (c.requires.q_ok.x_ok.within, (c.requires.p_ok.y_ok.within, (c.requires.q_ok.y_ok.within, (c.requires.p_ok.z_ok.within, (c.requires.q_ok.z_ok.within, (rise_within c.args.cone c.requires.cone_ok, (run_within c.args.cone c.requires.cone_ok, tt)))))))) refl
+overflow_mul-across c = prod_fits w64 (c.args.p.x ∷ c.args.q.x ∷ c.args.p.y ∷ c.args.q.y ∷ c.args.p.z ∷ c.args.q.z ∷ c.args.cone.rise ∷ c.args.cone.run ∷ []) bounds (Read w64 0) (Read w64 1) (c.requires.p_ok.x_ok.within, (c.requires.q_ok.x_ok.within, (c.requires.p_ok.y_ok.within, (c.requires.q_ok.y_ok.within, (c.requires.p_ok.z_ok.within, (c.requires.q_ok.z_ok.within, (rise_within c.args.cone c.requires.cone_ok, (run_within c.args.cone c.requires.cone_ok, tt)))))))) refl
 
 pub overflow_mul-across-2 : goal.overflow_mul-across-2
 unfolding bounds
-overflow_mul-across-2 c = prod_fits w128 (c.args.p.x ∷ c.args.q.x ∷ c.args.p.y ∷ c.args.q.y ∷ c.args.p.z ∷ c.args.q.z ∷ c.args.cone.rise ∷ c.args.cone.run ∷ []) bounds (Cast w128 (Read w64 2)) (Cast w128 (Read w64 3)) (c.requires.p_ok.x_ok.within, (c.requires.q_ok.x_ok.within, (c.requires.p_ok.y_ok.within, (c.requires.q_ok.y_ok.within, (c.requires.p_ok.z_ok.within, (c.requires.q_ok.z_ok.within, (rise_within c.args.cone c.requires.cone_ok, (run_within c.args.cone c.requires.cone_ok, tt)))))))) refl
+overflow_mul-across-2 c = prod_fits w64 (c.args.p.x ∷ c.args.q.x ∷ c.args.p.y ∷ c.args.q.y ∷ c.args.p.z ∷ c.args.q.z ∷ c.args.cone.rise ∷ c.args.cone.run ∷ []) bounds (Read w64 2) (Read w64 3) (c.requires.p_ok.x_ok.within, (c.requires.q_ok.x_ok.within, (c.requires.p_ok.y_ok.within, (c.requires.q_ok.y_ok.within, (c.requires.p_ok.z_ok.within, (c.requires.q_ok.z_ok.within, (rise_within c.args.cone c.requires.cone_ok, (run_within c.args.cone c.requires.cone_ok, tt)))))))) refl
 
 pub overflow_add-across : goal.overflow_add-across
 unfolding bounds
-overflow_add-across c = sum_fits w128 (c.args.p.x ∷ c.args.q.x ∷ c.args.p.y ∷ c.args.q.y ∷ c.args.p.z ∷ c.args.q.z ∷ c.args.cone.rise ∷ c.args.cone.run ∷ []) bounds (Prod w128 (Cast w128 (Read w64 0)) (Cast w128 (Read w64 1))) (Prod w128 (Cast w128 (Read w64 2)) (Cast w128 (Read w64 3))) (c.requires.p_ok.x_ok.within, (c.requires.q_ok.x_ok.within, (c.requires.p_ok.y_ok.within, (c.requires.q_ok.y_ok.within, (c.requires.p_ok.z_ok.within, (c.requires.q_ok.z_ok.within, (rise_within c.args.cone c.requires.cone_ok, (run_within c.args.cone c.requires.cone_ok, tt)))))))) refl
+overflow_add-across c = sum_fits w64 (c.args.p.x ∷ c.args.q.x ∷ c.args.p.y ∷ c.args.q.y ∷ c.args.p.z ∷ c.args.q.z ∷ c.args.cone.rise ∷ c.args.cone.run ∷ []) bounds (Prod w64 (Read w64 0) (Read w64 1)) (Prod w64 (Read w64 2) (Read w64 3)) (c.requires.p_ok.x_ok.within, (c.requires.q_ok.x_ok.within, (c.requires.p_ok.y_ok.within, (c.requires.q_ok.y_ok.within, (c.requires.p_ok.z_ok.within, (c.requires.q_ok.z_ok.within, (rise_within c.args.cone c.requires.cone_ok, (run_within c.args.cone c.requires.cone_ok, tt)))))))) refl
 
 pub overflow_mul-result : goal.overflow_mul-result
 unfolding bounds
-overflow_mul-result c = prod_fits w128 (c.args.p.x ∷ c.args.q.x ∷ c.args.p.y ∷ c.args.q.y ∷ c.args.p.z ∷ c.args.q.z ∷ c.args.cone.rise ∷ c.args.cone.run ∷ []) bounds (Cast w128 (Read w64 6)) (Cast w128 (Read w64 6)) (c.requires.p_ok.x_ok.within, (c.requires.q_ok.x_ok.within, (c.requires.p_ok.y_ok.within, (c.requires.q_ok.y_ok.within, (c.requires.p_ok.z_ok.within, (c.requires.q_ok.z_ok.within, (rise_within c.args.cone c.requires.cone_ok, (run_within c.args.cone c.requires.cone_ok, tt)))))))) refl
+overflow_mul-result c = prod_fits w64 (c.args.p.x ∷ c.args.q.x ∷ c.args.p.y ∷ c.args.q.y ∷ c.args.p.z ∷ c.args.q.z ∷ c.args.cone.rise ∷ c.args.cone.run ∷ []) bounds (Read w64 6) (Read w64 6) (c.requires.p_ok.x_ok.within, (c.requires.q_ok.x_ok.within, (c.requires.p_ok.y_ok.within, (c.requires.q_ok.y_ok.within, (c.requires.p_ok.z_ok.within, (c.requires.q_ok.z_ok.within, (rise_within c.args.cone c.requires.cone_ok, (run_within c.args.cone c.requires.cone_ok, tt)))))))) refl
 
 pub overflow_mul-result-2 : goal.overflow_mul-result-2
 unfolding bounds
-overflow_mul-result-2 c = prod_fits w128 (c.args.p.x ∷ c.args.q.x ∷ c.args.p.y ∷ c.args.q.y ∷ c.args.p.z ∷ c.args.q.z ∷ c.args.cone.rise ∷ c.args.cone.run ∷ []) bounds (Prod w128 (Cast w128 (Read w64 6)) (Cast w128 (Read w64 6))) (Sum w128 (Prod w128 (Cast w128 (Read w64 0)) (Cast w128 (Read w64 1))) (Prod w128 (Cast w128 (Read w64 2)) (Cast w128 (Read w64 3)))) (c.requires.p_ok.x_ok.within, (c.requires.q_ok.x_ok.within, (c.requires.p_ok.y_ok.within, (c.requires.q_ok.y_ok.within, (c.requires.p_ok.z_ok.within, (c.requires.q_ok.z_ok.within, (rise_within c.args.cone c.requires.cone_ok, (run_within c.args.cone c.requires.cone_ok, tt)))))))) refl
+overflow_mul-result-2 c = prod_fits w64 (c.args.p.x ∷ c.args.q.x ∷ c.args.p.y ∷ c.args.q.y ∷ c.args.p.z ∷ c.args.q.z ∷ c.args.cone.rise ∷ c.args.cone.run ∷ []) bounds (Prod w64 (Read w64 6) (Read w64 6)) (Sum w64 (Prod w64 (Read w64 0) (Read w64 1)) (Prod w64 (Read w64 2) (Read w64 3))) (c.requires.p_ok.x_ok.within, (c.requires.q_ok.x_ok.within, (c.requires.p_ok.y_ok.within, (c.requires.q_ok.y_ok.within, (c.requires.p_ok.z_ok.within, (c.requires.q_ok.z_ok.within, (rise_within c.args.cone c.requires.cone_ok, (run_within c.args.cone c.requires.cone_ok, tt)))))))) refl
 
 pub overflow_mul-result-3 : goal.overflow_mul-result-3
 unfolding bounds
-overflow_mul-result-3 c = prod_fits w128 (c.args.p.x ∷ c.args.q.x ∷ c.args.p.y ∷ c.args.q.y ∷ c.args.p.z ∷ c.args.q.z ∷ c.args.cone.rise ∷ c.args.cone.run ∷ []) bounds (Cast w128 (Read w64 7)) (Cast w128 (Read w64 7)) (c.requires.p_ok.x_ok.within, (c.requires.q_ok.x_ok.within, (c.requires.p_ok.y_ok.within, (c.requires.q_ok.y_ok.within, (c.requires.p_ok.z_ok.within, (c.requires.q_ok.z_ok.within, (rise_within c.args.cone c.requires.cone_ok, (run_within c.args.cone c.requires.cone_ok, tt)))))))) refl
+overflow_mul-result-3 c = prod_fits w64 (c.args.p.x ∷ c.args.q.x ∷ c.args.p.y ∷ c.args.q.y ∷ c.args.p.z ∷ c.args.q.z ∷ c.args.cone.rise ∷ c.args.cone.run ∷ []) bounds (Read w64 7) (Read w64 7) (c.requires.p_ok.x_ok.within, (c.requires.q_ok.x_ok.within, (c.requires.p_ok.y_ok.within, (c.requires.q_ok.y_ok.within, (c.requires.p_ok.z_ok.within, (c.requires.q_ok.z_ok.within, (rise_within c.args.cone c.requires.cone_ok, (run_within c.args.cone c.requires.cone_ok, tt)))))))) refl
 
 pub overflow_mul-result-4 : goal.overflow_mul-result-4
 unfolding bounds
-overflow_mul-result-4 c = prod_fits w128 (c.args.p.x ∷ c.args.q.x ∷ c.args.p.y ∷ c.args.q.y ∷ c.args.p.z ∷ c.args.q.z ∷ c.args.cone.rise ∷ c.args.cone.run ∷ []) bounds (Cast w128 (Read w64 4)) (Cast w128 (Read w64 5)) (c.requires.p_ok.x_ok.within, (c.requires.q_ok.x_ok.within, (c.requires.p_ok.y_ok.within, (c.requires.q_ok.y_ok.within, (c.requires.p_ok.z_ok.within, (c.requires.q_ok.z_ok.within, (rise_within c.args.cone c.requires.cone_ok, (run_within c.args.cone c.requires.cone_ok, tt)))))))) refl
+overflow_mul-result-4 c = prod_fits w64 (c.args.p.x ∷ c.args.q.x ∷ c.args.p.y ∷ c.args.q.y ∷ c.args.p.z ∷ c.args.q.z ∷ c.args.cone.rise ∷ c.args.cone.run ∷ []) bounds (Read w64 4) (Read w64 5) (c.requires.p_ok.x_ok.within, (c.requires.q_ok.x_ok.within, (c.requires.p_ok.y_ok.within, (c.requires.q_ok.y_ok.within, (c.requires.p_ok.z_ok.within, (c.requires.q_ok.z_ok.within, (rise_within c.args.cone c.requires.cone_ok, (run_within c.args.cone c.requires.cone_ok, tt)))))))) refl
 
 pub overflow_mul-result-5 : goal.overflow_mul-result-5
 unfolding bounds
-overflow_mul-result-5 c = prod_fits w128 (c.args.p.x ∷ c.args.q.x ∷ c.args.p.y ∷ c.args.q.y ∷ c.args.p.z ∷ c.args.q.z ∷ c.args.cone.rise ∷ c.args.cone.run ∷ []) bounds (Prod w128 (Cast w128 (Read w64 7)) (Cast w128 (Read w64 7))) (Prod w128 (Cast w128 (Read w64 4)) (Cast w128 (Read w64 5))) (c.requires.p_ok.x_ok.within, (c.requires.q_ok.x_ok.within, (c.requires.p_ok.y_ok.within, (c.requires.q_ok.y_ok.within, (c.requires.p_ok.z_ok.within, (c.requires.q_ok.z_ok.within, (rise_within c.args.cone c.requires.cone_ok, (run_within c.args.cone c.requires.cone_ok, tt)))))))) refl
+overflow_mul-result-5 c = prod_fits w64 (c.args.p.x ∷ c.args.q.x ∷ c.args.p.y ∷ c.args.q.y ∷ c.args.p.z ∷ c.args.q.z ∷ c.args.cone.rise ∷ c.args.cone.run ∷ []) bounds (Prod w64 (Read w64 7) (Read w64 7)) (Prod w64 (Read w64 4) (Read w64 5)) (c.requires.p_ok.x_ok.within, (c.requires.q_ok.x_ok.within, (c.requires.p_ok.y_ok.within, (c.requires.q_ok.y_ok.within, (c.requires.p_ok.z_ok.within, (c.requires.q_ok.z_ok.within, (rise_within c.args.cone c.requires.cone_ok, (run_within c.args.cone c.requires.cone_ok, tt)))))))) refl
 
 pub overflow_sub-result : goal.overflow_sub-result
 unfolding bounds
-overflow_sub-result c = diff_fits w128 (c.args.p.x ∷ c.args.q.x ∷ c.args.p.y ∷ c.args.q.y ∷ c.args.p.z ∷ c.args.q.z ∷ c.args.cone.rise ∷ c.args.cone.run ∷ []) bounds (Prod w128 (Prod w128 (Cast w128 (Read w64 6)) (Cast w128 (Read w64 6))) (Sum w128 (Prod w128 (Cast w128 (Read w64 0)) (Cast w128 (Read w64 1))) (Prod w128 (Cast w128 (Read w64 2)) (Cast w128 (Read w64 3))))) (Prod w128 (Prod w128 (Cast w128 (Read w64 7)) (Cast w128 (Read w64 7))) (Prod w128 (Cast w128 (Read w64 4)) (Cast w128 (Read w64 5)))) (c.requires.p_ok.x_ok.within, (c.requires.q_ok.x_ok.within, (c.requires.p_ok.y_ok.within, (c.requires.q_ok.y_ok.within, (c.requires.p_ok.z_ok.within, (c.requires.q_ok.z_ok.within, (rise_within c.args.cone c.requires.cone_ok, (run_within c.args.cone c.requires.cone_ok, tt)))))))) refl
+overflow_sub-result c = diff_fits w64 (c.args.p.x ∷ c.args.q.x ∷ c.args.p.y ∷ c.args.q.y ∷ c.args.p.z ∷ c.args.q.z ∷ c.args.cone.rise ∷ c.args.cone.run ∷ []) bounds (Prod w64 (Prod w64 (Read w64 6) (Read w64 6)) (Sum w64 (Prod w64 (Read w64 0) (Read w64 1)) (Prod w64 (Read w64 2) (Read w64 3)))) (Prod w64 (Prod w64 (Read w64 7) (Read w64 7)) (Prod w64 (Read w64 4) (Read w64 5))) (c.requires.p_ok.x_ok.within, (c.requires.q_ok.x_ok.within, (c.requires.p_ok.y_ok.within, (c.requires.q_ok.y_ok.within, (c.requires.p_ok.z_ok.within, (c.requires.q_ok.z_ok.within, (rise_within c.args.cone c.requires.cone_ok, (run_within c.args.cone c.requires.cone_ok, tt)))))))) refl
 
 pub returns-clause-value : goal.returns-clause-value
 unfolding bounds
-returns-clause-value c = exact (c.args.p.x ∷ c.args.q.x ∷ c.args.p.y ∷ c.args.q.y ∷ c.args.p.z ∷ c.args.q.z ∷ c.args.cone.rise ∷ c.args.cone.run ∷ []) bounds (Diff w128 (Prod w128 (Prod w128 (Cast w128 (Read w64 6)) (Cast w128 (Read w64 6))) (Sum w128 (Prod w128 (Cast w128 (Read w64 0)) (Cast w128 (Read w64 1))) (Prod w128 (Cast w128 (Read w64 2)) (Cast w128 (Read w64 3))))) (Prod w128 (Prod w128 (Cast w128 (Read w64 7)) (Cast w128 (Read w64 7))) (Prod w128 (Cast w128 (Read w64 4)) (Cast w128 (Read w64 5))))) (c.requires.p_ok.x_ok.within, (c.requires.q_ok.x_ok.within, (c.requires.p_ok.y_ok.within, (c.requires.q_ok.y_ok.within, (c.requires.p_ok.z_ok.within, (c.requires.q_ok.z_ok.within, (rise_within c.args.cone c.requires.cone_ok, (run_within c.args.cone c.requires.cone_ok, tt)))))))) refl
+returns-clause-value c = exact (c.args.p.x ∷ c.args.q.x ∷ c.args.p.y ∷ c.args.q.y ∷ c.args.p.z ∷ c.args.q.z ∷ c.args.cone.rise ∷ c.args.cone.run ∷ []) bounds (Diff w64 (Prod w64 (Prod w64 (Read w64 6) (Read w64 6)) (Sum w64 (Prod w64 (Read w64 0) (Read w64 1)) (Prod w64 (Read w64 2) (Read w64 3)))) (Prod w64 (Prod w64 (Read w64 7) (Read w64 7)) (Prod w64 (Read w64 4) (Read w64 5)))) (c.requires.p_ok.x_ok.within, (c.requires.q_ok.x_ok.within, (c.requires.p_ok.y_ok.within, (c.requires.q_ok.y_ok.within, (c.requires.p_ok.z_ok.within, (c.requires.q_ok.z_ok.within, (rise_within c.args.cone c.requires.cone_ok, (run_within c.args.cone c.requires.cone_ok, tt)))))))) refl
 
 pub returns-clause-bound : goal.returns-clause-bound
 unfolding bounds
-returns-clause-bound c = record { within = stays (c.args.p.x ∷ c.args.q.x ∷ c.args.p.y ∷ c.args.q.y ∷ c.args.p.z ∷ c.args.q.z ∷ c.args.cone.rise ∷ c.args.cone.run ∷ []) bounds (Diff w128 (Prod w128 (Prod w128 (Cast w128 (Read w64 6)) (Cast w128 (Read w64 6))) (Sum w128 (Prod w128 (Cast w128 (Read w64 0)) (Cast w128 (Read w64 1))) (Prod w128 (Cast w128 (Read w64 2)) (Cast w128 (Read w64 3))))) (Prod w128 (Prod w128 (Cast w128 (Read w64 7)) (Cast w128 (Read w64 7))) (Prod w128 (Cast w128 (Read w64 4)) (Cast w128 (Read w64 5))))) (2 ^ 53) (c.requires.p_ok.x_ok.within, (c.requires.q_ok.x_ok.within, (c.requires.p_ok.y_ok.within, (c.requires.q_ok.y_ok.within, (c.requires.p_ok.z_ok.within, (c.requires.q_ok.z_ok.within, (rise_within c.args.cone c.requires.cone_ok, (run_within c.args.cone c.requires.cone_ok, tt)))))))) refl }
+returns-clause-bound c = record { within = stays (c.args.p.x ∷ c.args.q.x ∷ c.args.p.y ∷ c.args.q.y ∷ c.args.p.z ∷ c.args.q.z ∷ c.args.cone.rise ∷ c.args.cone.run ∷ []) bounds (Diff w64 (Prod w64 (Prod w64 (Read w64 6) (Read w64 6)) (Sum w64 (Prod w64 (Read w64 0) (Read w64 1)) (Prod w64 (Read w64 2) (Read w64 3)))) (Prod w64 (Prod w64 (Read w64 7) (Read w64 7)) (Prod w64 (Read w64 4) (Read w64 5)))) (2 ^ 53) (c.requires.p_ok.x_ok.within, (c.requires.q_ok.x_ok.within, (c.requires.p_ok.y_ok.within, (c.requires.q_ok.y_ok.within, (c.requires.p_ok.z_ok.within, (c.requires.q_ok.z_ok.within, (rise_within c.args.cone c.requires.cone_ok, (run_within c.args.cone c.requires.cone_ok, tt)))))))) refl }

@@ -7,10 +7,10 @@ use Rattle.mill_contact_cone.proofs.level.level_form.Goals as goal
 
 pub returns-clause-value : goal.returns-clause-value
 returns-clause-value c =
-    let pp_kept = kept w128 c.upper_product-pp.result (2 ^ 53) c.upper_product-pp.ensures.bound.within refl in
-    let pq_kept = kept w128 c.upper_product-pq.result (2 ^ 53) c.upper_product-pq.ensures.bound.within refl in
-    let ps_kept = kept w128 c.upper_product-ps.result (2 ^ 53) c.upper_product-ps.ensures.bound.within refl in
-    let qs_kept = kept w128 c.upper_product-qs.result (2 ^ 53) c.upper_product-qs.ensures.bound.within refl in
+    let pp_kept = kept w64 c.upper_product-pp.result (2 ^ 53) c.upper_product-pp.ensures.bound.within refl in
+    let pq_kept = kept w64 c.upper_product-pq.result (2 ^ 53) c.upper_product-pq.ensures.bound.within refl in
+    let ps_kept = kept w64 c.upper_product-ps.result (2 ^ 53) c.upper_product-ps.ensures.bound.within refl in
+    let qs_kept = kept w64 c.upper_product-qs.result (2 ^ 53) c.upper_product-qs.ensures.bound.within refl in
     let p_kept = kept w64 c.args.p.over (2 ^ 26) c.requires.p_ok.over_ok.within refl in
     let q_kept = kept w64 c.args.q.over (2 ^ 26) c.requires.q_ok.over_ok.within refl in
     let s_kept = kept w64 c.args.s.over (2 ^ 26) c.requires.s_ok.over_ok.within refl in
