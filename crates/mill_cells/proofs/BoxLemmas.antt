@@ -89,7 +89,7 @@ lesser_le a b = (grind (arith, ints), grind (arith, ints))
 greater_le : (a b : ℤ) → (a ≤ℤ greater a b) × (b ≤ℤ greater a b)
 greater_le a b = (grind (arith, ints), grind (arith, ints))
 
-le_trans_ℤ : (a b c : ℤ) → a ≤ℤ b → b ≤ℤ c → a ≤ℤ c
+pub le_trans_ℤ : (a b c : ℤ) → a ≤ℤ b → b ≤ℤ c → a ≤ℤ c
 le_trans_ℤ a b c h k = omega (arith, ints)
 
 -- what holds both boxes

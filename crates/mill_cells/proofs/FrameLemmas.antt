@@ -130,3 +130,22 @@ itself_inside b h = record {
   y_order = h.y_order;
   north = omega (arith, ints);
 }
+
+-- a column and a row of the frame begin within its bounds
+place_room : (low high : ℤ) (size at : ℕ) → Within greatest low → Within greatest high → at ≤ cell_of low size high → at * size < 2 ^ 18
+place_room low high size at hl hh le =
+    let k = hl.within in
+    let l = hh.within in
+    let d : nat_abs (high -ℤ low) ≤ 262142 = omega (arith, ints) in
+    let m = mul-le-mul {n₁ = at} {m₁ = size} {n₂ = cell_of low size high} {m₂ = size} le (omega arith) in
+    omega (arith, m, d, div-mul-le_self (nat_abs (high -ℤ low)) size)
+
+pub column_room : (f : Frame) (column : ℕ) → IsFrame f → column < f.columns → column * f.size < 2 ^ 18
+column_room f column h less =
+    let c : f.columns ≡ cell_of f.bounds.x0 f.size f.bounds.x1 + 1 = ap (λ (g : Frame). g.columns) h.made in
+    place_room f.bounds.x0 f.bounds.x1 f.size column h.bounds.x0_ok h.bounds.x1_ok (omega arith)
+
+pub row_room : (f : Frame) (row : ℕ) → IsFrame f → row < f.rows → row * f.size < 2 ^ 18
+row_room f row h less =
+    let r : f.rows ≡ cell_of f.bounds.y0 f.size f.bounds.y1 + 1 = ap (λ (g : Frame). g.rows) h.made in
+    place_room f.bounds.y0 f.bounds.y1 f.size row h.bounds.y0_ok h.bounds.y1_ok (omega arith)

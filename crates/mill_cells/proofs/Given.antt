@@ -1,23 +1,24 @@
 -- A walk gives exactly the boxes that meet its area, each once.
 use Rattle.std.proofs.Common.{◌≡◌, ◌⊎◌, ◌↔◌, ℕ, zero, suc, ◌+◌, ◌-◌, ◌*◌, ◌/◌, ◌%◌, ◌<◌, ◌≤◌, max, true, false, List, [], length, refl, sym, subst, ap, ◌∙◌, inl, inr, Bor, arith}
-use Rattle.std.specs.Prelude.{nat_eq}
+use Rattle.std.specs.Prelude.{nat_eq, slice_range}
+use Rattle.std.proofs.lemmas.List.Edits.{between_none}
 use Rattle.std.specs.List.{Contains, IsDistinct}
 use Rattle.std.proofs.lemmas.Bool.{and_parts, and_from, not-true, not_from_false, eqb-true, eq-eqb}
 use Rattle.std.proofs.lemmas.Int.{ints}
 use Rattle.std.proofs.lemmas.List.Elements.{Contains-append_cases, Contains-append_left, Contains-append_right}
 use Rattle.std.proofs.lemmas.Nat.{div-mul-add, mod-mul-add, div-add-mod', mul-add-lt}
-use lib.IntN.{ℤ}
+use lib.IntN.{ℤ, pos}
 use lib.Signed.{◌≤ℤ◌, lt_z}
 use Rattle.mill_base.specs.Numbers.{greater}
 use Rattle.mill_base.specs.declared.points.Box2.{Box2}
 use Rattle.mill_cells.specs.Boxes.{box_at, IsIn, Meet, IsNear, IsInside, IsCommon}
 use Rattle.mill_cells.specs.Frames.{block_of, width_of, height_of, area_of, covers, IsFrame}
 use Rattle.mill_cells.specs.Grids.{numbers_in, IsGrid}
-use Rattle.mill_cells.specs.Walks.{do_overlap, do_meet, is_first_cell, shows, column_in, row_in, given_in, given_from, rest_of, walk_over, IsWalk}
+use Rattle.mill_cells.specs.Walks.{TellFirst, do_overlap, do_meet, is_first_cell, shows, column_in, row_in, given_in, given_from, rest_of, walk_over, IsWalk}
 use Rattle.mill_cells.specs.declared.frame.Frame.{Frame}
 use Rattle.mill_cells.specs.declared.frame.Block.{Block}
 use Rattle.mill_cells.specs.declared.grid.Grid.{Grid}
-use Rattle.mill_cells.specs.declared.near.Walk.{Walk}
+use Rattle.mill_cells.specs.declared.walk.Walk.{Walk}
 use Rattle.mill_cells.proofs.BoxLemmas.{not_less}
 use Rattle.mill_cells.proofs.FrameLemmas.{block_in, cell_mono, covers_at, has_cell_yes}
 use Rattle.mill_cells.proofs.Lists.{nothing_in_nil, Contains-filter, filter_keeps, distinct-append, distinct-filter, distinct-nil}
@@ -247,9 +248,12 @@ none_near g all i h none n =
     none (record { x = m.x; y = m.y; in_first = inner_point g.frame.bounds (box_at g.boxes.items i) m.x m.y (h.inside i n.within) m.in_first; in_second = m.in_second })
 
 -- a walk that begins
+none_tell : (g : Bor Grid) (area : Box2) → TellFirst g.now.frame g.now.boxes.items area 0 0 (pos 0) (pos 0) (slice_range g.now.entries.items 0 0)
+none_tell g area = subst (TellFirst g.now.frame g.now.boxes.items area 0 0 (pos 0) (pos 0)) (sym (between_none g.now.entries.items 0)) (λ k d less. absurd (omega arith))
+
 pub new_walk : (g : Bor Grid) (area : Box2) (block : Block) (cells : ℕ) → IsGrid g.now → IsInside g.now.frame.bounds area → block ≡ block_of g.now.frame area → cells ≤ area_of block → IsWalk (walk_over g area block cells)
 new_walk g area block cells h ia e le =
-    record { grid = h; inside = ia; block = e; cells = le; entered = omega arith; order = omega arith; room = omega arith }
+    record { grid = h; inside = ia; block = e; cells = le; entered = omega arith; order = omega arith; room = omega arith; borders = none_tell g area }
 
 pub new_rest : (g : Bor Grid) (area : Box2) (block : Block) (cells : ℕ) → rest_of (walk_over g area block cells) ≡ given_from g.now.frame g.now.boxes.items area 0 cells
 new_rest g area block cells =

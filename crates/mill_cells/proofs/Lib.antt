@@ -1,12 +1,17 @@
 pub mod BoxLemmas
+pub mod Borders
 pub mod Counting
 pub mod FrameLemmas
 pub mod Given
+pub mod LidLemmas
 pub mod Lists
+pub mod OverLemmas
+pub mod PassedLemmas
 pub mod Passing
 pub mod Placements
 pub mod SizeLemmas
 pub mod Summing
+pub mod TestLemmas
 pub mod UpTo
 pub mod WalkLemmas
 pub mod Walked

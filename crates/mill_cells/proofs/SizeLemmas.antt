@@ -80,7 +80,7 @@ pub sum_more : (tris : List Tri) (size i numbers more : ℕ) (d : Tri) → i < l
 sum_more tris size i numbers more d less e m = omega (arith, e, m, sum_by_more (tri_cells tris size) tris i d less)
 
 pub too_many : (tris : List Tri) (size i numbers : ℕ) → numbers ≡ cell_count (frame_of tris size) + sum_by (tri_cells tris size) (take i tris)
-    → 8 * (length tris + 1) < numbers → ¬ Fits tris size
+    → 4 * (length tris + 1) < numbers → ¬ Fits tris size
 too_many tris size i numbers e over h = omega (arith, h.small, sum_by-take-le (tri_cells tris size) tris i)
 
 pub sum_all : (tris : List Tri) (size i numbers : ℕ) → length tris ≤ i → numbers ≡ cell_count (frame_of tris size) + sum_by (tri_cells tris size) (take i tris)

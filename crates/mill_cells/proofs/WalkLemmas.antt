@@ -1,19 +1,22 @@
 -- A walk through the cells of an area.
 use Rattle.std.proofs.Common.{◌≡◌, ℕ, suc, ◌+◌, ◌-◌, ◌*◌, ◌/◌, ◌%◌, ◌<◌, ◌≤◌, Bool, true, false, mul_comm, List, [], ◌∷◌, ◌++◌, length, get_or, refl, sym, subst, ap, ◌∙◌, arith}
-use Rattle.std.specs.Prelude.{slice_index, slice_range, filter}
+use Rattle.std.specs.Prelude.{slice_index, slice_range, filter, All}
+use Rattle.std.proofs.lemmas.List.Elements.{All-head, All-rest}
 use Rattle.std.proofs.lemmas.Bool.{cond-true, cond-false}
 use Rattle.std.proofs.lemmas.List.{drop_more}
 use Rattle.std.proofs.lemmas.List.Edits.{between_none}
 use Rattle.std.proofs.lemmas.Nat.{div_below, mod_below, mul-add-lt}
 use Rattle.mill_base.specs.declared.points.Box2.{Box2}
 use Rattle.mill_cells.specs.Boxes.{box_at}
-use Rattle.mill_cells.specs.Frames.{cell_count, block_of, width_of, height_of, area_of, IsBlock}
+use Rattle.mill_cells.specs.Frames.{border_of, cell_count, block_of, width_of, height_of, area_of, IsBlock}
 use Rattle.mill_cells.specs.Grids.{numbers_in, start_of, IsGrid}
-use Rattle.mill_cells.specs.Walks.{shows, column_in, row_in, given_from, rest_of, IsWalk}
+use Rattle.mill_cells.specs.Walks.{TellFirst, begins_at, is_first_cell, shows, column_in, row_in, given_from, rest_of, IsWalk}
 use Rattle.mill_cells.specs.declared.frame.Frame.{Frame}
 use Rattle.mill_cells.specs.declared.frame.Block.{Block}
 use Rattle.mill_cells.specs.declared.grid.Grid.{Grid}
-use Rattle.mill_cells.specs.declared.near.Walk.{Walk}
+use Rattle.mill_cells.specs.declared.walk.Walk.{Walk}
+use lib.IntN.{ℤ}
+use Rattle.mill_cells.proofs.Borders.{borders_tell}
 use Rattle.mill_cells.proofs.FrameLemmas.{InFrame, block_in, block_is}
 use Rattle.mill_cells.proofs.Placements.{start_mono}
 
@@ -64,7 +67,19 @@ step_walks w less h = record {
   entered = h.entered;
   order = omega arith;
   room = h.room;
+  borders = All-rest (λ i. begins_at w.west w.south (box_at w.grid.now.boxes.items i) ≡ is_first_cell (block_of w.grid.now.frame w.area) (block_of w.grid.now.frame (box_at w.grid.now.boxes.items i)) w.column w.row)
+      (get_or w.grid.now.entries.items w.place 0) (slice_range w.grid.now.entries.items (w.place + 1) w.end) (slice_range w.grid.now.entries.items w.place w.end) (part_more w.grid.now.entries.items w.place w.end less h.room) h.borders;
 }
+
+-- of the number at a walk's place too
+pub first_tells : (w : Walk) → IsWalk w → w.place < w.end
+    → begins_at w.west w.south (box_at w.grid.now.boxes.items (get_or w.grid.now.entries.items w.place 0))
+    ≡ is_first_cell (block_of w.grid.now.frame w.area) (block_of w.grid.now.frame (box_at w.grid.now.boxes.items (get_or w.grid.now.entries.items w.place 0))) w.column w.row
+first_tells w h less =
+    let tell = λ (i : ℕ). begins_at w.west w.south (box_at w.grid.now.boxes.items i) ≡ is_first_cell (block_of w.grid.now.frame w.area) (block_of w.grid.now.frame (box_at w.grid.now.boxes.items i)) w.column w.row in
+    let x = get_or w.grid.now.entries.items w.place 0 in
+    let xs = slice_range w.grid.now.entries.items (w.place + 1) w.end in
+    All-head tell x xs (subst (All tell) (part_more w.grid.now.entries.items w.place w.end less h.room) h.borders)
 
 -- the cell of a walk lies in its block and in the frame
 pub cell_in : (f : Frame) (b : Block) (w : ℕ) → InFrame f b → w < area_of b
@@ -81,6 +96,13 @@ cell_in f b w h less =
     mul-add-lt_turned : (a w b h : ℕ) → a < h → b < w → a * w + b < h * w
     mul-add-lt_turned a w b h p q = rw (mul_comm h w) (mul-add-lt a w b h p q)
 
+-- a cell's part of the entries
+pub part_is : (g : Grid) (cell s t : ℕ) → IsGrid g → cell < cell_count g.frame → s ≡ slice_index g.starts.items cell → t ≡ slice_index g.starts.items (cell + 1)
+    → slice_range g.entries.items s t ≡ numbers_in g.frame g.boxes.items cell
+part_is g cell s t h within es et =
+    subst (λ (p : ℕ). slice_range g.entries.items p t ≡ numbers_in g.frame g.boxes.items cell) (sym (es ∙ h.starts cell (omega arith)))
+    (subst (λ (q : ℕ). slice_range g.entries.items (start_of g.frame g.boxes.items cell) q ≡ numbers_in g.frame g.boxes.items cell) (sym (et ∙ h.starts (cell + 1) (omega arith))) (h.cells cell within))
+
 -- to enter a cell changes nothing of what is still to come
 pub enters : (g : Grid) (area : Box2) (entered cells s t column row : ℕ) → IsGrid g
     → column ≡ column_in (block_of g.frame area) entered → row ≡ row_in (block_of g.frame area) entered → row * g.frame.columns + column < cell_count g.frame
@@ -89,16 +111,13 @@ pub enters : (g : Grid) (area : Box2) (entered cells s t column row : ℕ) → I
     ≡ given_from g.frame g.boxes.items area entered (cells - entered)
 enters g area entered cells s t column row h ec er within es et less =
     let n : cells - entered ≡ suc (cells - (entered + 1)) = omega arith in
-    let cell = row * g.frame.columns + column in
-    let part : slice_range g.entries.items s t ≡ numbers_in g.frame g.boxes.items cell =
-    subst (λ (p : ℕ). slice_range g.entries.items p t ≡ numbers_in g.frame g.boxes.items cell) (sym (es ∙ h.starts cell (omega arith)))
-    (subst (λ (q : ℕ). slice_range g.entries.items (start_of g.frame g.boxes.items cell) q ≡ numbers_in g.frame g.boxes.items cell) (sym (et ∙ h.starts (cell + 1) (omega arith))) (h.cells cell within)) in
+    let part = part_is g (row * g.frame.columns + column) s t h within es et in
     rw (n, part, ec, er) refl
 
 -- the walk in its next cell
-abbrev pub entered_at : Walk → ℕ → ℕ → ℕ → ℕ → Walk
-entered_at w column row s t =
-    record { grid = w.grid; area = w.area; block = w.block; cells = w.cells; entered = w.entered + 1; column = column; row = row; place = s; «end» = t }
+abbrev pub entered_at : Walk → ℕ → ℕ → ℤ → ℤ → ℕ → ℕ → Walk
+entered_at w column row west south s t =
+    record { grid = w.grid; area = w.area; block = w.block; cells = w.cells; entered = w.entered + 1; column = column; row = row; west = west; south = south; place = s; «end» = t }
 
 walk_cell : (w : Walk) → IsWalk w → w.entered < w.cells
     → (column_in w.block w.entered ≤ w.block.last_column) × (row_in w.block w.entered ≤ w.block.last_row) × (column_in w.block w.entered < w.grid.now.frame.columns) × (row_in w.block w.entered < w.grid.now.frame.rows)
@@ -112,15 +131,20 @@ walk_block w h = subst IsBlock (sym h.block) (block_is w.grid.now.frame w.area h
 -- the next cell, by a width that is the block's
 pub cell_is : (w : Walk) (width : ℕ) → IsWalk w → w.entered < w.cells → width ≡ width_of w.block
     → (w.block.first_row + w.entered / width ≤ w.block.last_row) × ((w.block.first_row + w.entered / width) * w.grid.now.frame.columns + (w.block.first_column + w.entered % width) < cell_count w.grid.now.frame)
-cell_is w width h more e = let k = walk_cell w h more in rw e (k.1, k.4)
+    × (w.block.first_column + w.entered % width < w.grid.now.frame.columns) × (w.block.first_row + w.entered / width < w.grid.now.frame.rows)
+cell_is w width h more e = let k = walk_cell w h more in rw e (k.1, k.4, k.2, k.3)
 
-pub enter_walks : (w : Walk) (width s t : ℕ) → IsWalk w → w.entered < w.cells → width ≡ width_of w.block
+pub enter_walks : (w : Walk) (width s t : ℕ) (west south : ℤ) → IsWalk w → w.entered < w.cells → width ≡ width_of w.block
+    → west ≡ border_of w.grid.now.frame.bounds.x0 w.grid.now.frame.size w.block.first_column (w.block.first_column + w.entered % width)
+    → south ≡ border_of w.grid.now.frame.bounds.y0 w.grid.now.frame.size w.block.first_row (w.block.first_row + w.entered / width)
     → s ≡ slice_index w.grid.now.starts.items ((w.block.first_row + w.entered / width) * w.grid.now.frame.columns + (w.block.first_column + w.entered % width))
     → t ≡ slice_index w.grid.now.starts.items (((w.block.first_row + w.entered / width) * w.grid.now.frame.columns + (w.block.first_column + w.entered % width)) + 1)
-    → IsWalk (entered_at w (w.block.first_column + w.entered % width) (w.block.first_row + w.entered / width) s t)
-enter_walks w width s t h more e es et =
+    → IsWalk (entered_at w (w.block.first_column + w.entered % width) (w.block.first_row + w.entered / width) west south s t)
+enter_walks w width s t west south h more e ew es' es et =
     let k = cell_is w width h more e in
-    let cell = (w.block.first_row + w.entered / width) * w.grid.now.frame.columns + (w.block.first_column + w.entered % width) in
+    let column = w.block.first_column + w.entered % width in
+    let row = w.block.first_row + w.entered / width in
+    let cell = row * w.grid.now.frame.columns + column in
     let f = w.grid.now.frame in
     let boxes = w.grid.now.boxes.items in
     let a = h.grid.starts cell (omega (arith, k.1)) in
@@ -133,13 +157,16 @@ enter_walks w width s t h more e es et =
       entered = omega arith;
       order = omega (arith, es, et, a, b, start_mono f boxes cell (cell + 1) (omega arith));
       room = omega (arith, et, b, h.grid.size, start_mono f boxes (cell + 1) (cell_count f) (omega (arith, k.1)));
+      borders = subst (TellFirst f boxes w.area column row west south) (sym (part_is w.grid.now cell s t h.grid k.1 es et))
+          (borders_tell w.grid.now w.area column row west south h.grid k.2 (omega (arith, ap (λ (c : Block). c.first_column) h.block)) (omega (arith, ap (λ (c : Block). c.first_row) h.block))
+          (ew ∙ ap (λ (c : Block). border_of f.bounds.x0 f.size c.first_column column) h.block) (es' ∙ ap (λ (c : Block). border_of f.bounds.y0 f.size c.first_row row) h.block));
     }
 
-pub enter_rest : (w : Walk) (width s t : ℕ) → IsWalk w → w.entered < w.cells → w.place ≡ w.end → width ≡ width_of w.block
+pub enter_rest : (w : Walk) (width s t : ℕ) (west south : ℤ) → IsWalk w → w.entered < w.cells → w.place ≡ w.end → width ≡ width_of w.block
     → s ≡ slice_index w.grid.now.starts.items ((w.block.first_row + w.entered / width) * w.grid.now.frame.columns + (w.block.first_column + w.entered % width))
     → t ≡ slice_index w.grid.now.starts.items (((w.block.first_row + w.entered / width) * w.grid.now.frame.columns + (w.block.first_column + w.entered % width)) + 1)
-    → rest_of (entered_at w (w.block.first_column + w.entered % width) (w.block.first_row + w.entered / width) s t) ≡ rest_of w
-enter_rest w width s t h more done e es et =
+    → rest_of (entered_at w (w.block.first_column + w.entered % width) (w.block.first_row + w.entered / width) west south s t) ≡ rest_of w
+enter_rest w width s t west south h more done e es et =
     let k = cell_is w width h more e in
     let wide : width ≡ width_of (block_of w.grid.now.frame w.area) = e ∙ ap width_of h.block in
     enters w.grid.now w.area w.entered w.cells s t (w.block.first_column + w.entered % width) (w.block.first_row + w.entered / width) h.grid

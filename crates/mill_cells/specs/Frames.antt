@@ -1,5 +1,5 @@
 -- The cells of a grid, and which of them a box covers.
-use Rattle.std.specs.Prelude.{◌≡◌, ℕ, ◌+◌, ◌-◌, ◌*◌, ◌/◌, ◌%◌, ◌^◌, ◌<◌, ◌≤◌, ℤ, ◌-ℤ◌, nat_abs, nat_le, Bool, ◌&&◌}
+use Rattle.std.specs.Prelude.{◌≡◌, ℕ, ◌+◌, ◌-◌, ◌*◌, ◌/◌, ◌%◌, ◌^◌, ◌<◌, ◌≤◌, ◌==◌, if◌then◌else◌, ℤ, pos, ◌+ℤ◌, ◌-ℤ◌, nat_abs, nat_le, Bool, ◌&&◌}
 use Rattle.mill_base.specs.declared.points.Box2.{Box2}
 use Rattle.mill_cells.specs.Boxes.{IsBounds}
 use Rattle.mill_cells.specs.declared.frame.Frame.{Frame}
@@ -8,6 +8,10 @@ use Rattle.mill_cells.specs.declared.frame.Block.{Block}
 -- how many whole cells lie between low and a coordinate that isn't under it
 abbrev pub cell_of : ℤ → ℕ → ℤ → ℕ
 cell_of low size at = nat_abs (at -ℤ low) / size
+
+-- where the column, or the row, at begins; for the first one that is looked at, where the lowest begins
+abbrev pub border_of : ℤ → ℕ → ℕ → ℕ → ℤ
+border_of low size first at = if at == first then low else (low +ℤ pos (at * size))
 
 -- the cells of this size over the rectangle
 abbrev pub frame_over : Box2 → ℕ → Frame

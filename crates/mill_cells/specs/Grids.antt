@@ -2,6 +2,7 @@
 use Rattle.std.specs.Prelude.{◌≡◌, ℕ, zero, suc, ◌+◌, ◌^◌, ◌<◌, ◌≤◌, if◌then◌else◌, Bool, List, [], ◌∷◌, ◌++◌, length, slice_index, slice_range, All}
 use Rattle.mill_base.specs.declared.points.Box2.{Box2}
 use Rattle.mill_cells.specs.Boxes.{box_at, AllInside}
+use Rattle.mill_cells.specs.Sorted.{height_at, AreUnder}
 use Rattle.mill_cells.specs.Frames.{covers, cell_count, IsFrame}
 use Rattle.mill_cells.specs.declared.frame.Frame.{Frame}
 use Rattle.mill_cells.specs.declared.grid.Grid.{Grid}
@@ -24,7 +25,7 @@ abbrev pub start_of : Frame → List Box2 → ℕ → ℕ
 start_of f boxes zero = 0
 start_of f boxes (suc k) = start_of f boxes k + length (numbers_in f boxes k)
 
--- each cell's part of the entries is the list of its numbers
+-- each cell's part of the entries is the list of its numbers, and its lid is no lower than their tops
 pub record IsGrid (g : Grid) : Type 0 where
   pub frame : IsFrame g.frame
   pub inside : AllInside g.frame.bounds g.boxes.items
@@ -35,3 +36,6 @@ pub record IsGrid (g : Grid) : Type 0 where
   pub known : All (λ i. i < length g.boxes.items) g.entries.items
   pub cells : (k : ℕ) → k < cell_count g.frame
       → slice_range g.entries.items (start_of g.frame g.boxes.items k) (start_of g.frame g.boxes.items (k + 1)) ≡ numbers_in g.frame g.boxes.items k
+  pub tops : length g.tops.items ≡ length g.boxes.items
+  pub lids_long : length g.lids.items ≡ cell_count g.frame
+  pub lids : (k : ℕ) → k < cell_count g.frame → AreUnder g.tops.items (height_at g.lids.items k) (numbers_in g.frame g.boxes.items k)

@@ -1,6 +1,9 @@
 pub mod Boxes
 pub mod Frames
 pub mod Sizes
+pub mod Sorted
+pub mod Ahead
+pub mod Passed
 pub mod Grids
 pub mod Placing
 pub mod Walks

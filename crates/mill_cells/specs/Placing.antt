@@ -1,7 +1,8 @@
 -- How far the sorting of boxes into cells has come.
-use Rattle.std.specs.Prelude.{◌≡◌, ℕ, zero, suc, ◌+◌, ◌^◌, ◌<◌, ◌≤◌, List, length, slice_index, All}
+use Rattle.std.specs.Prelude.{◌≡◌, ℕ, zero, suc, ◌+◌, ◌^◌, ◌<◌, ◌≤◌, List, ℤ, length, slice_index, slice_range, All}
 use Rattle.mill_base.specs.declared.points.Box2.{Box2}
 use Rattle.mill_cells.specs.Frames.{cell_count}
+use Rattle.mill_cells.specs.Sorted.{height_at, AreUnder}
 use Rattle.mill_cells.specs.Grids.{numbers, start_of}
 use Rattle.mill_cells.specs.declared.frame.Frame.{Frame}
 
@@ -41,3 +42,7 @@ pub record IsPlacing (f : Frame) (boxes : List Box2) (starts entries : List ℕ)
   pub size : length entries ≡ start_of f boxes (cell_count f)
   pub known : All (λ i. i < length boxes) entries
   pub upto : IsUpTo (cell_count f) (IsPlaced f boxes starts entries) m t
+
+-- each lid is no lower than the tops of the numbers in its cell
+abbrev pub AreLids : List ℕ → List ℕ → List ℤ → List ℤ → Type 0
+AreLids starts entries tops lids = (k : ℕ) → k < length lids → AreUnder tops (height_at lids k) (slice_range entries (slice_index starts k) (slice_index starts (k + 1)))

@@ -13,10 +13,10 @@ frame_of tris size = frame_over (bounds_of tris) size
 abbrev pub entry_count : List Tri → ℕ → ℕ
 entry_count tris size = sum_by (λ t. area_of (block_of (frame_of tris size) (box_of t))) tris
 
--- there are at most 2^20 cells, and cells and entries in them together are at most eight for each triangle and eight more
+-- there are at most 2^20 cells, and cells and entries in them together are at most four for each triangle and four more
 pub record Fits (tris : List Tri) (size : ℕ) : Type 0 where
   pub few : cell_count (frame_of tris size) ≤ 2 ^ 20
-  pub small : cell_count (frame_of tris size) + entry_count tris size ≤ 8 * (length tris + 1)
+  pub small : cell_count (frame_of tris size) + entry_count tris size ≤ 4 * (length tris + 1)
 
 -- the size is at least 1 and makes at most 2^20 cells
 pub record IsCellSize (tris : List Tri) (size : ℤ) : Type 0 where

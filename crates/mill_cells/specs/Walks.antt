@@ -1,12 +1,12 @@
 -- What a walk through the cells of an area still gives.
-use Rattle.std.specs.Prelude.{◌≡◌, ℕ, zero, suc, ◌+◌, ◌-◌, ◌*◌, ◌/◌, ◌%◌, ◌≤◌, ◌==◌, max, Bool, ◌&&◌, not, ℤ, int_lt, List, [], ◌++◌, length, filter, slice_range}
+use Rattle.std.specs.Prelude.{◌≡◌, ℕ, zero, suc, ◌+◌, ◌-◌, ◌*◌, ◌/◌, ◌%◌, ◌≤◌, ◌==◌, max, Bool, ◌&&◌, not, ℤ, pos, int_lt, List, [], ◌++◌, length, filter, slice_range, All}
 use Rattle.mill_base.specs.declared.points.Box2.{Box2}
 use Rattle.mill_cells.specs.Boxes.{box_at, IsInside}
 use Rattle.mill_cells.specs.Frames.{block_of, area_of, width_of}
 use Rattle.mill_cells.specs.Grids.{IsGrid, numbers_in}
 use Rattle.mill_cells.specs.declared.frame.Frame.{Frame}
 use Rattle.mill_cells.specs.declared.frame.Block.{Block}
-use Rattle.mill_cells.specs.declared.near.Walk.{Walk}
+use Rattle.mill_cells.specs.declared.walk.Walk.{Walk}
 use Rattle.mill_cells.specs.declared.grid.Grid.{Grid}
 use Rattle.std.specs.Borrow.{Bor}
 
@@ -21,6 +21,14 @@ do_meet a b = do_overlap a.x0 a.x1 b.x0 b.x1 && do_overlap a.y0 a.y1 b.y0 b.y1
 -- the cell in this column and row is the first one that both the box and the area cover
 abbrev pub is_first_cell : Block → Block → ℕ → ℕ → Bool
 is_first_cell area b column row = (column == max area.first_column b.first_column) && (row == max area.first_row b.first_row)
+
+-- the box begins at these borders or further on
+abbrev pub begins_at : ℤ → ℤ → Box2 → Bool
+begins_at west south b = not (int_lt b.x0 west) && not (int_lt b.y0 south)
+
+-- these borders tell of each of the boxes of these numbers whether the cell is the first one that it and the area cover
+abbrev pub TellFirst : Frame → List Box2 → Box2 → ℕ → ℕ → ℤ → ℤ → List ℕ → Type 0
+TellFirst f boxes area column row west south = All (λ i. begins_at west south (box_at boxes i) ≡ is_first_cell (block_of f area) (block_of f (box_at boxes i)) column row)
 
 -- in this cell the box is given
 abbrev pub shows : Frame → Box2 → ℕ → ℕ → Box2 → Bool
@@ -60,7 +68,8 @@ pub record IsWalk (w : Walk) : Type 0 where
   pub entered : w.entered ≤ w.cells
   pub order : w.place ≤ w.end
   pub room : w.end ≤ length w.grid.now.entries.items
+  pub borders : TellFirst w.grid.now.frame w.grid.now.boxes.items w.area w.column w.row w.west w.south (slice_range w.grid.now.entries.items w.place w.end)
 
 -- a walk before its first cell
 abbrev pub walk_over : Bor Grid → Box2 → Block → ℕ → Walk
-walk_over grid area block cells = record { grid = grid; area = area; block = block; cells = cells; entered = 0; column = 0; row = 0; place = 0; «end» = 0 }
+walk_over grid area block cells = record { grid = grid; area = area; block = block; cells = cells; entered = 0; column = 0; row = 0; west = pos 0; south = pos 0; place = 0; «end» = 0 }

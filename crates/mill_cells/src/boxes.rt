@@ -1,4 +1,5 @@
 ghost use Rattle.std.specs.Prelude.{◌≡◌};
+ghost use Rattle.mill_base.specs.Points.{highest};
 ghost use Rattle.mill_cells.specs.Boxes.{box_of, bounds_of, widened, Meet};
 
 use mill_base::{Box2, Tri};
@@ -13,6 +14,13 @@ pub fn tri_box(tri: &Tri) -> Box2
         x1: tri.a.x.max(tri.b.x.max(tri.c.x)),
         y1: tri.a.y.max(tri.b.y.max(tri.c.y)),
     }
+}
+
+/// A triangle's top, the greatest of its three heights.
+pub fn tri_top(tri: &Tri) -> i32
+    ensures { result ≡ highest tri.now }
+{
+    tri.a.z.max(tri.b.z.max(tri.c.z))
 }
 
 /// The least box that holds both boxes.

@@ -1,34 +1,37 @@
 ghost use Rattle.std.specs.Prelude.{◌≡◌, ◌<◌, ◌^◌, ◌↔◌, ℤ, pos, ◌<ℤ◌, ◌≤ℤ◌, length, IfOk, Contains, ℕ, nat_eq, nat_abs};
 ghost use Rattle.std.specs.List.{IsDistinct};
 ghost use Rattle.mill_base.specs.Ranges.{TrisInRange};
-ghost use Rattle.mill_cells.specs.Boxes.{boxes_of, IsNear};
+ghost use Rattle.mill_cells.specs.Boxes.{IsNear};
 ghost use Rattle.mill_cells.specs.Sizes.{Fits, IsCellSize};
+ghost use Rattle.mill_cells.specs.Sorted.{sorted_of};
 
-use crate::boxes::{bounds, tri_box};
+use crate::boxes::{bounds, tri_box, tri_top};
 use crate::frame::Frame;
 use crate::grid::{Grid, sorted};
 use crate::near::Near;
+use crate::near_over::NearOver;
 use crate::size;
 use mill_base::{Box2, Tri, WantOfMemory};
 use std::alloc::Global;
 use std::marker::Model;
 
-/// The boxes of a list of triangles, sorted into square cells.
+/// The boxes of a list of triangles, sorted into square cells, and their greatest heights.
 ///
-/// A contract sees the list of the boxes, in the order of the triangles.
+/// A contract sees the list of the boxes and that of the tops, both in the order of the triangles. A
+/// triangle's top is the greatest of its three heights, in units of 0.01 mm.
 #[derive(Drop)]
 pub struct Cells {
     grid: Grid,
 }
 
 impl Model for Cells {
-    ghost use Rattle.std.specs.Prelude.{List};
-    ghost use Rattle.mill_base.specs.declared.points.Box2.{Box2};
+    ghost use Rattle.mill_cells.specs.Sorted.{Sorted};
+
+    ghost Value = { Sorted };
+
     ghost use Rattle.mill_cells.specs.Grids.{IsGrid};
 
-    ghost Value = { List Box2 };
-
-    ghost view = { λ cells. cells.grid.boxes.items };
+    ghost view = { λ cells. record { boxes = cells.grid.boxes.items; tops = cells.grid.tops.items } };
 
     ghost invariant = { λ cells. IsGrid cells.grid };
 }
@@ -36,7 +39,7 @@ impl Model for Cells {
 impl Cells {
     /// The size of cells that suits these triangles, in units of 0.01 mm: the least power of two
     /// at which there are at most 2^20 cells, and cells and entries in them together are at most
-    /// eight for each triangle and eight more.
+    /// four for each triangle and four more.
     pub fn size_for(tris: &[Tri]) -> i32
         requires in_range { TrisInRange tris.now }
         requires count { length tris.now < 2 ^ 32 }
@@ -55,14 +58,16 @@ impl Cells {
         requires in_range { TrisInRange tris.now }
         requires count { length tris.now < 2 ^ 32 }
         requires size { IsCellSize tris.now size }
-        ensures { IfOk result (λ cells. cells ≡ boxes_of tris.now) }
+        ensures { IfOk result (λ cells. cells ≡ sorted_of tris.now) }
     {
         let mut boxes = Vec::with_capacity(alloc, tris.len())?;
+        let mut tops = Vec::with_capacity(alloc, tris.len())?;
         for tri in tris {
             boxes.push(tri_box(tri))?;
+            tops.push(tri_top(tri))?;
         }
         let frame = Frame::over(bounds(tris), size as u32);
-        let grid = sorted(alloc, frame, boxes)?;
+        let grid = sorted(alloc, frame, boxes, tops)?;
         Ok(Cells { grid })
     }
 
@@ -71,9 +76,21 @@ impl Cells {
     /// The area may lie partly or wholly outside the part. Nothing meets an area whose ends are
     /// the wrong way round.
     pub fn near(&self, area: Box2) -> Near<'_>
-        ensures each { (i : ℕ) → Contains result i ↔ IsNear self.now area i }
+        ensures each { (i : ℕ) → Contains result i ↔ IsNear self.now.boxes area i }
         ensures once { IsDistinct nat_eq result }
     {
         Near::new(&self.grid, area)
+    }
+
+    /// The triangles whose box meets the area, of which `NearOver::next_over` gives those over a
+    /// height; touching borders meet.
+    ///
+    /// It doesn't look at the triangles of a cell in which none is over the height.
+    pub fn near_over(&self, area: Box2) -> NearOver<'_>
+        ensures each { (i : ℕ) → Contains result.numbers i ↔ IsNear self.now.boxes area i }
+        ensures once { IsDistinct nat_eq result.numbers }
+        ensures tops { result.tops ≡ self.now.tops }
+    {
+        NearOver::new(&self.grid, area)
     }
 }

@@ -1,7 +1,7 @@
-ghost use Rattle.std.specs.Prelude.{◌≡◌, ◌<◌, ◌≤◌, ◌≤ℤ◌, ◌^◌, ◌+◌};
+ghost use Rattle.std.specs.Prelude.{◌≡◌, ◌<◌, ◌≤◌, ◌≤ℤ◌, ◌^◌, ◌+◌, ◌*◌};
 ghost use Rattle.mill_base.specs.Numbers.{Within, greatest};
 ghost use Rattle.mill_cells.specs.Boxes.{IsInside, IsBounds};
-ghost use Rattle.mill_cells.specs.Frames.{cell_of};
+ghost use Rattle.mill_cells.specs.Frames.{cell_of, border_of};
 
 use mill_base::Box2;
 
@@ -78,6 +78,20 @@ pub fn cell_number(low: i32, size: u32, at: i32) -> u32
     ensures bound { result < 2 ^ 18 }
 {
     (at - low) as u32 / size
+}
+
+/// Where the column, or the row, `at` begins, for that of number 0 at `low`; for the first one that
+/// is looked at, `low` itself, since what begins before it can't be met before.
+pub fn border(low: i32, size: u32, first: u32, at: u32) -> i32
+    requires low_ok { Within greatest low }
+    requires room { at * size < 2 ^ 18 }
+    ensures { result ≡ border_of low size first at }
+{
+    if at == first {
+        low
+    } else {
+        low + (at * size) as i32
+    }
 }
 
 impl Block {

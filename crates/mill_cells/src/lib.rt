@@ -10,11 +10,15 @@ mod boxes;
 mod cells;
 mod frame;
 mod grid;
+mod lids;
 mod near;
+mod near_over;
 mod placing;
 mod size;
 #[cfg(test)]
 mod tests;
+mod walk;
 
 pub use cells::Cells;
 pub use near::Near;
+pub use near_over::NearOver;

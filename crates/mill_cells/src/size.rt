@@ -45,7 +45,7 @@ fn fits(tris: &[Tri], bounds: Box2, size: u32) -> bool
     if cells > MOST_CELLS {
         return false;
     }
-    let most = 8 * (tris.len() as u64 + 1);
+    let most = 4 * (tris.len() as u64 + 1);
     let mut numbers = cells;
     for tri in tris {
         if numbers > most {

@@ -5,10 +5,9 @@ use Rattle.mill_base.specs.Numbers.{Within, greatest}
 use Rattle.mill_base.specs.Sizes.{IsCutter}
 use Rattle.mill_base.specs.Lattices.{lattice_xs, lattice_ys, node_count}
 use Rattle.mill_base.specs.declared.points.Tri.{Tri}
-use Rattle.mill_base.specs.declared.points.Box2.{Box2}
 use Rattle.mill_base.specs.declared.cutter.Cutter.{Cutter}
 use Rattle.mill_base.specs.declared.lattice.Lattice.{Lattice}
-use Rattle.mill_cells.specs.Boxes.{boxes_of}
+use Rattle.mill_cells.specs.Sorted.{Sorted, sorted_of}
 use Rattle.mill_drop.specs.Drops.{IsDropHeight}
 
 -- each x with each y, row by row: y in its order from row to row, and x in its order along each row
@@ -43,8 +42,8 @@ pub record IsMapLattice (lattice : Lattice) : Type 0 where
   pub few : node_count lattice ≤ 4000000
 
 -- what a drop height at the node of this number needs
-pub record IsNodeTask (part : List Tri) (cells : List Box2) (cutter : Cutter) (lattice : Lattice) (floor : ℤ) (number : ℕ) : Type 0 where
-  pub cells_ok : cells ≡ boxes_of part
+pub record IsNodeTask (part : List Tri) (cells : Sorted) (cutter : Cutter) (lattice : Lattice) (floor : ℤ) (number : ℕ) : Type 0 where
+  pub cells_ok : cells ≡ sorted_of part
   pub cutter_ok : IsCutter cutter
   pub lattice_ok : IsMapLattice lattice
   pub floor_ok : Within greatest floor

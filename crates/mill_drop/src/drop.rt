@@ -1,7 +1,7 @@
 ghost use Rattle.std.specs.Prelude.{◌≡◌};
 ghost use Rattle.mill_base.specs.Numbers.{Within, greatest};
 ghost use Rattle.mill_base.specs.Sizes.{IsCutter};
-ghost use Rattle.mill_cells.specs.Boxes.{boxes_of};
+ghost use Rattle.mill_cells.specs.Sorted.{sorted_of};
 ghost use Rattle.mill_drop.specs.Drops.{IsDropHeight};
 
 use crate::near::{raised_near, square_around, start_height};
@@ -16,7 +16,7 @@ use mill_part::Part;
 ///
 /// Lengths are in units of 0.01 mm, of at most 131,071 in magnitude.
 pub fn drop_at(part: &Part, cells: &Cells, cutter: Cutter, x: i32, y: i32, floor: i32) -> i32
-    requires cells_ok { cells.now ≡ boxes_of part.now }
+    requires cells_ok { cells.now ≡ sorted_of part.now }
     requires cutter_ok { IsCutter cutter }
     requires x_ok { Within greatest x }
     requires y_ok { Within greatest y }

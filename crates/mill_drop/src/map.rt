@@ -1,7 +1,7 @@
 ghost use Rattle.std.specs.Prelude.{◌≡◌, IfOk};
 ghost use Rattle.mill_base.specs.Numbers.{Within, greatest};
 ghost use Rattle.mill_base.specs.Sizes.{IsCutter};
-ghost use Rattle.mill_cells.specs.Boxes.{boxes_of};
+ghost use Rattle.mill_cells.specs.Sorted.{sorted_of};
 ghost use Rattle.mill_drop.specs.Maps.{AreDropHeights, IsHeightAt, IsMapLattice, IsNodeTask, node_at};
 
 use crate::drop::drop_at;
@@ -27,7 +27,7 @@ pub fn drop_map<R: Threads + Sync>(
     lattice: &Lattice,
     floor: i32,
 ) -> Result<Vec<i32>, WantOfMemory>
-    requires cells_ok { cells.now ≡ boxes_of part.now }
+    requires cells_ok { cells.now ≡ sorted_of part.now }
     requires cutter_ok { IsCutter cutter }
     requires lattice_ok { IsMapLattice lattice.now }
     requires floor_ok { Within greatest floor }
@@ -46,7 +46,7 @@ fn heights<R: Threads + Sync>(
     lattice: &Lattice,
     floor: i32,
 ) -> Result<Vec<i32>, AllocError>
-    requires cells_ok { cells.now ≡ boxes_of part.now }
+    requires cells_ok { cells.now ≡ sorted_of part.now }
     requires cutter_ok { IsCutter cutter }
     requires lattice_ok { IsMapLattice lattice.now }
     requires floor_ok { Within greatest floor }

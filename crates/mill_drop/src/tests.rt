@@ -2,7 +2,7 @@ ghost use Rattle.std.specs.Prelude.{◌≡◌};
 ghost use Rattle.mill_base.specs.Numbers.{Within, greatest};
 ghost use Rattle.mill_base.specs.Ranges.{IsInRange};
 ghost use Rattle.mill_base.specs.Sizes.{IsCutter};
-ghost use Rattle.mill_cells.specs.Boxes.{boxes_of};
+ghost use Rattle.mill_cells.specs.Sorted.{sorted_of};
 
 use crate::{drop_at, drop_map};
 use mill_base::{Box2, Cutter, Lattice, Pt3, Tri};
@@ -25,7 +25,7 @@ fn at(x: i16, y: i16, z: i16) -> Pt3
 struct Shape {
     part: Part,
     cells: Cells,
-    ghost cells_ok: { cells ≡ boxes_of part },
+    ghost cells_ok: { cells ≡ sorted_of part },
 }
 
 /// The part of one triangle.

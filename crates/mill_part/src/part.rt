@@ -2,7 +2,7 @@ ghost use Rattle.std.specs.Prelude.{◌≡◌, ◌↔◌, ◌<◌, ◌^◌, ℤ,
 ghost use Rattle.mill_base.specs.Covers.{Covered, HasPointOver};
 ghost use Rattle.mill_base.specs.Numbers.{Within, greatest};
 ghost use Rattle.mill_base.specs.Ranges.{TrisInRange};
-ghost use Rattle.mill_cells.specs.Boxes.{boxes_of};
+ghost use Rattle.mill_cells.specs.Sorted.{sorted_of};
 
 use crate::near::{Column, highest};
 use mill_base::Tri;
@@ -116,7 +116,7 @@ impl Part {
     /// It is for many columns: for one alone, making the cells is more work than the looks that they
     /// save.
     pub fn covered_height_near(&self, cells: &Cells, floor: i32, x: i32, y: i32, band: i32) -> i32
-        requires cells_ok { cells.now ≡ boxes_of self.now }
+        requires cells_ok { cells.now ≡ sorted_of self.now }
         requires floor_ok { Within greatest floor }
         requires x_ok { Within greatest x }
         requires y_ok { Within greatest y }

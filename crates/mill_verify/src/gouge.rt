@@ -1,7 +1,7 @@
 ghost use Rattle.std.specs.Prelude.{◌≡◌, ◌<◌, length, IfSome, MatchOption};
 ghost use Rattle.mill_base.specs.Ranges.{MoveInRange, MovesInRange, TriInRange};
 ghost use Rattle.mill_base.specs.Sizes.{IsCutter};
-ghost use Rattle.mill_cells.specs.Boxes.{boxes_of};
+ghost use Rattle.mill_cells.specs.Sorted.{sorted_of};
 ghost use Rattle.mill_job.specs.Jobs.{IsJob};
 ghost use Rattle.mill_verify.specs.Tests.{ClearsPart};
 ghost use Rattle.mill_verify.specs.Firsts.{IsEarlier, IsFirstGouge};
@@ -36,7 +36,7 @@ pub fn first_gouge(
     number: usize,
 ) -> Option<Gouge>
     requires job_ok { IsJob job.now }
-    requires cells_ok { cells.now ≡ boxes_of part.now }
+    requires cells_ok { cells.now ≡ sorted_of part.now }
     requires top_ok { IsLid part.now part_top }
     requires moves_ok { MovesInRange moves.now }
     requires there { number < length moves.now }

@@ -1,6 +1,6 @@
 ghost use Rattle.std.specs.Prelude.{◌≡◌, ◌≤◌, ◌<◌, false, length, IsTrue};
 ghost use Rattle.mill_base.specs.Ranges.{MovesInRange};
-ghost use Rattle.mill_cells.specs.Boxes.{boxes_of};
+ghost use Rattle.mill_cells.specs.Sorted.{sorted_of};
 ghost use Rattle.mill_job.specs.Jobs.{IsJob};
 ghost use Rattle.mill_verify.specs.Firsts.{IsFloorEnd, IsLimit};
 ghost use Rattle.mill_verify.specs.Near.{IsLid};
@@ -33,7 +33,7 @@ pub fn part_limit<R: Threads + Sync>(
     workers: u32,
 ) -> Limit
     requires job_ok { IsJob job.now }
-    requires cells_ok { cells.now ≡ boxes_of part.now }
+    requires cells_ok { cells.now ≡ sorted_of part.now }
     requires moves_ok { MovesInRange moves.now }
     requires few { length moves.now ≤ 1000000 }
     requires few_workers { workers ≤ 64 }

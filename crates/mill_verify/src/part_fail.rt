@@ -1,6 +1,6 @@
 ghost use Rattle.std.specs.Prelude.{◌≡◌, ◌≤◌, ◌<◌, length, MatchOption};
 ghost use Rattle.mill_base.specs.Ranges.{MovesInRange};
-ghost use Rattle.mill_cells.specs.Boxes.{boxes_of};
+ghost use Rattle.mill_cells.specs.Sorted.{sorted_of};
 ghost use Rattle.mill_job.specs.Jobs.{IsJob};
 ghost use Rattle.mill_verify.specs.Firsts.{ClearsBetween, IsFirstPartFail};
 ghost use Rattle.mill_verify.specs.Near.{IsLid};
@@ -38,7 +38,7 @@ pub fn first_part_fail<R: Threads + Sync>(
     workers: u32,
 ) -> Option<PartFail>
     requires job_ok { IsJob job.now }
-    requires cells_ok { cells.now ≡ boxes_of part.now }
+    requires cells_ok { cells.now ≡ sorted_of part.now }
     requires top_ok { IsLid part.now part_top }
     requires moves_ok { MovesInRange moves.now }
     requires order { start ≤ end }
@@ -61,7 +61,7 @@ pub fn first_part_fail<R: Threads + Sync>(
         || -> Option<PartFail>
             requires sync { IsSync R.row }
             requires job_ok { IsJob job.now }
-            requires cells_ok { cells.now ≡ boxes_of part.now }
+            requires cells_ok { cells.now ≡ sorted_of part.now }
             requires top_ok { IsLid part.now part_top }
             requires moves_ok { MovesInRange moves.now }
             requires order { start ≤ middle }
@@ -88,7 +88,7 @@ pub fn first_part_fail<R: Threads + Sync>(
         || -> Option<PartFail>
             requires sync { IsSync R.row }
             requires job_ok { IsJob job.now }
-            requires cells_ok { cells.now ≡ boxes_of part.now }
+            requires cells_ok { cells.now ≡ sorted_of part.now }
             requires top_ok { IsLid part.now part_top }
             requires moves_ok { MovesInRange moves.now }
             requires order { middle ≤ end }
@@ -143,7 +143,7 @@ fn scan(
     end: usize,
 ) -> Option<PartFail>
     requires job_ok { IsJob job.now }
-    requires cells_ok { cells.now ≡ boxes_of part.now }
+    requires cells_ok { cells.now ≡ sorted_of part.now }
     requires top_ok { IsLid part.now part_top }
     requires moves_ok { MovesInRange moves.now }
     requires order { start ≤ end }

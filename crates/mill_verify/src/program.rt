@@ -2,7 +2,7 @@ ghost use Rattle.std.specs.Prelude.{◌≡◌, ℕ, ◌≤◌, ℤ, length, take
 ghost use Rattle.mill_base.specs.Covers.{IsUnder};
 ghost use Rattle.mill_base.specs.Motion.{Follow};
 ghost use Rattle.mill_base.specs.Ranges.{MovesInRange};
-ghost use Rattle.mill_cells.specs.Boxes.{boxes_of};
+ghost use Rattle.mill_cells.specs.Sorted.{sorted_of};
 ghost use Rattle.mill_job.specs.Columns.{home};
 ghost use Rattle.mill_job.specs.Jobs.{IsJob};
 ghost use Rattle.mill_sweep.specs.declared.leaf.Leaf.{Leaf};
@@ -80,7 +80,7 @@ pub fn verify<R: Threads + Sync>(
 
 /// The part's triangles in cells of the size that suits them.
 fn cells_of(alloc: Global, part: &Part) -> Result<Cells, WantOfMemory>
-    ensures { IfOk result (λ cells. cells ≡ boxes_of part.now) }
+    ensures { IfOk result (λ cells. cells ≡ sorted_of part.now) }
 {
     let tris = part.tris();
     Cells::new(alloc, tris, Cells::size_for(tris))
@@ -96,7 +96,7 @@ fn verdict_of(
     rows: &[Row],
 ) -> Verdict
     requires job_ok { IsJob job.now }
-    requires cells_ok { cells.now ≡ boxes_of part.now }
+    requires cells_ok { cells.now ≡ sorted_of part.now }
     requires limit_ok { IsLimit job.now part.now moves.now limit }
     requires rows_ok { AreTurned job.now (take limit.passed moves.now) rows.now }
     ensures verdict { IsVerdict job.now part.now moves.now result }
@@ -119,7 +119,7 @@ fn verdict_of(
 /// The verdict after the last move, all moves being good.
 fn last_verdict(job: &Job, part: &Part, cells: &Cells, moves: &[Move], rows: &[Row]) -> Verdict
     requires job_ok { IsJob job.now }
-    requires cells_ok { cells.now ≡ boxes_of part.now }
+    requires cells_ok { cells.now ≡ sorted_of part.now }
     requires good { GoodBefore job.now part.now moves.now (length moves.now) }
     requires rows_ok { IsStock job.now moves.now rows.now }
     ensures verdict { IsVerdict job.now part.now moves.now result }

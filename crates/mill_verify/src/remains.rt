@@ -1,7 +1,7 @@
 ghost use Rattle.std.specs.Prelude.{◌≡◌, ◌<◌, ◌-ℤ◌, MatchOption, MatchResult};
 ghost use Rattle.mill_base.specs.Numbers.{Within, greatest};
 ghost use Rattle.mill_base.specs.Covers.{Covered};
-ghost use Rattle.mill_cells.specs.Boxes.{boxes_of};
+ghost use Rattle.mill_cells.specs.Sorted.{sorted_of};
 ghost use Rattle.mill_job.specs.Jobs.{IsJob, IsFrom};
 ghost use Rattle.mill_job.specs.Columns.{row_count};
 ghost use Rattle.mill_verify.specs.Stock.{IsRow, IsStock};
@@ -31,7 +31,7 @@ pub fn stock_left(
     rows: &[Row],
 ) -> Result<i32, Uncut>
     requires job_ok { IsJob job.now }
-    requires cells_ok { cells.now ≡ boxes_of part.now }
+    requires cells_ok { cells.now ≡ sorted_of part.now }
     requires rows_ok { IsStock job.now moves.now rows.now }
     ensures { MatchResult
         result
@@ -58,7 +58,7 @@ fn row_left(
     row: &Row,
 ) -> Result<i32, Uncut>
     requires job_ok { IsJob job.now }
-    requires cells_ok { cells.now ≡ boxes_of part.now }
+    requires cells_ok { cells.now ≡ sorted_of part.now }
     requires there { number < row_count job.now }
     requires row_ok { IsRow job.now moves.now number row.now }
     ensures { MatchResult
@@ -89,7 +89,7 @@ fn row_left(
 /// is more than the allowance over it.
 fn left_over(job: &Job, part: &Part, cells: &Cells, x: i32, y: i32, top: i32) -> Option<i32>
     requires job_ok { IsJob job.now }
-    requires cells_ok { cells.now ≡ boxes_of part.now }
+    requires cells_ok { cells.now ≡ sorted_of part.now }
     requires x_ok { Within greatest x }
     requires y_ok { Within greatest y }
     requires top_ok { Within greatest top }

@@ -1,9 +1,10 @@
-use Rattle.std.proofs.Common.{◌≡◌, ℕ, ◌+◌, ◌<◌, List, length, replicate, refl, sym, subst, ap, ◌∙◌, arith}
+use Rattle.std.proofs.Common.{◌≡◌, ℕ, ◌+◌, ◌<◌, ◌≤◌, List, length, replicate, refl, sym, subst, ap, ◌∙◌, arith}
 use Rattle.std.specs.Prelude.{slice_index}
 use Rattle.mill_cells.specs.Frames.{cell_count}
 use Rattle.mill_cells.specs.Grids.{start_of}
 use Rattle.mill_cells.specs.Placing.{IsCounting, IsPlacing, sum_before}
 use Rattle.mill_cells.proofs.Counting.{counts_small, sums_are_starts}
+use Rattle.mill_cells.proofs.LidLemmas.{starts_order, starts_room, lids_placed, lids_same}
 use Rattle.mill_cells.proofs.Placements.{none_placed, cells_placed, starts_placed}
 use Rattle.mill_cells.proofs.Summing.{put_back}
 use Rattle.mill_cells.proofs.grid.sorted.Goals as goal
@@ -40,6 +41,7 @@ returns c =
     let placed = subst (λ m. IsPlacing c.args.frame c.args.boxes.items c.loop-number-2.starts.items c.loop-number-2.entries.items m 0) n c.loop-number-2.invariant in (
       refl,
       refl,
+      refl,
       record {
         frame = c.requires.frame;
         inside = c.requires.inside;
@@ -49,5 +51,31 @@ returns c =
         size = placed.size;
         known = placed.known;
         cells = cells_placed c.args.frame c.args.boxes.items c.loop-number-2.starts.items c.loop-number-2.entries.items placed;
+        tops = c.requires.tops;
+        lids_long = omega (arith, c.in_ok-lids.ensures.0, ap length c.deref-2.ensures.value, placed.long);
+        lids = lids_placed c.args.frame c.args.boxes.items c.loop-number-2.starts.items c.loop-number-2.entries.items c.args.tops.items c.in_ok-lids.lids.items
+            (starts_placed c.args.frame c.args.boxes.items c.loop-number-2.starts.items c.loop-number-2.entries.items placed)
+            (cells_placed c.args.frame c.args.boxes.items c.loop-number-2.starts.items c.loop-number-2.entries.items placed)
+            (omega (arith, c.in_ok-lids.ensures.0, ap length c.deref-2.ensures.value, placed.long))
+            (lids_same _ _ _ _ _ _ c.in_ok-lids.lids.items c.deref-2.ensures.value c.deref-3.ensures.value c.deref-4.ensures.value c.in_ok-lids.ensures.1);
       },
     )
+
+pub lids-requires-clause-order : goal.lids-requires-clause-order
+lids-requires-clause-order c =
+    let f = c.args.frame in
+    let boxes = c.args.boxes.items in
+    let n : c.loop-number-2.number ≡ length boxes = omega (arith, c.args.boxes.ok.0) in
+    let placed = subst (λ m. IsPlacing f boxes c.loop-number-2.starts.items c.loop-number-2.entries.items m 0) n c.loop-number-2.invariant in
+    subst (λ (xs : List ℕ). (k : ℕ) → k + 1 < length xs → slice_index xs k ≤ slice_index xs (k + 1)) (sym c.deref-2.ensures.value)
+    (starts_order f boxes c.loop-number-2.starts.items placed.long (starts_placed f boxes c.loop-number-2.starts.items c.loop-number-2.entries.items placed))
+
+pub lids-requires-clause-room : goal.lids-requires-clause-room
+lids-requires-clause-room c =
+    let f = c.args.frame in
+    let boxes = c.args.boxes.items in
+    let n : c.loop-number-2.number ≡ length boxes = omega (arith, c.args.boxes.ok.0) in
+    let placed = subst (λ m. IsPlacing f boxes c.loop-number-2.starts.items c.loop-number-2.entries.items m 0) n c.loop-number-2.invariant in
+    subst (λ (ys : List ℕ). (k : ℕ) → k < length c.deref-2.result.now → slice_index c.deref-2.result.now k ≤ length ys) (sym c.deref-3.ensures.value)
+    (subst (λ (xs : List ℕ). (k : ℕ) → k < length xs → slice_index xs k ≤ length c.loop-number-2.entries.items) (sym c.deref-2.ensures.value)
+    (starts_room f boxes c.loop-number-2.starts.items c.loop-number-2.entries.items placed.long placed.size (starts_placed f boxes c.loop-number-2.starts.items c.loop-number-2.entries.items placed)))

@@ -5,6 +5,7 @@ use Rattle.std.proofs.lemmas.List.Elements.{Contains-get_or}
 use Rattle.mill_base.specs.declared.points.Box2.{Box2}
 use Rattle.mill_base.specs.declared.points.Tri.{Tri}
 use Rattle.mill_cells.specs.Boxes.{IsNear}
+use Rattle.mill_cells.specs.Sorted.{Sorted}
 use Rattle.mill_sweep.proofs.Far.{far_passes}
 use Rattle.mill_verify.specs.Firsts.{IsEarlier}
 use Rattle.mill_verify.specs.Near.{IsOver, area_of}
@@ -31,8 +32,8 @@ loop-tri-init c =
     let moves = c.args.moves.now in
     let ranged = c.requires.moves_ok _ (Contains-get_or moves c.args.number _ c.requires.there) in
     let area = c.area_about.ensures ∙ ap (area_of job.cutter) (move_read moves c.args.number _ c.requires.there) in
-    look_starts job c.args.part.now moves c.args.number c.args.cells.now c.near-near.result far_passes c.requires.job_ok.cutter_ok ranged c.requires.cells_ok
-    (subst (λ (b : Box2). (i : ℕ) → Contains c.near-near.result i ↔ IsNear c.args.cells.now b i) area c.near-near.ensures.each)
+    look_starts job c.args.part.now moves c.args.number c.args.cells.now.boxes c.near-near.result far_passes c.requires.job_ok.cutter_ok ranged (ap (λ (s : Sorted). s.boxes) c.requires.cells_ok)
+    (subst (λ (b : Box2). (i : ℕ) → Contains c.near-near.result i ↔ IsNear c.args.cells.now.boxes b i) area c.near-near.ensures.each)
 
 pub bounds-tris-tri : goal.bounds-tris-tri
 bounds-tris-tri c =

@@ -1,7 +1,8 @@
-use Rattle.std.proofs.Common.{FitsSigned, rules, to_z}
+use Rattle.std.proofs.Common.{ap, FitsSigned, rules, to_z}
 use Rattle.std.proofs.lemmas.List.Elements.{Contains-get_or}
 use mir.Syntax.{w32}
 use Rattle.std.proofs.lemmas.Int.{to_z-of_z}
+use Rattle.mill_cells.specs.Sorted.{Sorted}
 use Rattle.mill_part.proofs.Stored.{coordinate, band_kept}
 use Rattle.mill_part.proofs.NearScan.{no_tri, scan_starts, next_within, scan_goes_on, scan_ends, scan_bound}
 use Rattle.mill_part.proofs.part.Part.covered_height_near.Goals as goal
@@ -16,8 +17,8 @@ loop-number-init c =
     let each = rw square at c.near-number-items.ensures.each in (
       tt,
       tt,
-      rw (floor, x, y, band, c.tris-tris.ensures.list, c.into_iter-number-iterator.ensures.into_iter_gives) (scan_starts c.args.self.now no_tri c.args.floor c.args.band c.args.x c.args.y c.args.cells.now c.near-number-items.result
-          c.requires.band_least c.requires.cells_ok each),
+      rw (floor, x, y, band, c.tris-tris.ensures.list, c.into_iter-number-iterator.ensures.into_iter_gives) (scan_starts c.args.self.now no_tri c.args.floor c.args.band c.args.x c.args.y c.args.cells.now.boxes c.near-number-items.result
+          c.requires.band_least (ap (λ (s : Sorted). s.boxes) c.requires.cells_ok) each),
     )
 
 pub bounds-tris-number : goal.bounds-tris-number

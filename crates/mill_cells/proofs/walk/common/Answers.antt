@@ -1,6 +1,6 @@
 use Rattle.std.proofs.Common.{rules}
 use Rattle.mill_cells.proofs.BoxLemmas.{shared, none_shared, common_inside, common_all, not_less, is_less}
-use Rattle.mill_cells.proofs.near.common.Goals as goal
+use Rattle.mill_cells.proofs.walk.common.Goals as goal
 
 pub returns-then-x1-x0-clause-none : goal.returns-then-x1-x0-clause-none
 returns-then-x1-x0-clause-none c =

@@ -1,6 +1,6 @@
 use Rattle.std.specs.Prelude.{◌-◌}
 use Rattle.mill_cells.proofs.WalkLemmas.{IsAhead}
-use Rattle.mill_cells.proofs.near.Walk.next.Given as goal
+use Rattle.mill_cells.proofs.walk.Walk.next.Given as goal
 
 abbrev pub invariant-loop-number : goal.invariant-loop-number
 invariant-loop-number l = IsAhead l.fn.self l.self

@@ -1,6 +1,6 @@
 use Rattle.std.specs.Prelude.{◌-◌}
 use Rattle.mill_cells.proofs.WalkLemmas.{IsLike}
-use Rattle.mill_cells.proofs.near.Walk.next_in_cell.Given as goal
+use Rattle.mill_cells.proofs.walk.Walk.next_in_cell.Given as goal
 
 abbrev pub invariant-loop-self : goal.invariant-loop-self
 invariant-loop-self l = IsLike l.fn.self l.self

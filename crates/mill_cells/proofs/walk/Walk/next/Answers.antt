@@ -1,6 +1,6 @@
 use Rattle.std.proofs.Common.{◌≡◌, sym, ◌∙◌, arith}
 use Rattle.mill_cells.proofs.WalkLemmas.{all_given}
-use Rattle.mill_cells.proofs.near.Walk.next.Goals as goal
+use Rattle.mill_cells.proofs.walk.Walk.next.Goals as goal
 
 pub returns-then-self-clause-first : goal.returns-then-self-clause-first
 returns-then-self-clause-first c =

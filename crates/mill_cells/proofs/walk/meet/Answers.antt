@@ -1,7 +1,7 @@
 use Rattle.std.proofs.Common.{rules, sym, ap, ◌∙◌, ◌&&◌}
 use Rattle.mill_cells.specs.Walks.{do_overlap}
 use Rattle.mill_cells.proofs.BoxLemmas.{overlap_stored}
-use Rattle.mill_cells.proofs.near.meet.Goals as goal
+use Rattle.mill_cells.proofs.walk.meet.Goals as goal
 
 pub returns-then-overlap : goal.returns-then-overlap
 returns-then-overlap c =

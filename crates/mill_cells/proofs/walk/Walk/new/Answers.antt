@@ -3,7 +3,7 @@ use Rattle.mill_cells.specs.Walks.{IsWalk}
 use Rattle.mill_cells.specs.Frames.{IsBlock, block_of, area_of}
 use Rattle.mill_cells.proofs.FrameLemmas.{block_is, block_in, area_le, itself_inside}
 use Rattle.mill_cells.proofs.Given.{new_walk, walk_each, walk_none, walk_once}
-use Rattle.mill_cells.proofs.near.Walk.new.Goals as goal
+use Rattle.mill_cells.proofs.walk.Walk.new.Goals as goal
 
 pub cells-requires : goal.cells-requires
 cells-requires c = subst IsBlock (sym c.block-block.ensures) (block_is c.args.grid.now.frame c.in-Some.part c.requires.frame.bounds c.requires.frame.some c.in-Some.ensures.inside)

@@ -1,0 +1,9 @@
+use Rattle.std.specs.Prelude.{◌-◌}
+use Rattle.mill_cells.proofs.OverLemmas.{IsOver}
+use Rattle.mill_cells.proofs.walk.Walk.next_over.Given as goal
+
+abbrev pub invariant-loop-number : goal.invariant-loop-number
+invariant-loop-number l = IsOver l.fn.height l.fn.self l.self
+
+abbrev pub decreases-loop-number : goal.decreases-loop-number
+decreases-loop-number l = l.self.cells - l.self.entered

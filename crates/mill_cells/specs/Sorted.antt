@@ -1,0 +1,23 @@
+-- What a grid of cells knows of each triangle.
+use Rattle.std.specs.Prelude.{ℕ, ℤ, pos, ◌≤ℤ◌, List, map, slice_index_or, All}
+use Rattle.mill_base.specs.Points.{highest}
+use Rattle.mill_base.specs.declared.points.Tri.{Tri}
+use Rattle.mill_base.specs.declared.points.Box2.{Box2}
+use Rattle.mill_cells.specs.Boxes.{boxes_of}
+
+-- the boxes and the tops of the triangles, in their order
+pub record Sorted : Type 0 where
+  pub boxes : List Box2
+  pub tops : List ℤ
+
+-- a triangle's top is the greatest of its three heights, in units of 0.01 mm
+abbrev pub sorted_of : List Tri → Sorted
+sorted_of tris = record { boxes = boxes_of tris; tops = map highest tris }
+
+-- the height of number i in the list
+abbrev pub height_at : List ℤ → ℕ → ℤ
+height_at heights i = slice_index_or heights i (pos 0)
+
+-- none of these numbers has a top over the height
+abbrev pub AreUnder : List ℤ → ℤ → List ℕ → Type 0
+AreUnder tops height = All (λ i. height_at tops i ≤ℤ height)
