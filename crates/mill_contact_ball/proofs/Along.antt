@@ -10,6 +10,7 @@ use Rattle.mill_geom.specs.declared.offset.Offset.{Offset}
 use Rattle.mill_geom.specs.declared.touch.Axis.{Axis}
 use Rattle.mill_geom.specs.declared.touch.Axis.TheVariants.{X, Y}
 use Rattle.mill_geom.specs.declared.touch.Side.{Side}
+use Rattle.mill_geom.specs.declared.touch.Side.TheVariants.{Less, More, Never}
 use Rattle.mill_geom.specs.declared.touch.Touch.{Touch}
 use Rattle.mill_geom.specs.Offsets.{mean3, IsOffset}
 use Rattle.mill_geom.specs.Sides.{IsOnSide, IsTouch, TouchesAt, along, slid_by, turned_to}
@@ -106,3 +107,9 @@ pub touch_along : (s : Touch) (r : ℤ) (tri : Tri) (tip : Pt3) (axis : Axis) (a
 touch_along s r tri tip axis a b c oa ob oc h =
     touch_carried s (MeetsAt r (turned_to axis a) (turned_to axis b) (turned_to axis c)) (λ t. Touches (Ball r) (pos 1) (along axis tip t) tri)
     (at_along r tri tip axis a b c (pos 0) oa ob oc) (λ t. along_at r tri tip axis a b c t oa ob oc) h
+
+-- a triangle that has a side has no meeting here
+pub side_none : (s : Side) (r : ℤ) (a b c : Offset) → IsOnSide s (MeetsAt r a b c) → MeetsBall r a b c → ⊥
+side_none Less r a b c h t = h (pos 0) (omega (arith, ints)) (meeting_here r a b c t)
+side_none More r a b c h t = h (pos 0) (omega (arith, ints)) (meeting_here r a b c t)
+side_none Never r a b c h t = h (pos 0) (meeting_here r a b c t)

@@ -1,3 +1,4 @@
+pub mod Sized
 pub mod SlideCerts
 pub mod Slide
 pub mod FootCerts

@@ -3,11 +3,11 @@
 //! It stands on mill_geom, whose cylinder it tries over the sphere's centre, and on mill_base, whose
 //! specs/Contact defines a touch. `touch` decides whether some point of the triangle is strictly
 //! inside the cutter, and if none is, at which positions along an axis none is (mill_geom's
-//! specs/Sides). It tries the edges against the sphere, then the foot of the centre on the plane:
+//! specs/Sides); `is_inside` decides the first alone, at less cost. Each tries the edges against the sphere, then the foot of the centre on the plane:
 //! specs/Spheres says what a point in the sphere is, specs/Vectors which numbers are compared.
 #![tactic(auto)]
 
-ghost use Rattle.std.specs.Prelude.{◌^◌, ◌<ℤ◌, pos};
+ghost use Rattle.std.specs.Prelude.{◌≡◌, ◌^◌, ◌<ℤ◌, pos, false, IsTrue};
 ghost use Rattle.mill_base.specs.Contact.{Touches};
 ghost use Rattle.mill_base.specs.Numbers.{Within};
 ghost use Rattle.mill_base.specs.Ranges.{TriInRange};
@@ -15,7 +15,7 @@ ghost use Rattle.mill_base.specs.Sizes.{HasRadius, IsWideCutter, radius_of};
 ghost use Rattle.mill_base.specs.declared.cutter.Cutter.TheVariants.{Ball};
 ghost use Rattle.mill_geom.specs.Offsets.{IsCentre, OffsetInRange};
 ghost use Rattle.mill_geom.specs.Sides.{IsTouch, along};
-ghost use Rattle.mill_contact_ball.specs.Spheres.{MeetsAt};
+ghost use Rattle.mill_contact_ball.specs.Spheres.{MeetsAt, MeetsBall};
 
 mod beside;
 mod centre;
@@ -78,4 +78,50 @@ pub fn touch(tri: &Tri, cutter: Cutter, tip: Pt3, axis: Axis) -> Touch
     ensures { IsTouch result (λ t. Touches (Ball (radius_of cutter)) (pos 1) (along axis tip t) tri.now) }
 {
     touch_ball(tri, cutter.radius(), tip, axis)
+}
+
+/// Whether some point of the triangle is in the ball about the origin or in the cylinder over it:
+/// most triangles aren't near, which their boxes show.
+fn meets_here(a: Offset, b: Offset, c: Offset, radius: i64) -> bool
+    requires a_ok { OffsetInRange a }
+    requires b_ok { OffsetInRange b }
+    requires c_ok { OffsetInRange c }
+    requires r_ok { Within 16384 radius }
+    requires r_least { pos 0 <ℤ radius }
+    ensures yes { IsTrue result → MeetsBall radius a b c }
+    ensures no { result ≡ false → ¬ MeetsBall radius a b c }
+{
+    if let Some(_side) = box_side(a, b, c, radius) {
+        return false;
+    }
+    meets_ball(a, b, c, radius)
+}
+
+/// Whether some point of the triangle is strictly inside the ball cutter of `radius` with its tip at
+/// `tip`.
+fn holds_some(tri: &Tri, radius: i32, tip: Pt3) -> bool
+    requires tri_ok { TriInRange tri.now }
+    requires radius_ok { HasRadius radius (pos 11024) }
+    requires tip_ok { IsCentre tip }
+    ensures yes { IsTrue result → Touches (Ball radius) (pos 1) tip tri.now }
+    ensures no { result ≡ false → ¬ Touches (Ball radius) (pos 1) tip tri.now }
+{
+    let a = offset_from_centre(tri.a, tip, radius);
+    let b = offset_from_centre(tri.b, tip, radius);
+    let c = offset_from_centre(tri.c, tip, radius);
+    meets_here(a, b, c, i64::from(radius))
+}
+
+/// Whether some point of the triangle is strictly inside the ball cutter of `cutter`'s radius with
+/// its tip at `tip`.
+///
+/// Lengths are in units of 0.01 mm. Corners may be equal or collinear.
+pub fn is_inside(tri: &Tri, cutter: Cutter, tip: Pt3) -> bool
+    requires tri_ok { TriInRange tri.now }
+    requires cutter_ok { IsWideCutter cutter }
+    requires tip_ok { IsCentre tip }
+    ensures yes { IsTrue result → Touches (Ball (radius_of cutter)) (pos 1) tip tri.now }
+    ensures no { result ≡ false → ¬ Touches (Ball (radius_of cutter)) (pos 1) tip tri.now }
+{
+    holds_some(tri, cutter.radius(), tip)
 }

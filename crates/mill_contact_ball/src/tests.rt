@@ -1,7 +1,7 @@
 ghost use Rattle.mill_base.specs.Ranges.{IsInRange, TriInRange};
 ghost use Rattle.mill_geom.specs.Offsets.{IsCentre};
 
-use crate::touch;
+use crate::{is_inside, touch};
 use mill_base::{Cutter, Pt3, Tri};
 use mill_geom::{Axis, Side, Touch};
 use std::test::Fail;
@@ -23,6 +23,13 @@ fn at(x: i16, y: i16, z: i16) -> Pt3
         y: i32::from(y),
         z: i32::from(z),
     }
+}
+
+/// Whether a ball of radius 100 has the triangle inside.
+fn holds(tri: &Tri, tip: (i16, i16, i16)) -> bool
+    requires { TriInRange tri.now }
+{
+    is_inside(tri, Cutter::Ball { radius: 100 }, at(tip.0, tip.1, tip.2))
 }
 
 /// How the triangle lies to a ball of radius 100 along X and along Y.
@@ -187,6 +194,42 @@ fn point(rt: HostRuntime) -> Result<(), Fail> {
         ((7, 107, 50), (NEVER, LESS)),
     ] {
         assert_eq!(rt; lies(&tri, tip), wanted);
+    }
+    Ok(())
+}
+
+// A level triangle at half the radius over the tip at its corners, edges and face, one unit in and
+// out: 50^2 + 86^2 < 100^2 < 50^2 + 87^2. Past a corner and beside the slope its box is near and it isn't.
+#[test]
+fn inside_or_not(rt: HostRuntime) -> Result<(), Fail> {
+    let tri = Tri {
+        a: at(0, 0, 50),
+        b: at(1000, 0, 50),
+        c: at(0, 1000, 50),
+    };
+    for (tip, wanted) in [
+        ((-86, 0, 0), true),
+        ((-87, 0, 0), false),
+        ((-60, -60, 0), true),
+        ((-62, -62, 0), false),
+        ((1050, -70, 0), true),
+        ((1051, -71, 0), false),
+        ((0, 1086, 0), true),
+        ((0, 1087, 0), false),
+        ((500, -86, 0), true),
+        ((500, -87, 0), false),
+        ((500, -87, -1), true),
+        ((500, -99, -50), true),
+        ((500, -100, -50), false),
+        ((500, -99, -500), true),
+        ((500, -100, -500), false),
+        ((561, 561, 0), true),
+        ((562, 562, 0), false),
+        ((300, 300, 49), true),
+        ((300, 300, 50), false),
+        ((5000, 300, 0), false),
+    ] {
+        assert_eq!(rt; holds(&tri, tip), wanted);
     }
     Ok(())
 }

@@ -1,1 +1,3 @@
 pub mod Radius
+pub mod CornerCerts
+pub mod Touched

@@ -3,17 +3,20 @@
 //! It stands on mill_geom, which tests the triangle's offsets from the tip against the cutter's
 //! cylinder, and on mill_base, whose specs/Contact defines a touch. `touch` decides whether some
 //! point of the triangle is strictly inside a flat cutter, and if none is, at which positions along
-//! an axis none is either; mill_geom's specs/Sides says what its answers mean.
+//! an axis none is either; mill_geom's specs/Sides says what its answers mean. `is_inside` decides
+//! the first alone, at less cost.
 #![tactic(auto)]
 
-ghost use Rattle.std.specs.Prelude.{◌^◌, ◌<ℤ◌, pos};
+ghost use Rattle.std.specs.Prelude.{◌≡◌, ◌^◌, ◌↔◌, ◌+ℤ◌, ◌*ℤ◌, ◌<ℤ◌, pos, false, IsTrue};
 ghost use Rattle.mill_base.specs.Contact.{Touches};
 ghost use Rattle.mill_base.specs.Numbers.{Within};
 ghost use Rattle.mill_base.specs.Ranges.{TriInRange};
 ghost use Rattle.mill_base.specs.Sizes.{IsWideCutter, radius_of};
 ghost use Rattle.mill_base.specs.declared.cutter.Cutter.TheVariants.{Flat};
+ghost use Rattle.mill_geom.specs.Contacts.{TouchesTriangle};
 ghost use Rattle.mill_geom.specs.Offsets.{IsCentre, OffsetInRange};
 ghost use Rattle.mill_geom.specs.Sides.{IsTouch, TouchesAt, along};
+ghost use Rattle.mill_contact_flat.specs.Corners.{IsCornerInside};
 
 use mill_base::{Cutter, Pt3, Tri};
 use mill_geom::{Axis, Offset, Touch, box_side, offset_from, side, touches_triangle, turned};
@@ -53,4 +56,83 @@ pub fn touch(tri: &Tri, cutter: Cutter, tip: Pt3, axis: Axis) -> Touch
     let b = turned(offset_from(tri.b, tip), axis);
     let c = turned(offset_from(tri.c, tip), axis);
     touch_along_x(a, b, c, i64::from(cutter.radius()))
+}
+
+/// Whether the corner is nearer to the axis than the radius.
+fn is_near(p: Offset, radius: i64) -> bool
+    requires p_ok { OffsetInRange p }
+    requires r_ok { Within 16384 radius }
+    ensures { IsTrue result ↔ ((p.x *ℤ p.x +ℤ p.y *ℤ p.y) <ℤ (radius *ℤ radius)) }
+{
+    p.x * p.x + p.y * p.y < radius * radius
+}
+
+/// Whether the corner is nearer to the axis than the radius, and over the level.
+fn is_corner_inside(p: Offset, radius: i64) -> bool
+    requires p_ok { OffsetInRange p }
+    requires r_ok { Within 16384 radius }
+    ensures yes { IsTrue result → IsCornerInside radius p }
+    ensures no { result ≡ false → ¬ IsCornerInside radius p }
+{
+    if p.z <= 0 {
+        return false;
+    }
+    is_near(p, radius)
+}
+
+/// Whether some point of a triangle whose upright box is near the cylinder's is nearer to the axis
+/// than the radius and over the level: the corners first, by 64-bit products.
+fn touches_near(a: Offset, b: Offset, c: Offset, radius: i64) -> bool
+    requires a_ok { OffsetInRange a }
+    requires b_ok { OffsetInRange b }
+    requires c_ok { OffsetInRange c }
+    requires r_ok { Within 16384 radius }
+    requires r_least { pos 0 <ℤ radius }
+    ensures yes { IsTrue result → TouchesTriangle radius a b c }
+    ensures no { result ≡ false → ¬ TouchesTriangle radius a b c }
+{
+    if is_corner_inside(a, radius) {
+        return true;
+    }
+    if is_corner_inside(b, radius) {
+        return true;
+    }
+    if is_corner_inside(c, radius) {
+        return true;
+    }
+    touches_triangle(a, b, c, radius)
+}
+
+/// Whether some point of the triangle is nearer to the axis than the radius and over the level: most
+/// triangles aren't near, which their boxes show.
+fn touches_here(a: Offset, b: Offset, c: Offset, radius: i64) -> bool
+    requires a_ok { OffsetInRange a }
+    requires b_ok { OffsetInRange b }
+    requires c_ok { OffsetInRange c }
+    requires r_ok { Within 16384 radius }
+    requires r_least { pos 0 <ℤ radius }
+    ensures yes { IsTrue result → TouchesTriangle radius a b c }
+    ensures no { result ≡ false → ¬ TouchesTriangle radius a b c }
+{
+    if let Some(_side) = box_side(a, b, c, radius) {
+        return false;
+    }
+    touches_near(a, b, c, radius)
+}
+
+/// Whether some point of the triangle is strictly inside the flat cutter of `cutter`'s radius with
+/// its tip at `tip`.
+///
+/// Lengths are in units of 0.01 mm. Corners may be equal or collinear.
+pub fn is_inside(tri: &Tri, cutter: Cutter, tip: Pt3) -> bool
+    requires tri_ok { TriInRange tri.now }
+    requires cutter_ok { IsWideCutter cutter }
+    requires tip_ok { IsCentre tip }
+    ensures yes { IsTrue result → Touches (Flat (radius_of cutter)) (pos 1) tip tri.now }
+    ensures no { result ≡ false → ¬ Touches (Flat (radius_of cutter)) (pos 1) tip tri.now }
+{
+    let a = offset_from(tri.a, tip);
+    let b = offset_from(tri.b, tip);
+    let c = offset_from(tri.c, tip);
+    touches_here(a, b, c, i64::from(cutter.radius()))
 }

@@ -1,7 +1,7 @@
 ghost use Rattle.mill_base.specs.Ranges.{IsInRange, TriInRange};
 ghost use Rattle.mill_geom.specs.Offsets.{IsCentre};
 
-use crate::touch;
+use crate::{is_inside, touch};
 use mill_base::{Cutter, Pt3, Tri};
 use mill_geom::{Axis, Side, Touch};
 use std::test::Fail;
@@ -23,6 +23,13 @@ fn at(x: i16, y: i16, z: i16) -> Pt3
         y: i32::from(y),
         z: i32::from(z),
     }
+}
+
+/// Whether a flat of radius 100 has the triangle inside.
+fn holds(tri: &Tri, tip: (i16, i16, i16)) -> bool
+    requires { TriInRange tri.now }
+{
+    is_inside(tri, Cutter::Flat { radius: 100 }, at(tip.0, tip.1, tip.2))
 }
 
 /// How the triangle lies to a flat of radius 100 along X and along Y.
@@ -189,6 +196,41 @@ fn point(rt: HostRuntime) -> Result<(), Fail> {
         ((7, -93, 6), (NEVER, MORE)),
     ] {
         assert_eq!(rt; lies(&tri, tip), wanted);
+    }
+    Ok(())
+}
+
+// A level triangle at its corners, edges and face, one unit in and out, and where its box is near and
+// it isn't: beside its slope and past a corner.
+#[test]
+fn inside_or_not(rt: HostRuntime) -> Result<(), Fail> {
+    let tri = Tri {
+        a: at(0, 0, 200),
+        b: at(1000, 0, 200),
+        c: at(0, 1000, 200),
+    };
+    for (tip, wanted) in [
+        ((0, 0, 199), true),
+        ((0, 0, 200), false),
+        ((-59, -80, 199), true),
+        ((-60, -80, 199), false),
+        ((1059, -80, 199), true),
+        ((1060, -80, 199), false),
+        ((60, 1079, 199), true),
+        ((60, 1080, 199), false),
+        ((-99, 500, 199), true),
+        ((-100, 500, 199), false),
+        ((500, -99, 199), true),
+        ((500, -100, 199), false),
+        ((641, 500, 199), true),
+        ((642, 500, 199), false),
+        ((900, 900, 199), false),
+        ((-75, -75, 199), false),
+        ((300, 300, 199), true),
+        ((300, 300, 200), false),
+        ((5000, 500, 199), false),
+    ] {
+        assert_eq!(rt; holds(&tri, tip), wanted);
     }
     Ok(())
 }
