@@ -11,3 +11,5 @@ pub mod SideCerts
 pub mod Lifts
 pub mod Bearings
 pub mod Splits
+pub mod ClearCerts
+pub mod Clears

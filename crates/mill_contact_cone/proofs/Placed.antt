@@ -27,17 +27,17 @@ use Rattle.mill_contact_cone.proofs.Whole.{cone_flat}
 use Rattle.mill_contact_cone.proofs.SideCerts.{steep_swapped}
 
 -- the corners are those of the triangle
-record Placed (tri : Tri) (tip : Pt3) (a b c : Corner) : Type 0 where
-  a_at : IsOffset (plain a) tri.a tip
-  b_at : IsOffset (plain b) tri.b tip
-  c_at : IsOffset (plain c) tri.c tip
+pub record Placed (tri : Tri) (tip : Pt3) (a b c : Corner) : Type 0 where
+  pub a_at : IsOffset (plain a) tri.a tip
+  pub b_at : IsOffset (plain b) tri.b tip
+  pub c_at : IsOffset (plain c) tri.c tip
 
 -- one coordinate of a weighted sum, from the corners' and from the offsets'
 coordinate : (p n t u v w a b c x y z : ℤ) → p ≡ (u *ℤ a +ℤ v *ℤ b) +ℤ w *ℤ c → n ≡ (u +ℤ v) +ℤ w → x ≡ a -ℤ t → y ≡ b -ℤ t → z ≡ c -ℤ t
     → (pos 1 *ℤ p) -ℤ n *ℤ t ≡ (u *ℤ x +ℤ v *ℤ y) +ℤ w *ℤ z
 coordinate p n t u v w a b c x y z ep en ex ey ez = rw (ep, en, ex, ey, ez) (shifted u v w a b c t)
 
-cone_place : (k : Cone) (tri : Tri) (tip : Pt3) (a b c : Corner) → Placed tri tip a b c → TouchesCone k a b c → Touches (ConeCutter k.radius k.rise k.run) (pos 1) tip tri
+pub cone_place : (k : Cone) (tri : Tri) (tip : Pt3) (a b c : Corner) → Placed tri tip a b c → TouchesCone k a b c → Touches (ConeCutter k.radius k.rise k.run) (pos 1) tip tri
 cone_place k tri tip a b c o t =
     let s = (t.u +ℤ t.v) +ℤ t.w in
     let p = plus (plus (times t.u tri.a) (times t.v tri.b)) (times t.w tri.c) in
@@ -51,7 +51,7 @@ cone_place k tri tip a b c o t =
           (sym (coordinate p.z s tip.z t.u t.v t.w tri.a.z tri.b.z tri.c.z a.z b.z c.z refl refl o.a_at.z_is o.b_at.z_is o.c_at.z_is)) t.inside;
     }
 
-place_cone : (k : Cone) (tri : Tri) (tip : Pt3) (a b c : Corner) → Placed tri tip a b c → Touches (ConeCutter k.radius k.rise k.run) (pos 1) tip tri → TouchesCone k a b c
+pub place_cone : (k : Cone) (tri : Tri) (tip : Pt3) (a b c : Corner) → Placed tri tip a b c → Touches (ConeCutter k.radius k.rise k.run) (pos 1) tip tri → TouchesCone k a b c
 place_cone k tri tip a b c o t =
     let q = t.point in
     record {

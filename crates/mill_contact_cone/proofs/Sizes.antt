@@ -1,9 +1,11 @@
 -- The magnitudes of a cone's numbers.
-use Rattle.std.proofs.Common.{◌≡◌, ◌^◌, ◌≤◌, refl, ap, ◌∙◌, arith, w64, to_z, of_z}
+use Rattle.std.proofs.Common.{◌≡◌, ◌^◌, ◌≤◌, refl, ap, ◌∙◌, arith, w32, w64, to_z, of_z}
 use lib.IntN.{ℤ, pos, ◌-ℤ◌, nat_abs}
 use lib.Signed.{◌<ℤ◌, ◌≤ℤ◌}
 use Rattle.std.proofs.lemmas.Int.{ints}
-use Rattle.mill_base.proofs.Machine.{kept}
+use Rattle.mill_base.proofs.Machine.{stored, kept}
+use Rattle.mill_base.specs.Sizes.{HasRadius, IsSlope}
+use Rattle.mill_base.specs.declared.cutter.Cutter.TheVariants.{Cone as ConeCutter}
 use Rattle.mill_contact_cone.specs.declared.corner.Cone.{Cone}
 use Rattle.mill_contact_cone.specs.Cones.{IsCone}
 
@@ -43,3 +45,13 @@ opposite_kept x h = ap (λ t. to_z w64 (of_z w64 (pos 0 -ℤ t))) (kept w64 x (2
 
 pub radius_small : (k : Cone) → IsCone k → nat_abs k.radius ≤ 16384
 radius_small k h = let w = radius_within k h in omega arith
+
+-- the cone's numbers are those of the cutter
+pub same_cutter : (k : Cone) (r a b : ℤ) → HasRadius r (pos 11024) → IsSlope a b → k.radius ≡ stored w32 r → k.rise ≡ stored w32 a → k.run ≡ stored w32 b
+    → ConeCutter k.radius k.rise k.run ≡ ConeCutter r a b
+same_cutter k r a b hr hs er ea eb =
+    same _ _ _ _ _ _ (er ∙ kept w32 r 11024 (within r hr.least hr.within) refl) (ea ∙ kept w32 a 100 (within_100 a hs.rise hs.rise_most) refl)
+    (eb ∙ kept w32 b 100 (within_100 b hs.run hs.run_most) refl)
+  where
+    same : (r a b s x y : ℤ) → r ≡ s → a ≡ x → b ≡ y → ConeCutter r a b ≡ ConeCutter s x y
+    same r a b s x y e f g = cc

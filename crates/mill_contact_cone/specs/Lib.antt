@@ -1,3 +1,4 @@
 pub mod Cones
 pub mod Quadratics
 pub mod Positions
+pub mod Clears

@@ -8,6 +8,7 @@ ghost use Rattle.mill_geom.specs.Sides.{IsTouch, along};
 ghost use Rattle.mill_contact_cone.specs.Cones.{IsCone, IsConical, IsCornerOf, CornerInRange, TouchesCone, EdgesFree};
 ghost use Rattle.mill_contact_cone.specs.Positions.{ConeAt};
 
+use crate::clear::{holds_corner, is_clear};
 use crate::corner::{Cone, Corner, corner_from, offset_of};
 use crate::edge::touches_edge;
 use crate::level::touches_on_level;
@@ -58,6 +59,27 @@ fn touches_cone(a: Corner, b: Corner, c: Corner, cone: Cone) -> bool
     touches_on_level(a, b, c, cone)
 }
 
+/// The same answer, from the box and the corners alone wherever they show it.
+fn has_inside(a: Corner, b: Corner, c: Corner, cone: Cone) -> bool
+    requires a_ok { CornerInRange a }
+    requires b_ok { CornerInRange b }
+    requires c_ok { CornerInRange c }
+    requires cone_ok { IsCone cone }
+    requires a_is { IsCornerOf cone a }
+    requires b_is { IsCornerOf cone b }
+    requires c_is { IsCornerOf cone c }
+    ensures yes { IsTrue result → TouchesCone cone a b c }
+    ensures no { result ≡ false → ¬ TouchesCone cone a b c }
+{
+    if is_clear(a, b, c, cone) {
+        return false;
+    }
+    if holds_corner(a, b, c, cone) {
+        return true;
+    }
+    touches_cone(a, b, c, cone)
+}
+
 /// How the triangle lies to the cone cutter, for positions along x.
 fn touch_along_x(a: Corner, b: Corner, c: Corner, cone: Cone) -> Touch
     requires a_ok { CornerInRange a }
@@ -72,7 +94,7 @@ fn touch_along_x(a: Corner, b: Corner, c: Corner, cone: Cone) -> Touch
     if let Some(side) = box_side(offset_of(a), offset_of(b), offset_of(c), cone.radius) {
         return Touch::Apart(side);
     }
-    if touches_cone(a, b, c, cone) {
+    if has_inside(a, b, c, cone) {
         return Touch::Inside;
     }
     Touch::Apart(side(a, b, c, cone))
@@ -104,6 +126,42 @@ fn cone_of(radius: i32, rise: i32, run: i32) -> Cone
         radius: i64::from(radius),
         rise: i64::from(rise),
         run: i64::from(run),
+    }
+}
+
+/// Whether some point of the triangle is strictly inside the cone cutter with its tip at `tip`.
+fn is_inside_cone(tri: &Tri, cone: Cone, tip: Pt3) -> bool
+    requires tri_ok { TriInRange tri.now }
+    requires cone_ok { IsCone cone }
+    requires tip_ok { IsCentre tip }
+    ensures yes { IsTrue result → Touches (ConeCutter cone.radius cone.rise cone.run) (pos 1) tip tri.now }
+    ensures no { result ≡ false → ¬ Touches (ConeCutter cone.radius cone.rise cone.run) (pos 1) tip tri.now }
+{
+    let a = corner_from(tri.a, tip, Axis::X, cone);
+    let b = corner_from(tri.b, tip, Axis::X, cone);
+    let c = corner_from(tri.c, tip, Axis::X, cone);
+    has_inside(a, b, c, cone)
+}
+
+/// Whether some point of the triangle is strictly inside the cone cutter with its tip at `tip`.
+///
+/// The cutter is a cone. Lengths are in units of 0.01 mm. Corners may be equal or collinear. A few
+/// 64-bit operations answer for a triangle whose box is clear of the cutter, and for one of which a
+/// corner is inside.
+pub fn is_inside(tri: &Tri, cutter: Cutter, tip: Pt3) -> bool
+    requires tri_ok { TriInRange tri.now }
+    requires cutter_ok { IsWideCutter cutter }
+    requires shape_ok { IsConical cutter }
+    requires tip_ok { IsCentre tip }
+    ensures yes { IsTrue result → Touches cutter (pos 1) tip tri.now }
+    ensures no { result ≡ false → ¬ Touches cutter (pos 1) tip tri.now }
+{
+    match cutter {
+        Cutter::Cone { radius, rise, run } => {
+            is_inside_cone(tri, cone_of(radius, rise, run), tip)
+        }
+        Cutter::Flat { .. } => unreachable!(),
+        Cutter::Ball { .. } => unreachable!(),
     }
 }
 

@@ -1,7 +1,7 @@
 ghost use Rattle.mill_base.specs.Ranges.{IsInRange, TriInRange};
 ghost use Rattle.mill_geom.specs.Offsets.{IsCentre};
 
-use crate::touch;
+use crate::{is_inside, touch};
 use mill_base::{Cutter, Pt3, Tri};
 use mill_geom::{Axis, Side, Touch};
 use std::test::Fail;
@@ -53,7 +53,7 @@ fn lies(tri: &Tri, tip: (i16, i16, i16)) -> (Touch, Touch)
 }
 
 /// Whether some point of the triangle is inside that cone with its tip at the origin.
-fn is_inside(tri: &Tri) -> bool
+fn holds(tri: &Tri) -> bool
     requires { TriInRange tri.now }
 {
     lies(tri, (0, 0, 0)) == (INSIDE, INSIDE)
@@ -83,7 +83,71 @@ fn points_one_unit_in_and_out(rt: HostRuntime) -> Result<(), Fail> {
         (0, 100, 500, false),
     ];
     for (x, y, z, inside) in table {
-        assert_eq!(rt; is_inside(&point(x, y, z)), inside);
+        assert_eq!(rt; holds(&point(x, y, z)), inside);
+    }
+    Ok(())
+}
+
+// Triangles whose box or corners show the answer, each beside one by a unit for which they don't: by
+// the height, by the distance from the axis, by the wall; and triangles that are near by their boxes
+// alone, and that come inside with no corner.
+#[test]
+fn boxes_one_unit_in_and_out(rt: HostRuntime) -> Result<(), Fail> {
+    let cone = Cutter::Cone {
+        radius: 100,
+        rise: 1,
+        run: 1,
+    };
+    let table: [((i16, i16, i16), (i16, i16, i16), (i16, i16, i16), bool); 19] = [
+        ((0, 0, 0), (900, 0, 0), (0, 900, -5), false),
+        ((0, 0, 1), (900, 0, 0), (0, 900, -5), true),
+        ((80, 60, 500), (900, 60, 500), (80, 900, 500), false),
+        ((79, 60, 500), (900, 60, 500), (80, 900, 500), true),
+        ((-80, -60, 500), (-900, -60, 500), (-80, -900, 500), false),
+        ((-80, -59, 500), (-900, -60, 500), (-80, -900, 500), true),
+        ((100, -50, 500), (900, 70, 500), (300, 900, 500), false),
+        ((900, 70, 500), (300, 900, 500), (99, -10, 500), true),
+        ((50, 0, 50), (60, 10, 50), (60, -10, 50), false),
+        ((50, 0, 51), (60, 10, 50), (60, -10, 50), true),
+        ((60, 10, 51), (50, 0, 50), (60, -10, 50), false),
+        ((30, 40, 50), (40, 40, 50), (30, 50, 50), false),
+        ((40, 40, 50), (30, 40, 51), (30, 50, 50), true),
+        ((0, 141, 500), (141, 0, 500), (141, 141, 500), true),
+        ((0, 141, 500), (142, 0, 500), (142, 142, 500), false),
+        ((0, 70, 70), (500, 70, 70), (500, 500, 70), false),
+        ((0, 70, 70), (500, 69, 70), (500, 500, 70), true),
+        ((-500, -500, 10), (500, -500, 10), (0, 500, 10), true),
+        ((-500, -500, 0), (500, -500, 0), (0, 500, 0), false),
+    ];
+    for (a, b, c, inside) in table {
+        let tri = Tri {
+            a: at(a.0, a.1, a.2),
+            b: at(b.0, b.1, b.2),
+            c: at(c.0, c.1, c.2),
+        };
+        assert_eq!(rt; is_inside(&tri, cone, at(0, 0, 0)), inside);
+    }
+    Ok(())
+}
+
+// The answers by the wall go by the rise over the run, and from the tip.
+#[test]
+fn slopes_one_unit_in_and_out(rt: HostRuntime) -> Result<(), Fail> {
+    let cone = Cutter::Cone {
+        radius: 100,
+        rise: 3,
+        run: 7,
+    };
+    for (x, y, z, inside) in [
+        (17, 20, 34, true),
+        (17, 20, 33, false),
+        (16, 20, 33, true),
+        (10, 20, 31, true),
+        (10, 20, 30, false),
+        (110, 20, 900, false),
+        (109, 20, 900, true),
+    ] {
+        assert_eq!(rt; is_inside(&point(x, y, z), cone, at(10, 20, 30)), inside);
     }
     Ok(())
 }
@@ -151,13 +215,13 @@ fn edges_one_unit_in_and_out(rt: HostRuntime) -> Result<(), Fail> {
             b: at(u, v, w),
             c: at(u, v, w),
         };
-        assert_eq!(rt; is_inside(&twice_last), inside);
+        assert_eq!(rt; holds(&twice_last), inside);
         let twice_first = Tri {
             a: at(x, y, z),
             b: at(u, v, w),
             c: at(x, y, z),
         };
-        assert_eq!(rt; is_inside(&twice_first), inside);
+        assert_eq!(rt; holds(&twice_first), inside);
     }
     Ok(())
 }
@@ -184,7 +248,7 @@ fn faces_one_unit_in_and_out(rt: HostRuntime) -> Result<(), Fail> {
             b: at(-side, -500, q),
             c: at(0, 500, s),
         };
-        assert_eq!(rt; is_inside(&face), inside);
+        assert_eq!(rt; holds(&face), inside);
     }
     Ok(())
 }
@@ -197,21 +261,21 @@ fn level_lines_one_unit_in_and_out(rt: HostRuntime) -> Result<(), Fail> {
         b: at(1000, -2000, 1901),
         c: at(1000, 2000, 1901),
     };
-    assert!(rt; is_inside(&lone_low));
+    assert!(rt; holds(&lone_low));
     assert_eq!(rt; lies(&lone_low, (0, 0, 1)), (MORE, NEVER));
     let lone_high = Tri {
         a: at(-450, -2000, -999),
         b: at(1000, 0, 1901),
         c: at(-450, 2000, -999),
     };
-    assert!(rt; is_inside(&lone_high));
+    assert!(rt; holds(&lone_high));
     assert_eq!(rt; lies(&lone_high, (0, 0, 1)), (MORE, NEVER));
     let lone_last = Tri {
         a: at(1000, -2000, 1901),
         b: at(1000, 2000, 1901),
         c: at(-450, 0, -999),
     };
-    assert!(rt; is_inside(&lone_last));
+    assert!(rt; holds(&lone_last));
     assert_eq!(rt; lies(&lone_last, (0, 0, 1)), (MORE, NEVER));
     Ok(())
 }

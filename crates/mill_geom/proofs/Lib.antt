@@ -25,3 +25,5 @@ pub mod Besides
 pub mod Along
 pub mod ReachCerts
 pub mod Reaching
+pub mod GapCerts
+pub mod Gaps

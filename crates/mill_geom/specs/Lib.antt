@@ -4,3 +4,4 @@ pub mod Contacts
 pub mod Spots
 pub mod Sides
 pub mod Reaches
+pub mod Gaps

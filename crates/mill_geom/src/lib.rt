@@ -5,13 +5,15 @@
 //! to the axis than the radius, for triangles whose corners are collinear or equal too: it tries the
 //! three edges, the place where the axis meets the plane, and the line where the plane meets the
 //! level. `side` and `box_side` tell at which positions along an axis a triangle that has no such
-//! point has none either. `reaches_cylinder` decides the closed case, with the points on the level.
-//! specs/Contacts says what a touch is, specs/Sides what a side means, specs/Reaches what the closed
-//! case is, specs/Forms which numbers are compared, and proofs/Touching and proofs/Strips why that
-//! is enough.
+//! point has none either. `box_gap` and `highest` tell how near to the axis and how high a point can
+//! be at most, by the box of the corners. `reaches_cylinder` decides the closed case, with the points
+//! on the level. specs/Contacts says what a touch is, specs/Sides what a side means, specs/Gaps what
+//! the box tells, specs/Reaches what the closed case is, specs/Forms which numbers are compared, and
+//! proofs/Touching and proofs/Strips why that is enough.
 #![tactic(auto)]
 
 mod cylinder;
+mod gap;
 mod level;
 mod offset;
 mod plane;
@@ -26,6 +28,7 @@ mod triangle;
 mod turn;
 
 pub use cylinder::box_side;
+pub use gap::{box_gap, highest};
 pub use offset::{Offset, offset_from};
 pub use reach::reaches_cylinder;
 pub use segment::touches_segment;

@@ -1,6 +1,6 @@
 ghost use Rattle.mill_geom.specs.Offsets.{OffsetInRange};
 
-use crate::{Offset, Side, Spot, box_side, spot_below, touches_triangle};
+use crate::{Offset, Side, Spot, box_gap, box_side, highest, spot_below, touches_triangle};
 use std::test::Fail;
 
 fn at(x: i16, y: i16, z: i16) -> Offset
@@ -65,6 +65,24 @@ fn degenerate(rt: HostRuntime) -> Result<(), Fail> {
     let (a, b, c) = (at(-300, 99, 1), at(200, 99, 1), at(-100, 99, 1));
     assert!(rt; touches_triangle(a, b, c, 100));
     assert!(rt; !touches_triangle(a, b, c, 99));
+    Ok(())
+}
+
+// How near to the axis the box of the corners comes, and how high, from each corner in turn.
+#[test]
+fn gaps_of_boxes(rt: HostRuntime) -> Result<(), Fail> {
+    for (a, b, c, gap, top) in [
+        ((30, 40, 5), (90, 70, -5), (30, 99, 0), 2500, 5),
+        ((-30, -40, -5), (-90, -70, -7), (-30, -99, -9), 2500, -5),
+        ((-1, 40, 0), (90, 70, 8), (1, 99, 0), 1600, 8),
+        ((30, 1, 5), (90, 0, -5), (30, -99, 0), 900, 5),
+        ((30, 0, 5), (0, -40, 6), (-30, 0, 6), 0, 6),
+        ((0, 0, 1), (0, 0, 1), (0, 0, 1), 0, 1),
+    ] {
+        let (a, b, c) = (at(a.0, a.1, a.2), at(b.0, b.1, b.2), at(c.0, c.1, c.2));
+        assert_eq!(rt; (box_gap(a, b, c), highest(a, b, c)), (gap, top));
+        assert_eq!(rt; (box_gap(b, c, a), highest(c, a, b)), (gap, top));
+    }
     Ok(())
 }
 

@@ -4,8 +4,8 @@ use Rattle.mill_contact_cone.proofs.Sizes.{radius_small}
 use Rattle.mill_contact_cone.proofs.Placed.{touch_here, box_shows}
 use Rattle.mill_contact_cone.proofs.cone.touch_along_x.Goals as goal
 
-pub returns-then-touches_cone : goal.returns-then-touches_cone
-returns-then-touches_cone c = touch_here c.args.cone c.args.a c.args.b c.args.c (c.touches_cone.ensures.yes c.if-touches_cone.true)
+pub returns-then-has_inside : goal.returns-then-has_inside
+returns-then-has_inside c = touch_here c.args.cone c.args.a c.args.b c.args.c (c.has_inside.ensures.yes c.if-has_inside.true)
 
 pub returns-in-Some : goal.returns-in-Some
 returns-in-Some c =
