@@ -1,7 +1,7 @@
 ghost use Rattle.std.specs.Prelude.{◌≡◌};
 ghost use Rattle.mill_base.specs.Numbers.{Within, greatest};
 ghost use Rattle.mill_base.specs.Sizes.{IsCutter};
-ghost use Rattle.mill_cells.specs.Boxes.{boxes_of};
+ghost use Rattle.mill_cells.specs.Sorted.{sorted_of};
 ghost use Rattle.mill_drop.specs.Drops.{IsRaised};
 ghost use Rattle.mill_drop.specs.Near.{AreFree, point_box, square_about};
 ghost use Rattle.mill_drop.specs.Spindles.{IsSpindle};
@@ -40,9 +40,9 @@ fn only(x: i32, y: i32) -> Box2
 }
 
 /// The least height, from `from` on, at which those of the part's triangles are free whose boxes meet
-/// the area.
+/// the area. Those that aren't over the height so far are passed over, and so are whole cells of them.
 pub fn raised_near(part: &Part, cells: &Cells, spindle: Spindle, area: Box2, from: i32) -> i32
-    requires cells_ok { cells.now ≡ boxes_of part.now }
+    requires cells_ok { cells.now ≡ sorted_of part.now }
     requires spindle_ok { IsSpindle spindle }
     requires from_ok { Within greatest from }
     ensures raised { IsRaised spindle.cutter part.now spindle.x spindle.y from result }
@@ -51,8 +51,8 @@ pub fn raised_near(part: &Part, cells: &Cells, spindle: Spindle, area: Box2, fro
 {
     let tris = part.tris();
     let mut height = from;
-    let mut near = cells.near(area);
-    while let Some(number) = near.next() {
+    let mut near = cells.near_over(area);
+    while let Some(number) = near.next_over(height) {
         height = spindle.raised(&tris[number as usize], height);
     }
     height
@@ -64,7 +64,7 @@ pub fn raised_near(part: &Part, cells: &Cells, spindle: Spindle, area: Box2, fro
 /// They are those at the place itself, and for a flat cutter those at two points of its edge, since
 /// the highest part point under it is often near there.
 pub fn start_height(part: &Part, cells: &Cells, spindle: Spindle, from: i32) -> i32
-    requires cells_ok { cells.now ≡ boxes_of part.now }
+    requires cells_ok { cells.now ≡ sorted_of part.now }
     requires spindle_ok { IsSpindle spindle }
     requires from_ok { Within greatest from }
     ensures raised { IsRaised spindle.cutter part.now spindle.x spindle.y from result }
@@ -81,7 +81,7 @@ pub fn start_height(part: &Part, cells: &Cells, spindle: Spindle, from: i32) -> 
 
 /// The least height, from `from` on, at which the triangles at the edge's ends along x are free.
 fn edge_height(part: &Part, cells: &Cells, spindle: Spindle, from: i32) -> i32
-    requires cells_ok { cells.now ≡ boxes_of part.now }
+    requires cells_ok { cells.now ≡ sorted_of part.now }
     requires spindle_ok { IsSpindle spindle }
     requires from_ok { Within greatest from }
     ensures raised { IsRaised spindle.cutter part.now spindle.x spindle.y from result }
