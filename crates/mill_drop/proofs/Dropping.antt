@@ -1,5 +1,5 @@
 -- The drop height, triangle by triangle of those that are near.
-use Rattle.std.proofs.Common.{◌≡◌, ◌⊎◌, ◌↔◌, inl, inr, refl, ℕ, ◌<◌, List, [], ◌∷◌, length, get_or, sym, subst, ◌∙◌, arith}
+use Rattle.std.proofs.Common.{◌≡◌, ◌⊎◌, ◌↔◌, inl, inr, refl, ℕ, ◌<◌, List, length, get_or, map, sym, subst, ap, ◌∙◌, arith}
 use Rattle.std.specs.List.{Contains}
 use Rattle.std.proofs.lemmas.Int.{ints}
 use Rattle.std.proofs.lemmas.List.{length-map, get_or-map, get_or_default}
@@ -7,76 +7,116 @@ use Rattle.std.proofs.lemmas.List.Elements.{Contains-get_or}
 use lib.IntN.{ℤ, pos, ◌-ℤ◌}
 use lib.Signed.{◌<ℤ◌, ◌≤ℤ◌}
 use Rattle.mill_base.specs.Numbers.{Within, greatest}
-use Rattle.mill_base.specs.Points.{point_at}
+use Rattle.mill_base.specs.Points.{point_at, highest}
 use Rattle.mill_base.specs.Sizes.{IsCutter}
 use Rattle.mill_base.specs.declared.points.Tri.{Tri}
 use Rattle.mill_base.specs.declared.points.Box2.{Box2}
 use Rattle.mill_base.specs.declared.cutter.Cutter.{Cutter}
 use Rattle.mill_cells.specs.Boxes.{Meet, IsNear, box_of, boxes_of, origin_box}
-use Rattle.mill_cells.proofs.Lists.{nothing_in_nil, here, there, cons_cases}
-use Rattle.mill_drop.specs.Drops.{TouchesAt, GougesAt, IsDropHeight}
-use Rattle.mill_drop.specs.Near.{square_about}
-use Rattle.mill_drop.proofs.Heights.{lowered, has_radius}
+use Rattle.mill_cells.specs.Ahead.{Ahead, Comes, NoneComes, AreDealt}
+use Rattle.mill_cells.specs.Sorted.{Sorted, sorted_of, height_at}
+use Rattle.mill_cells.proofs.PassedLemmas.{deals_on, deals_last, top_is}
+use Rattle.mill_drop.specs.Drops.{TouchesAt, GougesAt, IsRaised, IsDropHeight}
+use Rattle.mill_drop.specs.Near.{AreFree, square_about}
+use Rattle.mill_drop.proofs.Heights.{lowered, has_radius, over_top_free}
 use Rattle.mill_drop.proofs.NearLemmas.{touching_meets}
 
 -- the triangle whose corners are the origin
 abbrev pub no_tri : Tri
 no_tri = record { a = point_at (pos 0) (pos 0) (pos 0); b = point_at (pos 0) (pos 0) (pos 0); c = point_at (pos 0) (pos 0) (pos 0) }
 
--- the numbers left are those of triangles, each triangle that the cutter holds some of at this height is left, and some part point is in it one lower, unless it is the floor
-pub record DropsSoFar (cutter : Cutter) (part : List Tri) (d : Tri) (x y floor : ℤ) (left : List ℕ) (height : ℤ) : Type 0 where
-  pub kept : floor ≤ℤ height
+through : (a b c : ℤ) → a ≤ℤ b → b ≤ℤ c → a ≤ℤ c
+through a b c h k = omega (arith, ints)
+
+-- a height that isn't raised
+pub raised_none : (cutter : Cutter) (part : List Tri) (x y z : ℤ) → IsRaised cutter part x y z z
+raised_none cutter part x y z = record { kept = omega (arith, ints); reached = inl refl }
+
+-- a height that is raised twice
+pub raised_twice : (cutter : Cutter) (part : List Tri) (x y a b c : ℤ) → IsRaised cutter part x y a b → IsRaised cutter part x y b c → IsRaised cutter part x y a c
+raised_twice cutter part x y a b c h k = record {
+  kept = through a b c h.kept k.kept;
+  reached = elim k.reached [
+    | inl same ↦ subst (λ z. (z ≡ a) ⊎ GougesAt cutter part x y (z -ℤ pos 1)) (sym same) h.reached
+    | inr g ↦ inr g
+  ];
+}
+
+-- a triangle is near the place
+abbrev pub IsNearBy : List Tri → Box2 → ℕ → Type 0
+IsNearBy part area i = IsNear (boxes_of part) area i
+
+-- the cutter holds nothing of a triangle at this height
+abbrev pub IsFree : Cutter → List Tri → Tri → ℤ → ℤ → ℤ → ℕ → Type 0
+IsFree cutter part d x y height i = i < length part → ¬ TouchesAt cutter (get_or part i d) x y height
+
+-- the numbers ahead are those of triangles, and each near triangle is ahead or the cutter holds nothing of it at this height
+pub record RaisesSoFar (cutter : Cutter) (part : List Tri) (d : Tri) (area : Box2) (x y from : ℤ) (near : Ahead) (height : ℤ) : Type 0 where
+  pub raised : IsRaised cutter part x y from height
   pub bound : Within greatest height
-  pub reached : (height ≡ floor) ⊎ GougesAt cutter part x y (height -ℤ pos 1)
-  pub held_left : (i : ℕ) → i < length part → TouchesAt cutter (get_or part i d) x y height → Contains left i
-  pub within : (i : ℕ) → Contains left i → i < length part
+  pub tops : near.tops ≡ map highest part
+  pub within : (i : ℕ) → Contains near.numbers i → i < length part
+  pub dealt : AreDealt (IsNearBy part area) (IsFree cutter part d x y height) near.numbers
 
--- before the first triangle, those near are left
-pub drop_starts : (cutter : Cutter) (part : List Tri) (d : Tri) (x y floor : ℤ) (boxes : List Box2) (left : List ℕ) → IsCutter cutter → Within greatest floor → boxes ≡ boxes_of part
-    → ((i : ℕ) → Contains left i ↔ IsNear boxes (square_about cutter x y) i) → DropsSoFar cutter part d x y floor left floor
-drop_starts cutter part d x y floor boxes left ok ranged e each = record {
-  kept = omega (arith, ints);
+-- before the first triangle, those near are ahead
+pub raise_starts : (cutter : Cutter) (part : List Tri) (d : Tri) (area : Box2) (x y from : ℤ) (s : Sorted) (near : Ahead) → Within greatest from → s ≡ sorted_of part → near.tops ≡ s.tops
+    → ((i : ℕ) → Contains near.numbers i ↔ IsNear s.boxes area i) → RaisesSoFar cutter part d area x y from near from
+raise_starts cutter part d area x y from s near ranged e same each = record {
+  raised = raised_none cutter part x y from;
   bound = ranged;
-  reached = inl refl;
-  held_left = λ i inside t. (each i).1 (subst (λ (b : List Box2). IsNear b (square_about cutter x y) i) (sym e) (record {
-    within = subst (λ n. i < n) (sym (length-map part box_of)) inside;
-    meets = subst (λ (b : Box2). Meet b (square_about cutter x y)) (sym (get_or-map box_of part i d origin_box inside)) (touching_meets cutter (get_or part i d) x y floor (has_radius cutter ok) t);
-  }));
-  within = λ i c. let n = subst (λ (b : List Box2). IsNear b (square_about cutter x y) i) e ((each i).0 c) in subst (λ m. i < m) (length-map part box_of) n.within;
+  tops = same ∙ ap (λ (t : Sorted). t.tops) e;
+  within = λ i c. let n = subst (λ (t : Sorted). IsNear t.boxes area i) e ((each i).0 c) in subst (λ m. i < m) (length-map part box_of) n.within;
+  dealt = λ i n. inl ((each i).1 (subst (λ (t : Sorted). IsNear t.boxes area i) (sym e) n));
 }
 
-pub next_within : (cutter : Cutter) (part : List Tri) (d : Tri) (x y floor : ℤ) (left later : List ℕ) (i : ℕ) (height : ℤ) → left ≡ i ∷ later → DropsSoFar cutter part d x y floor left height → i < length part
-next_within cutter part d x y floor left later i height e h = h.within i (subst (λ (xs : List ℕ). Contains xs i) (sym e) (here i later))
+pub next_within : (cutter : Cutter) (part : List Tri) (d : Tri) (area : Box2) (x y from : ℤ) (near later : Ahead) (i : ℕ) (height : ℤ) → Comes height near i later → RaisesSoFar cutter part d area x y from near height → i < length part
+next_within cutter part d area x y from near later i height h s = s.within i h.number
 
-pub drop_goes_on : (cutter : Cutter) (part : List Tri) (d : Tri) (x y floor : ℤ) (left later : List ℕ) (i : ℕ) (height new : ℤ) → left ≡ i ∷ later → DropsSoFar cutter part d x y floor left height
-    → height ≤ℤ new → Within greatest new → (¬ TouchesAt cutter (get_or part i d) x y new) → (new ≡ height) ⊎ TouchesAt cutter (get_or part i d) x y (new -ℤ pos 1)
-    → DropsSoFar cutter part d x y floor later new
-drop_goes_on cutter part d x y floor left later i height new e h more bound free least = record {
-  kept = through floor height new h.kept more;
+-- the cutter holds nothing of a triangle whose top isn't over its tip
+low_top : (cutter : Cutter) (part : List Tri) (d : Tri) (x y height : ℤ) (tops : List ℤ) (j : ℕ) → IsCutter cutter → tops ≡ map highest part → height_at tops j ≤ℤ height → IsFree cutter part d x y height j
+low_top cutter part d x y height tops j ok e le inside t =
+    let top = ap (λ (ts : List ℤ). height_at ts j) e ∙ top_is part j d inside in
+    over_top_free cutter (get_or part j d) x y height ok (subst (λ z. z ≤ℤ height) top le) t
+
+pub raise_goes_on : (cutter : Cutter) (part : List Tri) (d : Tri) (area : Box2) (x y from : ℤ) (near later : Ahead) (i : ℕ) (height new : ℤ) → IsCutter cutter → Comes height near i later
+    → RaisesSoFar cutter part d area x y from near height → height ≤ℤ new → Within greatest new → (¬ TouchesAt cutter (get_or part i d) x y new) → (new ≡ height) ⊎ TouchesAt cutter (get_or part i d) x y (new -ℤ pos 1)
+    → RaisesSoFar cutter part d area x y from later new
+raise_goes_on cutter part d area x y from near later i height new ok h s more bound free least = record {
+  raised = raised_twice cutter part x y from height new s.raised (record {
+    kept = more;
+    reached = elim least [
+      | inl same ↦ inl same
+      | inr t ↦ inr (record { tri = get_or part i d; member = Contains-get_or part i d (s.within i h.number); touches = t })
+    ];
+  });
   bound = bound;
-  reached = elim least [
-    | inl same ↦ subst (λ z. (z ≡ floor) ⊎ GougesAt cutter part x y (z -ℤ pos 1)) (sym same) h.reached
-    | inr t ↦ inr (record { tri = get_or part i d; member = Contains-get_or part i d (next_within cutter part d x y floor left later i height e h); touches = t })
-  ];
-  held_left = λ j inside t. elim (cons_cases i later j (subst (λ (xs : List ℕ). Contains xs j) e (h.held_left j inside (lowered cutter (get_or part j d) x y new height more t)))) [
-    | inl same ↦ absurd (free (subst (λ n. TouchesAt cutter (get_or part n d) x y new) (sym same) t))
-    | inr rest ↦ rest
-  ];
-  within = λ j c. h.within j (subst (λ (xs : List ℕ). Contains xs j) (sym e) (there i later j c));
+  tops = h.tops ∙ s.tops;
+  within = λ j c. s.within j (h.rest j c);
+  dealt = deals_on (IsNearBy part area) (IsFree cutter part d x y height) (IsFree cutter part d x y new) height near later i h
+      (λ j before inside t. before inside (lowered cutter (get_or part j d) x y new height more t))
+      (λ inside. free)
+      (λ j le inside t. low_top cutter part d x y height near.tops j ok s.tops le inside (lowered cutter (get_or part j d) x y new height more t))
+      s.dealt;
 }
-  where
-    through : (a b c : ℤ) → a ≤ℤ b → b ≤ℤ c → a ≤ℤ c
-    through a b c h k = omega (arith, ints)
 
--- after the last one it is the drop height
-pub drop_ends : (cutter : Cutter) (part : List Tri) (d : Tri) (x y floor : ℤ) (left : List ℕ) (height : ℤ) → left ≡ [] → DropsSoFar cutter part d x y floor left height → IsDropHeight cutter part x y floor height
-drop_ends cutter part d x y floor left height e h = record {
+-- after the last one those near are free
+pub raise_ends : (cutter : Cutter) (part : List Tri) (d : Tri) (area : Box2) (x y from : ℤ) (near later : Ahead) (height : ℤ) → IsCutter cutter → NoneComes height near later
+    → RaisesSoFar cutter part d area x y from near height → AreFree cutter part area x y height
+raise_ends cutter part d area x y from near later height ok none s tri m meet t =
+    let place = get_or_default part m.0 d tri m.1 ∙ m.2 in
+    let near_it : IsNearBy part area m.0 = record {
+      within = subst (λ n. m.0 < n) (sym (length-map part box_of)) m.1;
+      meets = subst (λ (b : Box2). Meet b area) (sym (get_or-map box_of part m.0 d origin_box m.1)) (subst (λ (u : Tri). Meet (box_of u) area) (sym place) meet);
+    } in
+    deals_last (IsNearBy part area) (IsFree cutter part d x y height) height near later none (λ j le. low_top cutter part d x y height near.tops j ok s.tops le) s.dealt m.0 near_it m.1
+    (subst (λ (u : Tri). TouchesAt cutter u x y height) (sym place) t)
+
+-- where the triangles in the square about the place are free, it is the drop height
+pub drop_is : (cutter : Cutter) (part : List Tri) (x y floor height : ℤ) → IsCutter cutter → IsRaised cutter part x y floor height → AreFree cutter part (square_about cutter x y) x y height
+    → IsDropHeight cutter part x y floor height
+drop_is cutter part x y floor height ok h free = record {
   kept = h.kept;
-  free = λ higher over g.
-      let m = g.member in
-      let place = get_or_default part m.0 d g.tri m.1 ∙ m.2 in
-      let held = subst (λ (t : Tri). TouchesAt cutter t x y height) (sym place) (lowered cutter g.tri x y higher height over g.touches) in
-      nothing_in_nil m.0 (subst (λ (xs : List ℕ). Contains xs m.0) e (h.held_left m.0 m.1 held));
+  free = λ higher over g. free g.tri g.member (touching_meets cutter g.tri x y higher (has_radius cutter ok) g.touches) (lowered cutter g.tri x y higher height over g.touches);
   least = λ lower kept under. elim h.reached [
     | inl same ↦ absurd (none lower floor height kept under same)
     | inr g ↦ record { tri = g.tri; member = g.member; touches = lowered cutter g.tri x y (height -ℤ pos 1) lower (next lower height under) g.touches }

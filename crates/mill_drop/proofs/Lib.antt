@@ -4,6 +4,5 @@ pub mod Heights
 pub mod NearCerts
 pub mod NearLemmas
 pub mod Dropping
-pub mod ContactLemmas
 pub mod Scanning
 pub mod NodeLemmas

@@ -1,5 +1,5 @@
 -- How far a cutter can go down over a place until it would gouge.
-use Rattle.std.specs.Prelude.{ℤ, pos, ◌<ℤ◌, ◌≤ℤ◌, List}
+use Rattle.std.specs.Prelude.{◌≡◌, ◌⊎◌, ℤ, pos, ◌-ℤ◌, ◌<ℤ◌, ◌≤ℤ◌, List}
 use Rattle.mill_base.specs.Points.{point_at}
 use Rattle.mill_base.specs.Contact.{Touches, Gouges}
 use Rattle.mill_base.specs.declared.points.Tri.{Tri}
@@ -18,3 +18,8 @@ pub record IsDropHeight (cutter : Cutter) (part : List Tri) (x y floor z : ℤ) 
   pub kept : floor ≤ℤ z
   pub free : (higher : ℤ) → z ≤ℤ higher → ¬ GougesAt cutter part x y higher
   pub least : (lower : ℤ) → floor ≤ℤ lower → lower <ℤ z → GougesAt cutter part x y lower
+
+-- the height was raised from the first to the second no more than some part point makes it: one unit lower it is strictly inside the cutter
+pub record IsRaised (cutter : Cutter) (part : List Tri) (x y from to : ℤ) : Type 0 where
+  pub kept : from ≤ℤ to
+  pub reached : (to ≡ from) ⊎ GougesAt cutter part x y (to -ℤ pos 1)

@@ -10,6 +10,7 @@
 mod contact;
 mod drop;
 mod map;
+mod near;
 mod nodes;
 mod once;
 mod search;

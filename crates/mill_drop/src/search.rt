@@ -61,6 +61,49 @@ impl Spindle {
         high
     }
 
+    /// The same for a flat cutter, whose tip stands on the triangle's top wherever the highest corner is
+    /// under it: so one unit under `high` is tried first.
+    fn least_free_flat(self, tri: &Tri, low: i32, high: i32) -> i32
+        requires self_ok { IsSpindle self }
+        requires tri_ok { TriInRange tri.now }
+        requires low_ok { Within greatest low }
+        requires high_ok { Within greatest high }
+        requires order { low <ℤ high }
+        requires held { TouchesAt self.cutter tri.now self.x self.y low }
+        requires free { ¬ TouchesAt self.cutter tri.now self.x self.y high }
+        ensures over { low <ℤ result }
+        ensures under { result ≤ℤ high }
+        ensures free { ¬ TouchesAt self.cutter tri.now self.x self.y result }
+        ensures least { TouchesAt self.cutter tri.now self.x self.y (result -ℤ pos 1) }
+    {
+        let below = high - 1;
+        if self.holds_some(tri, below) {
+            return high;
+        }
+        self.least_free(tri, low, below)
+    }
+
+    /// The same for any cutter.
+    fn least_free_under(self, tri: &Tri, low: i32, high: i32) -> i32
+        requires self_ok { IsSpindle self }
+        requires tri_ok { TriInRange tri.now }
+        requires low_ok { Within greatest low }
+        requires high_ok { Within greatest high }
+        requires order { low <ℤ high }
+        requires held { TouchesAt self.cutter tri.now self.x self.y low }
+        requires free { ¬ TouchesAt self.cutter tri.now self.x self.y high }
+        ensures over { low <ℤ result }
+        ensures under { result ≤ℤ high }
+        ensures free { ¬ TouchesAt self.cutter tri.now self.x self.y result }
+        ensures least { TouchesAt self.cutter tri.now self.x self.y (result -ℤ pos 1) }
+    {
+        match self.cutter {
+            Cutter::Flat { .. } => self.least_free_flat(tri, low, high),
+            Cutter::Ball { .. } => self.least_free(tri, low, high),
+            Cutter::Cone { .. } => self.least_free(tri, low, high),
+        }
+    }
+
     /// The least height, from `from` on, at which the triangle is free.
     ///
     /// Most triangles leave it as it is: those whose highest corner isn't over `from` are passed by
@@ -81,7 +124,7 @@ impl Spindle {
         if !self.holds_some(tri, from) {
             return from;
         }
-        self.least_free(tri, from, top)
+        self.least_free_under(tri, from, top)
     }
 }
 

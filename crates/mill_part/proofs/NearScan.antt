@@ -1,95 +1,103 @@
--- The covered height, triangle by triangle of those that are near.
-use Rattle.std.proofs.Common.{◌≡◌, ◌⊎◌, ◌↔◌, inl, inr, ℕ, ◌<◌, List, [], ◌∷◌, length, get_or, sym, subst, ◌∙◌, arith}
+-- The covered height, triangle by triangle of those that are near and over the height so far.
+use Rattle.std.proofs.Common.{◌≡◌, ◌⊎◌, ◌↔◌, inl, inr, ℕ, ◌<◌, List, length, get_or, map, sym, subst, ap, ◌∙◌, arith}
 use Rattle.std.specs.List.{Contains}
 use Rattle.std.proofs.lemmas.Int.{ints}
 use Rattle.std.proofs.lemmas.List.{length-map, get_or-map, get_or_default}
 use Rattle.std.proofs.lemmas.List.Elements.{Contains-get_or}
 use lib.IntN.{ℤ, pos}
-use lib.Signed.{◌<ℤ◌, ◌≤ℤ◌}
+use lib.Signed.{◌≤ℤ◌}
 use Rattle.mill_base.specs.Numbers.{Within, greatest}
-use Rattle.mill_base.specs.Points.{point_at}
+use Rattle.mill_base.specs.Points.{point_at, highest}
 use Rattle.mill_base.specs.Covers.{Covered}
 use Rattle.mill_base.specs.Ranges.{TrisInRange}
 use Rattle.mill_base.specs.declared.points.Tri.{Tri}
 use Rattle.mill_base.specs.declared.points.Box2.{Box2}
-use Rattle.mill_base.proofs.Exit.{split_lt}
+use Rattle.mill_cells.specs.Ahead.{Ahead, Comes, NoneComes, AreDealt}
 use Rattle.mill_cells.specs.Boxes.{Meet, IsNear, box_of, boxes_of, origin_box}
-use Rattle.mill_cells.proofs.Lists.{nothing_in_nil, here, there, cons_cases}
+use Rattle.mill_cells.specs.Sorted.{Sorted, sorted_of, height_at}
+use Rattle.mill_cells.proofs.PassedLemmas.{deals_on, deals_last, top_is}
 use Rattle.mill_part.specs.Columns.{CoversColumn, square_about}
 use Rattle.mill_part.proofs.Below.{covered_below}
-use Rattle.mill_part.proofs.CoverLemmas.{point_of_part, covers_of_point, covered_bound}
+use Rattle.mill_part.proofs.CoverLemmas.{point_of_part, covers_of_point, covered_bound, under_highest}
 use Rattle.mill_part.proofs.NearLemmas.{covering_meets}
 
 -- the triangle whose corners are the origin
 abbrev pub no_tri : Tri
 no_tri = record { a = point_at (pos 0) (pos 0) (pos 0); b = point_at (pos 0) (pos 0) (pos 0); c = point_at (pos 0) (pos 0) (pos 0) }
 
--- the numbers left are those of triangles, the height is covered and not under the floor, and each triangle that covers a greater one is left
-pub record CoversSoFar (part : List Tri) (d : Tri) (floor band x y : ℤ) (left : List ℕ) (height : ℤ) : Type 0 where
+-- a triangle is near the column
+abbrev pub IsNearBy : List Tri → ℤ → ℤ → ℤ → ℕ → Type 0
+IsNearBy part band x y i = IsNear (boxes_of part) (square_about band x y) i
+
+-- a triangle covers no height over this one
+abbrev pub IsLow : List Tri → Tri → ℤ → ℤ → ℤ → ℤ → ℕ → Type 0
+IsLow part d band x y height i = i < length part → (h : ℤ) → CoversColumn (get_or part i d) band x y h → h ≤ℤ height
+
+-- the numbers ahead are those of triangles, the height is covered and not under the floor, and each near triangle is ahead or covers no greater one
+pub record CoversSoFar (part : List Tri) (d : Tri) (floor band x y : ℤ) (near : Ahead) (height : ℤ) : Type 0 where
   pub kept : floor ≤ℤ height
   pub reached : Covered part floor band x y height
-  pub higher_left : (i : ℕ) (h : ℤ) → i < length part → CoversColumn (get_or part i d) band x y h → height <ℤ h → Contains left i
-  pub within : (i : ℕ) → Contains left i → i < length part
+  pub tops : near.tops ≡ map highest part
+  pub within : (i : ℕ) → Contains near.numbers i → i < length part
+  pub dealt : AreDealt (IsNearBy part band x y) (IsLow part d band x y height) near.numbers
 
--- before the first triangle, those near are left
-pub scan_starts : (part : List Tri) (d : Tri) (floor band x y : ℤ) (boxes : List Box2) (left : List ℕ) → (pos 0) ≤ℤ band → boxes ≡ boxes_of part
-    → ((i : ℕ) → Contains left i ↔ IsNear boxes (square_about band x y) i) → CoversSoFar part d floor band x y left floor
-scan_starts part d floor band x y boxes left least e each = record {
+through : (a b c : ℤ) → a ≤ℤ b → b ≤ℤ c → a ≤ℤ c
+through a b c h k = omega (arith, ints)
+
+-- before the first triangle, those near are ahead
+pub scan_starts : (part : List Tri) (d : Tri) (floor band x y : ℤ) (s : Sorted) (near : Ahead) → s ≡ sorted_of part → near.tops ≡ s.tops
+    → ((i : ℕ) → Contains near.numbers i ↔ IsNear s.boxes (square_about band x y) i) → CoversSoFar part d floor band x y near floor
+scan_starts part d floor band x y s near e same each = record {
   kept = omega (arith, ints);
   reached = inl (omega (arith, ints));
-  higher_left = λ i h inside over _. (each i).1 (subst (λ (b : List Box2). IsNear b (square_about band x y) i) (sym e) (record {
-    within = subst (λ n. i < n) (sym (length-map part box_of)) inside;
-    meets = subst (λ (b : Box2). Meet b (square_about band x y)) (sym (get_or-map box_of part i d origin_box inside)) (covering_meets (get_or part i d) band x y h least over);
-  }));
-  within = λ i c. let n = subst (λ (b : List Box2). IsNear b (square_about band x y) i) e ((each i).0 c) in subst (λ m. i < m) (length-map part box_of) n.within;
+  tops = same ∙ ap (λ (t : Sorted). t.tops) e;
+  within = λ i c. let n = subst (λ (t : Sorted). IsNear t.boxes (square_about band x y) i) e ((each i).0 c) in subst (λ m. i < m) (length-map part box_of) n.within;
+  dealt = λ i n. inl ((each i).1 (subst (λ (t : Sorted). IsNear t.boxes (square_about band x y) i) (sym e) n));
 }
 
-pub next_within : (part : List Tri) (d : Tri) (floor band x y : ℤ) (left later : List ℕ) (i : ℕ) (height : ℤ) → left ≡ i ∷ later → CoversSoFar part d floor band x y left height → i < length part
-next_within part d floor band x y left later i height e s = s.within i (subst (λ (xs : List ℕ). Contains xs i) (sym e) (here i later))
+pub next_within : (part : List Tri) (d : Tri) (floor band x y : ℤ) (near later : Ahead) (i : ℕ) (height : ℤ) → Comes height near i later → CoversSoFar part d floor band x y near height → i < length part
+next_within part d floor band x y near later i height h s = s.within i h.number
 
-pub scan_goes_on : (part : List Tri) (d : Tri) (floor band x y : ℤ) (left later : List ℕ) (i : ℕ) (height new : ℤ) → left ≡ i ∷ later → CoversSoFar part d floor band x y left height
+-- a triangle whose top isn't over a height covers none over it
+low_top : (part : List Tri) (d : Tri) (band x y height : ℤ) (tops : List ℤ) (j : ℕ) → tops ≡ map highest part → height_at tops j ≤ℤ height → IsLow part d band x y height j
+low_top part d band x y height tops j e le inside h over =
+    let top = ap (λ (ts : List ℤ). height_at ts j) e ∙ top_is part j d inside in
+    through h (highest (get_or part j d)) height (under_highest (get_or part j d) band x y h over) (subst (λ z. z ≤ℤ height) top le)
+
+pub scan_goes_on : (part : List Tri) (d : Tri) (floor band x y : ℤ) (near later : Ahead) (i : ℕ) (height new : ℤ) → Comes height near i later → CoversSoFar part d floor band x y near height
     → height ≤ℤ new → (new ≡ height) ⊎ CoversColumn (get_or part i d) band x y new → ((h : ℤ) → CoversColumn (get_or part i d) band x y h → h ≤ℤ new)
     → CoversSoFar part d floor band x y later new
-scan_goes_on part d floor band x y left later i height new e s more reached top = record {
+scan_goes_on part d floor band x y near later i height new h s more reached top = record {
   kept = through floor height new s.kept more;
   reached = elim reached [
     | inl same ↦ subst (Covered part floor band x y) (sym same) s.reached
-    | inr over ↦ inr (point_of_part part (get_or part i d) band x y new (Contains-get_or part i d (next_within part d floor band x y left later i height e s)) over)
+    | inr over ↦ inr (point_of_part part (get_or part i d) band x y new (Contains-get_or part i d (s.within i h.number)) over)
   ];
-  higher_left = λ j h inside over higher. elim (cons_cases i later j (subst (λ (xs : List ℕ). Contains xs j) e (s.higher_left j h inside over (under height new h more higher)))) [
-    | inl same ↦ absurd (apart h new (top h (subst (λ n. CoversColumn (get_or part n d) band x y h) (sym same) over)) higher)
-    | inr rest ↦ rest
-  ];
-  within = λ j c. s.within j (subst (λ (xs : List ℕ). Contains xs j) (sym e) (there i later j c));
+  tops = h.tops ∙ s.tops;
+  within = λ j c. s.within j (h.rest j c);
+  dealt = deals_on (IsNearBy part band x y) (IsLow part d band x y height) (IsLow part d band x y new) height near later i h
+      (λ j low inside z over. through z height new (low inside z over) more)
+      (λ inside. top)
+      (λ j le inside z over. through z height new (low_top part d band x y height near.tops j s.tops le inside z over) more)
+      s.dealt;
 }
-  where
-    through : (a b c : ℤ) → a ≤ℤ b → b ≤ℤ c → a ≤ℤ c
-    through a b c h k = omega (arith, ints)
-
-    under : (a b c : ℤ) → a ≤ℤ b → b <ℤ c → a <ℤ c
-    under a b c h k = omega (arith, ints)
-
-    apart : (a b : ℤ) → a ≤ℤ b → b <ℤ a → ⊥
-    apart a b h k = omega (arith, ints)
 
 -- after the last one it is exact
-pub scan_ends : (part : List Tri) (d : Tri) (floor band x y : ℤ) (left : List ℕ) (height : ℤ) → left ≡ [] → CoversSoFar part d floor band x y left height
+pub scan_ends : (part : List Tri) (d : Tri) (floor band x y : ℤ) (near later : Ahead) (height : ℤ) → (pos 0) ≤ℤ band → NoneComes height near later → CoversSoFar part d floor band x y near height
     → (h : ℤ) → Covered part floor band x y h ↔ (h ≤ℤ height)
-scan_ends part d floor band x y left height e s h = (under, λ le. covered_below part floor band x y height h le s.reached)
+scan_ends part d floor band x y near later height least none s h = (under, λ le. covered_below part floor band x y height h le s.reached)
   where
-    floor_under : (h f z : ℤ) → h ≤ℤ f → f ≤ℤ z → h ≤ℤ z
-    floor_under h f z a b = omega (arith, ints)
-
     under : Covered part floor band x y h → h ≤ℤ height
-    under (inl low) = floor_under h floor height low s.kept
-    under (inr over) = elim (split_lt height h) [
-      | inl higher ↦
-          let m = over.member in
-          let place = get_or_default part m.0 d over.tri m.1 ∙ m.2 in
-          let covers = subst (λ (t : Tri). CoversColumn t band x y h) (sym place) (covers_of_point part band x y h over) in
-          absurd (nothing_in_nil m.0 (subst (λ (xs : List ℕ). Contains xs m.0) e (s.higher_left m.0 h m.1 covers higher)))
-      | inr most ↦ most
-    ]
+    under (inl low) = through h floor height low s.kept
+    under (inr over) =
+        let m = over.member in
+        let place = get_or_default part m.0 d over.tri m.1 ∙ m.2 in
+        let covers = subst (λ (t : Tri). CoversColumn t band x y h) (sym place) (covers_of_point part band x y h over) in
+        let near_it : IsNearBy part band x y m.0 = record {
+          within = subst (λ n. m.0 < n) (sym (length-map part box_of)) m.1;
+          meets = subst (λ (b : Box2). Meet b (square_about band x y)) (sym (get_or-map box_of part m.0 d origin_box m.1)) (covering_meets (get_or part m.0 d) band x y h least covers);
+        } in
+        deals_last (IsNearBy part band x y) (IsLow part d band x y height) height near later none (λ j le. low_top part d band x y height near.tops j s.tops le) s.dealt m.0 near_it m.1 h covers
 
-pub scan_bound : (part : List Tri) (d : Tri) (floor band x y : ℤ) (left : List ℕ) (height : ℤ) → TrisInRange part → Within greatest floor → CoversSoFar part d floor band x y left height → Within greatest height
-scan_bound part d floor band x y left height ok floor_ok s = covered_bound part floor band x y height ok floor_ok s.kept s.reached
+pub scan_bound : (part : List Tri) (d : Tri) (floor band x y : ℤ) (near : Ahead) (height : ℤ) → TrisInRange part → Within greatest floor → CoversSoFar part d floor band x y near height → Within greatest height
+scan_bound part d floor band x y near height ok floor_ok s = covered_bound part floor band x y height ok floor_ok s.kept s.reached

@@ -128,7 +128,8 @@ impl Part {
         let tris = self.tris();
         let column = Column { x, y, band };
         let mut height = floor;
-        for number in cells.near(column.area()) {
+        let mut near = cells.near_over(column.area());
+        while let Some(number) = near.next_over(height) {
             height = column.raised(height, &tris[number as usize]);
         }
         height

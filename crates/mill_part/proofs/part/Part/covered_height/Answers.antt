@@ -7,23 +7,19 @@ use Rattle.mill_part.proofs.CoverLemmas.{none_yet, one_more, exact_after, bound_
 use Rattle.mill_part.proofs.part.Part.covered_height.Goals as goal
 
 pub loop-tri-init : goal.loop-tri-init
-loop-tri-init c = none_yet _ _ _ _ _
+loop-tri-init c = (none_yet _ _ _ _ _, rw (coordinate c.args.floor c.requires.floor_ok) c.requires.floor_ok)
 
 pub raised-height-requires-clause-tri_ok : goal.raised-height-requires-clause-tri_ok
 raised-height-requires-clause-tri_ok c = c.tris-tri-items.ensures.in_range _ (rw (← c.tris-tri-items.ensures.list) (Contains-get_or _ _ _ c.loop-tri-test.true))
-
-pub raised-height-requires-clause-height_ok : goal.raised-height-requires-clause-height_ok
-raised-height-requires-clause-height_ok c =
-    let floor = coordinate c.args.floor c.requires.floor_ok in
-    let before = rw floor at c.loop-tri.invariant in
-    bound_after c.tris-tri-items.result.now c.args.floor _ _ _ c.loop-tri.tri-index _ (rw c.tris-tri-items.ensures.list c.tris-tri-items.ensures.in_range) c.requires.floor_ok before
 
 pub loop-tri-preserved : goal.loop-tri-preserved
 loop-tri-preserved c =
     let fits : FitsSigned w32 c.raised-height.result = search rules in
     let stored = to_z-of_z w32 c.raised-height.result fits in
-    rw stored (one_more c.tris-tri-items.result.now _ _ _ _ c.loop-tri.tri-index _ (to_z w32 c.loop-tri.height-bits) c.raised-height.result
-    c.loop-tri-test.true c.loop-tri.invariant c.raised-height.ensures.kept c.raised-height.ensures.reached c.raised-height.ensures.highest)
+    let floor = coordinate c.args.floor c.requires.floor_ok in
+    let next = one_more c.tris-tri-items.result.now _ _ _ _ c.loop-tri.tri-index _ (to_z w32 c.loop-tri.height-bits) c.raised-height.result
+    c.loop-tri-test.true c.loop-tri.invariant.0 c.raised-height.ensures.kept c.raised-height.ensures.reached c.raised-height.ensures.highest in
+    rw stored (next, bound_after c.tris-tri-items.result.now c.args.floor _ _ _ _ c.raised-height.result (rw c.tris-tri-items.ensures.list c.tris-tri-items.ensures.in_range) c.requires.floor_ok (rw floor at next))
 
 pub returns-clause-exact : goal.returns-clause-exact
 returns-clause-exact c =
@@ -31,14 +27,5 @@ returns-clause-exact c =
     let x = coordinate c.args.x c.requires.x_ok in
     let y = coordinate c.args.y c.requires.y_ok in
     let band = band_kept c.args.band c.requires.band_least c.requires.band_most in
-    let before = rw (floor, x, y, band, c.tris-tri-items.ensures.list) at c.loop-tri.invariant in
+    let before = rw (floor, x, y, band, c.tris-tri-items.ensures.list) at c.loop-tri.invariant.0 in
     exact_after c.args.self.now c.args.floor c.args.band c.args.x c.args.y c.loop-tri.tri-index _ (rw c.tris-tri-items.ensures.list at c.loop-tri-test.false) before
-
-pub returns-clause-bound : goal.returns-clause-bound
-returns-clause-bound c =
-    let floor = coordinate c.args.floor c.requires.floor_ok in
-    let x = coordinate c.args.x c.requires.x_ok in
-    let y = coordinate c.args.y c.requires.y_ok in
-    let band = band_kept c.args.band c.requires.band_least c.requires.band_most in
-    let before = rw (floor, x, y, band, c.tris-tri-items.ensures.list) at c.loop-tri.invariant in
-    bound_after c.args.self.now c.args.floor c.args.band c.args.x c.args.y c.loop-tri.tri-index _ c.tris-tri-items.ensures.in_range c.requires.floor_ok before

@@ -6,7 +6,7 @@ use Rattle.mill_base.specs.Numbers.{Within, greatest}
 use Rattle.mill_base.specs.Sizes.{HasRadius, IsCutter, radius_of}
 use Rattle.mill_base.specs.declared.cutter.Cutter.{Cutter}
 use Rattle.mill_base.specs.declared.cutter.Cutter.TheVariants.{Flat, Ball, Cone}
-use Rattle.mill_drop.proofs.drop.square_around.Goals as goal
+use Rattle.mill_drop.proofs.near.square_around.Goals as goal
 
 sized : (cutter : Cutter) → IsCutter cutter → HasRadius (radius_of cutter) (pos 10000)
 sized (Flat r) h = h

@@ -1,0 +1,94 @@
+ghost use Rattle.std.specs.Prelude.{◌≡◌};
+ghost use Rattle.mill_base.specs.Numbers.{Within, greatest};
+ghost use Rattle.mill_base.specs.Sizes.{IsCutter};
+ghost use Rattle.mill_cells.specs.Sorted.{sorted_of};
+ghost use Rattle.mill_drop.specs.Drops.{IsRaised};
+ghost use Rattle.mill_drop.specs.Near.{AreFree, point_box, square_about};
+ghost use Rattle.mill_drop.specs.Spindles.{IsSpindle};
+
+use crate::search::Spindle;
+use mill_base::{Box2, Cutter};
+use mill_cells::Cells;
+use mill_part::Part;
+
+/// The square about the place in which a cutter over it is.
+pub fn square_around(cutter: Cutter, x: i32, y: i32) -> Box2
+    requires cutter_ok { IsCutter cutter }
+    requires x_ok { Within greatest x }
+    requires y_ok { Within greatest y }
+    ensures { result ≡ square_about cutter x y }
+{
+    let radius = cutter.radius();
+    Box2 {
+        x0: x - radius,
+        y0: y - radius,
+        x1: x + radius,
+        y1: y + radius,
+    }
+}
+
+/// The area that is the one place (x, y).
+fn only(x: i32, y: i32) -> Box2
+    ensures { result ≡ point_box x y }
+{
+    Box2 {
+        x0: x,
+        y0: y,
+        x1: x,
+        y1: y,
+    }
+}
+
+/// The least height, from `from` on, at which those of the part's triangles are free whose boxes meet
+/// the area. Those that aren't over the height so far are passed over, and so are whole cells of them.
+pub fn raised_near(part: &Part, cells: &Cells, spindle: Spindle, area: Box2, from: i32) -> i32
+    requires cells_ok { cells.now ≡ sorted_of part.now }
+    requires spindle_ok { IsSpindle spindle }
+    requires from_ok { Within greatest from }
+    ensures raised { IsRaised spindle.cutter part.now spindle.x spindle.y from result }
+    ensures free { AreFree spindle.cutter part.now area spindle.x spindle.y result }
+    ensures bound { Within greatest result }
+{
+    let tris = part.tris();
+    let mut height = from;
+    let mut near = cells.near_over(area);
+    while let Some(number) = near.next_over(height) {
+        height = spindle.raised(&tris[number as usize], height);
+    }
+    height
+}
+
+/// A height, from `from` on, that the drop height isn't under: few triangles are looked at for it, and
+/// most of all others are then passed by their heights.
+///
+/// They are those at the place itself, and for a flat cutter those at two points of its edge, since
+/// the highest part point under it is often near there.
+pub fn start_height(part: &Part, cells: &Cells, spindle: Spindle, from: i32) -> i32
+    requires cells_ok { cells.now ≡ sorted_of part.now }
+    requires spindle_ok { IsSpindle spindle }
+    requires from_ok { Within greatest from }
+    ensures raised { IsRaised spindle.cutter part.now spindle.x spindle.y from result }
+    ensures bound { Within greatest result }
+{
+    let area = only(spindle.x, spindle.y);
+    let height = raised_near(part, cells, spindle, area, from);
+    match spindle.cutter {
+        Cutter::Flat { .. } => edge_height(part, cells, spindle, height),
+        Cutter::Ball { .. } => height,
+        Cutter::Cone { .. } => height,
+    }
+}
+
+/// The least height, from `from` on, at which the triangles at the edge's ends along x are free.
+fn edge_height(part: &Part, cells: &Cells, spindle: Spindle, from: i32) -> i32
+    requires cells_ok { cells.now ≡ sorted_of part.now }
+    requires spindle_ok { IsSpindle spindle }
+    requires from_ok { Within greatest from }
+    ensures raised { IsRaised spindle.cutter part.now spindle.x spindle.y from result }
+    ensures bound { Within greatest result }
+{
+    let Spindle { cutter, x, y } = spindle;
+    let Box2 { x0, x1, .. } = square_around(cutter, x, y);
+    let height = raised_near(part, cells, spindle, only(x0, y), from);
+    raised_near(part, cells, spindle, only(x1, y), height)
+}
