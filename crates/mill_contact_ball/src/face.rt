@@ -11,12 +11,13 @@ use mill_geom::Offset;
 
 /// Whether a plane is nearer to the origin than the radius, from the dot product of its normal with
 /// one of its points, and of the normal with itself.
-fn is_plane_near(height: i128, size: i128, radius: i64) -> bool
+fn is_plane_near(height: i64, size: i128, radius: i64) -> bool
     requires height_ok { Within (2 ^ 62) height }
     requires size_ok { Within (2 ^ 84) size }
     requires r_ok { Within 16384 radius }
     ensures { IsTrue result ↔ ((height *ℤ height) <ℤ ((radius *ℤ radius) *ℤ size)) }
 {
+    let height = height as i128;
     let radius = radius as i128;
     height * height < radius * radius * size
 }

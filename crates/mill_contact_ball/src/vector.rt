@@ -64,11 +64,11 @@ pub fn dot(v: Vector, w: Vector) -> i128
 }
 
 /// The dot product of a vector and an offset.
-pub fn height(v: Vector, p: Offset) -> i128
+pub fn height(v: Vector, p: Offset) -> i64
     requires v_ok { VectorWithin (2 ^ 41) v }
     requires p_ok { OffsetInRange p }
     ensures value { result ≡ height_of v p }
     ensures bound { Within (2 ^ 62) result }
 {
-    v.x as i128 * p.x as i128 + v.y as i128 * p.y as i128 + v.z as i128 * p.z as i128
+    v.x * p.x + v.y * p.y + v.z * p.z
 }

@@ -11,7 +11,7 @@ use Rattle.mill_contact_ball.proofs.face.foot.Goals as goal
 pub returns-then-not-is_plane_near-clause-none : goal.returns-then-not-is_plane_near-clause-none
 returns-then-not-is_plane_near-clause-none c = λ h.
     let kr = kept w64 c.args.radius 16384 c.requires.r_ok.within refl in
-    let kd = kept w128 c.height-height.result (2 ^ 62) c.height-height.ensures.bound.within refl in
+    let kd = kept w64 c.height-height.result (2 ^ 62) c.height-height.ensures.bound.within refl in
     let kf = kept w128 c.dot-size.result (2 ^ 84) c.dot-size.ensures.bound.within refl in
     let near = rw (kr, kd, kf) at c.is_plane_near.ensures in
     not_near c.args.radius c.args.a c.args.b c.args.c c.cross-bc.result c.cross-ca.result c.cross-ab.result c.sum-normal.result c.height-height.result c.dot-size.result
@@ -42,7 +42,7 @@ returns-then-w-lt0-clause-none c = λ h.
 pub returns-clause-found : goal.returns-clause-found
 returns-clause-found c =
     let kr = kept w64 c.args.radius 16384 c.requires.r_ok.within refl in
-    let kd = kept w128 c.height-height.result (2 ^ 62) c.height-height.ensures.bound.within refl in
+    let kd = kept w64 c.height-height.result (2 ^ 62) c.height-height.ensures.bound.within refl in
     let kf = kept w128 c.dot-size.result (2 ^ 84) c.dot-size.ensures.bound.within refl in
     let ku = kept w128 c.dot-u.result (2 ^ 84) c.dot-u.ensures.bound.within refl in
     let kv = kept w128 c.dot-v.result (2 ^ 84) c.dot-v.ensures.bound.within refl in

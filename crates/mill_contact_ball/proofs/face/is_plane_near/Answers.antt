@@ -10,5 +10,5 @@ overflow_mul-result-3 c =
 
 pub returns : goal.returns
 returns c =
-    less (c.args.height ∷ c.args.size ∷ c.args.radius ∷ []) (2 ^ 62 ∷ 2 ^ 84 ∷ 16384 ∷ []) (Prod w128 (Read w128 0) (Read w128 0)) (Prod w128 (Prod w128 (Cast w128 (Read w64 2)) (Cast w128 (Read w64 2))) (Read w128 1))
+    less (c.args.height ∷ c.args.size ∷ c.args.radius ∷ []) (2 ^ 62 ∷ 2 ^ 84 ∷ 16384 ∷ []) (Prod w128 (Cast w128 (Read w64 0)) (Cast w128 (Read w64 0))) (Prod w128 (Prod w128 (Cast w128 (Read w64 2)) (Cast w128 (Read w64 2))) (Read w128 1))
     (c.requires.height_ok.within, (c.requires.size_ok.within, (c.requires.r_ok.within, tt))) refl

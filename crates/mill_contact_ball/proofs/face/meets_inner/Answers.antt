@@ -11,7 +11,7 @@ use Rattle.mill_contact_ball.proofs.face.meets_inner.Goals as goal
 pub returns-then-size-gt0-clause-no : goal.returns-then-size-gt0-clause-no
 returns-then-size-gt0-clause-no c = λ h.
     let kr = kept w64 c.args.radius 16384 c.requires.r_ok.within refl in
-    let kd = kept w128 c.height-height.result (2 ^ 62) c.height-height.ensures.bound.within refl in
+    let kd = kept w64 c.height-height.result (2 ^ 62) c.height-height.ensures.bound.within refl in
     let kf = kept w128 c.dot-size.result (2 ^ 84) c.dot-size.ensures.bound.within refl in
     let near = rw (kr, kd, kf) at c.is_plane_near.ensures in
     let test = rw kf at c.if-size-gt0.true in
@@ -26,7 +26,7 @@ returns-then-not-is_plane_near-clause-yes c = let r = kept w64 c.args.radius 163
 pub returns-then-not-is_plane_near-clause-no : goal.returns-then-not-is_plane_near-clause-no
 returns-then-not-is_plane_near-clause-no c = λ h.
     let kr = kept w64 c.args.radius 16384 c.requires.r_ok.within refl in
-    let kd = kept w128 c.height-height.result (2 ^ 62) c.height-height.ensures.bound.within refl in
+    let kd = kept w64 c.height-height.result (2 ^ 62) c.height-height.ensures.bound.within refl in
     let kf = kept w128 c.dot-size.result (2 ^ 84) c.dot-size.ensures.bound.within refl in
     let near = rw (kr, kd, kf) at c.is_plane_near.ensures in
     not_near c.args.radius c.args.a c.args.b c.args.c c.cross-bc.result c.cross-ca.result c.cross-ab.result c.sum-across.result c.height-height.result c.dot-size.result
@@ -36,7 +36,7 @@ returns-then-not-is_plane_near-clause-no c = λ h.
 pub returns-then-is_foot_inside-clause-yes : goal.returns-then-is_foot_inside-clause-yes
 returns-then-is_foot_inside-clause-yes c = λ h.
     let kr = kept w64 c.args.radius 16384 c.requires.r_ok.within refl in
-    let kd = kept w128 c.height-height.result (2 ^ 62) c.height-height.ensures.bound.within refl in
+    let kd = kept w64 c.height-height.result (2 ^ 62) c.height-height.ensures.bound.within refl in
     let kf = kept w128 c.dot-size.result (2 ^ 84) c.dot-size.ensures.bound.within refl in
     let near = (rw (kr, kd, kf) at c.is_plane_near.ensures).0 c.if-not-is_plane_near.false in
     foot_met c.args.radius c.args.a c.args.b c.args.c c.cross-bc.result c.cross-ca.result c.cross-ab.result c.sum-across.result c.height-height.result c.dot-size.result

@@ -1,16 +1,12 @@
 use Rattle.std.proofs.Common.{ℕ, ◌^◌, List, [], ◌∷◌, refl, w64}
-use mir.Syntax.{w128}
 use lib.IntN.{ℤ}
 use Rattle.mill_contact_ball.specs.declared.vector.Vector.{Vector}
 use Rattle.mill_contact_ball.specs.Vectors.{VectorWithin}
 use Rattle.mill_geom.specs.Offsets.{OffsetInRange}
 use Rattle.mill_geom.specs.declared.offset.Offset.{Offset}
 use Rattle.mill_base.proofs.Range.{Bounded}
-use Rattle.mill_base.proofs.Machine.{X, Read, Cast, Sum, Prod, exact, sum_fits, stays}
+use Rattle.mill_base.proofs.Machine.{X, Read, Sum, Prod, exact, sum_fits, stays}
 use Rattle.mill_contact_ball.proofs.vector.height.Goals as goal
-
-abbrev wide : ℕ → X
-wide i = Cast w128 (Read w64 i)
 
 abbrev bs : List ℕ
 bs = 2 ^ 41 ∷ 524288 ∷ 2 ^ 41 ∷ 524288 ∷ 2 ^ 41 ∷ 524288 ∷ []
@@ -22,22 +18,22 @@ in_range : (v : Vector) (p : Offset) → VectorWithin (2 ^ 41) v → OffsetInRan
 in_range v p hv hp = (hv.x_ok.within, (hp.x_ok.within, (hv.y_ok.within, (hp.y_ok.within, (hv.z_ok.within, (hp.z_ok.within, tt))))))
 
 abbrev xx : X
-xx = Prod w128 (wide 0) (wide 1)
+xx = Prod w64 (Read w64 0) (Read w64 1)
 
 abbrev yy : X
-yy = Prod w128 (wide 2) (wide 3)
+yy = Prod w64 (Read w64 2) (Read w64 3)
 
 abbrev zz : X
-zz = Prod w128 (wide 4) (wide 5)
+zz = Prod w64 (Read w64 4) (Read w64 5)
 
 pub overflow_add-result : goal.overflow_add-result
-overflow_add-result c = sum_fits w128 (ρ c.args.v c.args.p) bs xx yy (in_range _ _ c.requires.v_ok c.requires.p_ok) refl
+overflow_add-result c = sum_fits w64 (ρ c.args.v c.args.p) bs xx yy (in_range _ _ c.requires.v_ok c.requires.p_ok) refl
 
 pub overflow_add-result-2 : goal.overflow_add-result-2
-overflow_add-result-2 c = sum_fits w128 (ρ c.args.v c.args.p) bs (Sum w128 xx yy) zz (in_range _ _ c.requires.v_ok c.requires.p_ok) refl
+overflow_add-result-2 c = sum_fits w64 (ρ c.args.v c.args.p) bs (Sum w64 xx yy) zz (in_range _ _ c.requires.v_ok c.requires.p_ok) refl
 
 pub returns-clause-value : goal.returns-clause-value
-returns-clause-value c = exact (ρ c.args.v c.args.p) bs (Sum w128 (Sum w128 xx yy) zz) (in_range _ _ c.requires.v_ok c.requires.p_ok) refl
+returns-clause-value c = exact (ρ c.args.v c.args.p) bs (Sum w64 (Sum w64 xx yy) zz) (in_range _ _ c.requires.v_ok c.requires.p_ok) refl
 
 pub returns-clause-bound : goal.returns-clause-bound
-returns-clause-bound c = record { within = stays (ρ c.args.v c.args.p) bs (Sum w128 (Sum w128 xx yy) zz) (2 ^ 62) (in_range _ _ c.requires.v_ok c.requires.p_ok) refl }
+returns-clause-bound c = record { within = stays (ρ c.args.v c.args.p) bs (Sum w64 (Sum w64 xx yy) zz) (2 ^ 62) (in_range _ _ c.requires.v_ok c.requires.p_ok) refl }
