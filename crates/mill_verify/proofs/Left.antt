@@ -148,7 +148,6 @@ both_told job part moves s m e (Err uncut) right told first second l r is =
   where
     within : uncut.row < m → uncut.row < e
     within h = omega (h, second, arith)
-
 both_told job part moves s m e (Ok most) (Err uncut) told first second l r is =
     subst (AreTold job part moves s e) (sym is) (record {
       start = after r.start;
@@ -159,7 +158,6 @@ both_told job part moves s m e (Ok most) (Err uncut) told first second l r is =
   where
     after : m ≤ uncut.row → s ≤ uncut.row
     after h = omega (h, first, arith)
-
 both_told job part moves s m e (Ok most) (Ok other) told first second l r is = subst (AreTold job part moves s e) (sym is) (rows_left_both s m e most other first second l r)
 
 -- what is said of all rows is said of the stock

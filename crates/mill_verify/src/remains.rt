@@ -73,14 +73,14 @@ fn rows_left<R: Threads + Sync>(
         result
         (AreRowsLeft job.now part.now moves.now start end)
         (λ uncut. IsFirstUncutOf
-            job.now
-            part.now
-            moves.now
-            start
-            end
-            uncut.row
-            uncut.col
-            uncut.top) }
+        job.now
+        part.now
+        moves.now
+        start
+        end
+        uncut.row
+        uncut.col
+        uncut.top) }
 {
     if workers <= 1 || end - start <= 1 {
         return scan_rows(job, part, cells, moves, rows, start, end);
@@ -102,14 +102,14 @@ fn rows_left<R: Threads + Sync>(
                 result
                 (AreRowsLeft job.entry.now part.entry.now moves.entry.now start middle)
                 (λ uncut. IsFirstUncutOf
-                    job.entry.now
-                    part.entry.now
-                    moves.entry.now
-                    start
-                    middle
-                    uncut.row
-                    uncut.col
-                    uncut.top) }
+                job.entry.now
+                part.entry.now
+                moves.entry.now
+                start
+                middle
+                uncut.row
+                uncut.col
+                uncut.top) }
         {
             rows_left(
                 rt,
@@ -135,14 +135,14 @@ fn rows_left<R: Threads + Sync>(
                 result
                 (AreRowsLeft job.entry.now part.entry.now moves.entry.now middle end)
                 (λ uncut. IsFirstUncutOf
-                    job.entry.now
-                    part.entry.now
-                    moves.entry.now
-                    middle
-                    end
-                    uncut.row
-                    uncut.col
-                    uncut.top) }
+                job.entry.now
+                part.entry.now
+                moves.entry.now
+                middle
+                end
+                uncut.row
+                uncut.col
+                uncut.top) }
         {
             rows_left(
                 rt,
@@ -201,14 +201,14 @@ fn scan_rows(
         result
         (AreRowsLeft job.now part.now moves.now start end)
         (λ uncut. IsFirstUncutOf
-            job.now
-            part.now
-            moves.now
-            start
-            end
-            uncut.row
-            uncut.col
-            uncut.top) }
+        job.now
+        part.now
+        moves.now
+        start
+        end
+        uncut.row
+        uncut.col
+        uncut.top) }
 {
     let mut most = 0;
     for index in start..end {

@@ -413,8 +413,9 @@ fn names_the_first_move_of_all_stripes(rt: HostRuntime) {
         (62, 130, gouge),
         (150, 150, accept),
     ] {
-        let moves = downs_and_ups(alloc, first, second)
-            .unwrap_or_else(|_| panic!(rt; "want of memory"));
+        let moves = downs_and_ups(alloc, first, second).unwrap_or_else(|_| panic!(rt;
+            "want of memory"
+        ));
         for workers in [1, 2, 3, 4, 64] {
             assert_eq!(rt;
                 verify(&rt, alloc, &job, &part, &moves, workers),
