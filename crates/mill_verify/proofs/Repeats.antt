@@ -1,6 +1,7 @@
 -- A program that goes down from one place and up to it again, time after time.
-use Rattle.std.specs.Prelude.{◌≡◌, ℕ, ◌+◌, ◌*◌, ◌<◌, pos, List, [], ◌∷◌, ◌++◌, Contains, length, refl}
+use Rattle.std.specs.Prelude.{◌≡◌, ℕ, ◌+◌, ◌*◌, ◌<◌, pos, List, [], ◌∷◌, ◌++◌, length, refl}
 use Rattle.std.proofs.Common.{sym, ◌∙◌, ap, subst, inl, inr, arith}
+use Rattle.std.proofs.lemmas.Int.{ints}
 use Rattle.std.proofs.lemmas.List.{append_assoc, length_push, append-nil}
 use Rattle.std.proofs.lemmas.List.Elements.{Contains-push_cases}
 use Rattle.mill_base.specs.Points.{point_at}
@@ -8,6 +9,7 @@ use Rattle.mill_base.specs.Motion.{Follow}
 use Rattle.mill_base.specs.Ranges.{IsInRange, MoveInRange, MovesInRange}
 use Rattle.mill_base.specs.declared.points.Pt3.{Pt3}
 use Rattle.mill_base.specs.declared.motion.Move.{Move}
+use Rattle.mill_base.specs.declared.motion.Kind.TheVariants.{Feed}
 
 abbrev pub start : Pt3
 start = point_at (pos 100) (pos 100) (pos 400)
@@ -27,18 +29,27 @@ turns_none e = subst (AreTurns 0) (sym e) (record { count = refl; range = λ m m
 in_range_push : (moves : List Move) (m : Move) → MovesInRange moves → MoveInRange m → MovesInRange (moves ++ m ∷ [])
 in_range_push moves m before here x member = elim (Contains-push_cases moves m x member) [ inl old ↦ before x old | inr new ↦ subst MoveInRange new here ]
 
--- one more turn: down, and up again
-pub turns_more : {n : ℕ} {moves halfway after : List Move} (down up : Move) → MoveInRange down → MoveInRange up → down.from ≡ start → up.from ≡ down.to → up.to ≡ start
-    → halfway ≡ moves ++ down ∷ [] → after ≡ halfway ++ up ∷ [] → AreTurns n moves → AreTurns (n + 1) after
-turns_more {n} {moves} {halfway} {after} down up down_ok up_ok from meet to first second before =
-    subst (AreTurns (n + 1)) (sym (second ∙ ap (λ (ms : List Move). ms ++ up ∷ []) first)) (record {
-      count = omega (length_push (moves ++ down ∷ []) up, length_push moves down, before.count, arith);
-      range = in_range_push (moves ++ down ∷ []) up (in_range_push moves down before.range down_ok) up_ok;
-      follow = λ rest h. subst (Follow start) (sym (joined rest)) (before.follow (down ∷ up ∷ rest) (from, (meet, subst (λ (p : Pt3). Follow p rest) (sym to) h)));
+start_ok : IsInRange start
+start_ok = record { x_ok = record { within = omega (arith, ints) }; y_ok = record { within = omega (arith, ints) }; z_ok = record { within = omega (arith, ints) } }
+
+-- down from the start to a point, and up again
+abbrev pub down_to : Pt3 → Move
+down_to low = record { kind = Feed; from = start; to = low }
+
+abbrev pub up_from : Pt3 → Move
+up_from low = record { kind = Feed; from = low; to = start }
+
+-- one more turn
+pub turns_more : {n : ℕ} {moves halfway after : List Move} (low : Pt3) → IsInRange low → halfway ≡ moves ++ down_to low ∷ [] → after ≡ halfway ++ up_from low ∷ [] → AreTurns n moves → AreTurns (n + 1) after
+turns_more {n} {moves} {halfway} {after} low low_ok first second before =
+    subst (AreTurns (n + 1)) (sym (second ∙ ap (λ (ms : List Move). ms ++ up_from low ∷ []) first)) (record {
+      count = omega (length_push (moves ++ down_to low ∷ []) (up_from low), length_push moves (down_to low), before.count, arith);
+      range = in_range_push (moves ++ down_to low ∷ []) (up_from low) (in_range_push moves (down_to low) before.range (record { from_ok = start_ok; to_ok = low_ok })) (record { from_ok = low_ok; to_ok = start_ok });
+      follow = λ rest h. subst (Follow start) (sym (joined rest)) (before.follow (down_to low ∷ up_from low ∷ rest) (refl, (refl, h)));
     })
   where
-    joined : (rest : List Move) → (moves ++ down ∷ []) ++ up ∷ [] ++ rest ≡ moves ++ (down ∷ up ∷ rest)
-    joined rest = ap (λ (ms : List Move). ms ++ rest) (append_assoc moves (down ∷ []) (up ∷ [])) ∙ append_assoc moves (down ∷ up ∷ []) rest
+    joined : (rest : List Move) → (moves ++ down_to low ∷ []) ++ up_from low ∷ [] ++ rest ≡ moves ++ (down_to low ∷ up_from low ∷ rest)
+    joined rest = ap (λ (ms : List Move). ms ++ rest) (append_assoc moves (down_to low ∷ []) (up_from low ∷ [])) ∙ append_assoc moves (down_to low ∷ up_from low ∷ []) rest
 
 pub turns_follow : {n : ℕ} {moves : List Move} → AreTurns n moves → Follow start moves
 turns_follow {n} {moves} h = subst (Follow start) (append-nil moves) (h.follow [] tt)
