@@ -19,10 +19,6 @@ use Rattle.mill_dexel.specs.declared.sample.Placed.{Placed}
 use Rattle.mill_dexel.specs.Samples.{placed, is_split, split_of, centre_of, is_whole, raised_over, sample_at}
 use Rattle.mill_dexel.proofs.InnerCerts.{mean_low, mean_high, nearest_low, nearest_high}
 
--- a move has at most 2^19 parts
-pub parts_small : (d : ℕ) → d ≤ 19 → 2 ^ d ≤ 524288
-parts_small d h = pow-le-pow_right {n = 2} (omega arith) {i = d} {j = 19} h
-
 -- the least number that passes a test: this one, or one from the next on
 found : (test : ℕ → Bool) (more start : ℕ) → test start ≡ true → least_from test (suc more) start ≡ start
 found test more start passes = by (test start) passes
@@ -72,16 +68,6 @@ split_last sample m length d least el short e so_far =
     long : (s : ℕ) → 1 ≤ s → nat_le (length_x m + length_y m) (s * 524288) ≡ true
     long s h = let small : length ≤ 524288 = short in within_is (length_x m + length_y m) (s * 524288) (omega arith)
 
--- an end is within as many times the bound as there are parts
-pub end_within : (f t : ℤ) (d k : ℕ) → nat_abs f ≤ greatest → nat_abs t ≤ greatest → k ≤ 2 ^ d → nat_abs (end_of f t d k) ≤ 2 ^ d * greatest
-end_within f t d k hf ht hk =
-    by (end_of f t d k) (2 ^ d)
-    (mean_high (pos (2 ^ d)) (pos k) f t (pos greatest) (omega (arith, ints)) (omega (arith, ints)) (omega (arith, ints)) (omega (arith, ints)))
-    (mean_low (pos (2 ^ d)) (pos k) f t (neg_ℤ (pos greatest)) (omega (arith, ints)) (omega (arith, ints)) (omega (arith, ints)) (omega (arith, ints)))
-  where
-    by : (e : ℤ) (n : ℕ) → e ≤ℤ (pos n *ℤ pos greatest) → (pos n *ℤ neg_ℤ (pos greatest)) ≤ℤ e → nat_abs e ≤ n * greatest
-    by e n p q = omega (arith, ints)
-
 -- a bounded number's quotient is within the bound
 quotient_within : (z : ℤ) (n g : ℕ) → 0 < n → nat_abs z ≤ n * g → nat_abs (floor_div z n) ≤ g
 quotient_within (pos a) n g h l = div-le_of_le-mul n l
@@ -94,29 +80,6 @@ quotient_within (negsuc a) n g h l = less ((div-lt_iff_lt-mul {k = n} {x = a} {y
 shift_is : (z : ℤ) (n : ℕ) → shr_z z n ≡ floor_div z n
 shift_is (pos a) n = refl
 shift_is (negsuc a) n = refl
-
--- the nearest whole number, as the code computes it
-pub nearest_is : (end : ℤ) (d parts : ℕ) → Within (2 ^ 37) end → d ≤ 19 → parts ≡ 2 ^ d
-    → shr_z (stored w64 (stored w64 (pos 2 *ℤ stored w64 end) +ℤ to_z w64 parts)) (2 ^ (d + 1)) ≡ round_half_up end (2 ^ d)
-nearest_is end d parts fits less e =
-    shift_is _ (2 ^ (d + 1))
-    ∙ ap (λ t. floor_div t (2 ^ (d + 1))) doubled
-    ∙ ap (λ (n : ℕ). floor_div (pos 2 *ℤ end +ℤ pos (2 ^ d)) n) twice
-  where
-    small : parts ≤ 524288
-    small = subst (λ n. n ≤ 524288) (sym e) (parts_small d less)
-
-    twice : 2 ^ (d + 1) ≡ 2 * 2 ^ d
-    twice = let more = pow_more 2 d in omega arith
-
-    doubled : stored w64 (stored w64 (pos 2 *ℤ stored w64 end) +ℤ to_z w64 parts) ≡ pos 2 *ℤ end +ℤ pos (2 ^ d)
-    doubled =
-        ap (λ t. stored w64 (stored w64 (pos 2 *ℤ stored w64 end) +ℤ t)) (to_z_pos w64 parts (let most = small in omega arith) ∙ sym (kept w64 (pos parts) 524288 small refl))
-        ∙ exact (end ∷ pos parts ∷ []) (2 ^ 37 ∷ 524288 ∷ []) (Sum w64 (Prod w64 (Lit (pos 2)) (Read w64 0)) (Read w64 1)) (fits.within, (small, tt)) refl
-        ∙ ap (λ (n : ℕ). pos 2 *ℤ end +ℤ pos n) e
-
-pub nearest_within : (end : ℤ) (d : ℕ) → nat_abs end ≤ 2 ^ d * greatest → nat_abs (round_half_up end (2 ^ d)) ≤ greatest
-nearest_within end d within = half_within end (2 ^ d) greatest (pow_pos d) within
 
 -- the quotient that is rounded up, as the code computes it
 pub up_is : (end : ℤ) (d : ℕ) → Within (2 ^ 37) end → shr_z (stored w64 (pos 0 -ℤ stored w64 end)) (2 ^ d) ≡ floor_div (neg_ℤ end) (2 ^ d)

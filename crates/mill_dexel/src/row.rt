@@ -12,7 +12,7 @@ use crate::fail::RowFail;
 use crate::reach::reach_of;
 use mill_base::{Kind, Move, Pt3, Tri, WantOfMemory};
 use mill_job::Job;
-use mill_sweep::{Leaf, first_block_point, passes_tri};
+use mill_sweep::{Leaf, Sweep, passes_tri};
 use std::alloc::Global;
 use std::marker::Model;
 
@@ -85,9 +85,10 @@ impl Row {
             return None;
         }
         let reach = reach_of(job, step.from, step.to);
+        let sweep = Sweep::new(job.cutter, step);
         for column in reach.first..reach.end {
             let top = self.top_point(job, column);
-            if let Some(leaf) = first_block_point(job.cutter, step, top) {
+            if let Some(leaf) = sweep.first_block_point(top) {
                 return Some((column, leaf));
             }
         }

@@ -7,6 +7,7 @@ ghost use Rattle.mill_dexel.specs.Samples.{split_of, centre_of, is_whole as is_w
 ghost use Rattle.mill_dexel.specs.Cuts.{IsSample, IsNarrowed};
 
 use mill_base::{Cutter, Move, Pt3, power_of_two};
+use mill_sweep::{end_at, nearest};
 
 /// A cutter with its tip at a whole point.
 #[derive(Clone, Copy)]
@@ -170,30 +171,6 @@ fn height_at(from: i32, to: i32, d: u32, k: u64) -> i32
     rounded_up(end_at(from, to, d, k), d)
 }
 
-/// One coordinate of the tip at k/2^d, times 2^d.
-fn end_at(from: i32, to: i32, d: u32, k: u64) -> i64
-    requires from_ok { Within greatest from }
-    requires to_ok { Within greatest to }
-    requires d_ok { d ≤ 19 }
-    requires k_ok { k ≤ 2 ^ d }
-    ensures value { result ≡ end_of from to d k }
-    ensures bound { Within (2 ^ 37) result }
-    ensures within { nat_abs result ≤ 2 ^ d * greatest }
-{
-    weighed(power_of_two(d) - k, from) + weighed(k, to)
-}
-
-/// The whole number that is nearest to an end over 2^d, halves up.
-fn nearest(end: i64, d: u32) -> i32
-    requires end_ok { Within (2 ^ 37) end }
-    requires end_within { nat_abs end ≤ 2 ^ d * greatest }
-    requires d_ok { d ≤ 19 }
-    ensures value { result ≡ round_half_up end (2 ^ d) }
-    ensures bound { Within greatest result }
-{
-    ((2 * end + power_of_two(d) as i64) >> (d + 1)) as i32
-}
-
 /// An end over 2^d, rounded up.
 fn rounded_up(end: i64, d: u32) -> i32
     requires end_ok { Within (2 ^ 37) end }
@@ -211,14 +188,4 @@ fn is_whole(end: i64, d: u32) -> bool
     ensures { result ≡ divides (2 ^ d) end }
 {
     end.unsigned_abs() & (power_of_two(d) - 1) == 0
-}
-
-/// The place times its weight.
-fn weighed(weight: u64, place: i32) -> i64
-    requires weight_ok { weight ≤ 2 ^ 19 }
-    requires place_ok { Within greatest place }
-    ensures value { result ≡ pos weight *ℤ place }
-    ensures bound { Within (2 ^ 36) result }
-{
-    weight as i64 * i64::from(place)
 }

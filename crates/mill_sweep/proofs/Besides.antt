@@ -1,4 +1,4 @@
--- A leaf passes a triangle that lies far beside it, at whatever depth the leaf stands.
+-- A leaf passes a triangle that lies far beside it along one axis, at whatever depth the leaf stands.
 use Rattle.std.specs.Prelude.{ℕ, ◌+◌, ◌*◌, ◌^◌, ◌<◌, ◌≤◌, ◌⊎◌, ℤ, pos, ◌+ℤ◌, ◌-ℤ◌, ◌*ℤ◌, ◌≤ℤ◌}
 use Rattle.std.proofs.Common.{◌≡◌, inl, inr, arith}
 use Rattle.std.proofs.Math.Nat.{mul-le-mul}
@@ -10,12 +10,12 @@ use Rattle.mill_base.specs.declared.points.Tri.{Tri}
 use Rattle.mill_base.specs.declared.motion.Move.{Move}
 use Rattle.mill_base.specs.declared.cutter.Cutter.{Cutter}
 use Rattle.mill_shape.proofs.RootLemmas.{ceil_root_is}
-use Rattle.mill_sweep.specs.Leaves.{depth_of, end_of, middle_of, farther_of, diagonal_of, reach_of}
+use Rattle.mill_sweep.specs.Leaves.{depth_of, end_of, middle_of, farther_of, diagonal_of}
 use Rattle.mill_sweep.specs.Halving.{LeafPasses}
 use Rattle.mill_sweep.specs.Apart.{LieApart}
-use Rattle.mill_sweep.proofs.Far.{IsBeside, middle_under, middle_over, far_leaf}
+use Rattle.mill_sweep.proofs.Far.{middle_under, middle_over, far_leaf}
 use Rattle.mill_sweep.proofs.LeafCerts.{half_least, half_most, joint_least, joint_most, end_of_half_least, end_of_half_most, end_near_least, end_near_most}
-use Rattle.mill_sweep.proofs.Spans.{parts_twice, ends_near, farther_within}
+use Rattle.mill_sweep.proofs.Spans.{parts_twice, ends_near}
 
 -- both ends of a leaf along one axis lie from low to high, over the parts
 record EndsFrom (low high f t : ℤ) (d k : ℕ) : Type 0 where
@@ -68,10 +68,10 @@ nearer r q x m a b c low high (inr under) = inr (record {
     down y h = omega (arith, ints)
 
 -- a side is at most the diagonal
-side_most : (ex ey : ℕ) → ex ≤ 262142 → ey ≤ 262142 → (ex ≤ diagonal_of ex ey) × (ey ≤ diagonal_of ex ey)
+pub side_most : (ex ey : ℕ) → ex ≤ 262144 → ey ≤ 262144 → (ex ≤ diagonal_of ex ey) × (ey ≤ diagonal_of ex ey)
 side_most ex ey hx hy =
-    let x : ex * ex ≤ 262142 * 262142 = mul-le-mul hx hx in
-    let y : ey * ey ≤ 262142 * 262142 = mul-le-mul hy hy in
+    let x : ex * ex ≤ 262144 * 262144 = mul-le-mul hx hx in
+    let y : ey * ey ≤ 262144 * 262144 = mul-le-mul hy hy in
     let reaches = (ceil_root_is (ex * ex + ey * ey) (omega arith)).reaches in
     (root ex (diagonal_of ex ey) (ey * ey) reaches (cases_lt (diagonal_of ex ey) ex), root ey (diagonal_of ex ey) (ex * ex) (omega arith) (cases_lt (diagonal_of ex ey) ey))
   where
@@ -79,36 +79,36 @@ side_most ex ey hx hy =
     root s r o h (inl less) = absurd (let up : (r + 1) * (r + 1) ≤ s * s = mul-le-mul (omega arith) (omega arith) in omega arith)
     root s r o h (inr more) = more
 
--- the ends of a leaf are at most its reach from its middle
-reached : (f t : ℤ) (d k q : ℕ) → farther_of f t d k ≤ q → EndsFrom (middle_of f t d k -ℤ pos q) (middle_of f t d k +ℤ pos q) f t d k
-reached f t d k q h =
+-- the ends of a leaf along one axis are at most the farther's distance from its middle
+reached : (f t : ℤ) (d k : ℕ) → EndsFrom (middle_of f t d k -ℤ pos (farther_of f t d k)) (middle_of f t d k +ℤ pos (farther_of f t d k)) f t d k
+reached f t d k =
     let near = ends_near f t d k in
     let n : (pos 0) ≤ℤ pos (2 ^ d) = omega (arith, ints) in
-    let e : pos (farther_of f t d k) ≤ℤ pos q = at_most (farther_of f t d k) q h in
+    let q = pos (farther_of f t d k) in
+    let e : q ≤ℤ q = omega (arith, ints) in
     record {
-      first_least = end_near_least (pos (2 ^ d)) (middle_of f t d k) (pos (farther_of f t d k)) (pos q) (end_of f t d k) n e near.first_below;
-      first_most = end_near_most (pos (2 ^ d)) (middle_of f t d k) (pos (farther_of f t d k)) (pos q) (end_of f t d k) n e near.first_above;
-      last_least = end_near_least (pos (2 ^ d)) (middle_of f t d k) (pos (farther_of f t d k)) (pos q) (end_of f t d (k + 1)) n e near.last_below;
-      last_most = end_near_most (pos (2 ^ d)) (middle_of f t d k) (pos (farther_of f t d k)) (pos q) (end_of f t d (k + 1)) n e near.last_above;
+      first_least = end_near_least (pos (2 ^ d)) (middle_of f t d k) q q (end_of f t d k) n e near.first_below;
+      first_most = end_near_most (pos (2 ^ d)) (middle_of f t d k) q q (end_of f t d k) n e near.first_above;
+      last_least = end_near_least (pos (2 ^ d)) (middle_of f t d k) q q (end_of f t d (k + 1)) n e near.last_below;
+      last_most = end_near_most (pos (2 ^ d)) (middle_of f t d k) q q (end_of f t d (k + 1)) n e near.last_above;
     }
-  where
-    at_most : (a b : ℕ) → a ≤ b → pos a ≤ℤ pos b
-    at_most a b h = omega (arith, ints)
 
-pub leaf_beside_passes : (cutter : Cutter) (move : Move) (tri : Tri) (more d k : ℕ) → IsCutter cutter → MoveInRange move → d + more ≡ depth_of move → k < 2 ^ d
-    → IsBeside ((radius_of cutter +ℤ pos 2) +ℤ pos (reach_of move d k)) move tri d k → LeafPasses cutter move tri more d k
-leaf_beside_passes cutter move tri more d k cutter_ok range deep inside far =
-    let ex = farther_of move.from.x move.to.x d k in
-    let ey = farther_of move.from.y move.to.y d k in
-    let sides = side_most ex ey (farther_within move.from.x move.to.x d k range.from_ok.x_ok.within range.to_ok.x_ok.within inside) (farther_within move.from.y move.to.y d k range.from_ok.y_ok.within range.to_ok.y_ok.within inside) in
-    let q = pos (reach_of move d k) in
-    let x = middle_of move.from.x move.to.x d k in
-    let y = middle_of move.from.y move.to.y d k in
-    elim far [
-      | inl h ↦ far_leaf cutter move tri (λ i j. EndsFrom (x -ℤ q) (x +ℤ q) move.from.x move.to.x i j) (left_ends (x -ℤ q) (x +ℤ q) move.from.x move.to.x) (right_ends (x -ℤ q) (x +ℤ q) move.from.x move.to.x)
-          (λ i j e. inl (nearer (radius_of cutter +ℤ pos 2) q x (middle_of move.from.x move.to.x i j) tri.a.x tri.b.x tri.c.x (middle_over move.from.x move.to.x (x -ℤ q) i j e.first_least e.last_least) (middle_under move.from.x move.to.x (x +ℤ q) i j e.first_most e.last_most) h))
-          cutter_ok range more d k deep (reached move.from.x move.to.x d k (reach_of move d k) sides.0)
-      | inr h ↦ far_leaf cutter move tri (λ i j. EndsFrom (y -ℤ q) (y +ℤ q) move.from.y move.to.y i j) (left_ends (y -ℤ q) (y +ℤ q) move.from.y move.to.y) (right_ends (y -ℤ q) (y +ℤ q) move.from.y move.to.y)
-          (λ i j e. inr (nearer (radius_of cutter +ℤ pos 2) q y (middle_of move.from.y move.to.y i j) tri.a.y tri.b.y tri.c.y (middle_over move.from.y move.to.y (y -ℤ q) i j e.first_least e.last_least) (middle_under move.from.y move.to.y (y +ℤ q) i j e.first_most e.last_most) h))
-          cutter_ok range more d k deep (reached move.from.y move.to.y d k (reach_of move d k) sides.1)
-    ]
+-- a leaf passes, where the triangle is at least the radius and 2 away from both its ends along one axis
+module _ (cutter : Cutter) (move : Move) (tri : Tri) (more d k : ℕ) (cutter_ok : IsCutter cutter) (range : MoveInRange move) (deep : d + more ≡ depth_of move) where
+  pub beside_x_passes : LieApart ((radius_of cutter +ℤ pos 2) +ℤ pos (farther_of move.from.x move.to.x d k)) (middle_of move.from.x move.to.x d k) (middle_of move.from.x move.to.x d k) tri.a.x tri.b.x tri.c.x
+      → LeafPasses cutter move tri more d k
+  beside_x_passes h =
+      let q = pos (farther_of move.from.x move.to.x d k) in
+      let x = middle_of move.from.x move.to.x d k in
+      far_leaf cutter move tri (λ i j. EndsFrom (x -ℤ q) (x +ℤ q) move.from.x move.to.x i j) (left_ends (x -ℤ q) (x +ℤ q) move.from.x move.to.x) (right_ends (x -ℤ q) (x +ℤ q) move.from.x move.to.x)
+      (λ i j e. inl (nearer (radius_of cutter +ℤ pos 2) q x (middle_of move.from.x move.to.x i j) tri.a.x tri.b.x tri.c.x (middle_over move.from.x move.to.x (x -ℤ q) i j e.first_least e.last_least) (middle_under move.from.x move.to.x (x +ℤ q) i j e.first_most e.last_most) h))
+      cutter_ok range more d k deep (reached move.from.x move.to.x d k)
+
+  pub beside_y_passes : LieApart ((radius_of cutter +ℤ pos 2) +ℤ pos (farther_of move.from.y move.to.y d k)) (middle_of move.from.y move.to.y d k) (middle_of move.from.y move.to.y d k) tri.a.y tri.b.y tri.c.y
+      → LeafPasses cutter move tri more d k
+  beside_y_passes h =
+      let q = pos (farther_of move.from.y move.to.y d k) in
+      let y = middle_of move.from.y move.to.y d k in
+      far_leaf cutter move tri (λ i j. EndsFrom (y -ℤ q) (y +ℤ q) move.from.y move.to.y i j) (left_ends (y -ℤ q) (y +ℤ q) move.from.y move.to.y) (right_ends (y -ℤ q) (y +ℤ q) move.from.y move.to.y)
+      (λ i j e. inr (nearer (radius_of cutter +ℤ pos 2) q y (middle_of move.from.y move.to.y i j) tri.a.y tri.b.y tri.c.y (middle_over move.from.y move.to.y (y -ℤ q) i j e.first_least e.last_least) (middle_under move.from.y move.to.y (y +ℤ q) i j e.first_most e.last_most) h))
+      cutter_ok range more d k deep (reached move.from.y move.to.y d k)

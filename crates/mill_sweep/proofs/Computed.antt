@@ -1,49 +1,77 @@
 -- What the code computes of a leaf, stored in its widths, is what the definitions say.
-use Rattle.std.specs.Prelude.{◌≡◌, ℕ, ◌+◌, ◌*◌, ◌^◌, ◌<◌, ◌≤◌, max, nat_abs, ℤ, pos, negsuc, ◌+ℤ◌, ◌-ℤ◌, ◌*ℤ◌}
+use Rattle.std.specs.Prelude.{◌≡◌, ℕ, ◌+◌, ◌-◌, ◌*◌, ◌/◌, ◌^◌, ◌<◌, ◌≤◌, max, nat_abs, ℤ, pos, negsuc, ◌+ℤ◌, ◌-ℤ◌, ◌*ℤ◌}
 use Rattle.std.specs.Int.{div_ceil, int_min}
-use Rattle.std.proofs.Common.{[], ◌∷◌, refl, ◌∙◌, arith, w32, w64}
-use Rattle.std.proofs.lemmas.Int.{ints}
+use Rattle.std.proofs.Common.{[], ◌∷◌, refl, sym, ap, subst, ◌∙◌, arith, to_z, w64}
+use Rattle.std.proofs.Math.Nat.{div-eq_of_lt-le}
+use Rattle.std.proofs.lemmas.Grind.{div_ceil_times}
+use Rattle.std.proofs.lemmas.Int.{to_z_pos}
 use Rattle.std.proofs.lemmas.Nat.{pow_pos}
 use lib.Signed.{shr_z}
-use mir.Syntax.{w128}
 use Rattle.mill_base.proofs.Divisions.{half_within}
-use Rattle.mill_base.proofs.Machine.{Read, Sum, exact, kept, stored}
-use Rattle.mill_base.specs.Numbers.{floor_div, round_half_up, Within, greatest}
-use Rattle.mill_sweep.specs.Leaves.{end_of, lower_of}
-use Rattle.mill_sweep.proofs.Spans.{sum_within, lesser_within, lower_within}
-
--- the mean of two ends
-pub mean_is : (first last wide m : ℤ) (d : ℕ) → Within (2 ^ 36) first → Within (2 ^ 36) last → nat_abs first ≤ 2 ^ d * greatest → nat_abs last ≤ 2 ^ d * greatest
-    → wide ≡ stored w64 (stored w64 first +ℤ stored w64 last) → m ≡ round_half_up (stored w128 wide) (2 ^ (d + 1))
-    → (m ≡ round_half_up (first +ℤ last) (2 ^ (d + 1))) × (nat_abs m ≤ greatest)
-mean_is first last wide m d hf hl f l e h =
-    let sum : wide ≡ first +ℤ last = e ∙ exact (first ∷ last ∷ []) (2 ^ 36 ∷ 2 ^ 36 ∷ []) (Sum w64 (Read w64 0) (Read w64 1)) (hf.within, (hl.within, tt)) refl in
-    let small : nat_abs wide ≤ 2 ^ 37 = rw sum (both first last hf.within hl.within) in
-    let mean : m ≡ round_half_up (first +ℤ last) (2 ^ (d + 1)) = h ∙ rw (kept w128 wide (2 ^ 37) small refl, sum) refl in
-    (mean, rw mean (half_within (first +ℤ last) (2 ^ (d + 1)) greatest (pow_pos (d + 1)) (sum_within first last d f l)))
-  where
-    both : (a b : ℤ) → nat_abs a ≤ 68719476736 → nat_abs b ≤ 68719476736 → nat_abs (a +ℤ b) ≤ 137438953472
-    both a b p q = omega (arith, ints)
-
--- how far the farther of two ends is from the middle
-pub farther_is : (first last middle : ℤ) (d parts a b m q : ℕ) → Within (2 ^ 36) first → Within (2 ^ 36) last → Within greatest middle → parts ≡ 2 ^ d
-    → a ≡ nat_abs (stored w64 first -ℤ pos parts *ℤ stored w32 middle) → b ≡ nat_abs (stored w64 last -ℤ pos parts *ℤ stored w32 middle) → m ≡ max a b → q ≡ div_ceil m parts
-    → q ≡ div_ceil (max (nat_abs (first -ℤ pos (2 ^ d) *ℤ middle)) (nat_abs (last -ℤ pos (2 ^ d) *ℤ middle))) (2 ^ d)
-farther_is first last middle d parts a b m q hf hl hm e ea eb em eq =
-    eq ∙ rw (em, ea, eb, e, kept w64 first (2 ^ 36) hf.within refl, kept w64 last (2 ^ 36) hl.within refl, kept w32 middle 131071 hm.within refl) refl
+use Rattle.mill_base.proofs.Machine.{Read, Lit, Sum, Prod, exact, kept, stored}
+use Rattle.mill_base.specs.Numbers.{floor_div, round_half_up, lesser, greatest}
+use Rattle.mill_sweep.proofs.Spans.{parts_twice, parts_most, end_small, far_within, max_most, quotient_within, lesser_within}
 
 -- a shift to the right is a quotient rounded down
 pub shift_is : (z : ℤ) (n : ℕ) → shr_z z n ≡ floor_div z n
 shift_is (pos a) n = refl
 shift_is (negsuc a) n = refl
 
+-- the nearest whole number to an end
+pub nearest_is : (end : ℤ) (d parts : ℕ) → nat_abs end ≤ 2 ^ d * greatest → d ≤ 19 → parts ≡ 2 ^ d
+    → shr_z (stored w64 (stored w64 (pos 2 *ℤ stored w64 end) +ℤ to_z w64 parts)) (2 ^ (d + 1)) ≡ round_half_up end (2 ^ d)
+nearest_is end d parts within less e =
+    shift_is _ (2 ^ (d + 1))
+    ∙ ap (λ t. floor_div t (2 ^ (d + 1))) doubled
+    ∙ ap (λ (n : ℕ). floor_div (pos 2 *ℤ end +ℤ pos (2 ^ d)) n) (parts_twice d)
+  where
+    small : parts ≤ 524288
+    small = subst (λ n. n ≤ 524288) (sym e) (parts_most d less)
+
+    doubled : stored w64 (stored w64 (pos 2 *ℤ stored w64 end) +ℤ to_z w64 parts) ≡ pos 2 *ℤ end +ℤ pos (2 ^ d)
+    doubled =
+        ap (λ t. stored w64 (stored w64 (pos 2 *ℤ stored w64 end) +ℤ t)) (to_z_pos w64 parts (let most = small in omega arith) ∙ sym (kept w64 (pos parts) 524288 small refl))
+        ∙ exact (end ∷ pos parts ∷ []) (2 ^ 36 ∷ 524288 ∷ []) (Sum w64 (Prod w64 (Lit (pos 2)) (Read w64 0)) (Read w64 1)) (end_small (nat_abs end) d less within, (small, tt)) refl
+        ∙ ap (λ (n : ℕ). pos 2 *ℤ end +ℤ pos n) e
+
+pub nearest_within : (end : ℤ) (d : ℕ) → nat_abs end ≤ 2 ^ d * greatest → nat_abs (round_half_up end (2 ^ d)) ≤ greatest
+nearest_within end d within = half_within end (2 ^ d) greatest (pow_pos d) within
+
+-- the sum of two ends
+pub sum_is : (first last : ℤ) (d : ℕ) → nat_abs first ≤ 2 ^ d * greatest → nat_abs last ≤ 2 ^ d * greatest → d ≤ 18 → stored w64 (stored w64 first +ℤ stored w64 last) ≡ first +ℤ last
+sum_is first last d f l less = exact (first ∷ last ∷ []) (2 ^ 36 ∷ 2 ^ 36 ∷ []) (Sum w64 (Read w64 0) (Read w64 1)) (end_small (nat_abs first) d (omega arith) f, (end_small (nat_abs last) d (omega arith) l, tt)) refl
+
+-- a quotient rounded up
+pub up_is : (a n : ℕ) → 0 < n → (a + (n - 1)) / n ≡ div_ceil a n
+up_is a n h = by (div_ceil a n) (div_ceil_times a n h)
+  where
+    by : (q : ℕ) → (a ≤ q * n) × (q * n < a + n) → (a + (n - 1)) / n ≡ q
+    by q p = div-eq_of_lt-le {k = q} n {m = a + (n - 1)} (let least = p.1 in omega arith) (let most = p.0 in omega arith)
+
+-- how far the farther of two ends is from a whole place
+pub farther_is : (first last middle place : ℤ) (d a b m : ℕ) → nat_abs first ≤ 2 ^ d * greatest → nat_abs last ≤ 2 ^ d * greatest → d ≤ 18 → nat_abs place ≤ 2 ^ 36
+    → place ≡ pos (2 ^ d) *ℤ middle → a ≡ nat_abs (stored w64 first -ℤ stored w64 place) → b ≡ nat_abs (stored w64 last -ℤ stored w64 place) → m ≡ max a b
+    → m ≡ max (nat_abs (first -ℤ pos (2 ^ d) *ℤ middle)) (nat_abs (last -ℤ pos (2 ^ d) *ℤ middle))
+farther_is first last middle place d a b m f l less small ep ea eb em =
+    em
+    ∙ rw (ea, eb, kept w64 first (2 ^ 36) (end_small (nat_abs first) d (omega arith) f) refl, kept w64 last (2 ^ 36) (end_small (nat_abs last) d (omega arith) l) refl, kept w64 place (2 ^ 36) small refl, ep) refl
+
+-- it is bounded
+pub farther_small : (first last middle : ℤ) (d : ℕ) → nat_abs first ≤ 2 ^ d * greatest → nat_abs last ≤ 2 ^ d * greatest → nat_abs middle ≤ greatest → d ≤ 18
+    → max (nat_abs (first -ℤ pos (2 ^ d) *ℤ middle)) (nat_abs (last -ℤ pos (2 ^ d) *ℤ middle)) ≤ 2 ^ 40
+farther_small first last middle d f l m less =
+    let most = max_most _ _ (262142 * 2 ^ d) (far_within first middle (2 ^ d) f m) (far_within last middle (2 ^ d) l m) in
+    let parts = parts_most d (omega arith) in
+    by (2 ^ d) most parts
+  where
+    by : {x : ℕ} (n : ℕ) → x ≤ 262142 * n → n ≤ 524288 → x ≤ 1099511627776
+    by n h k = omega arith
+
 -- the lower of two ends
-pub lower_is : (from to first last z : ℤ) (d k : ℕ) → Within greatest from → Within greatest to → k < 2 ^ d → Within (2 ^ 36) first → Within (2 ^ 36) last
-    → first ≡ end_of (stored w32 from) (stored w32 to) d k → last ≡ end_of (stored w32 from) (stored w32 to) d (k + 1) → z ≡ int_min (stored w64 first) (stored w64 last)
-    → (floor_div z (2 ^ d) ≡ lower_of from to d k) × (nat_abs z ≤ 2 ^ 36) × (nat_abs (floor_div z (2 ^ d)) ≤ greatest)
-lower_is from to first last z d k hf ht hk sf sl ef el ez =
-    let low : z ≡ int_min first last = ez ∙ rw (kept w64 first (2 ^ 36) sf.within refl, kept w64 last (2 ^ 36) sl.within refl) refl in
-    let begin : first ≡ end_of from to d k = ef ∙ rw (kept w32 from 131071 hf.within refl, kept w32 to 131071 ht.within refl) refl in
-    let end : last ≡ end_of from to d (k + 1) = el ∙ rw (kept w32 from 131071 hf.within refl, kept w32 to 131071 ht.within refl) refl in
-    let quotient : floor_div z (2 ^ d) ≡ lower_of from to d k = rw (low, begin, end) refl in
-    (quotient, rw low (lesser_within first last (2 ^ 36) sf.within sl.within), rw quotient (lower_within from to d k hf.within ht.within hk))
+pub lower_is : (first last z : ℤ) (d : ℕ) → nat_abs first ≤ 2 ^ d * greatest → nat_abs last ≤ 2 ^ d * greatest → d ≤ 18 → z ≡ int_min (stored w64 first) (stored w64 last)
+    → (floor_div z (2 ^ d) ≡ floor_div (lesser first last) (2 ^ d)) × (nat_abs z ≤ 2 ^ 36) × (nat_abs (floor_div z (2 ^ d)) ≤ greatest)
+lower_is first last z d f l less ez =
+    let first_small = end_small (nat_abs first) d (omega arith) f in
+    let last_small = end_small (nat_abs last) d (omega arith) l in
+    let low : z ≡ int_min first last = ez ∙ rw (kept w64 first (2 ^ 36) first_small refl, kept w64 last (2 ^ 36) last_small refl) refl in
+    (rw low refl, rw low (lesser_within first last (2 ^ 36) first_small last_small), rw low (quotient_within (lesser first last) (2 ^ d) greatest (pow_pos d) (lesser_within first last (2 ^ d * greatest) f l)))

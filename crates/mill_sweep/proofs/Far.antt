@@ -189,15 +189,19 @@ least_top a b c h p q r = by (int_lt a (greater b c)) (int_lt b c)
     by true false = q
     by false t = p
 
-under_passes : (cutter : Cutter) (move : Move) (tri : Tri) → IsUnderMove move tri → Passes cutter move tri
-under_passes cutter move tri under = by (depth_of move)
+pub top_passes : (cutter : Cutter) (move : Move) (tri : Tri) → highest tri ≤ℤ move.from.z → highest tri ≤ℤ move.to.z → Passes cutter move tri
+top_passes cutter move tri from to = by (depth_of move)
   where
     free : IsFree cutter move tri 0 0
-    free = inr (lower_least move.from.z move.to.z (highest tri) 0 0 (omega arith) (least_top _ _ _ _ under.from.a under.from.b under.from.c) (least_top _ _ _ _ under.to.a under.to.b under.to.c))
+    free = inr (lower_least move.from.z move.to.z (highest tri) 0 0 (omega arith) from to)
 
     by : (more : ℕ) → LeafPasses cutter move tri more 0 0
     by zero = free
     by (suc more) = inl free
+
+under_passes : (cutter : Cutter) (move : Move) (tri : Tri) → IsUnderMove move tri → Passes cutter move tri
+under_passes cutter move tri under =
+    top_passes cutter move tri (least_top _ _ _ _ under.from.a under.from.b under.from.c) (least_top _ _ _ _ under.to.a under.to.b under.to.c)
 
 -- the move passes a triangle at least the radius and 2 beside it
 pub beside_passes : (cutter : Cutter) (move : Move) (tri : Tri) → IsCutter cutter → MoveInRange move → LiesBeside (radius_of cutter +ℤ pos 2) move.from move.to tri → Passes cutter move tri

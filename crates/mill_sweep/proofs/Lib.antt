@@ -9,9 +9,12 @@ pub mod Lower
 mod Computed
 mod Rows
 pub mod Far
+mod Rest
+mod Roots
 mod Besides
 mod Placing
 mod Firsts
+mod Segments
 mod Blocking
 mod ContactLemmas
 pub mod Passing

@@ -1,7 +1,7 @@
 -- Where the code puts a leaf's middle and its outer cutter, and how far it wants a triangle to be away.
-use Rattle.std.specs.Prelude.{◌≡◌, ◌≤◌, nat_abs, ℤ, pos, ◌+ℤ◌, ◌-ℤ◌, ◌≤ℤ◌}
-use Rattle.std.proofs.Common.{[], ◌∷◌, refl, subst, ap, ◌∙◌, arith, w32}
-use Rattle.std.proofs.lemmas.Int.{ints}
+use Rattle.std.specs.Prelude.{◌≡◌, ℕ, ◌≤◌, nat_abs, ℤ, pos, ◌+ℤ◌, ◌-ℤ◌, ◌≤ℤ◌}
+use Rattle.std.proofs.Common.{[], ◌∷◌, refl, sym, subst, ap, ◌∙◌, arith, to_z, w32}
+use Rattle.std.proofs.lemmas.Int.{ints, to_z_pos}
 use Rattle.mill_base.proofs.Machine.{Read, Lit, Sum, Diff, exact, kept, stored}
 use Rattle.mill_base.specs.Points.{point_at}
 use Rattle.mill_base.specs.Sizes.{HasRadius, IsCutter, radius_of, outer, shift}
@@ -21,19 +21,23 @@ radius_small (Flat r) h = radius_within r h
 radius_small (Ball r) h = radius_within r h
 radius_small (Cone r a b) h = radius_within r h.0
 
-reach_within : (q : ℤ) → (pos 0) ≤ℤ q → q ≤ℤ pos 524288 → nat_abs q ≤ 524288
-reach_within q least most = omega (arith, ints)
-
--- the distance from the whole move, and from a leaf
+-- the distance from the whole move, and from a leaf along an axis
 pub from_move : (cutter : Cutter) (r : ℤ) → IsCutter cutter → r ≡ radius_of cutter → stored w32 (stored w32 r +ℤ pos 2) ≡ radius_of cutter +ℤ pos 2
 from_move cutter r ok e =
     exact (r ∷ []) (10000 ∷ []) (Sum w32 (Read w32 0) (Lit (pos 2))) (rw e (radius_small cutter ok), tt) refl ∙ ap (λ (s : ℤ). s +ℤ pos 2) e
 
-pub from_leaf : (cutter : Cutter) (r q : ℤ) → IsCutter cutter → r ≡ radius_of cutter → (pos 0) ≤ℤ q → q ≤ℤ pos 524288
-    → stored w32 (stored w32 (stored w32 r +ℤ pos 2) +ℤ stored w32 q) ≡ (radius_of cutter +ℤ pos 2) +ℤ q
-from_leaf cutter r q ok e least most =
-    exact (r ∷ q ∷ []) (10000 ∷ 524288 ∷ []) (Sum w32 (Sum w32 (Read w32 0) (Lit (pos 2))) (Read w32 1)) (rw e (radius_small cutter ok), (reach_within q least most, tt)) refl
-    ∙ ap (λ (s : ℤ). (s +ℤ pos 2) +ℤ q) e
+pub from_leaf : (cutter : Cutter) (r : ℤ) (q : ℕ) → IsCutter cutter → r ≡ radius_of cutter → q ≤ 262144
+    → stored w32 (stored w32 (stored w32 r +ℤ pos 2) +ℤ to_z w32 q) ≡ (radius_of cutter +ℤ pos 2) +ℤ pos q
+from_leaf cutter r q ok e most =
+    ap (λ (t : ℤ). stored w32 (stored w32 (stored w32 r +ℤ pos 2) +ℤ t)) (to_z_pos w32 q (omega arith) ∙ sym (kept w32 (pos q) 262144 most refl))
+    ∙ exact (r ∷ pos q ∷ []) (10000 ∷ 262144 ∷ []) (Sum w32 (Sum w32 (Read w32 0) (Lit (pos 2))) (Read w32 1)) (rw e (radius_small cutter ok), (most, tt)) refl
+    ∙ ap (λ (s : ℤ). (s +ℤ pos 2) +ℤ pos q) e
+
+pub distance_kept : (cutter : Cutter) (r : ℤ) (q : ℕ) → IsCutter cutter → q ≤ 262144 → r ≡ (radius_of cutter +ℤ pos 2) +ℤ pos q → stored w32 r ≡ (radius_of cutter +ℤ pos 2) +ℤ pos q
+distance_kept cutter r q ok most e = kept w32 r 272146 (rw e (by (radius_of cutter) (radius_small cutter ok))) refl ∙ e
+  where
+    by : (s : ℤ) → nat_abs s ≤ 10000 → nat_abs ((s +ℤ pos 2) +ℤ pos q) ≤ 272146
+    by s h = omega (arith, ints)
 
 -- points of equal coordinates
 pub same_point : (a b c k l m : ℤ) → a ≡ k → b ≡ l → c ≡ m → point_at a b c ≡ point_at k l m

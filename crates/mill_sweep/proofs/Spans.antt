@@ -17,9 +17,19 @@ use Rattle.mill_sweep.proofs.LeafCerts.{end_high, end_low}
 pub parts_twice : (d : ℕ) → 2 ^ (d + 1) ≡ 2 * 2 ^ d
 parts_twice d = let more = pow_more 2 d in omega arith
 
--- a move in range has at most 2^18 parts
+-- a move in range has at most 2^18 parts, and a sample of one at most 2^19
 pub parts_small : (d : ℕ) → d ≤ 18 → 2 ^ d ≤ 262144
 parts_small d h = pow-le-pow_right {n = 2} (omega arith) {i = d} {j = 18} h
+
+pub parts_most : (d : ℕ) → d ≤ 19 → 2 ^ d ≤ 524288
+parts_most d h = pow-le-pow_right {n = 2} (omega arith) {i = d} {j = 19} h
+
+-- so what is within as many times the bound is small
+pub end_small : (a d : ℕ) → d ≤ 19 → a ≤ 2 ^ d * greatest → a ≤ 68719476736
+end_small a d h within = let most : 2 ^ d * greatest ≤ 524288 * greatest = mul-le-mul (parts_most d h) (same greatest) in omega arith
+  where
+    same : (x : ℕ) → x ≤ x
+    same x = omega arith
 
 -- an end is within as many times the bound as there are parts
 pub end_within : (f t : ℤ) (d k : ℕ) → nat_abs f ≤ greatest → nat_abs t ≤ greatest → k ≤ 2 ^ d → nat_abs (end_of f t d k) ≤ 2 ^ d * greatest
@@ -67,7 +77,7 @@ far_within e c n p q = by (pos n *ℤ c) (times c q)
     by : (x : ℤ) → nat_abs x ≤ greatest * n → nat_abs (e -ℤ x) ≤ 262142 * n
     by x h = omega (arith, ints)
 
-max_most : (a b m : ℕ) → a ≤ m → b ≤ m → max a b ≤ m
+pub max_most : (a b m : ℕ) → a ≤ m → b ≤ m → max a b ≤ m
 max_most a b m p q = omega arith
 
 -- so the farther of two bounded ends is at most 262,142 from a bounded place

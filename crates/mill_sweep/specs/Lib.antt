@@ -1,4 +1,5 @@
 pub mod Apart
 pub mod Leaves
 pub mod Halving
+pub mod Sweeps
 pub mod Moments

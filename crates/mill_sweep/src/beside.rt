@@ -1,9 +1,11 @@
-ghost use Rattle.std.specs.Prelude.{◌≡◌, ◌↔◌, ◌+ℤ◌, ◌≤ℤ◌, pos, IsTrue};
+ghost use Rattle.std.specs.Prelude.{◌≡◌, ◌↔◌, ◌^◌, ◌≤◌, ◌+ℤ◌, pos, IsTrue};
 ghost use Rattle.mill_base.specs.Sizes.{IsCutter, radius_of};
-ghost use Rattle.mill_sweep.specs.Halving.{LiesBeside, middle_point};
+ghost use Rattle.mill_sweep.specs.Apart.{LieApart};
+ghost use Rattle.mill_sweep.specs.Halving.{LiesBeside};
+ghost use Rattle.mill_sweep.specs.Sweeps.{IsStretch};
 
 use crate::gap::Gap;
-use crate::leaf::Span;
+use crate::leaf_span::Stretch;
 use mill_base::{Cutter, Move, Pt3, Tri};
 
 /// How far a triangle is to be away, beyond the radius, from all middles of the leaves at the move's
@@ -18,24 +20,60 @@ pub(crate) fn is_beside_move(cutter: Cutter, step: &Move, tri: &Tri) -> bool
     lies_beside(cutter.radius() + REACH_AT_DEPTH, step.from, step.to, tri)
 }
 
-/// Whether the triangle lies, in x or in y, so far from a leaf that each leaf under it passes.
-pub(crate) fn is_beside_leaf(cutter: Cutter, span: Span, tri: &Tri) -> bool
+/// Whether the triangle lies, in x, so far from a leaf that each leaf under it passes.
+pub(crate) fn is_beside_in_x(cutter: Cutter, x: Stretch, tri: &Tri) -> bool
     requires cutter_ok { IsCutter cutter }
-    requires reach_least { pos 0 ≤ℤ span.reach }
-    requires reach_most { span.reach ≤ℤ pos 524288 }
-    ensures { IsTrue result ↔ LiesBeside ((radius_of cutter +ℤ pos 2) +ℤ span.reach) (middle_point span) (middle_point span) tri.now }
+    requires x_ok { IsStretch x }
+    ensures { IsTrue result → LieApart ((radius_of cutter +ℤ pos 2) +ℤ pos x.farther) x.middle x.middle tri.now.a.x tri.now.b.x tri.now.c.x }
 {
-    let middle = Pt3 {
-        x: span.x,
-        y: span.y,
-        z: span.zlow,
-    };
-    lies_beside(
-        cutter.radius() + REACH_AT_DEPTH + span.reach,
-        middle,
-        middle,
-        tri,
-    )
+    gap_in_x(leaf_distance(cutter, x.farther), x.middle, tri).is_wide()
+}
+
+/// The same in y.
+pub(crate) fn is_beside_in_y(cutter: Cutter, y: Stretch, tri: &Tri) -> bool
+    requires cutter_ok { IsCutter cutter }
+    requires y_ok { IsStretch y }
+    ensures { IsTrue result → LieApart ((radius_of cutter +ℤ pos 2) +ℤ pos y.farther) y.middle y.middle tri.now.a.y tri.now.b.y tri.now.c.y }
+{
+    gap_in_y(leaf_distance(cutter, y.farther), y.middle, tri).is_wide()
+}
+
+/// How far along an axis a triangle is to be away from the middle of a leaf whose ends are this far
+/// from it.
+fn leaf_distance(cutter: Cutter, farther: u32) -> i32
+    requires cutter_ok { IsCutter cutter }
+    requires farther_ok { farther ≤ 2 ^ 18 }
+    ensures { result ≡ (radius_of cutter +ℤ pos 2) +ℤ pos farther }
+{
+    cutter.radius() + REACH_AT_DEPTH + farther as i32
+}
+
+/// The middle of a leaf and the triangle in x.
+fn gap_in_x(distance: i32, middle: i32, tri: &Tri) -> Gap
+    ensures { result ≡ record { distance = distance; from = middle; to = middle; a = tri.now.a.x; b = tri.now.b.x; c = tri.now.c.x } }
+{
+    Gap {
+        distance,
+        from: middle,
+        to: middle,
+        a: tri.a.x,
+        b: tri.b.x,
+        c: tri.c.x,
+    }
+}
+
+/// The middle of a leaf and the triangle in y.
+fn gap_in_y(distance: i32, middle: i32, tri: &Tri) -> Gap
+    ensures { result ≡ record { distance = distance; from = middle; to = middle; a = tri.now.a.y; b = tri.now.b.y; c = tri.now.c.y } }
+{
+    Gap {
+        distance,
+        from: middle,
+        to: middle,
+        a: tri.a.y,
+        b: tri.b.y,
+        c: tri.c.y,
+    }
 }
 
 /// Whether the triangle lies at least the distance away, in x or in y, from the box of two places.

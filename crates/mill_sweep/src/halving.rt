@@ -1,15 +1,16 @@
-ghost use Rattle.std.specs.Prelude.{◌≡◌, ◌+◌, ◌*◌, ◌^◌, ◌<◌, false, IsTrue, MatchOption};
+ghost use Rattle.std.specs.Prelude.{◌≡◌, ◌+◌, ◌*◌, ◌^◌, ◌<◌, ◌≤◌, ◌≤ℤ◌, pos, false, IsTrue, MatchOption};
 ghost use Rattle.mill_base.specs.Points.{point_tri};
 ghost use Rattle.mill_base.specs.Ranges.{IsInRange, MoveInRange, TriInRange};
 ghost use Rattle.mill_base.specs.Sizes.{IsCutter};
-ghost use Rattle.mill_sweep.specs.Halving.{Blocks, FailsAt, FailsUnder, LeafPasses, Passes, PassesPoint};
+ghost use Rattle.mill_sweep.specs.Halving.{Blocks, FailsAt, FailsUnder, IsFreeSpan, LeafPasses, Passes, PassesPoint};
 ghost use Rattle.mill_sweep.specs.Leaves.{depth_of, span_of};
+ghost use Rattle.mill_sweep.specs.Sweeps.{IsPrepared, PassesDown};
 
-use crate::beside::{is_beside_leaf, is_beside_move};
+use crate::beside::{is_beside_in_x, is_beside_in_y, is_beside_move};
 use crate::leaf::Leaf;
-use crate::leaf_span::span;
-use crate::leaf_test::is_free;
-use crate::move_depth::depth;
+use crate::leaf_span::{lower_end, stretch_of};
+use crate::leaf_test::{is_free, is_free_by, is_no_higher};
+use crate::sweep::{Prepared, prepare};
 use mill_base::{Cutter, Move, Pt3, Tri};
 
 /// Whether the move passes the triangle: halved as often as its depth says, it has no leaf that the
@@ -42,17 +43,18 @@ pub fn passes_point(cutter: Cutter, step: &Move, point: Pt3) -> bool
 /// The leaf at which the move fails to pass the triangle, none exactly where the move passes.
 ///
 /// Halving from the whole move on leads to this leaf, each time by the first half that doesn't pass,
-/// and the triangle blocks it.
+/// and the triangle blocks it. Where many triangles are tried against one move, a `Sweep` of it does
+/// the same with less work for each.
 pub fn first_block(cutter: Cutter, step: &Move, tri: &Tri) -> Option<Leaf>
     requires cutter_ok { IsCutter cutter }
     requires move_ok { MoveInRange step.now }
     requires tri_ok { TriInRange tri.now }
     ensures { MatchOption result (Passes cutter step.now tri.now) (λ leaf. FailsAt cutter step.now tri.now leaf × Blocks cutter (span_of step.now leaf.d leaf.k) tri.now) }
 {
-    if is_beside_move(cutter, step, tri) {
+    if is_far(cutter, step, tri) {
         return None;
     }
-    first_under(cutter, step, tri, Leaf { d: 0, k: 0 }, depth(step))
+    first_halved(&prepare(cutter, step), tri)
 }
 
 /// The leaf at which the move fails to pass the point, none exactly where the move passes.
@@ -65,31 +67,104 @@ pub fn first_block_point(cutter: Cutter, step: &Move, point: Pt3) -> Option<Leaf
     first_block(cutter, step, &triangle_at(point))
 }
 
+/// The same of a move that is ready.
+pub(crate) fn first_on(prepared: &Prepared, tri: &Tri) -> Option<Leaf>
+    requires prepared_ok { IsPrepared prepared.now }
+    requires tri_ok { TriInRange tri.now }
+    ensures { MatchOption result (Passes prepared.now.cutter prepared.now.step tri.now) (λ leaf. FailsAt prepared.now.cutter prepared.now.step tri.now leaf × Blocks prepared.now.cutter (span_of prepared.now.step leaf.d leaf.k) tri.now) }
+{
+    if is_far(prepared.cutter, &prepared.step, tri) {
+        return None;
+    }
+    first_halved(prepared, tri)
+}
+
+/// Whether the triangle is no higher than the move's lower end, or lies far beside the whole move:
+/// then the move passes it.
+fn is_far(cutter: Cutter, step: &Move, tri: &Tri) -> bool
+    requires cutter_ok { IsCutter cutter }
+    requires move_ok { MoveInRange step.now }
+    ensures { IsTrue result → Passes cutter step.now tri.now }
+{
+    if is_no_higher(tri, step.from.z.min(step.to.z)) {
+        return true;
+    }
+    is_beside_move(cutter, step, tri)
+}
+
+/// The leaf at which the move fails, found by halving from the whole move on, none where it passes.
+fn first_halved(prepared: &Prepared, tri: &Tri) -> Option<Leaf>
+    requires prepared_ok { IsPrepared prepared.now }
+    requires tri_ok { TriInRange tri.now }
+    ensures { MatchOption result (Passes prepared.now.cutter prepared.now.step tri.now) (λ leaf. FailsAt prepared.now.cutter prepared.now.step tri.now leaf × Blocks prepared.now.cutter (span_of prepared.now.step leaf.d leaf.k) tri.now) }
+{
+    first_under(prepared, tri, Leaf { d: 0, k: 0 }, prepared.depth)
+}
+
 /// The leaf at which a leaf fails that can be halved `more` times, none where it passes.
 ///
 /// Halving ends early at each leaf that is free, or that lies far beside the triangle.
-fn first_under(cutter: Cutter, step: &Move, tri: &Tri, leaf: Leaf, more: u32) -> Option<Leaf>
-    requires cutter_ok { IsCutter cutter }
-    requires move_ok { MoveInRange step.now }
+fn first_under(prepared: &Prepared, tri: &Tri, leaf: Leaf, more: u32) -> Option<Leaf>
+    requires prepared_ok { IsPrepared prepared.now }
     requires tri_ok { TriInRange tri.now }
-    requires deep { leaf.d + more ≡ depth_of step.now }
+    requires deep { leaf.d + more ≡ depth_of prepared.now.step }
     requires place { leaf.k < 2 ^ leaf.d }
-    ensures { MatchOption result (LeafPasses cutter step.now tri.now more leaf.d leaf.k) (λ at. FailsUnder cutter step.now tri.now more leaf.d leaf.k at) }
+    ensures { MatchOption result (LeafPasses prepared.now.cutter prepared.now.step tri.now more leaf.d leaf.k) (λ at. FailsUnder prepared.now.cutter prepared.now.step tri.now more leaf.d leaf.k at) }
 {
-    let span = span(step, leaf);
-    if is_beside_leaf(cutter, span, tri) {
-        return None;
-    }
-    if is_free(cutter, span, tri) {
+    if is_passed(prepared, tri, leaf) {
         return None;
     }
     if more == 0 {
         return Some(leaf);
     }
-    if let Some(at) = first_under(cutter, step, tri, left_half(leaf), more - 1) {
+    if let Some(at) = first_under(prepared, tri, left_half(leaf), more - 1) {
         return Some(at);
     }
-    first_under(cutter, step, tri, right_half(leaf), more - 1)
+    first_under(prepared, tri, right_half(leaf), more - 1)
+}
+
+/// Whether a leaf is free, or lies so far beside the triangle that each leaf under it passes.
+fn is_passed(prepared: &Prepared, tri: &Tri, leaf: Leaf) -> bool
+    requires prepared_ok { IsPrepared prepared.now }
+    requires tri_ok { TriInRange tri.now }
+    requires d_ok { leaf.d ≤ depth_of prepared.now.step }
+    requires k_ok { leaf.k < 2 ^ leaf.d }
+    ensures yes { IsTrue result → PassesDown prepared.now.cutter prepared.now.step tri.now leaf.d leaf.k }
+    ensures no { result ≡ false → ¬ IsFreeSpan prepared.now.cutter (span_of prepared.now.step leaf.d leaf.k) tri.now }
+    ensures blocked { result ≡ false → (span_of prepared.now.step leaf.d leaf.k).reach ≤ℤ pos 1024 → Blocks prepared.now.cutter (span_of prepared.now.step leaf.d leaf.k) tri.now }
+{
+    if leaf.d == 0 {
+        return is_free(prepared.cutter, prepared.whole, tri);
+    }
+    is_segment_passed(prepared.cutter, &prepared.step, tri, leaf)
+}
+
+/// The same of a leaf whose span isn't known yet.
+///
+/// What takes the least is tried first: its lower end, then where it lies in x, and then in y.
+fn is_segment_passed(cutter: Cutter, step: &Move, tri: &Tri, leaf: Leaf) -> bool
+    requires cutter_ok { IsCutter cutter }
+    requires move_ok { MoveInRange step.now }
+    requires tri_ok { TriInRange tri.now }
+    requires d_ok { leaf.d ≤ depth_of step.now }
+    requires k_ok { leaf.k < 2 ^ leaf.d }
+    ensures yes { IsTrue result → PassesDown cutter step.now tri.now leaf.d leaf.k }
+    ensures no { result ≡ false → ¬ IsFreeSpan cutter (span_of step.now leaf.d leaf.k) tri.now }
+    ensures blocked { result ≡ false → (span_of step.now leaf.d leaf.k).reach ≤ℤ pos 1024 → Blocks cutter (span_of step.now leaf.d leaf.k) tri.now }
+{
+    let zlow = lower_end(step.from.z, step.to.z, leaf);
+    if is_no_higher(tri, zlow) {
+        return true;
+    }
+    let x = stretch_of(step.from.x, step.to.x, leaf);
+    if is_beside_in_x(cutter, x, tri) {
+        return true;
+    }
+    let y = stretch_of(step.from.y, step.to.y, leaf);
+    if is_beside_in_y(cutter, y, tri) {
+        return true;
+    }
+    is_free_by(cutter, x, y, zlow, tri)
 }
 
 /// The first half of a leaf's moments.

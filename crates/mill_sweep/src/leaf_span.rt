@@ -1,11 +1,15 @@
 ghost use Rattle.std.specs.Int.{div_ceil};
 ghost use Rattle.std.specs.Prelude.{◌≡◌, ◌+◌, ◌*◌, ◌^◌, ◌<◌, ◌≤◌, ◌+ℤ◌, ◌-ℤ◌, ◌*ℤ◌, ◌≤ℤ◌, pos, nat_abs, max};
-ghost use Rattle.mill_base.specs.Numbers.{round_half_up as round_half_up_of, Within, greatest};
+ghost use Rattle.mill_base.specs.Numbers.{floor_div, round_half_up, lesser, Within, greatest};
 ghost use Rattle.mill_base.specs.Ranges.{MoveInRange};
-ghost use Rattle.mill_sweep.specs.Leaves.{depth_of, span_of, end_of, middle_of, farther_of, lower_of, diagonal_of};
+ghost use Rattle.mill_sweep.specs.Halving.{IsSpan};
+ghost use Rattle.mill_sweep.specs.Leaves.{depth_of, span_of, lower_of};
+ghost use Rattle.mill_sweep.specs.Sweeps.{IsStretch, IsStretchOf, span_at};
 
+use crate::diagonal::diagonal;
+use crate::ends::{Ends, ends_of, nearest, weighed};
 use crate::leaf::{Leaf, Span};
-use mill_base::{Move, ceil_root, power_of_two, round_half_up};
+use mill_base::{Move, power_of_two};
 
 /// Where the leaf of the move lies.
 pub fn span(step: &Move, leaf: Leaf) -> Span
@@ -19,107 +23,109 @@ pub fn span(step: &Move, leaf: Leaf) -> Span
     ensures reach_most { result.reach ≤ℤ pos (2 ^ 19) }
     ensures zlow_ok { Within greatest result.zlow }
 {
-    let x = stretch_of(step.from.x, step.to.x, leaf);
-    let y = stretch_of(step.from.y, step.to.y, leaf);
+    span_by(
+        stretch_of(step.from.x, step.to.x, leaf),
+        stretch_of(step.from.y, step.to.y, leaf),
+        lower_end(step.from.z, step.to.z, leaf),
+    )
+}
+
+/// The span of a leaf that lies so in x and in y and whose lower end is at `zlow`.
+pub(crate) fn span_by(x: Stretch, y: Stretch, zlow: i32) -> Span
+    requires x_ok { IsStretch x }
+    requires y_ok { IsStretch y }
+    requires zlow_ok { Within greatest zlow }
+    ensures value { result ≡ span_at x y zlow }
+    ensures span { IsSpan result }
+    ensures reach_most { result.reach ≤ℤ pos (2 ^ 19) }
+{
     Span {
         x: x.middle,
         y: y.middle,
         reach: diagonal(x.farther, y.farther),
-        zlow: lower_end(step.from.z, step.to.z, leaf),
+        zlow,
     }
 }
 
 /// A leaf along one axis: its middle, and how far, rounded up, its farther end is from that.
 #[derive(Clone, Copy)]
-struct Stretch {
-    middle: i32,
-    farther: u32,
+pub(crate) struct Stretch {
+    pub middle: i32,
+    pub farther: u32,
 }
 
 /// The leaf along one axis of a move.
-fn stretch_of(from: i32, to: i32, leaf: Leaf) -> Stretch
+///
+/// Most moves of a raster are at rest along an axis or two.
+pub(crate) fn stretch_of(from: i32, to: i32, leaf: Leaf) -> Stretch
     requires from_ok { Within greatest from }
     requires to_ok { Within greatest to }
     requires d_ok { leaf.d ≤ 18 }
     requires k_ok { leaf.k < 2 ^ leaf.d }
-    ensures middle { result.middle ≡ middle_of from to leaf.d leaf.k }
-    ensures middle_ok { Within greatest result.middle }
-    ensures farther { result.farther ≡ farther_of from to leaf.d leaf.k }
-    ensures farther_ok { result.farther ≤ 2 ^ 18 }
+    ensures value { IsStretchOf from to leaf.d leaf.k result }
+    ensures bound { IsStretch result }
 {
-    let first = end_at(from, to, leaf.d, leaf.k);
-    let last = end_at(from, to, leaf.d, leaf.k + 1);
-    let middle = mean(first, last, leaf.d);
+    if from == to {
+        return Stretch {
+            middle: from,
+            farther: 0,
+        };
+    }
+    stretch_between(ends_of(from, to, leaf), leaf.d)
+}
+
+/// The stretch between two ends, which are given times 2^d.
+fn stretch_between(ends: Ends, d: u32) -> Stretch
+    requires first_ok { nat_abs ends.first ≤ 2 ^ d * greatest }
+    requires last_ok { nat_abs ends.last ≤ 2 ^ d * greatest }
+    requires d_ok { d ≤ 18 }
+    ensures middle { result.middle ≡ round_half_up (ends.first +ℤ ends.last) (2 ^ (d + 1)) }
+    ensures farther { result.farther ≡ div_ceil (max (nat_abs (ends.first -ℤ pos (2 ^ d) *ℤ result.middle)) (nat_abs (ends.last -ℤ pos (2 ^ d) *ℤ result.middle))) (2 ^ d) }
+    ensures bound { IsStretch result }
+{
+    let middle = mean(ends, d);
     Stretch {
         middle,
-        farther: farther_from(first, last, middle, leaf.d),
+        farther: farther_from(ends, middle, d),
     }
 }
 
-/// One coordinate of the tip at k/2^d, times 2^d.
-fn end_at(from: i32, to: i32, d: u32, k: u64) -> i64
-    requires from_ok { Within greatest from }
-    requires to_ok { Within greatest to }
-    requires d_ok { d ≤ 18 }
-    requires k_ok { k ≤ 2 ^ d }
-    ensures value { result ≡ end_of from to d k }
-    ensures bound { Within (2 ^ 36) result }
-    ensures within { nat_abs result ≤ 2 ^ d * greatest }
-{
-    weighed(power_of_two(d) - k, from) + weighed(k, to)
-}
-
 /// The mean of two ends, which are given times 2^d.
-fn mean(first: i64, last: i64, d: u32) -> i32
-    requires first_ok { Within (2 ^ 36) first }
-    requires last_ok { Within (2 ^ 36) last }
-    requires first_within { nat_abs first ≤ 2 ^ d * greatest }
-    requires last_within { nat_abs last ≤ 2 ^ d * greatest }
+fn mean(ends: Ends, d: u32) -> i32
+    requires first_ok { nat_abs ends.first ≤ 2 ^ d * greatest }
+    requires last_ok { nat_abs ends.last ≤ 2 ^ d * greatest }
     requires d_ok { d ≤ 18 }
-    ensures value { result ≡ round_half_up_of (first +ℤ last) (2 ^ (d + 1)) }
+    ensures value { result ≡ round_half_up (ends.first +ℤ ends.last) (2 ^ (d + 1)) }
     ensures bound { Within greatest result }
 {
-    round_half_up(i128::from(first + last), d + 1) as i32
+    nearest(ends.first + ends.last, d + 1)
 }
 
 /// How far, rounded up, the farther of two ends, which are given times 2^d, is from the middle.
-fn farther_from(first: i64, last: i64, middle: i32, d: u32) -> u32
-    requires first_ok { Within (2 ^ 36) first }
-    requires last_ok { Within (2 ^ 36) last }
-    requires first_within { nat_abs first ≤ 2 ^ d * greatest }
-    requires last_within { nat_abs last ≤ 2 ^ d * greatest }
+fn farther_from(ends: Ends, middle: i32, d: u32) -> u32
+    requires first_ok { nat_abs ends.first ≤ 2 ^ d * greatest }
+    requires last_ok { nat_abs ends.last ≤ 2 ^ d * greatest }
     requires middle_ok { Within greatest middle }
     requires d_ok { d ≤ 18 }
-    ensures value { result ≡ div_ceil (max (nat_abs (first -ℤ pos (2 ^ d) *ℤ middle)) (nat_abs (last -ℤ pos (2 ^ d) *ℤ middle))) (2 ^ d) }
+    ensures value { result ≡ div_ceil (max (nat_abs (ends.first -ℤ pos (2 ^ d) *ℤ middle)) (nat_abs (ends.last -ℤ pos (2 ^ d) *ℤ middle))) (2 ^ d) }
     ensures bound { result ≤ 2 ^ 18 }
 {
-    let parts = power_of_two(d);
-    let farther = distance(first, parts, middle).max(distance(last, parts, middle));
-    farther.div_ceil(parts) as u32
+    let place = weighed(power_of_two(d), middle);
+    let farther = ends.first.abs_diff(place).max(ends.last.abs_diff(place));
+    parts_up(farther, d) as u32
 }
 
-/// How far an end, over the denominator `parts`, is from a whole place, times `parts`.
-fn distance(end: i64, parts: u64, place: i32) -> u64
-    requires end_ok { Within (2 ^ 36) end }
-    requires parts_ok { parts ≤ 2 ^ 18 }
-    requires place_ok { Within greatest place }
-    ensures { result ≡ nat_abs (end -ℤ pos parts *ℤ place) }
+/// A length over 2^d, rounded up.
+fn parts_up(length: u64, d: u32) -> u64
+    requires length_ok { length ≤ 2 ^ 40 }
+    requires d_ok { d ≤ 18 }
+    ensures { result ≡ div_ceil length (2 ^ d) }
 {
-    (end - weighed(parts, place)).unsigned_abs()
-}
-
-/// The place times its weight.
-fn weighed(weight: u64, place: i32) -> i64
-    requires weight_ok { weight ≤ 2 ^ 18 }
-    requires place_ok { Within greatest place }
-    ensures value { result ≡ pos weight *ℤ place }
-    ensures bound { Within (2 ^ 35) result }
-{
-    weight as i64 * i64::from(place)
+    (length + (power_of_two(d) - 1)) >> d
 }
 
 /// The lower end of the leaf along one axis, rounded down.
-fn lower_end(from: i32, to: i32, leaf: Leaf) -> i32
+pub(crate) fn lower_end(from: i32, to: i32, leaf: Leaf) -> i32
     requires from_ok { Within greatest from }
     requires to_ok { Within greatest to }
     requires d_ok { leaf.d ≤ 18 }
@@ -127,29 +133,21 @@ fn lower_end(from: i32, to: i32, leaf: Leaf) -> i32
     ensures value { result ≡ lower_of from to leaf.d leaf.k }
     ensures bound { Within greatest result }
 {
-    let first = end_at(from, to, leaf.d, leaf.k);
-    let last = end_at(from, to, leaf.d, leaf.k + 1);
-    (first.min(last) >> leaf.d) as i32
+    if from == to {
+        return from;
+    }
+    lower_of_ends(ends_of(from, to, leaf), leaf.d)
 }
 
-/// The least whole number whose square is at least the sum of the squares.
-fn diagonal(ex: u32, ey: u32) -> i32
-    requires ex_ok { ex ≤ 2 ^ 18 }
-    requires ey_ok { ey ≤ 2 ^ 18 }
-    ensures value { result ≡ pos (diagonal_of ex ey) }
-    ensures bound { pos 0 ≤ℤ result }
-    ensures most { result ≤ℤ pos (2 ^ 19) }
+/// The lower of two ends, which are given times 2^d, rounded down.
+fn lower_of_ends(ends: Ends, d: u32) -> i32
+    requires first_ok { nat_abs ends.first ≤ 2 ^ d * greatest }
+    requires last_ok { nat_abs ends.last ≤ 2 ^ d * greatest }
+    requires d_ok { d ≤ 18 }
+    ensures value { result ≡ floor_div (lesser ends.first ends.last) (2 ^ d) }
+    ensures bound { Within greatest result }
 {
-    ceil_root(square(ex) + square(ey)) as i32
-}
-
-/// The square of a length.
-fn square(length: u32) -> u64
-    requires { length ≤ 2 ^ 18 }
-    ensures value { result ≡ length * length }
-    ensures bound { result ≤ 2 ^ 36 }
-{
-    u64::from(length) * u64::from(length)
+    (ends.first.min(ends.last) >> d) as i32
 }
 
 #[cfg(test)]

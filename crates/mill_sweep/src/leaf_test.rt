@@ -1,18 +1,32 @@
-ghost use Rattle.std.specs.Prelude.{◌≡◌, ◌≤ℤ◌, pos, false, IsTrue};
+ghost use Rattle.std.specs.Prelude.{◌≡◌, ◌≤ℤ◌, ◌<ℤ◌, pos, false, IsTrue};
 ghost use Rattle.mill_base.specs.Contact.{Touches};
+ghost use Rattle.mill_base.specs.Numbers.{Within, greatest};
 ghost use Rattle.mill_base.specs.Points.{highest as highest_of};
 ghost use Rattle.mill_base.specs.Ranges.{TriInRange};
 ghost use Rattle.mill_base.specs.Sizes.{IsCutter, outer};
 ghost use Rattle.mill_sweep.specs.Halving.{Blocks, IsFreeSpan, IsSpan};
 ghost use Rattle.mill_sweep.specs.Leaves.{outer_tip};
+ghost use Rattle.mill_sweep.specs.Sweeps.{IsStretch, span_at};
 
 use crate::contact::holds_some;
 use crate::leaf::Span;
+use crate::leaf_span::{Stretch, span_by};
 use mill_base::{Cutter, Pt3, Tri};
 use mill_shape::widen;
 
 /// The greatest reach by which a cutter is widened, in units of 0.01 mm.
 const REACH_MOST: i32 = 1_024;
+
+/// The same, for the distance along one axis.
+const FARTHER_MOST: u32 = 1_024;
+
+/// Whether no corner of the triangle is higher than `height`.
+pub(crate) fn is_no_higher(tri: &Tri, height: i32) -> bool
+    ensures yes { IsTrue result → highest_of tri.now ≤ℤ height }
+    ensures no { result ≡ false → height <ℤ highest_of tri.now }
+{
+    highest(tri) <= height
+}
 
 /// Whether a leaf passes the triangle by itself: it lies no lower than the triangle's highest point,
 /// or its reach is small and its outer cutter holds no point of the triangle.
@@ -31,6 +45,26 @@ pub(crate) fn is_free(cutter: Cutter, span: Span, tri: &Tri) -> bool
         return false;
     }
     !outer_holds_some(cutter, span, tri)
+}
+
+/// The same of a leaf that lies so in x and in y, where a corner of the triangle is higher than it.
+///
+/// Ends that are far from the middle along an axis make the reach great, so no root is taken then.
+pub(crate) fn is_free_by(cutter: Cutter, x: Stretch, y: Stretch, zlow: i32, tri: &Tri) -> bool
+    requires cutter_ok { IsCutter cutter }
+    requires x_ok { IsStretch x }
+    requires y_ok { IsStretch y }
+    requires zlow_ok { Within greatest zlow }
+    requires tri_ok { TriInRange tri.now }
+    requires higher { zlow <ℤ highest_of tri.now }
+    ensures yes { IsTrue result → IsFreeSpan cutter (span_at x y zlow) tri.now }
+    ensures no { result ≡ false → ¬ IsFreeSpan cutter (span_at x y zlow) tri.now }
+    ensures blocked { result ≡ false → (span_at x y zlow).reach ≤ℤ pos 1024 → Blocks cutter (span_at x y zlow) tri.now }
+{
+    if x.farther.max(y.farther) > FARTHER_MOST {
+        return false;
+    }
+    is_free(cutter, span_by(x, y, zlow), tri)
 }
 
 /// Whether some point of the triangle is strictly inside the outer cutter of a leaf.

@@ -4,11 +4,13 @@
 //! what the leaves of a move are and where they lie, `specs/Halving` which moves pass and which leaf
 //! of another move fails, `specs/Apart` when a triangle lies beside a move or under it, and
 //! `specs/Moments` what passing implies at each moment. `passes_tri` decides whether a move passes,
-//! and `first_block` names its failing leaf.
+//! and `first_block` names its failing leaf. A `Sweep` does so for many triangles and one move.
 #![tactic(auto)]
 
 mod beside;
 mod contact;
+mod diagonal;
+mod ends;
 mod gap;
 mod halving;
 mod leaf;
@@ -16,9 +18,11 @@ mod leaf_span;
 mod leaf_test;
 mod moments;
 mod move_depth;
+mod sweep;
 #[cfg(test)]
 mod tests;
 
+pub use ends::{end_at, nearest};
 pub use halving::{first_block, first_block_point, passes_point, passes_tri};
 pub use leaf::{Leaf, Span};
 pub use leaf_span::span;
@@ -26,3 +30,4 @@ pub use moments::{
     failing_is_blocked, far_passes, halving_is_clear, halving_keeps_point, outer_holds,
 };
 pub use move_depth::depth;
+pub use sweep::Sweep;

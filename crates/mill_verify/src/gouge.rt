@@ -1,6 +1,5 @@
 ghost use Rattle.std.specs.Prelude.{◌≡◌, ◌<◌, length, IfSome, MatchOption};
-ghost use Rattle.mill_base.specs.Ranges.{MoveInRange, MovesInRange, TriInRange};
-ghost use Rattle.mill_base.specs.Sizes.{IsCutter};
+ghost use Rattle.mill_base.specs.Ranges.{MovesInRange, TriInRange};
 ghost use Rattle.mill_cells.specs.Sorted.{sorted_of};
 ghost use Rattle.mill_job.specs.Jobs.{IsJob};
 ghost use Rattle.mill_verify.specs.Tests.{ClearsPart};
@@ -9,11 +8,11 @@ ghost use Rattle.mill_verify.specs.Verdicts.{IsBlocked};
 ghost use Rattle.mill_verify.specs.Near.{IsLid};
 
 use crate::area::{area_about, is_over, low_end};
-use mill_base::{Cutter, Move, Tri};
+use mill_base::{Move, Tri};
 use mill_cells::Cells;
 use mill_job::Job;
 use mill_part::Part;
-use mill_sweep::{Leaf, first_block};
+use mill_sweep::{Leaf, Sweep};
 
 /// A triangle that a move doesn't pass, and the leaf of the move that it blocks.
 #[derive(Clone, Copy)]
@@ -58,10 +57,11 @@ pub fn first_gouge(
     }
     let tris = part.tris();
     let low = low_end(step);
+    let sweep = Sweep::new(job.cutter, step);
     let mut first = None;
     let mut near = cells.near_over(area_about(job.cutter, step));
     while let Some(tri) = near.next_over(low) {
-        first = earlier(first, job.cutter, step, &tris[tri as usize], tri);
+        first = earlier(first, &sweep, &tris[tri as usize], tri);
     }
     first
 }
@@ -69,24 +69,16 @@ pub fn first_gouge(
 /// The first gouge of those triangles that were tried, and of the triangle of this number.
 ///
 /// The cells give the triangles in no order; one that comes after the first gouge isn't tried.
-fn earlier(
-    first: Option<Gouge>,
-    cutter: Cutter,
-    step: &Move,
-    tri: &Tri,
-    number: u32,
-) -> Option<Gouge>
-    requires cutter_ok { IsCutter cutter }
-    requires move_ok { MoveInRange step.now }
-    requires tri_ok { TriInRange tri.now }
-    ensures { IsEarlier cutter step.now tri.now number first result }
+fn earlier(first: Option<Gouge>, sweep: &Sweep, tri: &Tri, number: u32) -> Option<Gouge>
+    requires { TriInRange tri.now }
+    ensures { IsEarlier sweep.now.cutter sweep.now.move tri.now number first result }
 {
     if let Some(gouge) = first {
         if gouge.tri <= number {
             return first;
         }
     }
-    match first_block(cutter, step, tri) {
+    match sweep.first_block(tri) {
         Some(leaf) => Some(Gouge { tri: number, leaf }),
         None => first,
     }

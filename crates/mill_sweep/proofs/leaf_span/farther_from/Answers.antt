@@ -1,31 +1,35 @@
-use Rattle.std.proofs.Common.{◌≤◌, arith}
-use Rattle.mill_sweep.proofs.Computed.{farther_is}
+use Rattle.std.proofs.Common.{◌≡◌, ◌^◌, ◌≤◌, ◌*ℤ◌, pos, refl, w32, arith}
+use Rattle.mill_base.proofs.Machine.{kept}
+use Rattle.mill_sweep.proofs.Computed.{farther_is, farther_small}
 use Rattle.mill_sweep.proofs.Spans.{parts_small, farther_most}
 use Rattle.mill_sweep.proofs.leaf_span.farther_from.Goals as goal
 
-pub distance-requires-clause-parts_ok : goal.distance-requires-clause-parts_ok
-distance-requires-clause-parts_ok c = let parts = c.power_of_two-parts.ensures in let small = parts_small c.args.d c.requires.d_ok in omega arith
+pub weighed-place-requires-clause-weight_ok : goal.weighed-place-requires-clause-weight_ok
+weighed-place-requires-clause-weight_ok c = let parts = c.power_of_two.ensures in let small = parts_small c.args.d c.requires.d_ok in omega arith
 
-pub distance-requires-2-clause-parts_ok : goal.distance-requires-2-clause-parts_ok
-distance-requires-2-clause-parts_ok c = let parts = c.power_of_two-parts.ensures in let small = parts_small c.args.d c.requires.d_ok in omega arith
+pub parts_up-requires-clause-length_ok : goal.parts_up-requires-clause-length_ok
+parts_up-requires-clause-length_ok c =
+    let middle = kept w32 c.args.middle 131071 c.requires.middle_ok.within refl in
+    let place : c.weighed-place.result ≡ pos (2 ^ c.args.d) *ℤ c.args.middle = rw (middle, c.power_of_two.ensures) at c.weighed-place.ensures.value in
+    let farther = farther_is c.args.ends.first c.args.ends.last c.args.middle c.weighed-place.result c.args.d c.abs_diff.result c.abs_diff-2.result c.max-farther.result c.requires.first_ok c.requires.last_ok c.requires.d_ok
+    c.weighed-place.ensures.bound.within place c.abs_diff.ensures c.abs_diff-2.ensures c.max-farther.ensures in
+    rw farther (farther_small c.args.ends.first c.args.ends.last c.args.middle c.args.d c.requires.first_ok c.requires.last_ok c.requires.middle_ok.within c.requires.d_ok)
 
-pub returns-clause-value : goal.returns-clause-value
-returns-clause-value c =
-    farther_is c.args.first c.args.last c.args.middle c.args.d c.power_of_two-parts.result c.distance.result c.distance-2.result c.max-farther.result c.div_ceil.result
-    c.requires.first_ok c.requires.last_ok c.requires.middle_ok c.power_of_two-parts.ensures c.distance.ensures c.distance-2.ensures c.max-farther.ensures c.div_ceil.ensures
-
+-- the farther of the two, over 2^d and rounded up
 pub returns-clause-bound : goal.returns-clause-bound
 returns-clause-bound c =
-    let most = farther_most c.args.first c.args.last c.args.middle c.args.d c.requires.first_within c.requires.last_within c.requires.middle_ok.within in
-    let value = returns-clause-value c in
-    let under : c.div_ceil.result ≤ 262142 = rw value most in
+    let middle = kept w32 c.args.middle 131071 c.requires.middle_ok.within refl in
+    let place : c.weighed-place.result ≡ pos (2 ^ c.args.d) *ℤ c.args.middle = rw (middle, c.power_of_two.ensures) at c.weighed-place.ensures.value in
+    let farther = farther_is c.args.ends.first c.args.ends.last c.args.middle c.weighed-place.result c.args.d c.abs_diff.result c.abs_diff-2.result c.max-farther.result c.requires.first_ok c.requires.last_ok c.requires.d_ok
+    c.weighed-place.ensures.bound.within place c.abs_diff.ensures c.abs_diff-2.ensures c.max-farther.ensures in
+    let under : c.parts_up.result ≤ 262142 = rw (c.parts_up.ensures, farther) (farther_most c.args.ends.first c.args.ends.last c.args.middle c.args.d c.requires.first_ok c.requires.last_ok c.requires.middle_ok.within) in
     omega arith
 
 pub overflow_cast-result : goal.overflow_cast-result
 overflow_cast-result c =
-    let most = farther_most c.args.first c.args.last c.args.middle c.args.d c.requires.first_within c.requires.last_within c.requires.middle_ok.within in
-    let value =
-    farther_is c.args.first c.args.last c.args.middle c.args.d c.power_of_two-parts.result c.distance.result c.distance-2.result c.max-farther.result c.div_ceil.result
-    c.requires.first_ok c.requires.last_ok c.requires.middle_ok c.power_of_two-parts.ensures c.distance.ensures c.distance-2.ensures c.max-farther.ensures c.div_ceil.ensures in
-    let under : c.div_ceil.result ≤ 262142 = rw value most in
+    let middle = kept w32 c.args.middle 131071 c.requires.middle_ok.within refl in
+    let place : c.weighed-place.result ≡ pos (2 ^ c.args.d) *ℤ c.args.middle = rw (middle, c.power_of_two.ensures) at c.weighed-place.ensures.value in
+    let farther = farther_is c.args.ends.first c.args.ends.last c.args.middle c.weighed-place.result c.args.d c.abs_diff.result c.abs_diff-2.result c.max-farther.result c.requires.first_ok c.requires.last_ok c.requires.d_ok
+    c.weighed-place.ensures.bound.within place c.abs_diff.ensures c.abs_diff-2.ensures c.max-farther.ensures in
+    let under : c.parts_up.result ≤ 262142 = rw (c.parts_up.ensures, farther) (farther_most c.args.ends.first c.args.ends.last c.args.middle c.args.d c.requires.first_ok c.requires.last_ok c.requires.middle_ok.within) in
     record { fits = omega arith }

@@ -1,27 +1,12 @@
-use Rattle.std.proofs.Common.{◌∙◌, ◌^◌, [], ◌∷◌, refl, w32, w64}
-use Rattle.mill_base.proofs.Machine.{Read, Cast, exact, cast_fits, kept, stays}
-use Rattle.mill_base.specs.Numbers.{floor_div}
-use Rattle.mill_sweep.proofs.Computed.{lower_is, shift_is}
+use Rattle.std.proofs.Common.{◌≡◌, ◌∙◌, ℤ, refl, ap, sym, subst, to_z, w32}
+use Rattle.mill_base.proofs.Machine.{kept}
+use Rattle.mill_sweep.specs.Leaves.{lower_of}
+use Rattle.mill_sweep.proofs.Rest.{lower_at_rest}
 use Rattle.mill_sweep.proofs.leaf_span.lower_end.Goals as goal
 
-pub overflow_cast-result-2 : goal.overflow_cast-result-2
-overflow_cast-result-2 c =
-    let low = lower_is c.args.from c.args.to c.end_at-first.result c.end_at-last.result c.min.result c.args.leaf.d c.args.leaf.k c.requires.from_ok c.requires.to_ok c.requires.k_ok
-    c.end_at-first.ensures.bound c.end_at-last.ensures.bound c.end_at-first.ensures.value c.end_at-last.ensures.value c.min.ensures.value in
-    rw (kept w64 c.min.result (2 ^ 36) low.1 refl, shift_is c.min.result (2 ^ c.args.leaf.d))
-    (cast_fits w32 (floor_div c.min.result (2 ^ c.args.leaf.d) ∷ []) (131071 ∷ []) (Read w64 0) (low.2, tt) refl)
-
-pub returns-clause-value : goal.returns-clause-value
-returns-clause-value c =
-    let low = lower_is c.args.from c.args.to c.end_at-first.result c.end_at-last.result c.min.result c.args.leaf.d c.args.leaf.k c.requires.from_ok c.requires.to_ok c.requires.k_ok
-    c.end_at-first.ensures.bound c.end_at-last.ensures.bound c.end_at-first.ensures.value c.end_at-last.ensures.value c.min.ensures.value in
-    rw (kept w64 c.min.result (2 ^ 36) low.1 refl, shift_is c.min.result (2 ^ c.args.leaf.d))
-    (exact (floor_div c.min.result (2 ^ c.args.leaf.d) ∷ []) (131071 ∷ []) (Cast w32 (Read w64 0)) (low.2, tt) refl ∙ low.0)
-
-pub returns-clause-bound : goal.returns-clause-bound
-returns-clause-bound c =
-    let low =
-    lower_is c.args.from c.args.to c.end_at-first.result c.end_at-last.result c.min.result c.args.leaf.d c.args.leaf.k c.requires.from_ok c.requires.to_ok c.requires.k_ok
-    c.end_at-first.ensures.bound c.end_at-last.ensures.bound c.end_at-first.ensures.value c.end_at-last.ensures.value c.min.ensures.value in
-    rw (kept w64 c.min.result (2 ^ 36) low.1 refl, shift_is c.min.result (2 ^ c.args.leaf.d))
-    (record { within = stays (floor_div c.min.result (2 ^ c.args.leaf.d) ∷ []) (131071 ∷ []) (Cast w32 (Read w64 0)) 131071 (low.2, tt) refl })
+pub returns-then-from-to-clause-value : goal.returns-then-from-to-clause-value
+returns-then-from-to-clause-value c =
+    let keep_from = kept w32 c.args.from 131071 c.requires.from_ok.within refl in
+    let keep_to = kept w32 c.args.to 131071 c.requires.to_ok.within refl in
+    let same : c.args.from ≡ c.args.to = sym keep_from ∙ ap (to_z w32) c.if-from-to.true ∙ keep_to in
+    keep_from ∙ subst (λ (t : ℤ). c.args.from ≡ lower_of c.args.from t c.args.leaf.d c.args.leaf.k) same (sym (lower_at_rest c.args.from c.args.leaf.d c.args.leaf.k c.requires.k_ok))

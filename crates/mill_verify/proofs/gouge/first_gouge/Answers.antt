@@ -8,6 +8,7 @@ use Rattle.mill_base.specs.declared.points.Box2.{Box2}
 use Rattle.mill_base.specs.declared.points.Tri.{Tri}
 use Rattle.mill_cells.specs.Boxes.{IsNear}
 use Rattle.mill_cells.specs.Sorted.{Sorted}
+use Rattle.mill_sweep.specs.Sweeps.{Swept}
 use Rattle.mill_sweep.proofs.Far.{far_passes}
 use Rattle.mill_verify.specs.Firsts.{IsEarlier}
 use Rattle.mill_verify.specs.Near.{IsOver, area_of}
@@ -47,11 +48,11 @@ bounds-tris-tri c =
     subst (λ (l : List Tri). c.in-Some.tri < length l) (sym c.tris-tris.ensures.list)
     (next_within c.args.job.now c.args.part.now c.args.moves.now c.args.number _ c.loop-tri.near c.next_over.new.self c.in-Some.tri _ c.in-Some.ensures c.loop-tri.invariant)
 
-pub earlier-first-requires-clause-move_ok : goal.earlier-first-requires-clause-move_ok
-earlier-first-requires-clause-move_ok c = c.requires.moves_ok _ (Contains-get_or c.args.moves.now c.args.number _ c.requires.there)
+pub new-sweep-requires-clause-move_ok : goal.new-sweep-requires-clause-move_ok
+new-sweep-requires-clause-move_ok c = c.requires.moves_ok _ (Contains-get_or c.args.moves.now c.args.number _ c.requires.there)
 
-pub earlier-first-requires-clause-tri_ok : goal.earlier-first-requires-clause-tri_ok
-earlier-first-requires-clause-tri_ok c =
+pub earlier-first-requires : goal.earlier-first-requires
+earlier-first-requires c =
     let inside = subst (λ (l : List Tri). c.in-Some.tri < length l) (sym c.tris-tris.ensures.list)
     (next_within c.args.job.now c.args.part.now c.args.moves.now c.args.number _ c.loop-tri.near c.next_over.new.self c.in-Some.tri _ c.in-Some.ensures c.loop-tri.invariant) in
     tri_in_range c.tris-tris.result.now c.args.part.now c.in-Some.tri _ c.tris-tris.ensures.list inside c.tris-tris.ensures.in_range
@@ -67,7 +68,7 @@ loop-tri-preserved c =
     (low_known c.args.moves.now c.args.number _ c.low_end-low.result (search rules) c.requires.there c.low_end-low.ensures)
     c.in-Some.ensures c.loop-tri.invariant
     (at_both (λ m t. IsEarlier job.cutter m t c.in-Some.tri c.loop-tri.first c.earlier-first.result) moves c.args.number _ c.tris-tris.result.now c.args.part.now c.in-Some.tri _ c.requires.there c.tris-tris.ensures.list inside
-    c.earlier-first.ensures)
+    (subst (λ (s : Swept). IsEarlier s.cutter s.move _ c.in-Some.tri c.loop-tri.first c.earlier-first.result) c.new-sweep.ensures c.earlier-first.ensures))
 
 pub returns-clause-first : goal.returns-clause-first
 returns-clause-first c = look_ends c.args.job.now c.args.part.now c.args.moves.now c.args.number (to_z w32 (of_z w32 c.low_end-low.result)) c.loop-tri.near c.next_over.new.self c.loop-tri.first far_passes c.requires.job_ok.cutter_ok

@@ -4,6 +4,7 @@ use Rattle.mill_base.specs.declared.points.Pt3.{Pt3}
 use Rattle.mill_job.specs.Columns.{column_x, column_y}
 use Rattle.mill_sweep.specs.Leaves.{span_of}
 use Rattle.mill_sweep.specs.Halving.{Blocks, PassesPoint, FailsAt}
+use Rattle.mill_sweep.specs.Sweeps.{Swept}
 use Rattle.std.proofs.Common.{inl, inr, subst, sym, below_more, arith}
 use Rattle.std.proofs.lemmas.Bool.{cases_lt}
 use Rattle.mill_dexel.specs.Rows.{top_at}
@@ -25,17 +26,20 @@ pub returns-in-Some-clause-first : goal.returns-in-Some-clause-first
 returns-in-Some-clause-first c = record {
   column = omega (arith, c.reach_of-reach.ensures.within);
   before = c.loop-column.invariant;
-  fails = subst (λ (p : Pt3). FailsAt c.args.job.now.cutter c.args.step.now (point_tri p) c.in-Some.leaf) c.top_point-top.ensures c.in-Some.ensures.0;
+  fails = subst (λ (p : Pt3). FailsAt c.args.job.now.cutter c.args.step.now (point_tri p) c.in-Some.leaf) c.top_point-top.ensures
+      (subst (λ (s : Swept). FailsAt s.cutter s.move (point_tri c.top_point-top.result) c.in-Some.leaf) c.new-sweep.ensures c.in-Some.ensures.0);
 }
 
 pub returns-in-Some-clause-blocked : goal.returns-in-Some-clause-blocked
 returns-in-Some-clause-blocked c =
-    subst (λ (p : Pt3). Blocks c.args.job.now.cutter (span_of c.args.step.now c.in-Some.leaf.d c.in-Some.leaf.k) (point_tri p)) c.top_point-top.ensures c.in-Some.ensures.1
+    subst (λ (p : Pt3). Blocks c.args.job.now.cutter (span_of c.args.step.now c.in-Some.leaf.d c.in-Some.leaf.k) (point_tri p)) c.top_point-top.ensures
+    (subst (λ (s : Swept). Blocks s.cutter (span_of s.move c.in-Some.leaf.d c.in-Some.leaf.k) (point_tri c.top_point-top.result)) c.new-sweep.ensures c.in-Some.ensures.1)
 
 pub loop-column-preserved : goal.loop-column-preserved
 loop-column-preserved c =
     below_more _ _ c.loop-column.invariant
-    (subst (λ (p : Pt3). PassesPoint c.args.job.now.cutter c.args.step.now p) c.top_point-top.ensures c.in_default.ensures)
+    (subst (λ (p : Pt3). PassesPoint c.args.job.now.cutter c.args.step.now p) c.top_point-top.ensures
+     (subst (λ (s : Swept). PassesPoint s.cutter s.move c.top_point-top.result) c.new-sweep.ensures c.in_default.ensures))
 
 pub returns-clause-first : goal.returns-clause-first
 returns-clause-first c = λ i within. elim (cases_lt i c.loop-column.column) [

@@ -1,14 +1,14 @@
 use Rattle.std.proofs.Common.{◌≡◌, ◌∙◌, ◌-◌, ◌^◌, ◌≤◌, ◌-ℤ◌, ◌*ℤ◌, ℕ, pos, [], ◌∷◌, refl, w32, w64, arith}
 use Rattle.std.proofs.lemmas.Int.{ints}
 use Rattle.mill_base.proofs.Machine.{Read, Sum, exact, kept}
-use Rattle.mill_dexel.proofs.Places.{parts_small, end_within}
-use Rattle.mill_dexel.proofs.sample.end_at.Goals as goal
+use Rattle.mill_sweep.proofs.Spans.{parts_most, end_within}
+use Rattle.mill_sweep.proofs.ends.end_at.Goals as goal
 
 pub weighed-requires-clause-weight_ok : goal.weighed-requires-clause-weight_ok
-weighed-requires-clause-weight_ok c = let small = parts_small c.args.d c.requires.d_ok in let parts = c.power_of_two.ensures in omega arith
+weighed-requires-clause-weight_ok c = let small = parts_most c.args.d c.requires.d_ok in let parts = c.power_of_two.ensures in omega arith
 
 pub weighed-requires-2-clause-weight_ok : goal.weighed-requires-2-clause-weight_ok
-weighed-requires-2-clause-weight_ok c = let small = parts_small c.args.d c.requires.d_ok in let under = c.requires.k_ok in omega arith
+weighed-requires-2-clause-weight_ok c = let small = parts_most c.args.d c.requires.d_ok in let under = c.requires.k_ok in omega arith
 
 -- the parts that are left, as a difference
 rest : (n k : ℕ) → k ≤ n → pos (n - k) ≡ pos n -ℤ pos k
