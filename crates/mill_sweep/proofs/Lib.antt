@@ -16,5 +16,4 @@ mod Placing
 mod Firsts
 mod Segments
 mod Blocking
-mod ContactLemmas
 pub mod Passing
