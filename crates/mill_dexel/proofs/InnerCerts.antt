@@ -66,11 +66,3 @@ nearest_low n c d hn h = prove_le_by (n ∷ c ∷ d ∷ []) (Lt (Num (pos 0)) (V
 -- vars n c d; hyp hn: 0 < n; hyp h: 2*(n*c) <= 2*(n*d)+n; goal c <= d; mul goal * hn; mul goal * hn+
 pub nearest_high : (n c d : ℤ) → (pos 0) <ℤ n → ((pos 2) *ℤ (n *ℤ c)) ≤ℤ (((pos 2) *ℤ (n *ℤ d)) +ℤ n) → c ≤ℤ d
 nearest_high n c d hn h = prove_le_by (n ∷ c ∷ d ∷ []) (Lt (Num (pos 0)) (Var 0) ∷ Le (Mul (Num (pos 2)) (Mul (Var 0) (Var 1))) (Add (Mul (Num (pos 2)) (Mul (Var 0) (Var 2))) (Var 0)) ∷ []) (Var 1) (Var 2) (Plus (Times (Lit 2) (Hyp 0)) (Plus (Hyp 1) (Plus (Hyp 2) (Times (Lit 2) (Times (Hyp 0) (Hyp 1)))))) 0 (hn, (h, tt)) refl
-
--- vars n j f t a; hyp h0: 0 <= j; hyp h1: j <= n; hyp hf: a <= f; hyp ht: a <= t; goal n*a <= (n-j)*f+j*t; mul h1 * hf; mul h0 * ht
-pub mean_low : (n j f t a : ℤ) → (pos 0) ≤ℤ j → j ≤ℤ n → a ≤ℤ f → a ≤ℤ t → (n *ℤ a) ≤ℤ (((n -ℤ j) *ℤ f) +ℤ (j *ℤ t))
-mean_low n j f t a h0 h1 hf ht = prove_le_by (n ∷ j ∷ f ∷ t ∷ a ∷ []) (Le (Num (pos 0)) (Var 1) ∷ Le (Var 1) (Var 0) ∷ Le (Var 4) (Var 2) ∷ Le (Var 4) (Var 3) ∷ []) (Mul (Var 0) (Var 4)) (Add (Mul (Sub (Var 0) (Var 1)) (Var 2)) (Mul (Var 1) (Var 3))) (Plus (Hyp 0) (Plus (Times (Hyp 2) (Hyp 3)) (Times (Hyp 1) (Hyp 4)))) 0 (h0, (h1, (hf, (ht, tt)))) refl
-
--- vars n j f t b; hyp h0: 0 <= j; hyp h1: j <= n; hyp hf: f <= b; hyp ht: t <= b; goal (n-j)*f+j*t <= n*b; mul h1 * hf; mul h0 * ht
-pub mean_high : (n j f t b : ℤ) → (pos 0) ≤ℤ j → j ≤ℤ n → f ≤ℤ b → t ≤ℤ b → (((n -ℤ j) *ℤ f) +ℤ (j *ℤ t)) ≤ℤ (n *ℤ b)
-mean_high n j f t b h0 h1 hf ht = prove_le_by (n ∷ j ∷ f ∷ t ∷ b ∷ []) (Le (Num (pos 0)) (Var 1) ∷ Le (Var 1) (Var 0) ∷ Le (Var 2) (Var 4) ∷ Le (Var 3) (Var 4) ∷ []) (Add (Mul (Sub (Var 0) (Var 1)) (Var 2)) (Mul (Var 1) (Var 3))) (Mul (Var 0) (Var 4)) (Plus (Hyp 0) (Plus (Times (Hyp 2) (Hyp 3)) (Times (Hyp 1) (Hyp 4)))) 0 (h0, (h1, (hf, (ht, tt)))) refl

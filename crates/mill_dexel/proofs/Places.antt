@@ -17,7 +17,7 @@ use Rattle.mill_base.specs.declared.cutter.Cutter.TheVariants.{Flat, Ball, Cone}
 use Rattle.mill_sweep.specs.Leaves.{length_x, length_y, end_of}
 use Rattle.mill_dexel.specs.declared.sample.Placed.{Placed}
 use Rattle.mill_dexel.specs.Samples.{placed, is_split, split_of, centre_of, is_whole, raised_over, sample_at}
-use Rattle.mill_dexel.proofs.InnerCerts.{mean_low, mean_high, nearest_low, nearest_high}
+use Rattle.mill_dexel.proofs.InnerCerts.{nearest_low, nearest_high}
 
 -- the least number that passes a test: this one, or one from the next on
 found : (test : ℕ → Bool) (more start : ℕ) → test start ≡ true → least_from test (suc more) start ≡ start

@@ -12,8 +12,8 @@ use Rattle.mill_dexel.proofs.Reaches.{under_passes, over_passes}
 use Rattle.mill_dexel.proofs.UncutRows.{top_in_range}
 use Rattle.mill_dexel.proofs.row.Row.rapid_turn.Goals as goal
 
-pub first_block_point-requires-clause-point_ok : goal.first_block_point-requires-clause-point_ok
-first_block_point-requires-clause-point_ok c =
+pub first_block_point-requires : goal.first_block_point-requires
+first_block_point-requires c =
     subst (λ (p : Pt3). IsInRange p) (sym c.top_point-top.ensures)
     (top_in_range c.args.job.now c.args.self.now c.loop-column.column c.requires.job c.requires.row (omega (arith, c.reach_of-reach.ensures.within)))
 
