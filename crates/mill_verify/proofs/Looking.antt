@@ -22,6 +22,7 @@ use Rattle.mill_cells.specs.Ahead.{Ahead, Comes, NoneComes}
 use Rattle.mill_cells.proofs.PassedLemmas.{top_is}
 use Rattle.mill_sweep.specs.Halving.{FailsAt, Passes}
 use Rattle.mill_sweep.specs.Apart.{LieApart}
+use Rattle.mill_sweep.specs.Sweeps.{Swept}
 use Rattle.mill_sweep.specs.Moments.{IsFar, FarPasses}
 use Rattle.mill_sweep.specs.declared.leaf.Leaf.{Leaf}
 use Rattle.mill_sweep.proofs.Passing.{radius_least}
@@ -205,6 +206,11 @@ passed_by job part moves k low tops t far ok ranged low_is tops_are inside under
     low_passes job.cutter (move_at moves k) (tri_at part t) far ok ranged
     (subst (λ (h : ℤ). highest (tri_at part t) ≤ℤ h) low_is
     (subst (λ (h : ℤ). h ≤ℤ low) (top_is part t _ inside) (subst (λ (l : List ℤ). height_at l t ≤ℤ low) tops_are under)))
+
+-- what a sweep of the move says of a triangle, the move says
+pub earlier_swept : (s : Swept) (cutter : Cutter) (m : Move) (t : Tri) (i : ℕ) (first next : Option Gouge) → s ≡ record { cutter = cutter; move = m }
+    → IsEarlier s.cutter s.move t i first next → IsEarlier cutter m t i first next
+earlier_swept s cutter m t i first next same h = subst (λ (v : Swept). IsEarlier v.cutter v.move t i first next) same h
 
 -- one more triangle
 pub look_goes_on : (job : Job) (part : List Tri) (moves : List Move) (k : ℕ) (low : ℤ) (near later : Ahead) (i : ℕ) (first next : Option Gouge) → FarPasses → IsCutter job.cutter → MoveInRange (move_at moves k)

@@ -1,8 +1,9 @@
-use Rattle.std.specs.Prelude.{◌≡◌, ℕ, ℤ, ◌<◌, List, length, slice_index_or, Contains}
+use Rattle.std.specs.Prelude.{◌≡◌, ℕ, ℤ, pos, ◌<◌, List, length, slice_index_or, Contains}
 use Rattle.std.proofs.Common.{FitsSigned, rules, ◌↔◌, ◌∙◌, ap, subst, sym, w32, to_z, of_z}
 use Rattle.std.proofs.lemmas.Int.{to_z-of_z}
 use Rattle.std.proofs.lemmas.List.Elements.{Contains-get_or}
 use Rattle.mill_base.specs.Numbers.{lesser}
+use Rattle.mill_base.specs.Points.{point_at, point_tri}
 use Rattle.mill_base.specs.declared.motion.Move.{Move}
 use Rattle.mill_base.specs.declared.points.Box2.{Box2}
 use Rattle.mill_base.specs.declared.points.Tri.{Tri}
@@ -14,7 +15,7 @@ use Rattle.mill_verify.specs.Firsts.{IsEarlier}
 use Rattle.mill_verify.specs.Near.{IsOver, area_of}
 use Rattle.mill_verify.specs.Tests.{move_at}
 use Rattle.mill_verify.proofs.ReadLemmas.{move_read, at_move, at_both}
-use Rattle.mill_verify.proofs.Looking.{over_clears, look_starts, next_within, tri_in_range, look_goes_on, look_ends}
+use Rattle.mill_verify.proofs.Looking.{over_clears, look_starts, next_within, tri_in_range, look_goes_on, look_ends, earlier_swept}
 use Rattle.mill_verify.proofs.gouge.first_gouge.Goals as goal
 
 -- the height of the lower end, as it is passed on, is that of the move
@@ -68,7 +69,7 @@ loop-tri-preserved c =
     (low_known c.args.moves.now c.args.number _ c.low_end-low.result (search rules) c.requires.there c.low_end-low.ensures)
     c.in-Some.ensures c.loop-tri.invariant
     (at_both (λ m t. IsEarlier job.cutter m t c.in-Some.tri c.loop-tri.first c.earlier-first.result) moves c.args.number _ c.tris-tris.result.now c.args.part.now c.in-Some.tri _ c.requires.there c.tris-tris.ensures.list inside
-    (subst (λ (s : Swept). IsEarlier s.cutter s.move _ c.in-Some.tri c.loop-tri.first c.earlier-first.result) c.new-sweep.ensures c.earlier-first.ensures))
+    (earlier_swept _ _ _ (slice_index_or c.tris-tris.result.now c.in-Some.tri (point_tri (point_at (pos 0) (pos 0) (pos 0)))) c.in-Some.tri c.loop-tri.first c.earlier-first.result c.new-sweep.ensures c.earlier-first.ensures))
 
 pub returns-clause-first : goal.returns-clause-first
 returns-clause-first c = look_ends c.args.job.now c.args.part.now c.args.moves.now c.args.number (to_z w32 (of_z w32 c.low_end-low.result)) c.loop-tri.near c.next_over.new.self c.loop-tri.first far_passes c.requires.job_ok.cutter_ok
