@@ -39,7 +39,7 @@ pub loop-column-preserved : goal.loop-column-preserved
 loop-column-preserved c =
     below_more _ _ c.loop-column.invariant
     (subst (λ (p : Pt3). PassesPoint c.args.job.now.cutter c.args.step.now p) c.top_point-top.ensures
-     (subst (λ (s : Swept). PassesPoint s.cutter s.move c.top_point-top.result) c.new-sweep.ensures c.in_default.ensures))
+    (subst (λ (s : Swept). PassesPoint s.cutter s.move c.top_point-top.result) c.new-sweep.ensures c.in_default.ensures))
 
 pub returns-clause-first : goal.returns-clause-first
 returns-clause-first c = λ i within. elim (cases_lt i c.loop-column.column) [
