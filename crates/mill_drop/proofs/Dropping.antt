@@ -69,8 +69,8 @@ raise_starts cutter part d area x y from s near ranged e same each = record {
   dealt = λ i n. inl ((each i).1 (subst (λ (t : Sorted). IsNear t.boxes area i) (sym e) n));
 }
 
-pub next_within : (cutter : Cutter) (part : List Tri) (d : Tri) (area : Box2) (x y from : ℤ) (near later : Ahead) (i : ℕ) (height : ℤ) → Comes height near i later → RaisesSoFar cutter part d area x y from near height → i < length part
-next_within cutter part d area x y from near later i height h s = s.within i h.number
+pub next_within : (cutter : Cutter) (part : List Tri) (d : Tri) (area : Box2) (x y from : ℤ) (near later : Ahead) (i : ℕ) (z height : ℤ) → Comes z near i later → RaisesSoFar cutter part d area x y from near height → i < length part
+next_within cutter part d area x y from near later i z height h s = s.within i h.number
 
 -- the cutter holds nothing of a triangle whose top isn't over its tip
 low_top : (cutter : Cutter) (part : List Tri) (d : Tri) (x y height : ℤ) (tops : List ℤ) (j : ℕ) → IsCutter cutter → tops ≡ map highest part → height_at tops j ≤ℤ height → IsFree cutter part d x y height j

@@ -55,8 +55,8 @@ scan_starts part d floor band x y s near e same each = record {
   dealt = λ i n. inl ((each i).1 (subst (λ (t : Sorted). IsNear t.boxes (square_about band x y) i) (sym e) n));
 }
 
-pub next_within : (part : List Tri) (d : Tri) (floor band x y : ℤ) (near later : Ahead) (i : ℕ) (height : ℤ) → Comes height near i later → CoversSoFar part d floor band x y near height → i < length part
-next_within part d floor band x y near later i height h s = s.within i h.number
+pub next_within : (part : List Tri) (d : Tri) (floor band x y : ℤ) (near later : Ahead) (i : ℕ) (z height : ℤ) → Comes z near i later → CoversSoFar part d floor band x y near height → i < length part
+next_within part d floor band x y near later i z height h s = s.within i h.number
 
 -- a triangle whose top isn't over a height covers none over it
 low_top : (part : List Tri) (d : Tri) (band x y height : ℤ) (tops : List ℤ) (j : ℕ) → tops ≡ map highest part → height_at tops j ≤ℤ height → IsLow part d band x y height j

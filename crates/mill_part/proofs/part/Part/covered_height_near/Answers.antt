@@ -23,11 +23,11 @@ pub loop-number-smaller : goal.loop-number-smaller
 loop-number-smaller c = c.in-Some.ensures.shorter
 
 pub bounds-tris-number : goal.bounds-tris-number
-bounds-tris-number c = next_within c.tris-tris.result.now no_tri _ _ _ _ c.loop-number.near c.next_over.new.self c.in-Some.number _ c.in-Some.ensures c.loop-number.invariant.0
+bounds-tris-number c = next_within c.tris-tris.result.now no_tri _ _ _ _ c.loop-number.near c.next_over.new.self c.in-Some.number _ _ c.in-Some.ensures c.loop-number.invariant.0
 
 pub raised-height-requires-clause-tri_ok : goal.raised-height-requires-clause-tri_ok
 raised-height-requires-clause-tri_ok c =
-    let inside = next_within c.tris-tris.result.now no_tri _ _ _ _ c.loop-number.near c.next_over.new.self c.in-Some.number _ c.in-Some.ensures c.loop-number.invariant.0 in
+    let inside = next_within c.tris-tris.result.now no_tri _ _ _ _ c.loop-number.near c.next_over.new.self c.in-Some.number _ _ c.in-Some.ensures c.loop-number.invariant.0 in
     c.tris-tris.ensures.in_range _ (rw (← c.tris-tris.ensures.list) (Contains-get_or _ _ _ inside))
 
 pub loop-number-preserved : goal.loop-number-preserved
