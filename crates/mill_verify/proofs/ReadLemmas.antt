@@ -4,6 +4,8 @@ use Rattle.std.proofs.Common.{subst, ap, ◌∙◌}
 use Rattle.std.proofs.lemmas.List.{get_or_default}
 use Rattle.mill_base.specs.declared.points.Tri.{Tri}
 use Rattle.mill_base.specs.declared.motion.Move.{Move}
+use Rattle.mill_base.specs.declared.cutter.Cutter.{Cutter}
+use Rattle.mill_sweep.specs.Sweeps.{Swept}
 use Rattle.mill_verify.specs.Tests.{move_at, tri_at}
 
 pub move_read : (moves : List Move) (k : ℕ) (d : Move) → k < length moves → slice_index_or moves k d ≡ move_at moves k
@@ -21,3 +23,7 @@ pub at_both : (P : Move → Tri → Type 0) (moves : List Move) (k : ℕ) (d : M
     → P (slice_index_or moves k d) (slice_index_or tris t e) → P (move_at moves k) (tri_at part t)
 at_both P moves k d tris part t e h same there p =
     subst (λ (v : Tri). P (move_at moves k) v) (tri_read tris part t e same there) (subst (λ (v : Move). P v (slice_index_or tris t e)) (move_read moves k d h) p)
+
+-- what is so of a sweep's cutter and move is so of those of which it was made
+pub at_swept : (P : Cutter → Move → Tri → Type 0) (cutter : Cutter) (m : Move) (s : Swept) (t : Tri) → s ≡ record { cutter = cutter; move = m } → P s.cutter s.move t → P cutter m t
+at_swept P cutter m s t e h = subst (λ (w : Swept). P w.cutter w.move t) e h

@@ -5,12 +5,11 @@ use Rattle.std.proofs.lemmas.List.Elements.{Contains-get_or}
 use Rattle.mill_base.specs.declared.points.Box2.{Box2}
 use Rattle.mill_base.specs.declared.points.Tri.{Tri}
 use Rattle.mill_cells.specs.Boxes.{IsNear}
-use Rattle.mill_sweep.specs.Sweeps.{Swept}
 use Rattle.mill_sweep.proofs.Far.{far_passes}
 use Rattle.mill_verify.specs.Firsts.{IsEarlier}
 use Rattle.mill_verify.specs.Near.{IsOver, area_of}
 use Rattle.mill_verify.specs.Tests.{move_at}
-use Rattle.mill_verify.proofs.ReadLemmas.{move_read, at_move, at_both}
+use Rattle.mill_verify.proofs.ReadLemmas.{move_read, at_move, at_both, at_swept}
 use Rattle.mill_verify.proofs.Looking.{over_clears, look_starts, next_within, tri_in_range, look_goes_on, look_ends}
 use Rattle.mill_verify.proofs.gouge.first_gouge.Goals as goal
 
@@ -57,7 +56,7 @@ loop-tri-preserved c =
     (next_within job c.args.part.now moves c.args.number c.loop-tri.near c.next.new.self c.in-Some.tri _ c.in-Some.ensures.steps c.loop-tri.invariant) in
     look_goes_on job c.args.part.now moves c.args.number c.loop-tri.near c.next.new.self c.in-Some.tri c.loop-tri.first c.earlier-first.result c.in-Some.ensures.steps c.loop-tri.invariant
     (at_both (λ m t. IsEarlier job.cutter m t c.in-Some.tri c.loop-tri.first c.earlier-first.result) moves c.args.number _ c.tris-tris.result.now c.args.part.now c.in-Some.tri _ c.requires.there c.tris-tris.ensures.list inside
-     (subst (λ (s : Swept). IsEarlier s.cutter s.move _ c.in-Some.tri c.loop-tri.first c.earlier-first.result) c.new-sweep.ensures c.earlier-first.ensures))
+     (at_swept (λ k m t. IsEarlier k m t c.in-Some.tri c.loop-tri.first c.earlier-first.result) job.cutter _ c.new-sweep.result _ c.new-sweep.ensures c.earlier-first.ensures))
 
 pub returns-clause-first : goal.returns-clause-first
 returns-clause-first c = look_ends c.args.job.now c.args.part.now c.args.moves.now c.args.number c.loop-tri.near c.loop-tri.first c.in_default.ensures.steps.0 c.loop-tri.invariant
