@@ -111,6 +111,7 @@ pub fn meets_inner(a: Offset, b: Offset, c: Offset, radius: i64) -> bool
     let height = height(across, a);
     let size = dot(across, across);
     if !is_plane_near(height, size, radius) {
+        // The normal of corners on one line is 0, and tells nothing.
         if size > 0 {
             return false;
         }
