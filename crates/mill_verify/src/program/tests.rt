@@ -389,7 +389,7 @@ fn downs_and_ups(alloc: Global, first: u32, second: u32) -> Result<Vec<Move>, Wa
     Ok(moves)
 }
 
-// Move 124, the last but four of its block of 64, scrapes the plate, and so does one near the start of
+// Move 124, the last but three of its block of 64, scrapes the plate, and so does one near the start of
 // a later block. Among two, three or four workers the later block is now in an earlier stripe, now
 // in a later one, and now in the same. The last program scrapes nowhere.
 #[test]
