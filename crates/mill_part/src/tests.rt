@@ -215,7 +215,7 @@ fn covers_by_near_triangles(rt: HostRuntime) -> Result<(), Fail> {
     ];
     let part = part_of(&rt, plates.as_slice())?;
     let size = Cells::size_for(part.tris());
-    assert_eq!(rt; size, 256);
+    assert_eq!(rt; size, 512);
     let cells = Cells::new(rt.alloc(), part.tris(), size)?;
     let table = [
         (100, 100, 0, 200),
