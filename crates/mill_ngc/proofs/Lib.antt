@@ -2,3 +2,4 @@ mod LineLemmas
 mod SaidLemmas
 mod PercentLemmas
 mod ProgramLemmas
+pub mod MoveLines

@@ -1,0 +1,160 @@
+-- A framed program of one line for each move means these moves.
+use Rattle.std.proofs.Common.{◌≡◌, ℕ, ◌+◌, ◌*◌, ◌≤◌, ◌<◌, suc, List, [], ◌∷◌, ◌++◌, length, map, arith, rules, Bool, true, false, Some, Ok, refl, ap, ◌∙◌, append_assoc}
+use Rattle.std.specs.Prelude.{ℤ, pos, negsuc, nat_abs, int_lt, nat_lt, nat_le, codes}
+use Rattle.std.proofs.lemmas.Bool.Decides.{nat_tests}
+use Rattle.std.proofs.lemmas.List.Elements.{Contains-append_right}
+use Rattle.mill_base.specs.Numbers.{Within, greatest}
+use Rattle.mill_base.specs.Ranges.{IsInRange, MoveInRange, MovesInRange}
+use Rattle.mill_base.specs.Motion.{Follow}
+use Rattle.mill_base.specs.declared.points.Pt3.{Pt3}
+use Rattle.mill_base.specs.declared.motion.Kind.{Kind}
+use Rattle.mill_base.specs.declared.motion.Kind.TheVariants.{Rapid, Feed}
+use Rattle.mill_base.specs.declared.motion.Move.{Move}
+use Rattle.mill_words.specs.Marks.{marks_from}
+use Rattle.mill_words.specs.Lines.{grown_word, finished, started, read_marks, line_of}
+use Rattle.mill_words.specs.declared.word.Num.{Num}
+use Rattle.mill_words.specs.declared.word.Word.{Word}
+use Rattle.mill_ngc.specs.declared.profile.Mode.{Mode}
+use Rattle.mill_ngc.specs.declared.profile.Mode.TheVariants.{Off, On}
+use Rattle.mill_ngc.specs.declared.progress.Frame.TheVariants.{Framed}
+use Rattle.mill_ngc.specs.declared.progress.Progress.{Progress}
+use Rattle.mill_ngc.specs.declared.said.Said.{Said}
+use Rattle.mill_ngc.specs.Numbers.{units_of, whole_of}
+use Rattle.mill_ngc.specs.Profile.{entry_of}
+use Rattle.mill_ngc.specs.Said.{after_entry, said_from, said_by}
+use Rattle.mill_ngc.specs.Motion.{target, moved, acted}
+use Rattle.mill_ngc.specs.Programs.{is_percent, lines_of, after_words, after_line, start_at, read_from, program_of}
+
+-- ---- the words of a move's line
+
+abbrev pub whole_num : ℕ → Num
+whole_num n = record { neg = false; mant = n; scale = 0 }
+
+-- a number of units, with all its digits, two of them behind the point
+abbrev pub units_num : ℤ → Num
+units_num z = record { neg = int_lt z (pos 0); mant = nat_abs z; scale = 2 }
+
+abbrev pub motion_number : Kind → ℕ
+motion_number Rapid = 0
+motion_number Feed = 1
+
+-- G0 or G1, and X, Y and Z
+abbrev pub move_words : Move → List Word
+move_words m =
+    record { letter = 71; num = whole_num (motion_number m.kind) }
+    ∷ record { letter = 88; num = units_num m.to.x }
+    ∷ record { letter = 89; num = units_num m.to.y }
+    ∷ record { letter = 90; num = units_num m.to.z } ∷ []
+
+-- the line has these words, and isn't too long, nor a `%` alone
+pub record IsMoveLine (m : Move) (line : List ℕ) : Type 0 where
+  pub words : line_of line ≡ Ok (record { slash = false; numbered = false; words = move_words m })
+  pub short : length line ≤ 256
+  pub other : is_percent line ≡ false
+
+-- ---- what they say
+
+-- what a line says that has the words of a move
+abbrev move_said : Kind → Pt3 → Said
+move_said kind to = record {
+  groups = record { letter = 71; number = 1 } ∷ record { letter = 88; number = 0 } ∷ record { letter = 89; number = 0 } ∷ record { letter = 90; number = 0 } ∷ [];
+  mode = Some (On kind);
+  millimetres = false;
+  absolute = false;
+  ends = false;
+  x = Some (units_num to.x);
+  y = Some (units_num to.y);
+  z = Some (units_num to.z);
+}
+
+said_by-move : (line : ℕ) (positioned : Bool) (kind : Kind) (from to : Pt3)
+    → said_by line positioned (record { slash = false; numbered = false; words = move_words (record { kind = kind; from = from; to = to }) }) ≡ Ok (move_said kind to)
+unfolding said_from after_entry entry_of whole_of
+said_by-move line true Rapid from to = refl
+said_by-move line true Feed from to = refl
+said_by-move line false Rapid from to = refl
+said_by-move line false Feed from to = refl
+
+-- ---- what they do
+
+-- a program behind its header
+abbrev going : Pt3 → Mode → Bool → ℕ → ℕ → Progress
+going here mode positioned moves line =
+    record { here = here; mode = mode; millimetres = true; absolute = true; positioned = positioned; frame = Framed; ended = false; moves = moves; line = line }
+
+not_over : (n : ℕ) → n ≤ greatest → nat_lt greatest n ≡ false
+not_over n fits = grind (arith, nat_tests)
+
+times_one : (n : ℕ) → n * 1 ≡ n
+times_one n = omega arith
+
+not_negative : (n : ℕ) → int_lt (pos n) (pos 0) ≡ false
+not_negative n = grind (arith, nat_tests)
+
+units_of-num : (line : ℕ) (z : ℤ) → Within greatest z → units_of line (units_num z) ≡ Ok z
+unfolding units_of
+units_of-num line (pos n) fits = rw (times_one n, not_over n fits.within, not_negative n) refl
+units_of-num line (negsuc n) fits = rw (times_one (suc n), not_over (suc n) fits.within) refl
+
+room : (moves : ℕ) → moves < 1000000 → nat_le 1000000 moves ≡ false
+room moves few = grind (arith, nat_tests)
+
+acted-move : (here : Pt3) (mode : Mode) (positioned : Bool) (moves line : ℕ) (kind : Kind) (to : Pt3) → IsInRange to → moves < 1000000
+    → acted (going here mode positioned moves line) (move_said kind to)
+    ≡ Ok (going to (On kind) true (moves + 1) line, Some (record { kind = kind; from = here; to = to }))
+unfolding acted moved target
+acted-move here mode positioned moves line kind to fits few =
+    rw (units_of-num line to.x fits.x_ok, units_of-num line to.y fits.y_ok, units_of-num line to.z fits.z_ok, room moves few) refl
+
+not_long : (n : ℕ) → n ≤ 256 → nat_lt 256 n ≡ false
+not_long n short = grind (arith, nat_tests)
+
+-- behind the header, the line of a move makes this move
+after_line-move : (m : Move) (mode : Mode) (positioned : Bool) (moves number : ℕ) (line : List ℕ) → IsInRange m.to → moves < 1000000 → IsMoveLine m line
+    → after_line (going m.from mode positioned moves number) line ≡ Ok (going m.to (On m.kind) true (moves + 1) (number + 1), Some m)
+unfolding after_line after_words
+after_line-move m mode positioned moves number line fits few is_line =
+    rw (not_long (length line) is_line.short, is_line.other, is_line.words, said_by-move (number + 1) positioned m.kind m.from m.to) (acted-move m.from mode positioned moves (number + 1) m.kind m.to fits few)
+
+-- ---- the program
+
+abbrev end_lines : List (List ℕ)
+end_lines = codes "M2" ∷ codes "%" ∷ [] ∷ []
+
+-- what a program says behind its header, up to its end
+read_from-end : (here : Pt3) (mode : Mode) (positioned : Bool) (count number : ℕ) (done : List Move)
+    → read_from (going here mode positioned count number) done end_lines ≡ Ok (done ++ [])
+unfolding read_from after_line after_words line_of read_marks marks_from grown_word finished started said_from after_entry entry_of whole_of acted
+read_from-end here mode true count number done = refl
+read_from-end here mode false count number done = refl
+
+read_from-move : (m : Move) (here : Pt3) (mode : Mode) (positioned : Bool) (count number : ℕ) (done : List Move) (line : List ℕ) (lines : List (List ℕ))
+    → m.from ≡ here → IsInRange m.to → count < 1000000 → IsMoveLine m line
+    → read_from (going here mode positioned count number) done (line ∷ lines) ≡ read_from (going m.to (On m.kind) true (count + 1) (number + 1)) (done ++ m ∷ []) lines
+unfolding read_from
+read_from-move m here mode positioned count number done line lines follow fits few is_line =
+    rw (← follow, after_line-move m mode positioned count number line fits few is_line) refl
+
+read_from-moves : (line : Move → List ℕ) → ((m : Move) → MoveInRange m → IsMoveLine m (line m))
+    → (moves : List Move) (here : Pt3) (mode : Mode) (positioned : Bool) (count number : ℕ) (done : List Move)
+    → Follow here moves → MovesInRange moves → count + length moves ≤ 1000000
+    → read_from (going here mode positioned count number) done (map line moves ++ end_lines) ≡ Ok (done ++ moves)
+read_from-moves line is_line [] here mode positioned count number done follow fits few = read_from-end here mode positioned count number done
+read_from-moves line is_line (m ∷ moves) here mode positioned count number done follow fits few =
+    let first : MoveInRange m = fits m (search rules) in
+    let others : MovesInRange moves = λ n member. fits n (Contains-append_right (m ∷ []) moves n member) in
+    read_from-move m here mode positioned count number done (line m) (map line moves ++ end_lines) follow.0 first.to_ok (omega arith) (is_line m first)
+    ∙ read_from-moves line is_line moves m.to (On m.kind) true (count + 1) (number + 1) (done ++ m ∷ []) follow.1 others (omega arith)
+    ∙ ap (λ (ms : List Move). Ok ms) (append_assoc done (m ∷ []) moves)
+
+read_from-header : (start : Pt3) (lines : List (List ℕ)) → read_from (start_at start) [] (codes "%" ∷ codes "G17 G21 G90" ∷ lines) ≡ read_from (going start Off false 0 2) [] lines
+unfolding read_from after_line after_words line_of read_marks marks_from grown_word finished started said_from after_entry entry_of whole_of acted
+read_from-header start lines = refl
+
+-- a program of these lines means the moves, which follow on each other from the start
+pub program_of-moves : (line : Move → List ℕ) → ((m : Move) → MoveInRange m → IsMoveLine m (line m))
+    → (start : Pt3) (moves : List Move) (text : List ℕ) → Follow start moves → MovesInRange moves → length moves ≤ 1000000
+    → lines_of text ≡ codes "%" ∷ codes "G17 G21 G90" ∷ (map line moves ++ end_lines) → program_of start text ≡ Ok moves
+unfolding program_of
+program_of-moves line is_line start moves text follow fits few lines =
+    rw lines (read_from-header start (map line moves ++ end_lines) ∙ read_from-moves line is_line moves start Off false 0 2 [] follow fits (omega arith))

@@ -1,0 +1,4 @@
+mod TextLemmas
+mod Cutting
+mod Numerals
+mod Moves

@@ -1,0 +1,74 @@
+//! Programs by hand, which read back.
+use super::*;
+use mill_base::{Kind, Move, Pt3};
+use mill_ngc::read_program;
+use std::test::Fail;
+
+const HOME: Pt3 = Pt3 {
+    x: 100,
+    y: 100,
+    z: 400,
+};
+
+const LOWEST: Pt3 = Pt3 {
+    x: -131_071,
+    y: -131_071,
+    z: -131_071,
+};
+
+fn point(x: i32, y: i32, z: i32) -> Pt3 {
+    Pt3 { x, y, z }
+}
+
+fn feed(from: Pt3, to: Pt3) -> Move {
+    Move {
+        kind: Kind::Feed,
+        from,
+        to,
+    }
+}
+
+fn rapid(from: Pt3, to: Pt3) -> Move {
+    Move {
+        kind: Kind::Rapid,
+        from,
+        to,
+    }
+}
+
+#[test]
+fn writes_moves(rt: HostRuntime) -> Result<(), Fail> {
+    let near = point(0, 0, 200);
+    let far = point(200, 200, 400);
+    let moves = [feed(HOME, near), rapid(near, far)];
+    let text = write_program(rt.alloc(), moves.as_slice())?;
+    let want: &[u8] = b"%\nG17 G21 G90\nG1 X0.00 Y0.00 Z2.00\nG0 X2.00 Y2.00 Z4.00\nM2\n%\n";
+    assert_eq!(rt; text.as_slice(), want);
+    let again = read_program(rt.alloc(), text.as_slice(), HOME)?;
+    assert_eq!(rt; again.as_slice(), moves.as_slice());
+    Ok(())
+}
+
+#[test]
+fn writes_no_move(rt: HostRuntime) -> Result<(), Fail> {
+    let text = write_program(rt.alloc(), &[])?;
+    let want: &[u8] = b"%\nG17 G21 G90\nM2\n%\n";
+    assert_eq!(rt; text.as_slice(), want);
+    let again = read_program(rt.alloc(), text.as_slice(), HOME)?;
+    assert_eq!(rt; again.len(), 0);
+    Ok(())
+}
+
+// Coordinates at both ends of their range and about 0, and a move that stays where it is.
+#[test]
+fn writes_extreme_coordinates(rt: HostRuntime) -> Result<(), Fail> {
+    let high = point(131_071, -5, -100);
+    let moves = [rapid(LOWEST, LOWEST), feed(LOWEST, high), feed(high, HOME)];
+    let text = write_program(rt.alloc(), moves.as_slice())?;
+    let want: &[u8] =
+        b"%\nG17 G21 G90\nG0 X-1310.71 Y-1310.71 Z-1310.71\nG1 X1310.71 Y-0.05 Z-1.00\nG1 X1.00 Y1.00 Z4.00\nM2\n%\n";
+    assert_eq!(rt; text.as_slice(), want);
+    let again = read_program(rt.alloc(), text.as_slice(), LOWEST)?;
+    assert_eq!(rt; again.as_slice(), moves.as_slice());
+    Ok(())
+}
