@@ -106,7 +106,7 @@ fn writes_to_memory(rt: HostRuntime) -> Result<(), Fail> {
 }
 
 #[test]
-fn reads_and_writes_a_real_file(rt: HostRuntime) -> Result<(), Fail> {
+fn stores_and_reads_a_real_file(rt: HostRuntime) -> Result<(), Fail> {
     let name = format!(in rt.alloc(); "mill-io-{}", process::id(rt.process()))?;
     let path = env::temp_dir(&rt)?.join(rt.alloc(), name.as_str())?;
     let path = path.to_str().ok_or("a path that is not text")?;
@@ -114,12 +114,12 @@ fn reads_and_writes_a_real_file(rt: HostRuntime) -> Result<(), Fail> {
     let mut shelf = FileShelf::new(&rt);
     let missing = read_whole(rt.alloc(), &mut shelf, path, 9);
     assert!(rt; matches!(missing, Err(ReadEnd::ReadFault)));
-    let created = shelf.create(path);
-    let appended = shelf.append(path, &long);
+    let before = store(&mut shelf, path, b"what goes");
+    let stored = store(&mut shelf, path, &long);
     let read = read_whole(rt.alloc(), &mut shelf, path, 70000);
     let short = read_whole(rt.alloc(), &mut shelf, path, 69999);
     fs::remove_file(&rt, path)?;
-    assert_eq!(rt; (created, appended), (Ok(()), Ok(70000)));
+    assert_eq!(rt; (before, stored), (Ok(()), Ok(())));
     assert!(rt; read?.as_slice() == long.as_slice());
     assert!(rt; matches!(short, Err(ReadEnd::TooLong)));
     Ok(())
