@@ -97,8 +97,8 @@ fn writes_to_memory(rt: HostRuntime) -> Result<(), Fail> {
         (3, &[], Err(Failed), b"hel"),
         (5, &[0], Err(Failed), b""),
     ];
-    for (room, fails, want, written) in rows {
-        let mut sink = MemSink::new(rt.alloc(), room, fails)?;
+    for (capacity, fails, want, written) in rows {
+        let mut sink = MemSink::new(rt.alloc(), capacity, fails)?;
         assert_eq!(rt; write_whole(&mut sink, b"hello"), want);
         assert_eq!(rt; sink.written(), written);
     }

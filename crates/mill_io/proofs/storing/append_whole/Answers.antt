@@ -16,6 +16,7 @@ loop-done-preserved g c =
       omega (arith, c.in_ok-count.ensures.within, ap length e, length-drop c.loop-done.done c.args.bytes.now),
       appended_more c.args.bytes.now _ c.loop-done.done c.in_ok-count.count _ (g.S.Shelf.contents c.loop-done.shelf c.args.name.now) _ e c.loop-done.invariant.1 c.in_ok-count.ensures.appended,
       λ other apart. c.in_ok-count.ensures.others other apart ∙ c.loop-done.invariant.2 other apart,
-      c.in_ok-count.ensures.cause.ok ∙ c.loop-done.invariant.3,
-      c.in_ok-count.ensures.other_count ∙ c.loop-done.invariant.4,
+      c.in_ok-count.ensures.telling ∙ c.loop-done.invariant.3,
+      c.in_ok-count.ensures.cause.ok ∙ c.loop-done.invariant.4,
+      c.in_ok-count.ensures.other_count ∙ c.loop-done.invariant.5,
     )

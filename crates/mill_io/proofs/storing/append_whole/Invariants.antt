@@ -7,6 +7,7 @@ invariant-loop-done g l =
     (l.done ≤ length l.bytes)
     × Appended (take l.done l.bytes) (g.S.Shelf.contents l.initial.shelf l.name) (g.S.Shelf.contents l.shelf l.name)
     × OthersStay l.name (g.S.Shelf.contents l.initial.shelf) (g.S.Shelf.contents l.shelf)
+    × (g.S.Shelf.tells l.shelf ≡ g.S.Shelf.tells l.initial.shelf)
     × (g.S.Shelf.write_faults l.shelf ≡ g.S.Shelf.write_faults l.initial.shelf)
     × (g.S.Shelf.read_faults l.shelf ≡ g.S.Shelf.read_faults l.initial.shelf)
 
