@@ -25,12 +25,22 @@ pub record AppendedPart (piece : List ℕ) (old new : Option (List ℕ)) : Type 
   pub within : n ≤ length piece
   pub appended : Appended (take n piece) old new
 
--- the contents are empty, where they are told, and what was told still is
-abbrev pub IsEmptied : Option (List ℕ) → Option (List ℕ) → Type 0
-IsEmptied None new = IfSome new (λ bytes. bytes ≡ [])
-IsEmptied (Some bytes) new = new ≡ Some []
+-- the contents are these bytes, where they are told, and what was told still is
+abbrev pub Stored : List ℕ → Option (List ℕ) → Option (List ℕ) → Type 0
+Stored bytes None new = IfSome new (λ held. held ≡ bytes)
+Stored bytes (Some before) new = new ≡ Some bytes
+
+-- the same with some prefix of the bytes
+pub record StoredPart (bytes : List ℕ) (old new : Option (List ℕ)) : Type 0 where
+  pub n : ℕ
+  pub within : n ≤ length bytes
+  pub stored : Stored (take n bytes) old new
+
+-- the contents are as they were, or some prefix of the bytes
+abbrev pub SameOrPart : List ℕ → Option (List ℕ) → Option (List ℕ) → Type 0
+SameOrPart bytes old new = (new ≡ old) ⊎ StoredPart bytes old new
 
 -- an Ok emptied the contents; a failure left them or emptied them
 abbrev pub Emptied : {E : Type 0} → Option (List ℕ) → Option (List ℕ) → Result Unit E → Type 0
-Emptied old new (Ok _) = IsEmptied old new
-Emptied old new (Err _) = (new ≡ old) ⊎ IsEmptied old new
+Emptied old new (Ok _) = Stored [] old new
+Emptied old new (Err _) = (new ≡ old) ⊎ Stored [] old new

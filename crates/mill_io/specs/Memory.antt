@@ -29,7 +29,7 @@ is_next_listed s = is_listed s.calls s.fails.items
 
 -- how many bytes can still be added
 abbrev pub room_left : Room → ℕ
-room_left r = r.room - length r.bytes.items
+room_left r = r.capacity - length r.bytes.items
 
 -- a piece that isn't empty finds no room left
 abbrev pub finds_no_room : Room → List ℕ → Bool
@@ -39,14 +39,14 @@ finds_no_room r piece = nat_lt 0 (length piece) && (room_left r == 0)
 abbrev pub sink_script : MemSink → Script
 sink_script s = s.script
 
-abbrev pub sink_room : MemSink → ℕ
-sink_room s = s.out.room
+abbrev pub sink_capacity : MemSink → ℕ
+sink_capacity s = s.out.capacity
 
 abbrev pub shelf_script : MemShelf → Script
 shelf_script s = s.script
 
-abbrev pub shelf_room : MemShelf → ℕ
-shelf_room s = s.out.room
+abbrev pub shelf_capacity : MemShelf → ℕ
+shelf_capacity s = s.out.capacity
 
 -- the name of a shelf's written file
 abbrev pub out_name_of : MemShelf → List ℕ

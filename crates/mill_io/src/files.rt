@@ -1,4 +1,4 @@
-ghost use Rattle.std.specs.Prelude.{◌≡◌, ◌≤◌, None, length, IfOk};
+ghost use Rattle.std.specs.Prelude.{◌≡◌, ◌≤◌, None, false, length, IfOk};
 
 use crate::{Failed, Shelf, Sink};
 use std::io::{Read, Seek, SeekFrom, Write};
@@ -50,6 +50,8 @@ impl<'a, R: Files> FileShelf<'a, R> {
 }
 
 impl<'a, R: Files> Shelf for FileShelf<'a, R> {
+    ghost tells = { λ _. false };
+
     ghost contents = { λ _ _. None };
 
     ghost read_faults = { λ s. s.read_faults };

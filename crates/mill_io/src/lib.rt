@@ -1,9 +1,10 @@
 //! The outside of the program: stores of named files and sinks of bytes.
 //!
 //! It stands on mill_base. A [`Shelf`] and a [`Sink`] are traits with a written meaning: what they
-//! hold, where they tell it, and how often they failed. [`read_whole`] and [`write_whole`] promise
-//! exactly the contents over each of them. Real files and standard output tell no contents, and
-//! the shelf and the sink in memory tell all. The definitions are in `specs/`, a module a subject.
+//! hold, where they tell it, and how often they failed. [`read_whole`], [`store`] and
+//! [`write_whole`] promise exactly the contents over each of them. Real files and standard output
+//! tell no contents, and the shelf and the sink in memory tell all. The definitions are in `specs/`,
+//! a module a subject.
 #![tactic(auto)]
 
 mod files;
@@ -12,6 +13,7 @@ mod mem_sink;
 mod room;
 mod script;
 mod shelf;
+mod storing;
 #[cfg(test)]
 mod tests;
 mod whole;
@@ -20,4 +22,5 @@ pub use files::{FileShelf, StdSink};
 pub use mem_shelf::{MemFile, MemShelf};
 pub use mem_sink::MemSink;
 pub use shelf::{Failed, Shelf, Sink};
+pub use storing::store;
 pub use whole::{ReadEnd, read_whole, write_whole};

@@ -1,8 +1,8 @@
-ghost use Rattle.std.specs.Prelude.{◌≡◌, ◌+◌, ◌<◌, ◌≤◌, ℕ, List, [], Some, length, take, is_err, IfOk, IfSome, OnErr};
+ghost use Rattle.std.specs.Prelude.{◌≡◌, ◌+◌, ◌<◌, ◌≤◌, ℕ, List, [], Some, true, length, take, is_err, IsTrue, IfOk, IfSome, OnErr};
 ghost use Rattle.std.specs.Option.{option_copied};
 ghost use Rattle.mill_io.specs.Causes.{HasCause};
 ghost use Rattle.mill_io.specs.Contents.{GivesFrom, Stay, OthersStay, Appended, AppendedPart, Emptied};
-ghost use Rattle.mill_io.specs.Memory.{IsFresh, CountsCall, contents_of, find_file, out_name_of, shelf_room, shelf_script, read_fails, create_fails, append_fails};
+ghost use Rattle.mill_io.specs.Memory.{IsFresh, CountsCall, contents_of, find_file, out_name_of, shelf_capacity, shelf_script, read_fails, create_fails, append_fails};
 
 use crate::room::Room;
 use crate::script::Script;
@@ -34,7 +34,7 @@ impl MemShelf {
     /// A shelf of these files, of which the first counts where names are equal.
     ///
     /// The file `out_name` can be written. It is told from the start if one of the files has its
-    /// name, and else from the first create on. It holds at most `room` bytes, taken now, or as
+    /// name, and else from the first create on. It holds at most `capacity` bytes, taken now, or as
     /// many as it begins with. The calls whose numbers are listed fail, counted from 0 over all
     /// calls, and so do a read of a name that isn't there, a create or an append of another name,
     /// and an append of a piece that isn't empty and finds no room left. The only error is that
@@ -43,22 +43,23 @@ impl MemShelf {
         alloc: Global,
         files: Vec<MemFile>,
         out_name: &str,
-        room: usize,
+        capacity: usize,
         fails: &[u64],
     ) -> Result<MemShelf, WantOfMemory>
+        ensures tells { IfOk result (λ s. IsTrue (⟦<MemShelf as Shelf>⟧.tells s)) }
         ensures contents { IfOk result (λ s. (name : List ℕ) → ⟦<MemShelf as Shelf>⟧.contents s name ≡ find_file name files.items) }
         ensures read_faults { IfOk result (λ s. ⟦<MemShelf as Shelf>⟧.read_faults s ≡ 0) }
         ensures write_faults { IfOk result (λ s. ⟦<MemShelf as Shelf>⟧.write_faults s ≡ 0) }
         ensures reads { IfOk result (λ s. ⟦<MemShelf as Shelf>⟧.reads s ≡ 0) }
         ensures out { IfOk result (λ s. out_name_of s ≡ out_name.now) }
-        ensures room { IfOk result (λ s. shelf_room s ≡ room) }
+        ensures capacity { IfOk result (λ s. shelf_capacity s ≡ capacity) }
         ensures script { IfOk result (λ s. IsFresh fails.now (shelf_script s)) }
     {
         let script = Script::new(alloc, fails)?;
         let out_name = Vec::from_slice(alloc, out_name.as_bytes())?;
         let (out, is_told) = match find_in(&files, out_name.as_slice()) {
-            Some(bytes) => (Room::holding(alloc, room, bytes)?, true),
-            None => (Room::new(alloc, room)?, false),
+            Some(bytes) => (Room::holding(alloc, capacity, bytes)?, true),
+            None => (Room::new(alloc, capacity)?, false),
         };
         Ok(MemShelf {
             files,
@@ -110,6 +111,8 @@ fn copy_from(bytes: &[u8], from: u64, buf: &mut [u8]) -> usize
 }
 
 impl Shelf for MemShelf {
+    ghost tells = { λ _. true };
+
     ghost contents = { contents_of };
 
     ghost read_faults = { λ s. s.read_faults };

@@ -1,7 +1,7 @@
 ghost use Rattle.std.specs.Prelude.{◌≡◌, ◌<◌, ◌≤◌, [], Some, length, take, is_err, IfOk, OnErr};
 ghost use Rattle.mill_io.specs.Causes.{HasCause};
 ghost use Rattle.mill_io.specs.Contents.{Appended, AppendedPart};
-ghost use Rattle.mill_io.specs.Memory.{IsFresh, CountsCall, sink_room, sink_script, write_fails};
+ghost use Rattle.mill_io.specs.Memory.{IsFresh, CountsCall, sink_capacity, sink_script, write_fails};
 
 use crate::room::Room;
 use crate::script::Script;
@@ -18,18 +18,18 @@ pub struct MemSink {
 }
 
 impl MemSink {
-    /// A sink with room for so many bytes, taken now.
+    /// A sink with room for `capacity` bytes, taken now.
     ///
     /// The writes whose numbers are listed fail, counted from 0, and so does one of a piece that
     /// isn't empty and finds no room left. The only error is that there is no memory.
-    pub fn new(alloc: Global, room: usize, fails: &[u64]) -> Result<MemSink, WantOfMemory>
+    pub fn new(alloc: Global, capacity: usize, fails: &[u64]) -> Result<MemSink, WantOfMemory>
         ensures written { IfOk result (λ s. ⟦<MemSink as Sink>⟧.written s ≡ Some []) }
         ensures faults { IfOk result (λ s. ⟦<MemSink as Sink>⟧.faults s ≡ 0) }
-        ensures room { IfOk result (λ s. sink_room s ≡ room) }
+        ensures capacity { IfOk result (λ s. sink_capacity s ≡ capacity) }
         ensures script { IfOk result (λ s. IsFresh fails.now (sink_script s)) }
     {
         Ok(MemSink {
-            out: Room::new(alloc, room)?,
+            out: Room::new(alloc, capacity)?,
             script: Script::new(alloc, fails)?,
             faults: 0,
         })

@@ -3,36 +3,43 @@ ghost use Rattle.std.specs.Prelude.{◌≡◌, ◌<◌, ◌≤◌, ◌++◌, [],
 use mill_base::WantOfMemory;
 use std::alloc::Global;
 
-/// Bytes with a place of their own, of which there are at most `room`.
+/// Bytes with a place of their own: at most `capacity`, or as many as it began with.
 #[derive(Drop)]
 pub(crate) struct Room {
     bytes: Vec<u8>,
-    room: usize,
-    ghost taken: { room ≤ vec_capacity bytes },
+    capacity: usize,
+    ghost taken: { capacity ≤ vec_capacity bytes },
 }
 
 impl Room {
     ghost use Rattle.mill_io.specs.Memory.{finds_no_room};
 
-    /// Takes memory for `room` bytes, none of which is there yet.
-    pub(crate) fn new(alloc: Global, room: usize) -> Result<Room, WantOfMemory>
+    /// Takes memory for `capacity` bytes, none of which is there yet.
+    pub(crate) fn new(alloc: Global, capacity: usize) -> Result<Room, WantOfMemory>
         ensures bytes { IfOk result (λ r. r.bytes.items ≡ []) }
-        ensures room { IfOk result (λ r. r.room ≡ room) }
+        ensures capacity { IfOk result (λ r. r.capacity ≡ capacity) }
     {
         Ok(Room {
-            bytes: Vec::with_capacity(alloc, room)?,
-            room,
+            bytes: Vec::with_capacity(alloc, capacity)?,
+            capacity,
         })
     }
 
-    /// Takes memory for `room` bytes, or as many as these, and holds these.
-    pub(crate) fn holding(alloc: Global, room: usize, bytes: &[u8]) -> Result<Room, WantOfMemory>
+    /// Takes memory for `capacity` bytes, or as many as these, and holds these.
+    pub(crate) fn holding(
+        alloc: Global,
+        capacity: usize,
+        bytes: &[u8],
+    ) -> Result<Room, WantOfMemory>
         ensures bytes { IfOk result (λ r. r.bytes.items ≡ bytes.now) }
-        ensures room { IfOk result (λ r. r.room ≡ room) }
+        ensures capacity { IfOk result (λ r. r.capacity ≡ capacity) }
     {
-        let mut held = Vec::with_capacity(alloc, room.max(bytes.len()))?;
+        let mut held = Vec::with_capacity(alloc, capacity.max(bytes.len()))?;
         held.extend_from_slice(bytes)?;
-        Ok(Room { bytes: held, room })
+        Ok(Room {
+            bytes: held,
+            capacity,
+        })
     }
 
     /// The bytes that are there.
@@ -45,7 +52,7 @@ impl Room {
     /// Removes all bytes.
     pub(crate) fn clear(&mut self)
         ensures bytes { self.new.bytes.items ≡ [] }
-        ensures room { self.new.room ≡ self.old.room }
+        ensures capacity { self.new.capacity ≡ self.old.capacity }
     {
         self.bytes.clear();
     }
@@ -58,14 +65,17 @@ impl Room {
         ensures some { 0 < length piece.now → IfSome result (λ n. 0 < n) }
         ensures added { IfSome result (λ n. self.new.bytes.items ≡ self.old.bytes.items ++ take n piece.now) }
         ensures same { IfNone result (self.new.bytes.items ≡ self.old.bytes.items) }
-        ensures room { self.new.room ≡ self.old.room }
+        ensures capacity { self.new.capacity ≡ self.old.capacity }
     {
-        let count = piece.len().min(self.room.saturating_sub(self.bytes.len()));
+        let count = piece
+            .len()
+            .min(self.capacity.saturating_sub(self.bytes.len()));
         if count == 0 && !piece.is_empty() {
             return None;
         }
         match self.bytes.extend_from_slice(&piece[..count]) {
             Ok(()) => Some(count),
+            // This can't come, since `new` or `holding` took the memory for `capacity` bytes.
             Err(_) => None,
         }
     }

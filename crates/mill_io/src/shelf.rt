@@ -1,4 +1,4 @@
-ghost use Rattle.std.specs.Prelude.{◌≡◌, ◌+◌, ◌<◌, ◌≤◌, List, ℕ, Option, length, take, IfOk, IfSome, OnErr};
+ghost use Rattle.std.specs.Prelude.{◌≡◌, ◌+◌, ◌<◌, ◌≤◌, [], Bool, List, ℕ, Option, Some, length, take, IsTrue, IfOk, IfSome, OnOk, OnErr};
 ghost use Rattle.mill_io.specs.Causes.{HasCause};
 ghost use Rattle.mill_io.specs.Contents.{GivesFrom, Stay, OthersStay, Appended, AppendedPart, Emptied};
 
@@ -12,8 +12,12 @@ pub struct Failed;
 /// A store of named files, as the program sees the outside.
 ///
 /// Clauses name what it holds only where it tells it. A counter of an implementation may be a
-/// `u64`, which stops at its greatest value: from there on each call counts as one that raised it.
+/// `u64`, which stops at its greatest value: from there on each failed call counts as one that
+/// raised it.
 pub trait Shelf {
+    /// Whether the shelf tells its contents. If so, it tells those of each name that was created.
+    ghost tells: { Self → Bool };
+
     /// The contents under a name, where the shelf tells them.
     ghost contents: { Self → List ℕ → Option (List ℕ) };
 
@@ -23,7 +27,10 @@ pub trait Shelf {
     /// How often a create or an append failed.
     ghost write_faults: { Self → ℕ };
 
-    /// How many reads were made, as far as the shelf counts them.
+    /// A count that a read raises by at most one.
+    ///
+    /// That [`read_whole`](crate::read_whole) makes at most `limit + 2` reads rests on its being
+    /// proved for every shelf, and so for one that counts each read.
     ghost reads: { Self → ℕ };
 
     /// Reads the bytes under a name, from a place on, into the buffer, and answers how many.
@@ -34,16 +41,19 @@ pub trait Shelf {
         ensures within { IfOk result (λ n. n ≤ length buf.new) }
         ensures bytes { IfOk result (λ n. IfSome (contents self.old name.now) (λ bytes. GivesFrom bytes from n buf.new)) }
         ensures stay { Stay (contents self.old) (contents self.new) }
+        ensures telling { tells self.new ≡ tells self.old }
         ensures cause { HasCause (read_faults self.old) (read_faults self.new) result }
         ensures other_count { write_faults self.new ≡ write_faults self.old }
         ensures counted { reads self.new ≤ reads self.old + 1 };
 
-    /// Makes the contents under a name empty.
+    /// Makes the contents under a name empty, also where the name was absent.
     ///
     /// After a failure they are as before, or empty.
     fn create(&mut self, name: &str) -> Result<(), Failed>
         ensures emptied { Emptied (contents self.old name.now) (contents self.new name.now) result }
+        ensures told { IsTrue (tells self.old) → OnOk result (contents self.new name.now ≡ Some []) }
         ensures others { OthersStay name.now (contents self.old) (contents self.new) }
+        ensures telling { tells self.new ≡ tells self.old }
         ensures cause { HasCause (write_faults self.old) (write_faults self.new) result }
         ensures other_count { read_faults self.new ≡ read_faults self.old };
 
@@ -57,6 +67,7 @@ pub trait Shelf {
         ensures appended { IfOk result (λ n. Appended (take n bytes.now) (contents self.old name.now) (contents self.new name.now)) }
         ensures part { OnErr result (AppendedPart bytes.now (contents self.old name.now) (contents self.new name.now)) }
         ensures others { OthersStay name.now (contents self.old) (contents self.new) }
+        ensures telling { tells self.new ≡ tells self.old }
         ensures cause { HasCause (write_faults self.old) (write_faults self.new) result }
         ensures other_count { read_faults self.new ≡ read_faults self.old };
 }

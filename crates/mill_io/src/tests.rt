@@ -1,6 +1,7 @@
 // Whole reads and writes over each shelf and sink, with ample memory and with a call that fails.
 use crate::{
-    Failed, FileShelf, MemFile, MemShelf, MemSink, ReadEnd, Shelf, StdSink, read_whole, write_whole,
+    Failed, FileShelf, MemFile, MemShelf, MemSink, ReadEnd, Shelf, StdSink, read_whole, store,
+    write_whole,
 };
 use std::alloc::{AllocError, Global};
 use std::test::Fail;
@@ -13,13 +14,15 @@ fn file(alloc: Global, name: &str, bytes: &[u8]) -> Result<MemFile, AllocError> 
     })
 }
 
-// Two files of one name and one that is empty. The first can hold 3 bytes.
-fn shelf(alloc: Global, fails: &[u64]) -> Result<MemShelf, Fail> {
+// Two files of one name, one that is empty and one more. The file that can be written has room for
+// 3 bytes.
+fn shelf(alloc: Global, out_name: &str, fails: &[u64]) -> Result<MemShelf, Fail> {
     let mut files = Vec::new(alloc);
     files.push(file(alloc, "a", b"one")?)?;
     files.push(file(alloc, "a", b"two")?)?;
     files.push(file(alloc, "b", b"")?)?;
-    Ok(MemShelf::new(alloc, files, "out", 3, fails)?)
+    files.push(file(alloc, "d", b"old")?)?;
+    Ok(MemShelf::new(alloc, files, out_name, 3, fails)?)
 }
 
 #[test]
@@ -35,7 +38,7 @@ fn reads_whole_files_in_memory(rt: HostRuntime) -> Result<(), Fail> {
         ("a", 3, &[2], Ok(b"one")),
     ];
     for (name, limit, fails, want) in rows {
-        let mut shelf = shelf(rt.alloc(), fails)?;
+        let mut shelf = shelf(rt.alloc(), "out", fails)?;
         let read = read_whole(rt.alloc(), &mut shelf, name, limit);
         match (&read, want) {
             (Ok(bytes), Ok(wanted)) => assert_eq!(rt; bytes.as_slice(), wanted, "{name}"),
@@ -48,7 +51,7 @@ fn reads_whole_files_in_memory(rt: HostRuntime) -> Result<(), Fail> {
 
 #[test]
 fn writes_one_file_in_memory(rt: HostRuntime) -> Result<(), Fail> {
-    let mut shelf = shelf(rt.alloc(), &[3])?;
+    let mut shelf = shelf(rt.alloc(), "out", &[3])?;
     assert_eq!(rt; shelf.create("a"), Err(Failed));
     assert_eq!(rt; shelf.create("out"), Ok(()));
     assert_eq!(rt; shelf.append("out", b"12"), Ok(2));
@@ -63,14 +66,39 @@ fn writes_one_file_in_memory(rt: HostRuntime) -> Result<(), Fail> {
 }
 
 #[test]
+fn stores_a_file_in_memory(rt: HostRuntime) -> Result<(), Fail> {
+    let none: &[u64] = &[];
+    let rows: [(&str, &[u64], &[u8], Result<(), Failed>, &[u8]); 6] = [
+        ("out", none, b"123", Ok(()), b"123"),
+        ("out", none, b"12345", Err(Failed), b"123"),
+        ("out", none, b"", Ok(()), b""),
+        ("d", none, b"12", Ok(()), b"12"),
+        ("d", &[0], b"123", Err(Failed), b"old"),
+        ("d", &[1], b"123", Err(Failed), b""),
+    ];
+    for (name, fails, bytes, want, left) in rows {
+        let mut shelf = shelf(rt.alloc(), name, fails)?;
+        assert_eq!(rt; store(&mut shelf, name, bytes), want, "{name}");
+        assert_eq!(rt;
+            read_whole(rt.alloc(), &mut shelf, name, 9)?.as_slice(),
+            left,
+            "{name}"
+        );
+        let other = read_whole(rt.alloc(), &mut shelf, "a", 9)?;
+        assert_eq!(rt; other.as_slice(), b"one".as_slice(), "{name}");
+    }
+    Ok(())
+}
+
+#[test]
 fn writes_to_memory(rt: HostRuntime) -> Result<(), Fail> {
     let rows: [(usize, &[u64], Result<(), Failed>, &[u8]); 3] = [
         (5, &[1], Ok(()), b"hello"),
         (3, &[], Err(Failed), b"hel"),
         (5, &[0], Err(Failed), b""),
     ];
-    for (room, fails, want, written) in rows {
-        let mut sink = MemSink::new(rt.alloc(), room, fails)?;
+    for (capacity, fails, want, written) in rows {
+        let mut sink = MemSink::new(rt.alloc(), capacity, fails)?;
         assert_eq!(rt; write_whole(&mut sink, b"hello"), want);
         assert_eq!(rt; sink.written(), written);
     }
@@ -78,7 +106,7 @@ fn writes_to_memory(rt: HostRuntime) -> Result<(), Fail> {
 }
 
 #[test]
-fn reads_and_writes_a_real_file(rt: HostRuntime) -> Result<(), Fail> {
+fn stores_and_reads_a_real_file(rt: HostRuntime) -> Result<(), Fail> {
     let name = format!(in rt.alloc(); "mill-io-{}", process::id(rt.process()))?;
     let path = env::temp_dir(&rt)?.join(rt.alloc(), name.as_str())?;
     let path = path.to_str().ok_or("a path that is not text")?;
@@ -86,12 +114,12 @@ fn reads_and_writes_a_real_file(rt: HostRuntime) -> Result<(), Fail> {
     let mut shelf = FileShelf::new(&rt);
     let missing = read_whole(rt.alloc(), &mut shelf, path, 9);
     assert!(rt; matches!(missing, Err(ReadEnd::ReadFault)));
-    let created = shelf.create(path);
-    let appended = shelf.append(path, &long);
+    let before = store(&mut shelf, path, b"what goes");
+    let stored = store(&mut shelf, path, &long);
     let read = read_whole(rt.alloc(), &mut shelf, path, 70000);
     let short = read_whole(rt.alloc(), &mut shelf, path, 69999);
     fs::remove_file(&rt, path)?;
-    assert_eq!(rt; (created, appended), (Ok(()), Ok(70000)));
+    assert_eq!(rt; (before, stored), (Ok(()), Ok(())));
     assert!(rt; read?.as_slice() == long.as_slice());
     assert!(rt; matches!(short, Err(ReadEnd::TooLong)));
     Ok(())

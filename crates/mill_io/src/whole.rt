@@ -47,6 +47,7 @@ pub fn read_whole<S: Shelf>(
     ensures whole { IsWhole (S.contents shelf.old name.now) limit result }
     ensures cause { EndsBy (S.read_faults shelf.old) (S.read_faults shelf.new) result }
     ensures stay { Stay (S.contents shelf.old) (S.contents shelf.new) }
+    ensures telling { S.tells shelf.new ≡ S.tells shelf.old }
     ensures other_count { S.write_faults shelf.new ≡ S.write_faults shelf.old }
     ensures few { S.reads shelf.new ≤ S.reads shelf.old + limit + 2 }
 {
@@ -66,6 +67,7 @@ fn read_pieces<S: Shelf>(
     ensures whole { IsWhole (S.contents shelf.old name.now) limit result }
     ensures cause { EndsBy (S.read_faults shelf.old) (S.read_faults shelf.new) result }
     ensures stay { Stay (S.contents shelf.old) (S.contents shelf.new) }
+    ensures telling { S.tells shelf.new ≡ S.tells shelf.old }
     ensures other_count { S.write_faults shelf.new ≡ S.write_faults shelf.old }
     ensures few { S.reads shelf.new ≤ S.reads shelf.old + limit + 2 }
 {
@@ -93,10 +95,8 @@ pub fn write_whole<O: Sink>(sink: &mut O, bytes: &[u8]) -> Result<(), Failed>
 {
     let mut done = 0;
     while done < bytes.len() {
-        match sink.write(&bytes[done..]) {
-            Ok(count) => done += count,
-            Err(failed) => return Err(failed),
-        }
+        let count = sink.write(&bytes[done..])?;
+        done += count;
     }
     Ok(())
 }
