@@ -14,6 +14,7 @@ mod reading;
 mod round_trip;
 mod rounding;
 mod scaled;
+mod short;
 mod snap;
 mod writing;
 

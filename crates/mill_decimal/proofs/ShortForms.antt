@@ -1,0 +1,16 @@
+-- A decimal of few digits with no exponent.
+use Rattle.std.proofs.Common.{◌≡◌, ℕ, ◌+◌, ◌<◌, ◌≤◌, List, length, arith, Bool, false, refl, Ok}
+use Rattle.std.specs.Prelude.{◌==◌, nat_lt, pos, ◌+ℤ◌, ◌-ℤ◌, Some}
+use Rattle.std.specs.Str.Parse.{digits_value, digits_value_after}
+use Rattle.std.proofs.lemmas.Bool.Decides.{nat_tests}
+use Rattle.mill_decimal.specs.Spelling.{scaled_by}
+use Rattle.mill_decimal.proofs.DigitRuns.{digits_value-append}
+
+-- its mantissa is the number of the whole digits, and behind it of those behind the point
+pub scaled_by_few : (negative : Bool) (whole fraction : List ℕ) (mantissa : ℕ) → 0 < length whole + length fraction → length whole + length fraction ≤ 24
+    → mantissa ≡ digits_value_after 10 (digits_value 10 whole) fraction
+    → scaled_by negative whole fraction (Some (pos 0)) ≡ Ok (record { negative = negative; mantissa = mantissa; power = (pos 0 -ℤ pos (length fraction)) +ℤ pos 2 })
+scaled_by_few negative whole fraction mantissa some few e =
+    let has_digits : (length whole + length fraction == 0) ≡ false = grind (arith, nat_tests) in
+    let has_few : nat_lt 24 (length whole + length fraction) ≡ false = grind (arith, nat_tests) in
+    rw (has_digits, has_few, e, digits_value-append whole fraction) refl
