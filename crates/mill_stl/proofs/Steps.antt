@@ -47,10 +47,14 @@ read_from-in_word snap text r line from n lt space =
 read_from-word : (snap : Snap) (text : List ℕ) (r : Reached) (line from n : ℕ) → from + n ≤ length text
     → ((k : ℕ) → from ≤ k → k < from + n → is_space (get_or text k 0) ≡ false)
     → read_from snap (scan_at r line (take n (drop from text))) (drop (from + n) text) ≡ read_from snap (scan_at r line []) (drop from text)
-read_from-word snap text r line from zero le word = refl
+read_from-word snap text r line from zero le word =
+    let here : from + 0 ≡ from = omega arith in
+    rw here refl
 read_from-word snap text r line from (suc n) le word =
-    read_from-in_word snap text r line from n (omega arith) (word (from + n) (omega arith) (omega arith))
-    ∙ read_from-word snap text r line from n (omega arith) (λ k ge lt. word k ge (omega arith))
+    let next : from + suc n ≡ suc (from + n) = omega arith in
+    rw next
+    (read_from-in_word snap text r line from n (omega arith) (word (from + n) (omega arith) (omega arith))
+    ∙ read_from-word snap text r line from n (omega arith) (λ k ge lt. word k ge (omega arith)))
 
 -- ---- a word ends before white space and at the text's end
 
@@ -87,7 +91,8 @@ pub record IsWord (text : List ℕ) (from end : ℕ) : Type 0 where
 -- what follows a word begins with white space, if with anything
 space_behind : (text : List ℕ) (from end : ℕ) → IsWord text from end → 0 < length (drop end text) → is_space (get_or (drop end text) 0 0) ≡ true
 space_behind text from end w some =
-    let here : get_or (drop end text) 0 0 ≡ get_or text end 0 = get_or-drop end text 0 0 in
+    let none : end + 0 ≡ end = omega arith in
+    let here : get_or (drop end text) 0 0 ≡ get_or text end 0 = get_or-drop end text 0 0 ∙ ap (λ (i : ℕ). get_or text i 0) none in
     rw here (w.space (omega (arith, length-drop end text)))
 
 read_from-whole : (snap : Snap) (text : List ℕ) (r : Reached) (line from end : ℕ) → IsWord text from end
