@@ -1,8 +1,14 @@
 -- A decimal of few digits with no exponent.
-use Rattle.std.proofs.Common.{◌≡◌, ℕ, ◌+◌, ◌<◌, ◌≤◌, List, length, arith, Bool, false, refl, Ok}
+use Rattle.std.proofs.Common.{◌≡◌, ℕ, ◌+◌, ◌-◌, ◌*◌, ◌^◌, ◌<◌, ◌≤◌, List, length, arith, Bool, false, refl, Ok}
 use Rattle.std.specs.Prelude.{◌==◌, nat_lt, pos, ◌+ℤ◌, ◌-ℤ◌, Some}
 use Rattle.std.specs.Str.Parse.{digits_value, digits_value_after}
 use Rattle.std.proofs.lemmas.Bool.Decides.{nat_tests}
+use Rattle.std.proofs.lemmas.Int.{ints}
+use Rattle.mill_decimal.specs.declared.short.Short.{Short}
+use Rattle.mill_decimal.specs.declared.snap.Snap.{Snap}
+use Rattle.mill_decimal.specs.declared.snap.Snap.TheVariants.{Nearest, Exact}
+use Rattle.mill_decimal.specs.Decimals.{is_whole, nearest, is_between, in_range, or_out_of_range, units_of}
+use Rattle.mill_decimal.specs.Shorts.{scaled_from}
 use Rattle.mill_decimal.specs.Spelling.{scaled_by}
 use Rattle.mill_decimal.proofs.DigitRuns.{digits_value-append}
 
@@ -14,3 +20,18 @@ scaled_by_few negative whole fraction mantissa some few e =
     let has_digits : (length whole + length fraction == 0) ≡ false = grind (arith, nat_tests) in
     let has_few : nat_lt 24 (length whole + length fraction) ≡ false = grind (arith, nat_tests) in
     rw (has_digits, has_few, e, digits_value-append whole fraction) refl
+
+-- ---- at most two places make whole units
+
+power_whole : (s : Short) → s.places ≤ 2 → (pos 0 -ℤ pos s.places) +ℤ pos 2 ≡ pos (2 - s.places)
+power_whole s few = omega (arith, ints)
+
+pub units_of_whole : (snap : Snap) (s : Short) → s.places ≤ 2
+    → units_of snap (scaled_from s) ≡ or_out_of_range s.negative (in_range (s.mantissa * 10 ^ (2 - s.places)))
+unfolding is_whole nearest
+units_of_whole Nearest s few = rw (power_whole s few) refl
+units_of_whole Exact s few = rw (power_whole s few) refl
+
+pub is_between_whole : (s : Short) → s.places ≤ 2 → is_between (scaled_from s) ≡ false
+unfolding is_whole
+is_between_whole s few = rw (power_whole s few) refl

@@ -46,7 +46,7 @@ fn digits_in_front(text: &[u8]) -> usize
 #[tactic(auto, unfolding(crate::specs::Spelling::digits_of, crate::specs::Spelling::after_digits))]
 pub fn split_value(front: u64, before: usize, text: &[u8]) -> (u64, &[u8], &[u8])
     requires front { front < 10 ^ before }
-    requires few { before + length text.now ≤ 18 }
+    requires few { before + length text.now ≤ 16 }
     ensures value { result.0 ≡ digits_value_after 10 front (digits_of text.now) }
     ensures bound { result.0 < 10 ^ (before + length (digits_of text.now)) }
     ensures front { result.1.now ≡ digits_of text.now }
@@ -61,7 +61,7 @@ pub fn split_value(front: u64, before: usize, text: &[u8]) -> (u64, &[u8], &[u8]
 // The number of the digits that a short text begins with, and how many they are.
 fn value_in_front(front: u64, before: usize, text: &[u8]) -> (u64, usize)
     requires front { front < 10 ^ before }
-    requires few { before + length text.now ≤ 18 }
+    requires few { before + length text.now ≤ 16 }
     ensures count { result.1 ≡ prefix_len is_ascii_digit text.now }
     ensures value { result.0 ≡ digits_value_after 10 front (take result.1 text.now) }
     ensures bound { result.0 < 10 ^ (before + result.1) }

@@ -83,7 +83,8 @@ fn power_of_ten(exponent: u32) -> u128
     10u128.pow(exponent)
 }
 
-fn in_range(units: u128) -> Option<u32>
+/// The number of units, if it is in range.
+pub fn in_range(units: u128) -> Option<u32>
     ensures value { result ≡ units_in_range units }
     ensures in_range { IfSome result (λ n. n ≤ greatest) }
 {

@@ -6,7 +6,6 @@ ghost use Rattle.mill_decimal.specs.Spelling.{fraction_of, after_fraction, scale
 use crate::digits::{split_digits, split_sign, value_after};
 use crate::exponent::exponent_of;
 use crate::fault::DecFault;
-use crate::short::short_scaled;
 
 /// The most digits of a mantissa.
 const MOST_DIGITS: usize = 24;
@@ -20,19 +19,8 @@ pub struct Scaled {
 }
 
 /// The units of a text that is spelled as a decimal of at most 24 digits.
-pub fn scaled_of(text: &[u8]) -> Result<Scaled, DecFault>
-    ensures value { result ≡ scaled_in text.now }
-    ensures bound { IfOk result (λ s. s.mantissa < 10 ^ 24) }
-{
-    match short_scaled(text) {
-        Some(scaled) => Ok(scaled),
-        None => long_scaled(text),
-    }
-}
-
-// The same of a text of any length, with an exponent or without.
 #[tactic(auto, unfolding(crate::specs::Spelling::scaled_of))]
-fn long_scaled(text: &[u8]) -> Result<Scaled, DecFault>
+pub fn scaled_of(text: &[u8]) -> Result<Scaled, DecFault>
     ensures value { result ≡ scaled_in text.now }
     ensures bound { IfOk result (λ s. s.mantissa < 10 ^ 24) }
 {

@@ -1,20 +1,31 @@
-//! Short decimals with no exponent, as most are: read in one pass, and in 64 bits.
+//! Short decimals with no exponent, as most are: split in one pass, and in 64 bits.
 
 ghost use Rattle.std.specs.Prelude.{◌≡◌, ◌+◌, ◌<◌, ◌≤◌, ◌^◌, length, IfSome, Some, Ok, pos};
 ghost use Rattle.std.specs.Str.Parse.{digits_value, digits_value_after};
 ghost use Rattle.mill_decimal.specs.Spelling.{fraction_of, after_fraction, scaled_by, scaled_of as scaled_in};
+ghost use Rattle.mill_decimal.specs.Shorts.{scaled_from};
 
 use crate::digits::{split_sign, split_value};
-use crate::scaled::{Scaled, power_of};
 
-/// The most bytes of a short text: so many digits fit 64 bits.
-const MOST_BYTES: usize = 18;
+/// The most bytes of a short text: the number that so many digits stand for, and a hundred times
+/// that number, fit 64 bits.
+const MOST_BYTES: usize = 16;
 
-/// The units of a short text that is spelled as a decimal with no exponent, nothing of another text.
+/// A decimal with no exponent: its digits as a number, with a sign, and how many of them stand
+/// behind the point.
+#[derive(Clone, Copy, Debug, PartialEq, Eq)]
+pub struct Short {
+    pub negative: bool,
+    pub mantissa: u64,
+    pub places: usize,
+}
+
+/// A short text that is spelled as a decimal with no exponent, nothing of another text.
 #[tactic(auto, unfolding(crate::specs::Spelling::scaled_of))]
-pub fn short_scaled(text: &[u8]) -> Option<Scaled>
-    ensures value { IfSome result (λ s. scaled_in text.now ≡ Ok s) }
-    ensures bound { IfSome result (λ s. s.mantissa < 10 ^ 24) }
+pub fn short_of(text: &[u8]) -> Option<Short>
+    ensures value { IfSome result (λ short. scaled_in text.now ≡ Ok (scaled_from short)) }
+    ensures bound { IfSome result (λ short. short.mantissa < 10 ^ 16) }
+    ensures places { IfSome result (λ short. short.places ≤ 16) }
 {
     if text.len() > MOST_BYTES {
         return None;
@@ -25,14 +36,14 @@ pub fn short_scaled(text: &[u8]) -> Option<Scaled>
     if !rest.is_empty() {
         return None;
     }
-    units_of(negative, mantissa, whole, fraction)
+    joined(negative, mantissa, whole, fraction)
 }
 
 // The digits behind the point and what stands behind them, and before these the number of the
 // digits behind `before` digits that stand for `front`.
 fn split_fraction_value(front: u64, before: usize, text: &[u8]) -> (u64, &[u8], &[u8])
     requires front { front < 10 ^ before }
-    requires few { before + length text.now ≤ 18 }
+    requires few { before + length text.now ≤ 16 }
     ensures value { result.0 ≡ digits_value_after 10 front (fraction_of text.now) }
     ensures bound { result.0 < 10 ^ (before + length (fraction_of text.now)) }
     ensures front { result.1.now ≡ fraction_of text.now }
@@ -45,21 +56,22 @@ fn split_fraction_value(front: u64, before: usize, text: &[u8]) -> (u64, &[u8], 
     }
 }
 
-// The units of the digits before the point and behind it, if there are any.
+// The digits before the point and behind it as a decimal, if there are any.
 #[tactic(auto, using(crate::proofs::ShortForms::scaled_by_few))]
-fn units_of(negative: bool, mantissa: u64, whole: &[u8], fraction: &[u8]) -> Option<Scaled>
+fn joined(negative: bool, mantissa: u64, whole: &[u8], fraction: &[u8]) -> Option<Short>
     requires value { mantissa ≡ digits_value_after 10 (digits_value 10 whole.now) fraction.now }
     requires bound { mantissa < 10 ^ (length whole.now + length fraction.now) }
-    requires few { length whole.now + length fraction.now ≤ 18 }
-    ensures value { IfSome result (λ s. scaled_by negative whole.now fraction.now (Some (pos 0)) ≡ Ok s) }
-    ensures bound { IfSome result (λ s. s.mantissa < 10 ^ 24) }
+    requires few { length whole.now + length fraction.now ≤ 16 }
+    ensures value { IfSome result (λ short. scaled_by negative whole.now fraction.now (Some (pos 0)) ≡ Ok (scaled_from short)) }
+    ensures bound { IfSome result (λ short. short.mantissa < 10 ^ 16) }
+    ensures places { IfSome result (λ short. short.places ≤ 16) }
 {
     if whole.is_empty() && fraction.is_empty() {
         return None;
     }
-    Some(Scaled {
+    Some(Short {
         negative,
-        mantissa: u128::from(mantissa),
-        power: power_of(0, fraction.len()),
+        mantissa,
+        places: fraction.len(),
     })
 }
