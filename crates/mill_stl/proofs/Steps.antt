@@ -34,6 +34,13 @@ pub meaning-space : (snap : Snap) (text : List ℕ) (line place : ℕ) (p : Prog
 unfolding read_from after_byte
 meaning-space snap text line place p tris lt space = rw (add-one place, drop-cons text place 0 lt, space, with_word-none snap (reached_at p tris) line) refl
 
+-- and a blank there changes nothing
+pub meaning-blank : (snap : Snap) (text : List ℕ) (line place : ℕ) (p : Progress) (tris : List Tri) → place < length text
+    → get_or text place 0 ≡ 32
+    → meaning_from snap text (record { line = line; from = place + 1 }) p tris ≡ meaning_from snap text (record { line = line; from = place }) p tris
+meaning-blank snap text line place p tris lt blank =
+    rw blank at (meaning-space snap text line place p tris lt (rw blank refl))
+
 -- ---- the bytes of a word only lengthen it
 
 read_from-in_word : (snap : Snap) (text : List ℕ) (r : Reached) (line from n : ℕ) → from + n < length text

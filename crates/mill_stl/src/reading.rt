@@ -1,36 +1,17 @@
 //! Reads a whole part text.
 
-ghost use Rattle.std.specs.Prelude.{◌≡◌, ℕ, ◌≤◌, ◌<◌, ◌^◌, ◌+◌, ◌-◌, ◌*◌, List, [], length, slice_index, true, false, IfOk, OnOk, IfErr, Ok};
+ghost use Rattle.std.specs.Prelude.{◌≡◌, ◌≤◌, ◌<◌, ◌*◌, [], length, IfOk, OnOk, IfErr, Ok};
 ghost use Rattle.mill_base.specs.Ranges.{TrisInRange};
-ghost use Rattle.mill_base.specs.declared.points.Tri.{Tri};
-ghost use Rattle.mill_decimal.specs.declared.snap.Snap.{Snap};
-ghost use Rattle.mill_stl.specs.declared.state.Progress.{Progress};
-ghost use Rattle.mill_stl.specs.Parts.{is_space as is_space_byte, next_line as next_line_of, is_end as is_end_stage, start, reached_at, with_tri, with_word, whole_part, part_of, Fails, Gives};
+ghost use Rattle.mill_stl.specs.Parts.{is_end as is_end_stage, start, reached_at, with_tri, with_word, whole_part, part_of, Fails, Gives};
 ghost use Rattle.mill_stl.specs.Bounds.{IsSound, IsBeforeWord, meaning_from};
 
 use crate::facet::take_word;
 use crate::fault::StlFault;
+use crate::scan::{behind_spaces, word_end};
 use crate::state::{Cursor, Progress, Stage, StlRead};
 use mill_base::Tri;
 use mill_decimal::Snap;
 use std::alloc::Global;
-
-fn is_space(byte: u8) -> bool
-    ensures { result ≡ is_space_byte byte }
-{
-    if byte == b' ' {
-        return true;
-    }
-    byte >= b'\t' && byte <= b'\r'
-}
-
-fn next_line(line: u64, byte: u8) -> u64
-    requires { line < 2 ^ 64 - 1 }
-    ensures value { result ≡ next_line_of line byte }
-    ensures small { result ≤ line + 1 }
-{
-    if byte == b'\n' { line + 1 } else { line }
-}
 
 fn is_end(stage: Stage) -> bool
     ensures { result ≡ is_end_stage stage }
@@ -51,45 +32,6 @@ fn at_start() -> Progress
         coords: [0; 9],
         facets: 0,
         rounded: 0,
-    }
-}
-
-// The end of the word that begins at a place.
-fn word_end(text: &[u8], from: usize) -> usize
-    requires { from ≤ length text.now }
-    ensures forward { from ≤ result }
-    ensures within { result ≤ length text.now }
-    ensures word { (k : ℕ) → from ≤ k → k < result → is_space_byte (slice_index text.now k) ≡ false }
-    ensures space { result < length text.now → is_space_byte (slice_index text.now result) ≡ true }
-{
-    for place in from..text.len() {
-        if is_space(text[place]) {
-            return place;
-        }
-    }
-    text.len()
-}
-
-// Passes over the white space at the cursor.
-fn behind_spaces(text: &[u8], cursor: Cursor) -> Cursor
-    requires within { cursor.from ≤ length text.now }
-    requires line { cursor.line ≤ cursor.from + 1 }
-    ensures meaning { (snap : Snap) (p : Progress) (tris : List Tri) →
-        meaning_from snap text.now result p tris ≡ meaning_from snap text.now cursor p tris }
-    ensures forward { cursor.from ≤ result.from }
-    ensures placed { IsBeforeWord text.now result }
-{
-    let mut line = cursor.line;
-    for place in cursor.from..text.len() {
-        let byte = text[place];
-        if !is_space(byte) {
-            return Cursor { line, from: place };
-        }
-        line = next_line(line, byte);
-    }
-    Cursor {
-        line,
-        from: text.len(),
     }
 }
 

@@ -1,6 +1,6 @@
 use Rattle.std.proofs.Common.{◌∙◌, rules, arith}
 use Rattle.mill_stl.proofs.Steps.{meaning-space}
-use Rattle.mill_stl.proofs.reading.behind_spaces.Goals as goal
+use Rattle.mill_stl.proofs.scan.behind_run.Goals as goal
 
 pub loop-place-preserved : goal.loop-place-preserved
 loop-place-preserved c = record {

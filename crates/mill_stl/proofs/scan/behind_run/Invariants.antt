@@ -3,7 +3,7 @@ use Rattle.mill_base.specs.declared.points.Tri.{Tri}
 use Rattle.mill_decimal.specs.declared.snap.Snap.{Snap}
 use Rattle.mill_stl.specs.declared.state.Progress.{Progress}
 use Rattle.mill_stl.specs.Bounds.{meaning_from}
-use Rattle.mill_stl.proofs.reading.behind_spaces.Given as goal
+use Rattle.mill_stl.proofs.scan.behind_run.Given as goal
 
 abbrev pub invariant-loop-place : goal.invariant-loop-place
 invariant-loop-place l = record {
