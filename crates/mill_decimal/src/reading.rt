@@ -119,6 +119,8 @@ fn units_at(places: usize) -> u64
     }
 }
 
+// Inlined, as a result that comes back through memory stalls the reading of a short decimal.
+#[inline(always)]
 fn reading_of(scaled: Scaled, snap: Snap) -> Result<Reading, DecFault>
     requires { scaled.mantissa < 10 ^ 24 }
     ensures units { IfOk result (λ reading. units_of_scaled snap scaled ≡ Ok reading.units) }

@@ -41,6 +41,28 @@ pub meaning-blank : (snap : Snap) (text : List ℕ) (line place : ℕ) (p : Prog
 meaning-blank snap text line place p tris lt blank =
     rw blank at (meaning-space snap text line place p tris lt (rw blank refl))
 
+-- nor do blanks up to a further place
+blanks_step : (snap : Snap) (text : List ℕ) (line place n : ℕ) (p : Progress) (tris : List Tri) → place + n ≤ length text
+    → ((k : ℕ) → place ≤ k → k < place + n → get_or text k 0 ≡ 32)
+    → meaning_from snap text (record { line = line; from = place + n }) p tris ≡ meaning_from snap text (record { line = line; from = place }) p tris
+blanks_step snap text line place zero p tris le blanks =
+    let here : place + 0 ≡ place = omega arith in
+    rw here refl
+blanks_step snap text line place (suc n) p tris le blanks =
+    let next : place + suc n ≡ place + n + 1 = omega arith in
+    rw next
+    (meaning-blank snap text line (place + n) p tris (omega arith) (blanks (place + n) (omega arith) (omega arith))
+    ∙ blanks_step snap text line place n p tris (omega arith) (λ k ge lt. blanks k ge (omega arith)))
+
+pub meaning-blanks : (snap : Snap) (text : List ℕ) (line place end : ℕ) (p : Progress) (tris : List Tri) → place ≤ end → end ≤ length text
+    → ((k : ℕ) → place ≤ k → k < end → get_or text k 0 ≡ 32)
+    → meaning_from snap text (record { line = line; from = end }) p tris ≡ meaning_from snap text (record { line = line; from = place }) p tris
+meaning-blanks snap text line place end p tris forward within blanks =
+    let n = end - place in
+    let whole : place + n ≡ end = omega arith in
+    subst (λ (e : ℕ). meaning_from snap text (record { line = line; from = e }) p tris ≡ meaning_from snap text (record { line = line; from = place }) p tris) whole
+    (blanks_step snap text line place n p tris (omega arith) (λ k ge lt. blanks k ge (omega arith)))
+
 -- ---- the bytes of a word only lengthen it
 
 read_from-in_word : (snap : Snap) (text : List ℕ) (r : Reached) (line from n : ℕ) → from + n < length text

@@ -151,16 +151,16 @@ fn rounded_after(count: u64, rounded: bool) -> u64
     if rounded { count + 1 } else { count }
 }
 
-fn put_coord(progress: &mut Progress, number: u8, reading: Reading)
+fn put_coord(progress: &mut Progress, number: u8, units: i32, rounded: bool)
     requires fits { Fits progress.old }
     requires stage { progress.old.stage ≡ Stage.Coord number }
-    requires in_range { Within greatest reading.units }
-    ensures value { stepped progress.new None ≡ with_coord progress.old number reading.units reading.rounded }
+    requires in_range { Within greatest units }
+    ensures value { stepped progress.new None ≡ with_coord progress.old number units rounded }
     ensures step { IsStep progress.old (stepped progress.new None) }
 {
-    progress.coords[usize::from(number)] = reading.units;
+    progress.coords[usize::from(number)] = units;
     progress.stage = stage_after_coord(number);
-    progress.rounded = rounded_after(progress.rounded, reading.rounded);
+    progress.rounded = rounded_after(progress.rounded, rounded);
 }
 
 fn take_coord(
@@ -176,8 +176,8 @@ fn take_coord(
     ensures step { IfOk result (λ tri. IsStep progress.old (stepped progress.new tri)) }
 {
     match read_with_rounding(word, snap) {
-        Ok(reading) => {
-            put_coord(progress, number, reading);
+        Ok(Reading { units, rounded }) => {
+            put_coord(progress, number, units, rounded);
             Ok(None)
         }
         Err(fault) => Err(StlFault::Coord { line, fault }),

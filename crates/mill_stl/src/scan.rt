@@ -110,7 +110,8 @@ fn is_lone_blank(text: &[u8], place: usize) -> bool
     text.len() - place > 1 && text[place] == b' ' && text[place + 1] > b' '
 }
 
-// Passes over any white space at the cursor, byte by byte.
+// Passes over any white space at the cursor: a byte, and then the blanks behind it, as a line mostly
+// begins with many.
 fn behind_run(text: &[u8], cursor: Cursor) -> Cursor
     requires within { cursor.from ≤ length text.now }
     requires line { cursor.line ≤ cursor.from + 1 }
@@ -120,15 +121,41 @@ fn behind_run(text: &[u8], cursor: Cursor) -> Cursor
     ensures placed { IsBeforeWord text.now result }
 {
     let mut line = cursor.line;
-    for place in cursor.from..text.len() {
-        let byte = text[place];
+    let mut from = cursor.from;
+    while from < text.len() {
+        let byte = text[from];
         if !is_space(byte) {
-            return Cursor { line, from: place };
+            return Cursor { line, from };
         }
         line = next_line(line, byte);
+        from = behind_blanks(text, from + 1);
     }
-    Cursor {
-        line,
-        from: text.len(),
+    Cursor { line, from }
+}
+
+// Passes over blanks at a place, up to sixteen.
+fn behind_blanks(text: &[u8], place: usize) -> usize
+    requires { place ≤ length text.now }
+    ensures forward { place ≤ result }
+    ensures within { result ≤ length text.now }
+    ensures blanks { (k : ℕ) → place ≤ k → k < result → slice_index text.now k ≡ 32 }
+{
+    if text.len() - place < LANES {
+        return place;
     }
+    place + blanks_at(text, place)
+}
+
+// How many blanks the 16 bytes at a place begin with.
+fn blanks_at(text: &[u8], place: usize) -> usize
+    requires { place + LANES ≤ length text.now }
+    ensures within { result ≤ LANES }
+    ensures blanks { (k : ℕ) → place ≤ k → k < place + result → slice_index text.now k ≡ 32 }
+{
+    let bytes = u8x16::from_slice(&text[place..]);
+    let marks = bytes.simd_ne(u8x16::splat(b' ')).to_bitmask();
+    if marks == 0 {
+        return LANES;
+    }
+    marks.trailing_zeros() as usize
 }
