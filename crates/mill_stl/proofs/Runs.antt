@@ -1,5 +1,5 @@
 -- Sixteen bytes compared at once with a blank.
-use Rattle.std.proofs.Common.{◌≡◌, ℕ, ◌+◌, ◌%◌, ◌^◌, ◌≤◌, ◌<◌, List, Bool, length, get_or, map, replicate, true, false, not, cond, leb, eqb, sym, ap, ◌∙◌, arith, w8}
+use Rattle.std.proofs.Common.{◌≡◌, ℕ, ◌+◌, ◌%◌, ◌^◌, ◌≤◌, ◌<◌, List, Bool, length, get_or, map, replicate, false, not, cond, leb, eqb, sym, ap, ◌∙◌, arith, w8}
 use Rattle.std.specs.List.{prefix_len}
 use Rattle.std.specs.Int.Count.{count_trailing_zeros}
 use Rattle.std.specs.Simd.Lanes.{mask_l, zip2, top, chunk}

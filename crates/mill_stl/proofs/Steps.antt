@@ -1,5 +1,5 @@
 -- A text word by word, as a loop takes it.
-use Rattle.std.proofs.Common.{◌≡◌, ℕ, zero, suc, ◌+◌, ◌-◌, ◌<◌, ◌≤◌, List, [], ◌∷◌, length, take, drop, get_or, Result, Ok, Err, true, false, refl, sym, ap, subst, ◌∙◌, add-one, arith, drop-cons, length-drop}
+use Rattle.std.proofs.Common.{◌≡◌, ℕ, zero, suc, ◌+◌, ◌-◌, ◌<◌, ◌≤◌, List, [], ◌∷◌, length, take, drop, get_or, Result, Ok, Err, true, false, refl, ap, subst, ◌∙◌, add-one, arith, drop-cons, length-drop}
 use Rattle.std.proofs.Math.ListN.{drop_of_length-le}
 use Rattle.std.proofs.Math.Seq.{take-suc}
 use Rattle.std.proofs.lemmas.List.{get_or-drop}
@@ -9,9 +9,8 @@ use Rattle.mill_stl.specs.declared.fault.StlFault.{StlFault}
 use Rattle.mill_stl.specs.declared.fault.StlFault.TheVariants.{Expected, Coord, TooManyTriangles, CutShort, WantOfMemory}
 use Rattle.mill_stl.specs.declared.state.Cursor.{Cursor}
 use Rattle.mill_stl.specs.declared.state.Progress.{Progress}
-use Rattle.mill_stl.specs.declared.state.StlRead.{StlRead}
 use Rattle.mill_stl.specs.Facets.{after_word}
-use Rattle.mill_stl.specs.Parts.{Reached, Part, is_space, next_line, and_then, after_step, reached_at, with_word, after_byte, after_text, read_from, whole_part, Fails, Gives}
+use Rattle.mill_stl.specs.Parts.{Reached, Part, is_space, next_line, and_then, after_step, reached_at, with_word, after_byte, after_text, read_from, whole_part, Fails}
 use Rattle.mill_stl.specs.Bounds.{scan_at, meaning_from}
 
 -- no word does nothing

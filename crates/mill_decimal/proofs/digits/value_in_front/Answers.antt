@@ -1,5 +1,5 @@
-use Rattle.std.proofs.Common.{◌≡◌, ◌+◌, ◌*◌, ◌<◌, length, get_or, true, sym, arith, rules, below_more}
-use Rattle.std.specs.Char.{is_ascii_digit, digit_value}
+use Rattle.std.proofs.Common.{◌≡◌, ◌+◌, length, get_or, true, sym, arith, rules, below_more}
+use Rattle.std.specs.Char.{is_ascii_digit}
 use Rattle.std.proofs.lemmas.List.Sums.{prefix_len_is}
 use Rattle.std.proofs.lemmas.Str.{digit_value_digit}
 use Rattle.mill_decimal.proofs.DigitRuns.{digit_range, digits_value_after-take}

@@ -1,4 +1,4 @@
-use Rattle.std.proofs.Common.{arith, rules}
+use Rattle.std.proofs.Common.{rules}
 use Rattle.mill_stl.proofs.Steps.{meaning-blank}
 use Rattle.mill_stl.proofs.scan.behind_spaces.Goals as goal
 
