@@ -13,6 +13,11 @@ use Rattle.mill_stl.specs.Facets.{after_word}
 use Rattle.mill_stl.specs.Parts.{Reached, Part, is_space, next_line, and_then, after_step, reached_at, with_word, after_byte, after_text, read_from, whole_part, Fails}
 use Rattle.mill_stl.specs.Bounds.{scan_at, meaning_from}
 
+-- the same first bytes, and one more
+pub take-next : (xs ys : List ℕ) (i : ℕ) → i < length xs → i < length ys → get_or xs i 0 ≡ get_or ys i 0
+    → take i xs ≡ take i ys → take (i + 1) xs ≡ take (i + 1) ys
+take-next xs ys i ltx lty here so_far = rw (add-one i, take-suc xs i 0 ltx, take-suc ys i 0 lty, so_far, here) refl
+
 -- no word does nothing
 with_word-none : (snap : Snap) (r : Reached) (line : ℕ) → with_word snap r line [] ≡ Ok r
 unfolding with_word

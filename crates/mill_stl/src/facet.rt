@@ -1,6 +1,6 @@
 //! What a word does.
 
-ghost use Rattle.std.specs.Prelude.{◌≡◌, ◌+◌, ◌*◌, ◌^◌, ◌≤◌, ◌<◌, IfOk, ℕ};
+ghost use Rattle.std.specs.Prelude.{◌≡◌, ◌+◌, ◌*◌, ◌^◌, ◌≤◌, ◌<◌, IfOk, IsTrue, ℕ};
 ghost use Rattle.mill_base.specs.Numbers.{Within, greatest};
 ghost use Rattle.mill_base.specs.Ranges.{TriInRange};
 ghost use Rattle.mill_stl.specs.Facets.{is_keyword as is_keyword_of, moved_to, with_name, after_keyword, after_solid, begun_facet, after_facet_or_end, stage_after_ignored as stage_after_ignored_of, stage_after_coord as stage_after_coord_of, rounded_after as rounded_after_of, with_coord, after_coord, tri_of as tri_of_coords, after_end_facet, at_stage as at_stage_of, after_word};
@@ -18,10 +18,26 @@ const MOST_TRIANGLES: u64 = 200_000;
 fn is_keyword(word: &[u8], keyword: &[u8]) -> bool
     ensures { result ≡ is_keyword_of word.now keyword.now }
 {
-    if word == keyword {
+    if is_exactly(word, keyword) {
         return true;
     }
     word.eq_ignore_ascii_case(keyword)
+}
+
+// Inlined, so that the bytes of a keyword are compared as constants.
+#[inline(always)]
+fn is_exactly(word: &[u8], keyword: &[u8]) -> bool
+    ensures { IsTrue result → word.now ≡ keyword.now }
+{
+    if word.len() != keyword.len() {
+        return false;
+    }
+    for place in 0..keyword.len() {
+        if word[place] != keyword[place] {
+            return false;
+        }
+    }
+    true
 }
 
 fn move_to(progress: &mut Progress, next: Stage)
