@@ -1,13 +1,13 @@
 -- A decimal of few digits with no exponent.
-use Rattle.std.proofs.Common.{◌≡◌, ℕ, ◌+◌, ◌-◌, ◌*◌, ◌^◌, ◌<◌, ◌≤◌, List, length, arith, Bool, false, refl, Ok}
-use Rattle.std.specs.Prelude.{◌==◌, nat_lt, pos, ◌+ℤ◌, ◌-ℤ◌, Some}
+use Rattle.std.proofs.Common.{◌≡◌, ℕ, ◌+◌, ◌-◌, ◌*◌, ◌^◌, ◌<◌, ◌≤◌, List, length, arith, Bool, false, refl, Ok, suc, not}
+use Rattle.std.specs.Prelude.{◌==◌, nat_lt, pos, ◌+ℤ◌, ◌-ℤ◌, Some, ◌/◌, ◌%◌, negsuc}
 use Rattle.std.specs.Str.Parse.{digits_value, digits_value_after}
 use Rattle.std.proofs.lemmas.Bool.Decides.{nat_tests}
 use Rattle.std.proofs.lemmas.Int.{ints}
 use Rattle.mill_decimal.specs.declared.short.Short.{Short}
 use Rattle.mill_decimal.specs.declared.snap.Snap.{Snap}
 use Rattle.mill_decimal.specs.declared.snap.Snap.TheVariants.{Nearest, Exact}
-use Rattle.mill_decimal.specs.Decimals.{is_whole, nearest, is_between, in_range, or_out_of_range, units_of}
+use Rattle.mill_decimal.specs.Decimals.{is_whole, nearest, is_between, in_range, or_out_of_range, units_or_fault, units_of}
 use Rattle.mill_decimal.specs.Shorts.{scaled_from}
 use Rattle.mill_decimal.specs.Spelling.{scaled_by}
 use Rattle.mill_decimal.proofs.DigitRuns.{digits_value-append}
@@ -35,3 +35,22 @@ units_of_whole Exact s few = rw (power_whole s few) refl
 pub is_between_whole : (s : Short) → s.places ≤ 2 → is_between (scaled_from s) ≡ false
 unfolding is_whole
 is_between_whole s few = rw (power_whole s few) refl
+
+-- ---- more places divide the digits
+
+power_divided : (s : Short) → 2 < s.places → (pos 0 -ℤ pos s.places) +ℤ pos 2 ≡ negsuc (s.places - 3)
+power_divided s low = omega (arith, ints)
+
+pub units_of_divided : (snap : Snap) (s : Short) → 2 < s.places
+    → units_of snap (scaled_from s)
+    ≡ units_or_fault snap s.negative (not (s.mantissa % 10 ^ (s.places - 2) == 0)) (in_range ((2 * s.mantissa + 10 ^ (s.places - 2)) / (2 * 10 ^ (s.places - 2))))
+unfolding is_whole nearest
+units_of_divided snap s low =
+    let exponent : suc (s.places - 3) ≡ s.places - 2 = omega arith in
+    rw (power_divided s low, exponent) refl
+
+pub is_between_divided : (s : Short) → 2 < s.places → is_between (scaled_from s) ≡ not (s.mantissa % 10 ^ (s.places - 2) == 0)
+unfolding is_whole
+is_between_divided s low =
+    let exponent : suc (s.places - 3) ≡ s.places - 2 = omega arith in
+    rw (power_divided s low, exponent) refl

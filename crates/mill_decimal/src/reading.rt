@@ -1,13 +1,13 @@
-ghost use Rattle.std.specs.Prelude.{◌≡◌, ◌<◌, ◌≤◌, ◌^◌, ◌-◌, Ok, Err, IfOk, IfErr};
+ghost use Rattle.std.specs.Prelude.{◌≡◌, ◌<◌, ◌≤◌, ◌^◌, ◌-◌, Ok, Err, IfOk, IfErr, IfSome};
 ghost use Rattle.mill_base.specs.Numbers.{Within, greatest};
-ghost use Rattle.mill_decimal.specs.Decimals.{read_as, units_of as units_of_scaled, is_rounded, is_refused as is_refused_under, is_between};
+ghost use Rattle.mill_decimal.specs.Decimals.{read_as, units_of as units_of_scaled, is_rounded, is_refused as is_refused_under, is_between, units_or_fault};
 ghost use Rattle.mill_decimal.specs.declared.snap.Snap.{Snap};
 ghost use Rattle.mill_decimal.specs.Shorts.{scaled_from};
 
 use crate::digits::with_sign;
 use crate::fault::DecFault;
-use crate::rounding::{in_range, is_whole, nearest};
-use crate::scaled::{Scaled, power_of, scaled_of};
+use crate::rounding::{in_range, is_whole, nearest, short_power_of_ten};
+use crate::scaled::{Scaled, scaled_of};
 use crate::short::{Short, short_of};
 use crate::snap::Snap;
 
@@ -78,12 +78,7 @@ fn short_reading(short: Short, snap: Snap) -> Result<Reading, DecFault>
     if short.places <= 2 {
         return whole_reading(short);
     }
-    let scaled = Scaled {
-        negative: short.negative,
-        mantissa: u128::from(short.mantissa),
-        power: power_of(0, short.places),
-    };
-    reading_of(scaled, snap)
+    divided_reading(short, snap)
 }
 
 // The reading of a short decimal with at most two places: its units are whole, so that the snap
@@ -119,8 +114,23 @@ fn units_at(places: usize) -> u64
     }
 }
 
-// Inlined, as a result that comes back through memory stalls the reading of a short decimal.
-#[inline(always)]
+// The reading of a short decimal with more than two places.
+#[tactic(auto, using(crate::proofs::ShortForms::units_of_divided, crate::proofs::ShortForms::is_between_divided))]
+fn divided_reading(short: Short, snap: Snap) -> Result<Reading, DecFault>
+    requires bound { short.mantissa < 10 ^ 16 }
+    requires low { 2 < short.places }
+    requires places { short.places ≤ 16 }
+    ensures units { IfOk result (λ reading. units_of_scaled snap (scaled_from short) ≡ Ok reading.units) }
+    ensures in_range { IfOk result (λ reading. Within greatest reading.units) }
+    ensures rounded { IfOk result (λ reading. reading.rounded ≡ is_between (scaled_from short)) }
+    ensures fault { IfErr result (λ fault. units_of_scaled snap (scaled_from short) ≡ Err fault) }
+{
+    let divisor = short_power_of_ten(short.places as u32 - 2);
+    let is_between = short.mantissa % divisor != 0;
+    let units = in_range(u128::from((2 * short.mantissa + divisor) / (2 * divisor)));
+    reading_from(short.negative, is_between, units, snap)
+}
+
 fn reading_of(scaled: Scaled, snap: Snap) -> Result<Reading, DecFault>
     requires { scaled.mantissa < 10 ^ 24 }
     ensures units { IfOk result (λ reading. units_of_scaled snap scaled ≡ Ok reading.units) }
@@ -129,13 +139,30 @@ fn reading_of(scaled: Scaled, snap: Snap) -> Result<Reading, DecFault>
     ensures fault { IfErr result (λ fault. units_of_scaled snap scaled ≡ Err fault) }
 {
     let is_between = !is_whole(scaled.mantissa, scaled.power);
+    let units = nearest(scaled.mantissa, scaled.power);
+    reading_from(scaled.negative, is_between, units, snap)
+}
+
+// The reading of units without their sign, if they are in range, that were rounded or not.
+fn reading_from(
+    negative: bool,
+    is_between: bool,
+    units: Option<u32>,
+    snap: Snap,
+) -> Result<Reading, DecFault>
+    requires { IfSome units (λ n. n ≤ greatest) }
+    ensures units { IfOk result (λ reading. units_or_fault snap negative is_between units ≡ Ok reading.units) }
+    ensures in_range { IfOk result (λ reading. Within greatest reading.units) }
+    ensures rounded { IfOk result (λ reading. reading.rounded ≡ is_between) }
+    ensures fault { IfErr result (λ fault. units_or_fault snap negative is_between units ≡ Err fault) }
+{
     if is_refused(snap, is_between) {
         return Err(DecFault::OffGrid);
     }
-    match nearest(scaled.mantissa, scaled.power) {
+    match units {
         None => Err(DecFault::OutOfRange),
         Some(units) => Ok(Reading {
-            units: with_sign(scaled.negative, units),
+            units: with_sign(negative, units),
             rounded: is_between,
         }),
     }

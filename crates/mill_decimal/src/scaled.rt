@@ -95,9 +95,8 @@ fn mantissa_of(whole: &[u8], fraction: &[u8]) -> u128
     value_after(front, whole.len(), fraction)
 }
 
-/// The power that makes units of the digits: each digit behind the point takes one from the
-/// exponent, and units are hundredths.
-pub fn power_of(exponent: i32, places: usize) -> i32
+// Each digit behind the point takes one from the exponent, and units are hundredths.
+fn power_of(exponent: i32, places: usize) -> i32
     requires exponent { Within 999 exponent }
     requires places { places ≤ 24 }
     ensures { result ≡ (exponent -ℤ pos places) +ℤ pos 2 }
