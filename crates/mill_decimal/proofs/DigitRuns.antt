@@ -5,7 +5,7 @@ use Rattle.std.specs.List.{prefix_len}
 use Rattle.std.specs.Char.{is_ascii_digit, digit_value}
 use Rattle.std.specs.Str.Parse.{AllDigits, digits_value, digits_value_after}
 use Rattle.std.proofs.Math.ListN.{drop_of_length-le}
-use Rattle.std.proofs.Math.Seq.{take-append_seam}
+use Rattle.std.proofs.Math.Seq.{take-append_seam, take-suc}
 use Rattle.std.proofs.lemmas.Bool.Decides.{nat_tests}
 use Rattle.std.proofs.lemmas.Fmt.{length-decimal-le}
 use Rattle.mill_decimal.specs.Spelling.{digits_of, after_digits}
@@ -18,6 +18,9 @@ short_decimal n small = length-decimal-le 8 n (omega arith) (omega arith) (omega
 
 is_digit : (b : ℕ) → is_ascii_digit b ≡ true → digit_value b < 10
 is_digit b h = grind (arith, nat_tests)
+
+pub digit_range : (b : ℕ) → is_ascii_digit b ≡ true → (48 ≤ b) × (b ≤ 57)
+digit_range b h = grind (arith, nat_tests)
 
 front_of : (b : ℕ) (text : List ℕ) (d : Bool) → AllDigits 10 (take (prefix_len is_ascii_digit text) text) → is_ascii_digit b ≡ d
     → AllDigits 10 (take (cond d (1 + prefix_len is_ascii_digit text) 0) (b ∷ text))
@@ -71,3 +74,9 @@ after-append n (x ∷ xs) ys = after-append (n * 10 + digit_value x) xs ys
 -- digits behind digits go on from their value
 pub digits_value-append : (xs ys : List ℕ) → digits_value 10 (xs ++ ys) ≡ digits_value_after 10 (digits_value 10 xs) ys
 digits_value-append xs ys = after-append 0 xs ys
+
+-- the number of one digit more
+pub digits_value_after-take : (front : ℕ) (text : List ℕ) (i : ℕ) → i < length text
+    → digits_value_after 10 front (take (i + 1) text) ≡ digits_value_after 10 front (take i text) * 10 + digit_value (get_or text i 0)
+digits_value_after-take front text i lt =
+    rw (add-one i, take-suc text i 0 lt, after-append front (take i text) (get_or text i 0 ∷ [])) refl

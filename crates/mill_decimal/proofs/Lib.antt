@@ -1,3 +1,4 @@
 pub mod DigitRuns
 pub mod Powers
 pub mod RoundTrip
+pub mod ShortForms

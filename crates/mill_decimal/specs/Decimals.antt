@@ -42,6 +42,10 @@ abbrev pub or_out_of_range : Bool → Option ℕ → Result ℤ DecFault
 or_out_of_range negative None = Err OutOfRange
 or_out_of_range negative (Some n) = Ok (signed negative n)
 
+-- units without their sign, if they are in range, or the refusal of them, where the exact ones lie between or don't
+abbrev pub units_or_fault : Snap → Bool → Bool → Option ℕ → Result ℤ DecFault
+units_or_fault snap negative between units = if is_refused snap between then Err OffGrid else or_out_of_range negative units
+
 -- the refusals of a text that is spelled well, in their order, and else its units
 abbrev pub units_of : Snap → Scaled → Result ℤ DecFault
 units_of snap s = if is_refused snap (is_between s) then Err OffGrid else or_out_of_range s.negative (in_range (rounded s))

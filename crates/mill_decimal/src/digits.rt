@@ -1,4 +1,4 @@
-ghost use Rattle.std.specs.Prelude.{◌≡◌, ◌+◌, ◌<◌, ◌≤◌, ◌^◌, length};
+ghost use Rattle.std.specs.Prelude.{◌≡◌, ◌+◌, ◌<◌, ◌≤◌, ◌^◌, length, take};
 ghost use Rattle.std.specs.Str.Parse.{digits_value_after, AllDigits};
 ghost use Rattle.std.specs.List.{prefix_len};
 ghost use Rattle.std.specs.Char.{is_ascii_digit};
@@ -39,6 +39,42 @@ fn digits_in_front(text: &[u8]) -> usize
     ensures { result ≡ prefix_len is_ascii_digit text.now }
 {
     text.iter().take_while(|b| b.is_ascii_digit()).count()
+}
+
+/// The digits that a short text begins with and what stands behind them, as `split_digits` gives
+/// them, and before these the number of the digits behind `before` digits that stand for `front`.
+#[tactic(auto, unfolding(crate::specs::Spelling::digits_of, crate::specs::Spelling::after_digits))]
+pub fn split_value(front: u64, before: usize, text: &[u8]) -> (u64, &[u8], &[u8])
+    requires front { front < 10 ^ before }
+    requires few { before + length text.now ≤ 16 }
+    ensures value { result.0 ≡ digits_value_after 10 front (digits_of text.now) }
+    ensures bound { result.0 < 10 ^ (before + length (digits_of text.now)) }
+    ensures front { result.1.now ≡ digits_of text.now }
+    ensures rest { result.2.now ≡ after_digits text.now }
+    ensures size { length result.1.now + length result.2.now ≡ length text.now }
+{
+    let (value, count) = value_in_front(front, before, text);
+    let (digits, rest) = text.split_at(count);
+    (value, digits, rest)
+}
+
+// The number of the digits that a short text begins with, and how many they are.
+fn value_in_front(front: u64, before: usize, text: &[u8]) -> (u64, usize)
+    requires front { front < 10 ^ before }
+    requires few { before + length text.now ≤ 16 }
+    ensures count { result.1 ≡ prefix_len is_ascii_digit text.now }
+    ensures value { result.0 ≡ digits_value_after 10 front (take result.1 text.now) }
+    ensures bound { result.0 < 10 ^ (before + result.1) }
+{
+    let mut value = front;
+    for place in 0..text.len() {
+        let byte = text[place];
+        if !byte.is_ascii_digit() {
+            return (value, place);
+        }
+        value = 10 * value + u64::from(byte - b'0');
+    }
+    (value, text.len())
 }
 
 /// The number that the digits stand for behind `before` digits that stand for `front`.

@@ -2,8 +2,9 @@
 //!
 //! It stands on mill_base, `itoa` and `thiserror`, and takes no memory. It promises that a text is
 //! read to exactly the units that it stands for, or refused with the first of its faults, and that
-//! what is written reads back. `specs/Spelling` says how a decimal is spelled, and `specs/Decimals`
-//! what it means and what the canonical form of a number is.
+//! what is written reads back. `specs/Spelling` says how a decimal is spelled, `specs/Decimals`
+//! what it means and what the canonical form of a number is, and `specs/Shorts` what the form stands
+//! for in which a short decimal is split.
 #![tactic(auto)]
 
 mod digits;
@@ -14,6 +15,7 @@ mod reading;
 mod round_trip;
 mod rounding;
 mod scaled;
+mod short;
 mod snap;
 mod writing;
 

@@ -1,11 +1,14 @@
-ghost use Rattle.std.specs.Prelude.{◌≡◌, ◌<◌, ◌^◌, Ok, Err, IfOk, IfErr};
+ghost use Rattle.std.specs.Prelude.{◌≡◌, ◌<◌, ◌≤◌, ◌^◌, ◌-◌, Ok, Err, IfOk, IfErr, IfSome};
 ghost use Rattle.mill_base.specs.Numbers.{Within, greatest};
-ghost use Rattle.mill_decimal.specs.Decimals.{read_as, units_of as units_of_scaled, is_rounded, is_refused as is_refused_under, is_between};
+ghost use Rattle.mill_decimal.specs.Decimals.{read_as, units_of as units_of_scaled, is_rounded, is_refused as is_refused_under, is_between, units_or_fault};
+ghost use Rattle.mill_decimal.specs.declared.snap.Snap.{Snap};
+ghost use Rattle.mill_decimal.specs.Shorts.{scaled_from};
 
 use crate::digits::with_sign;
 use crate::fault::DecFault;
-use crate::rounding::{is_whole, nearest};
+use crate::rounding::{in_range, is_whole, nearest, short_power_of_ten};
 use crate::scaled::{Scaled, scaled_of};
+use crate::short::{Short, short_of};
 use crate::snap::Snap;
 
 /// What a decimal was read as.
@@ -43,10 +46,89 @@ pub fn read_with_rounding(text: &[u8], snap: Snap) -> Result<Reading, DecFault>
     ensures rounded { IfOk result (λ reading. reading.rounded ≡ is_rounded text.now) }
     ensures fault { IfErr result (λ fault. read_as snap text.now ≡ Err fault) }
 {
+    match short_of(text) {
+        Some(short) => short_reading(short, snap),
+        None => long_reading(text, snap),
+    }
+}
+
+// The reading of any text, with an exponent or without.
+#[tactic(auto, unfolding(crate::specs::Decimals::read_as, crate::specs::Decimals::is_rounded))]
+fn long_reading(text: &[u8], snap: Snap) -> Result<Reading, DecFault>
+    ensures units { IfOk result (λ reading. read_as snap text.now ≡ Ok reading.units) }
+    ensures in_range { IfOk result (λ reading. Within greatest reading.units) }
+    ensures rounded { IfOk result (λ reading. reading.rounded ≡ is_rounded text.now) }
+    ensures fault { IfErr result (λ fault. read_as snap text.now ≡ Err fault) }
+{
     match scaled_of(text) {
         Ok(scaled) => reading_of(scaled, snap),
         Err(fault) => Err(fault),
     }
+}
+
+// The reading of a short decimal.
+fn short_reading(short: Short, snap: Snap) -> Result<Reading, DecFault>
+    requires bound { short.mantissa < 10 ^ 16 }
+    requires places { short.places ≤ 16 }
+    ensures units { IfOk result (λ reading. units_of_scaled snap (scaled_from short) ≡ Ok reading.units) }
+    ensures in_range { IfOk result (λ reading. Within greatest reading.units) }
+    ensures rounded { IfOk result (λ reading. reading.rounded ≡ is_between (scaled_from short)) }
+    ensures fault { IfErr result (λ fault. units_of_scaled snap (scaled_from short) ≡ Err fault) }
+{
+    if short.places <= 2 {
+        return whole_reading(short);
+    }
+    divided_reading(short, snap)
+}
+
+// The reading of a short decimal with at most two places: its units are whole, so that the snap
+// doesn't count.
+#[tactic(auto, using(crate::proofs::ShortForms::units_of_whole, crate::proofs::ShortForms::is_between_whole))]
+fn whole_reading(short: Short) -> Result<Reading, DecFault>
+    requires bound { short.mantissa < 10 ^ 16 }
+    requires places { short.places ≤ 2 }
+    ensures units { (snap : Snap) → IfOk result (λ reading. units_of_scaled snap (scaled_from short) ≡ Ok reading.units) }
+    ensures in_range { IfOk result (λ reading. Within greatest reading.units) }
+    ensures rounded { IfOk result (λ reading. reading.rounded ≡ is_between (scaled_from short)) }
+    ensures fault { (snap : Snap) → IfErr result (λ fault. units_of_scaled snap (scaled_from short) ≡ Err fault) }
+{
+    match in_range(u128::from(short.mantissa * units_at(short.places))) {
+        None => Err(DecFault::OutOfRange),
+        Some(units) => Ok(Reading {
+            units: with_sign(short.negative, units),
+            rounded: false,
+        }),
+    }
+}
+
+// How many units the last of so many places stands for.
+fn units_at(places: usize) -> u64
+    requires { places ≤ 2 }
+    ensures value { result ≡ 10 ^ (2 - places) }
+    ensures small { result ≤ 100 }
+{
+    match places {
+        0 => 100,
+        1 => 10,
+        _ => 1,
+    }
+}
+
+// The reading of a short decimal with more than two places.
+#[tactic(auto, using(crate::proofs::ShortForms::units_of_divided, crate::proofs::ShortForms::is_between_divided))]
+fn divided_reading(short: Short, snap: Snap) -> Result<Reading, DecFault>
+    requires bound { short.mantissa < 10 ^ 16 }
+    requires low { 2 < short.places }
+    requires places { short.places ≤ 16 }
+    ensures units { IfOk result (λ reading. units_of_scaled snap (scaled_from short) ≡ Ok reading.units) }
+    ensures in_range { IfOk result (λ reading. Within greatest reading.units) }
+    ensures rounded { IfOk result (λ reading. reading.rounded ≡ is_between (scaled_from short)) }
+    ensures fault { IfErr result (λ fault. units_of_scaled snap (scaled_from short) ≡ Err fault) }
+{
+    let divisor = short_power_of_ten(short.places as u32 - 2);
+    let is_between = short.mantissa % divisor != 0;
+    let units = in_range(u128::from((2 * short.mantissa + divisor) / (2 * divisor)));
+    reading_from(short.negative, is_between, units, snap)
 }
 
 fn reading_of(scaled: Scaled, snap: Snap) -> Result<Reading, DecFault>
@@ -57,13 +139,30 @@ fn reading_of(scaled: Scaled, snap: Snap) -> Result<Reading, DecFault>
     ensures fault { IfErr result (λ fault. units_of_scaled snap scaled ≡ Err fault) }
 {
     let is_between = !is_whole(scaled.mantissa, scaled.power);
+    let units = nearest(scaled.mantissa, scaled.power);
+    reading_from(scaled.negative, is_between, units, snap)
+}
+
+// The reading of units without their sign, if they are in range, that were rounded or not.
+fn reading_from(
+    negative: bool,
+    is_between: bool,
+    units: Option<u32>,
+    snap: Snap,
+) -> Result<Reading, DecFault>
+    requires { IfSome units (λ n. n ≤ greatest) }
+    ensures units { IfOk result (λ reading. units_or_fault snap negative is_between units ≡ Ok reading.units) }
+    ensures in_range { IfOk result (λ reading. Within greatest reading.units) }
+    ensures rounded { IfOk result (λ reading. reading.rounded ≡ is_between) }
+    ensures fault { IfErr result (λ fault. units_or_fault snap negative is_between units ≡ Err fault) }
+{
     if is_refused(snap, is_between) {
         return Err(DecFault::OffGrid);
     }
-    match nearest(scaled.mantissa, scaled.power) {
+    match units {
         None => Err(DecFault::OutOfRange),
         Some(units) => Ok(Reading {
-            units: with_sign(scaled.negative, units),
+            units: with_sign(negative, units),
             rounded: is_between,
         }),
     }

@@ -83,7 +83,18 @@ fn power_of_ten(exponent: u32) -> u128
     10u128.pow(exponent)
 }
 
-fn in_range(units: u128) -> Option<u32>
+/// A power of ten in 64 bits.
+pub fn short_power_of_ten(exponent: u32) -> u64
+    requires { exponent ≤ 14 }
+    ensures value { result ≡ 10 ^ exponent }
+    ensures low { 0 < result }
+    ensures high { result ≤ 10 ^ 14 }
+{
+    10u64.pow(exponent)
+}
+
+/// The number of units, if it is in range.
+pub fn in_range(units: u128) -> Option<u32>
     ensures value { result ≡ units_in_range units }
     ensures in_range { IfSome result (λ n. n ≤ greatest) }
 {

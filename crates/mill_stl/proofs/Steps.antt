@@ -1,5 +1,5 @@
--- A text byte by byte, as a loop takes it.
-use Rattle.std.proofs.Common.{◌≡◌, ℕ, suc, ◌+◌, ◌-◌, ◌<◌, ◌≤◌, List, [], ◌∷◌, ◌++◌, length, take, drop, get_or, Result, Ok, Err, true, false, refl, sym, ap, subst, ◌∙◌, add-one, arith, drop-cons, length-drop}
+-- A text word by word, as a loop takes it.
+use Rattle.std.proofs.Common.{◌≡◌, ℕ, zero, suc, ◌+◌, ◌-◌, ◌<◌, ◌≤◌, List, [], ◌∷◌, length, take, drop, get_or, Result, Ok, Err, true, false, refl, ap, subst, ◌∙◌, add-one, arith, drop-cons, length-drop}
 use Rattle.std.proofs.Math.ListN.{drop_of_length-le}
 use Rattle.std.proofs.Math.Seq.{take-suc}
 use Rattle.std.proofs.lemmas.List.{get_or-drop}
@@ -8,68 +8,152 @@ use Rattle.mill_decimal.specs.declared.snap.Snap.{Snap}
 use Rattle.mill_stl.specs.declared.fault.StlFault.{StlFault}
 use Rattle.mill_stl.specs.declared.fault.StlFault.TheVariants.{Expected, Coord, TooManyTriangles, CutShort, WantOfMemory}
 use Rattle.mill_stl.specs.declared.state.Cursor.{Cursor}
-use Rattle.mill_stl.specs.declared.state.StlRead.{StlRead}
-use Rattle.mill_stl.specs.Parts.{Scan, Part, is_space, next_line, with_word, after_byte, after_text, read_from, Fails, Gives}
-use Rattle.mill_stl.specs.Bounds.{scan_at}
+use Rattle.mill_stl.specs.declared.state.Progress.{Progress}
+use Rattle.mill_stl.specs.Facets.{after_word}
+use Rattle.mill_stl.specs.Parts.{Reached, Part, is_space, next_line, and_then, after_step, reached_at, with_word, after_byte, after_text, read_from, whole_part, Fails}
+use Rattle.mill_stl.specs.Bounds.{scan_at, meaning_from}
 
--- a word and its next byte
-pub take_word-suc : (text : List ℕ) (from place : ℕ) → from ≤ place → place < length text
-    → take (place + 1 - from) (drop from text) ≡ take (place - from) (drop from text) ++ get_or text place 0 ∷ []
-take_word-suc text from place le lt =
-    let size : place + 1 - from ≡ suc (place - from) = omega arith in
-    let whole : from + (place - from) ≡ place = omega arith in
-    let here : get_or (drop from text) (place - from) 0 ≡ get_or text place 0 = get_or-drop from text (place - from) 0 ∙ ap (λ (i : ℕ). get_or text i 0) whole in
-    rw (size, take-suc (drop from text) (place - from) 0 (omega (arith, length-drop from text)), here) refl
+-- the same first bytes, and one more
+pub take-next : (xs ys : List ℕ) (i : ℕ) → i < length xs → i < length ys → get_or xs i 0 ≡ get_or ys i 0
+    → take i xs ≡ take i ys → take (i + 1) xs ≡ take (i + 1) ys
+take-next xs ys i ltx lty here so_far = rw (add-one i, take-suc xs i 0 ltx, take-suc ys i 0 lty, so_far, here) refl
 
--- a byte within a word only lengthens it, so the cursor stays
-pub after_byte-in_word : (snap : Snap) (text : List ℕ) (place : ℕ) (c : Cursor) (tris : List Tri) → c.from ≤ place → place < length text
-    → is_space (get_or text place 0) ≡ false
-    → after_byte snap (scan_at text place c tris) (get_or text place 0) ≡ Ok (scan_at text (place + 1) c tris)
-unfolding after_byte
-after_byte-in_word snap text place c tris le lt space = rw (space, take_word-suc text c.from place le lt) refl
+-- no word does nothing
+with_word-none : (snap : Snap) (r : Reached) (line : ℕ) → with_word snap r line [] ≡ Ok r
+unfolding with_word
+with_word-none snap r line = refl
 
--- white space right after white space ends no word
-pub after_byte-space_again : (snap : Snap) (text : List ℕ) (place : ℕ) (c : Cursor) (tris : List Tri) → c.from ≡ place
+-- a word does what it does
+pub with_word_some : (snap : Snap) (r : Reached) (line : ℕ) (word : List ℕ) → 0 < length word
+    → with_word snap r line word ≡ and_then (after_word snap r.progress line word) (λ s. Ok (after_step r.tris s))
+unfolding with_word
+with_word_some snap r line [] some = absurd (omega arith)
+with_word_some snap r line (b ∷ word) some = refl
+
+-- white space where no word goes on changes no more than the line
+pub meaning-space : (snap : Snap) (text : List ℕ) (line place : ℕ) (p : Progress) (tris : List Tri) → place < length text
     → is_space (get_or text place 0) ≡ true
-    → after_byte snap (scan_at text place c tris) (get_or text place 0)
-    ≡ Ok (scan_at text (place + 1) (record { progress = c.progress; line = next_line c.line (get_or text place 0); from = place + 1 }) tris)
-unfolding after_byte with_word
-after_byte-space_again snap text place c tris at space =
-    let before : place - c.from ≡ 0 = omega arith in
-    let after : place + 1 - (place + 1) ≡ 0 = omega arith in
-    rw (space, before, after) refl
+    → meaning_from snap text (record { line = next_line line (get_or text place 0); from = place + 1 }) p tris
+    ≡ meaning_from snap text (record { line = line; from = place }) p tris
+unfolding read_from after_byte
+meaning-space snap text line place p tris lt space = rw (add-one place, drop-cons text place 0 lt, space, with_word-none snap (reached_at p tris) line) refl
 
--- the meaning of the rest from one byte on is that from the next on
-pub read_from-next : (snap : Snap) (text : List ℕ) (i : ℕ) (s t : Scan) (total : Result Part StlFault)
-    → i < length text → after_byte snap s (get_or text i 0) ≡ Ok t
-    → read_from snap s (drop i text) ≡ total → read_from snap t (drop (i + 1) text) ≡ total
-unfolding read_from
-read_from-next snap text i s t total lt h so_far =
-    let one : read_from snap s (drop i text) ≡ read_from snap t (drop (i + 1) text) = rw (add-one i, drop-cons text i 0 lt, h) refl in
-    sym one ∙ so_far
+-- and a blank there changes nothing
+pub meaning-blank : (snap : Snap) (text : List ℕ) (line place : ℕ) (p : Progress) (tris : List Tri) → place < length text
+    → get_or text place 0 ≡ 32
+    → meaning_from snap text (record { line = line; from = place + 1 }) p tris ≡ meaning_from snap text (record { line = line; from = place }) p tris
+meaning-blank snap text line place p tris lt blank =
+    rw blank at (meaning-space snap text line place p tris lt (rw blank refl))
 
--- a byte's fault is that of the rest
-pub read_from-err : (snap : Snap) (text : List ℕ) (i : ℕ) (s : Scan) (fault : StlFault)
-    → i < length text → after_byte snap s (get_or text i 0) ≡ Err fault → read_from snap s (drop i text) ≡ Err fault
-unfolding read_from
-read_from-err snap text i s fault lt h = rw (drop-cons text i 0 lt, h) refl
+-- nor do blanks up to a further place
+blanks_step : (snap : Snap) (text : List ℕ) (line place n : ℕ) (p : Progress) (tris : List Tri) → place + n ≤ length text
+    → ((k : ℕ) → place ≤ k → k < place + n → get_or text k 0 ≡ 32)
+    → meaning_from snap text (record { line = line; from = place + n }) p tris ≡ meaning_from snap text (record { line = line; from = place }) p tris
+blanks_step snap text line place zero p tris le blanks =
+    let here : place + 0 ≡ place = omega arith in
+    rw here refl
+blanks_step snap text line place (suc n) p tris le blanks =
+    let next : place + suc n ≡ place + n + 1 = omega arith in
+    rw next
+    (meaning-blank snap text line (place + n) p tris (omega arith) (blanks (place + n) (omega arith) (omega arith))
+    ∙ blanks_step snap text line place n p tris (omega arith) (λ k ge lt. blanks k ge (omega arith)))
+
+pub meaning-blanks : (snap : Snap) (text : List ℕ) (line place end : ℕ) (p : Progress) (tris : List Tri) → place ≤ end → end ≤ length text
+    → ((k : ℕ) → place ≤ k → k < end → get_or text k 0 ≡ 32)
+    → meaning_from snap text (record { line = line; from = end }) p tris ≡ meaning_from snap text (record { line = line; from = place }) p tris
+meaning-blanks snap text line place end p tris forward within blanks =
+    let n = end - place in
+    let whole : place + n ≡ end = omega arith in
+    subst (λ (e : ℕ). meaning_from snap text (record { line = line; from = e }) p tris ≡ meaning_from snap text (record { line = line; from = place }) p tris) whole
+    (blanks_step snap text line place n p tris (omega arith) (λ k ge lt. blanks k ge (omega arith)))
+
+-- ---- the bytes of a word only lengthen it
+
+read_from-in_word : (snap : Snap) (text : List ℕ) (r : Reached) (line from n : ℕ) → from + n < length text
+    → is_space (get_or text (from + n) 0) ≡ false
+    → read_from snap (scan_at r line (take (suc n) (drop from text))) (drop (suc (from + n)) text)
+    ≡ read_from snap (scan_at r line (take n (drop from text))) (drop (from + n) text)
+unfolding read_from after_byte
+read_from-in_word snap text r line from n lt space =
+    rw (take-suc (drop from text) n 0 (omega (arith, length-drop from text)), get_or-drop from text n 0, drop-cons text (from + n) 0 lt, space) refl
+
+read_from-word : (snap : Snap) (text : List ℕ) (r : Reached) (line from n : ℕ) → from + n ≤ length text
+    → ((k : ℕ) → from ≤ k → k < from + n → is_space (get_or text k 0) ≡ false)
+    → read_from snap (scan_at r line (take n (drop from text))) (drop (from + n) text) ≡ read_from snap (scan_at r line []) (drop from text)
+read_from-word snap text r line from zero le word =
+    let here : from + 0 ≡ from = omega arith in
+    rw here refl
+read_from-word snap text r line from (suc n) le word =
+    let next : from + suc n ≡ suc (from + n) = omega arith in
+    rw next
+    (read_from-in_word snap text r line from n (omega arith) (word (from + n) (omega arith) (omega arith))
+    ∙ read_from-word snap text r line from n (omega arith) (λ k ge lt. word k ge (omega arith)))
+
+-- ---- a word ends before white space and at the text's end
+
+read_from-ended : (snap : Snap) (r s : Reached) (line : ℕ) (word rest : List ℕ) → (0 < length rest → is_space (get_or rest 0 0) ≡ true)
+    → with_word snap r line word ≡ Ok s → read_from snap (scan_at s line []) rest ≡ read_from snap (scan_at r line word) rest
+unfolding read_from after_text after_byte
+read_from-ended snap r s line word [] space h = rw (h, with_word-none snap s line) refl
+read_from-ended snap r s line word (b ∷ rest) space h = rw (space (omega arith), h, with_word-none snap s line) refl
+
+read_from-err : (snap : Snap) (r : Reached) (line : ℕ) (word rest : List ℕ) (fault : StlFault) → (0 < length rest → is_space (get_or rest 0 0) ≡ true)
+    → with_word snap r line word ≡ Err fault → read_from snap (scan_at r line word) rest ≡ Err fault
+unfolding read_from after_text after_byte
+read_from-err snap r line word [] fault space h = rw h refl
+read_from-err snap r line word (b ∷ rest) fault space h = rw (space (omega arith), h) refl
 
 -- the same of a fault that may be want of memory
-pub fails : (fault : StlFault) (snap : Snap) (text : List ℕ) (i : ℕ) (s : Scan) (total : Result Part StlFault)
-    → i < length text → Fails fault (after_byte snap s (get_or text i 0))
-    → read_from snap s (drop i text) ≡ total → Fails fault total
-fails WantOfMemory snap text i s total lt h so_far = tt
-fails (Expected line what) snap text i s total lt h so_far = sym so_far ∙ read_from-err snap text i s (Expected line what) lt h
-fails (Coord line fault) snap text i s total lt h so_far = sym so_far ∙ read_from-err snap text i s (Coord line fault) lt h
-fails (TooManyTriangles line) snap text i s total lt h so_far = sym so_far ∙ read_from-err snap text i s (TooManyTriangles line) lt h
-fails (CutShort line) snap text i s total lt h so_far = sym so_far ∙ read_from-err snap text i s (CutShort line) lt h
+read_from-fails : (fault : StlFault) (snap : Snap) (r : Reached) (line : ℕ) (word rest : List ℕ) → (0 < length rest → is_space (get_or rest 0 0) ≡ true)
+    → Fails fault (with_word snap r line word) → Fails fault (read_from snap (scan_at r line word) rest)
+read_from-fails WantOfMemory snap r line word rest space h = tt
+read_from-fails (Expected l what) snap r line word rest space h = read_from-err snap r line word rest (Expected l what) space h
+read_from-fails (Coord l fault) snap r line word rest space h = read_from-err snap r line word rest (Coord l fault) space h
+read_from-fails (TooManyTriangles l) snap r line word rest space h = read_from-err snap r line word rest (TooManyTriangles l) space h
+read_from-fails (CutShort l) snap r line word rest space h = read_from-err snap r line word rest (CutShort l) space h
 
--- at the end nothing is left but a last word
-pub gives : (snap : Snap) (text : List ℕ) (place : ℕ) (c : Cursor) (tris : List Tri) (r : Result StlRead StlFault) (total : Result Part StlFault)
-    → place ≡ length text → Gives r (after_text snap (scan_at text (length text) c tris))
-    → read_from snap (scan_at text place c tris) (drop place text) ≡ total → Gives r total
-unfolding read_from
-gives snap text place c tris r total e h so_far =
-    let whole = rw e at so_far in
-    let one : read_from snap (scan_at text (length text) c tris) (drop (length text) text) ≡ after_text snap (scan_at text (length text) c tris) = rw (drop_of_length-le text {i = length text} (omega arith)) refl in
-    subst (λ (meaning : Result Part StlFault). Gives r meaning) (sym one ∙ whole) h
+-- ---- a whole word
+
+-- the bytes from one place to another are a word
+pub record IsWord (text : List ℕ) (from end : ℕ) : Type 0 where
+  pub forward : from ≤ end
+  pub within : end ≤ length text
+  pub word : (k : ℕ) → from ≤ k → k < end → is_space (get_or text k 0) ≡ false
+  pub space : end < length text → is_space (get_or text end 0) ≡ true
+
+-- what follows a word begins with white space, if with anything
+space_behind : (text : List ℕ) (from end : ℕ) → IsWord text from end → 0 < length (drop end text) → is_space (get_or (drop end text) 0 0) ≡ true
+space_behind text from end w some =
+    let none : end + 0 ≡ end = omega arith in
+    let here : get_or (drop end text) 0 0 ≡ get_or text end 0 = get_or-drop end text 0 0 ∙ ap (λ (i : ℕ). get_or text i 0) none in
+    rw here (w.space (omega (arith, length-drop end text)))
+
+read_from-whole : (snap : Snap) (text : List ℕ) (r : Reached) (line from end : ℕ) → IsWord text from end
+    → read_from snap (scan_at r line (take (end - from) (drop from text))) (drop end text) ≡ read_from snap (scan_at r line []) (drop from text)
+read_from-whole snap text r line from end w =
+    let n = end - from in
+    let whole : from + n ≡ end = omega (arith, w.forward) in
+    subst (λ (e : ℕ). read_from snap (scan_at r line (take n (drop from text))) (drop e text) ≡ read_from snap (scan_at r line []) (drop from text)) whole
+    (read_from-word snap text r line from n (omega (arith, w.forward, w.within)) (λ k ge lt. w.word k ge (omega (arith, w.forward))))
+
+-- the meaning behind a word that is taken
+pub meaning-word : (snap : Snap) (text : List ℕ) (c : Cursor) (end : ℕ) (p q : Progress) (tris more : List Tri) → IsWord text c.from end
+    → with_word snap (reached_at p tris) c.line (take (end - c.from) (drop c.from text)) ≡ Ok (reached_at q more)
+    → meaning_from snap text (record { line = c.line; from = end }) q more ≡ meaning_from snap text c p tris
+meaning-word snap text c end p q tris more w h =
+    read_from-ended snap (reached_at p tris) (reached_at q more) c.line (take (end - c.from) (drop c.from text)) (drop end text) (space_behind text c.from end w) h
+    ∙ read_from-whole snap text (reached_at p tris) c.line c.from end w
+
+-- a word's fault is that of the text from the word on
+pub fails-word : (fault : StlFault) (snap : Snap) (text : List ℕ) (c : Cursor) (end : ℕ) (p : Progress) (tris : List Tri) → IsWord text c.from end
+    → Fails fault (with_word snap (reached_at p tris) c.line (take (end - c.from) (drop c.from text)))
+    → Fails fault (meaning_from snap text c p tris)
+fails-word fault snap text c end p tris w h =
+    subst (λ (meaning : Result Part StlFault). Fails fault meaning) (read_from-whole snap text (reached_at p tris) c.line c.from end w)
+    (read_from-fails fault snap (reached_at p tris) c.line (take (end - c.from) (drop c.from text)) (drop end text) (space_behind text c.from end w) h)
+
+-- at the end nothing is left
+pub meaning-end : (snap : Snap) (text : List ℕ) (c : Cursor) (p : Progress) (tris : List Tri) → length text ≤ c.from
+    → meaning_from snap text c p tris ≡ whole_part c.line (reached_at p tris)
+unfolding read_from after_text
+meaning-end snap text c p tris past = rw (drop_of_length-le text past, with_word-none snap (reached_at p tris) c.line) refl

@@ -1,5 +1,5 @@
 -- What stays true from word to word while a part is read.
-use Rattle.std.specs.Prelude.{◌≡◌, ℕ, ◌+◌, ◌-◌, ◌*◌, ◌≤◌, ◌<◌, ℤ, List, length, take, drop, Option, Some, None, IfSome, Result, slice_index}
+use Rattle.std.specs.Prelude.{◌≡◌, ℕ, ◌+◌, ◌*◌, ◌≤◌, ◌<◌, ℤ, List, [], length, drop, Option, Some, None, IfSome, Result, Ok, Err, false, slice_index}
 use Rattle.std.specs.List.{All}
 use Rattle.mill_base.specs.Numbers.{Within, greatest}
 use Rattle.mill_base.specs.Ranges.{TriInRange}
@@ -9,9 +9,9 @@ use Rattle.mill_stl.specs.declared.fault.StlFault.{StlFault}
 use Rattle.mill_stl.specs.declared.state.Stage.{Stage}
 use Rattle.mill_stl.specs.declared.state.Stage.TheVariants as stage
 use Rattle.mill_stl.specs.declared.state.Progress.{Progress}
-use Rattle.mill_stl.specs.declared.state.Step.{Step}
 use Rattle.mill_stl.specs.declared.state.Cursor.{Cursor}
-use Rattle.mill_stl.specs.Parts.{Scan, reached_at, after_byte}
+use Rattle.mill_stl.specs.Facets.{Step}
+use Rattle.mill_stl.specs.Parts.{Reached, Scan, Part, is_space, reached_at, read_from}
 
 -- how many coordinates of the facet the stage has behind it
 abbrev pub coords_before : Stage → ℕ
@@ -62,10 +62,25 @@ pub record IsSound (p : Progress) (tris : List Tri) : Type 0 where
   pub count : length tris ≡ p.facets
   pub tris_ok : All TriInRange tris
 
--- where a cursor stands before the byte at a place of the text
-abbrev pub scan_at : List ℕ → ℕ → Cursor → List Tri → Scan
-scan_at text place c tris = record { reached = reached_at c.progress tris; line = c.line; word = take (place - c.from) (drop c.from text) }
+-- the progress and the triangle that a word has ended, as a step
+abbrev pub stepped : Progress → Option Tri → Step
+stepped p tri = record { progress = p; tri = tri }
 
--- and where the byte leads from there
-abbrev pub scan_after : Snap → List ℕ → ℕ → Cursor → List Tri → Result Scan StlFault
-scan_after snap text place c tris = after_byte snap (scan_at text place c tris) (slice_index text place)
+-- this progress and this answer are what a word does
+abbrev pub Does : Progress → Result (Option Tri) StlFault → Result Step StlFault → Type 0
+Does p (Ok tri) meaning = meaning ≡ Ok (stepped p tri)
+Does p (Err fault) meaning = meaning ≡ Err fault
+
+-- before the next byte, with these bytes of a word behind
+abbrev pub scan_at : Reached → ℕ → List ℕ → Scan
+scan_at r line word = record { reached = r; line = line; word = word }
+
+-- what the text means, read on from the cursor, where no word goes on
+abbrev pub meaning_from : Snap → List ℕ → Cursor → Progress → List Tri → Result Part StlFault
+meaning_from snap text c p tris = read_from snap (scan_at (reached_at p tris) c.line []) (drop c.from text)
+
+-- the cursor is within the text, on a line that there can be, and no white space follows it
+pub record IsBeforeWord (text : List ℕ) (c : Cursor) : Type 0 where
+  pub within : c.from ≤ length text
+  pub line_ok : c.line ≤ c.from + 1
+  pub no_space : c.from < length text → is_space (slice_index text c.from) ≡ false

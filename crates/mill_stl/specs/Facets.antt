@@ -1,5 +1,5 @@
 -- The words of a part text: what each has to be, and what it does.
-use Rattle.std.specs.Prelude.{ℕ, ◌+◌, ℤ, pos, List, Some, None, Result, Ok, Err, Bool, ◌==◌, nat_lt, nat_le, if◌then◌else◌, slice_index_or, set, codes}
+use Rattle.std.specs.Prelude.{ℕ, ◌+◌, ℤ, pos, List, Option, Some, None, Result, Ok, Err, Bool, ◌==◌, nat_lt, nat_le, if◌then◌else◌, slice_index_or, set, codes}
 use Rattle.std.specs.Str.{str_eq_ignore_ascii_case}
 use Rattle.mill_base.specs.declared.points.Pt3.{Pt3}
 use Rattle.mill_base.specs.declared.points.Tri.{Tri}
@@ -13,7 +13,11 @@ use Rattle.mill_stl.specs.declared.fault.StlFault.TheVariants.{Expected, Coord, 
 use Rattle.mill_stl.specs.declared.state.Stage.{Stage}
 use Rattle.mill_stl.specs.declared.state.Stage.TheVariants as stage
 use Rattle.mill_stl.specs.declared.state.Progress.{Progress}
-use Rattle.mill_stl.specs.declared.state.Step.{Step}
+
+-- what a word has done: the progress behind it, and the triangle of the facet that has ended with it
+pub record Step : Type 0 where
+  pub progress : Progress
+  pub tri : Option Tri
 
 -- the word is the keyword, in any letter case
 abbrev pub is_keyword : List ℕ → List ℕ → Bool

@@ -8,8 +8,7 @@ use Rattle.mill_stl.specs.declared.state.StlRead.{StlRead}
 use Rattle.mill_stl.specs.declared.state.Stage.{Stage}
 use Rattle.mill_stl.specs.declared.state.Stage.TheVariants as stage
 use Rattle.mill_stl.specs.declared.state.Progress.{Progress}
-use Rattle.mill_stl.specs.declared.state.Step.{Step}
-use Rattle.mill_stl.specs.Facets.{after_word}
+use Rattle.mill_stl.specs.Facets.{Step, after_word}
 
 -- the byte parts words: space, tab, LF, vertical tab, form feed, CR
 abbrev pub is_space : ℕ → Bool

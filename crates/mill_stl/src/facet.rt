@@ -1,110 +1,127 @@
 //! What a word does.
 
-ghost use Rattle.std.specs.Prelude.{◌≡◌, ◌+◌, ◌*◌, ◌^◌, ◌≤◌, ◌<◌, IfOk, ℕ};
+ghost use Rattle.std.specs.Prelude.{◌≡◌, ◌+◌, ◌*◌, ◌^◌, ◌≤◌, ◌<◌, IfOk, IsTrue, ℕ};
 ghost use Rattle.mill_base.specs.Numbers.{Within, greatest};
 ghost use Rattle.mill_base.specs.Ranges.{TriInRange};
-ghost use Rattle.mill_stl.specs.Facets.{is_keyword as is_keyword_of, moved_to, with_name, after_keyword, after_solid, begun_facet, after_facet_or_end, stage_after_ignored as stage_after_ignored_of, stage_after_coord as stage_after_coord_of, rounded_after as rounded_after_of, with_coord as with_coord_of, after_coord, tri_of as tri_of_coords, after_end_facet, at_stage as at_stage_of, after_word};
-ghost use Rattle.mill_stl.specs.Bounds.{FitsStage, CoordsInRange, Fits, IsStep};
+ghost use Rattle.mill_stl.specs.Facets.{is_keyword as is_keyword_of, moved_to, with_name, after_keyword, after_solid, begun_facet, after_facet_or_end, stage_after_ignored as stage_after_ignored_of, stage_after_coord as stage_after_coord_of, rounded_after as rounded_after_of, with_coord, after_coord, tri_of as tri_of_coords, after_end_facet, at_stage as at_stage_of, after_word};
+ghost use Rattle.mill_stl.specs.Bounds.{FitsStage, CoordsInRange, Fits, IsStep, stepped, Does};
 
 use crate::fault::{StlFault, What};
-use crate::state::{Progress, Stage, Step};
+use crate::state::{Progress, Stage};
 use mill_base::{Pt3, Tri};
 use mill_decimal::{Reading, Snap, read_with_rounding};
 
 /// The most triangles of a part.
 const MOST_TRIANGLES: u64 = 200_000;
 
+// Most files spell a keyword as the form does, so that comparison is tried first.
 fn is_keyword(word: &[u8], keyword: &[u8]) -> bool
     ensures { result ≡ is_keyword_of word.now keyword.now }
 {
+    if is_exactly(word, keyword) {
+        return true;
+    }
     word.eq_ignore_ascii_case(keyword)
 }
 
-fn move_to(progress: Progress, next: Stage) -> Step
-    requires fits { Fits progress }
-    requires next_fits { FitsStage next progress.facets progress.rounded }
-    ensures value { result ≡ moved_to progress next }
-    ensures step { IsStep progress result }
+// Inlined, so that the bytes of a keyword are compared as constants.
+#[inline(always)]
+fn is_exactly(word: &[u8], keyword: &[u8]) -> bool
+    ensures { IsTrue result → word.now ≡ keyword.now }
 {
-    Step {
-        progress: Progress {
-            stage: next,
-            ..progress
-        },
-        tri: None,
+    if word.len() != keyword.len() {
+        return false;
     }
+    for place in 0..keyword.len() {
+        if word[place] != keyword[place] {
+            return false;
+        }
+    }
+    true
 }
 
-fn begin_name(progress: Progress, line: u64, next: Stage) -> Step
-    requires fits { Fits progress }
-    requires next_fits { FitsStage next progress.facets progress.rounded }
-    ensures value { result ≡ with_name progress line next }
-    ensures step { IsStep progress result }
+fn move_to(progress: &mut Progress, next: Stage)
+    requires fits { Fits progress.old }
+    requires next_fits { FitsStage next progress.old.facets progress.old.rounded }
+    ensures value { stepped progress.new None ≡ moved_to progress.old next }
+    ensures step { IsStep progress.old (stepped progress.new None) }
 {
-    Step {
-        progress: Progress {
-            stage: next,
-            name_line: line,
-            ..progress
-        },
-        tri: None,
-    }
+    progress.stage = next;
+}
+
+fn begin_name(progress: &mut Progress, line: u64, next: Stage)
+    requires fits { Fits progress.old }
+    requires next_fits { FitsStage next progress.old.facets progress.old.rounded }
+    ensures value { stepped progress.new None ≡ with_name progress.old line next }
+    ensures step { IsStep progress.old (stepped progress.new None) }
+{
+    progress.stage = next;
+    progress.name_line = line;
 }
 
 fn expect(
-    progress: Progress,
+    progress: &mut Progress,
     line: u64,
     word: &[u8],
     keyword: &[u8],
     what: What,
     next: Stage,
-) -> Result<Step, StlFault>
-    requires fits { Fits progress }
-    requires next_fits { FitsStage next progress.facets progress.rounded }
-    ensures value { result ≡ after_keyword progress line word.now keyword.now what next }
-    ensures step { IfOk result (λ s. IsStep progress s) }
+) -> Result<Option<Tri>, StlFault>
+    requires fits { Fits progress.old }
+    requires next_fits { FitsStage next progress.old.facets progress.old.rounded }
+    ensures value { Does progress.new result (after_keyword progress.old line word.now keyword.now what next) }
+    ensures step { IfOk result (λ tri. IsStep progress.old (stepped progress.new tri)) }
 {
     if is_keyword(word, keyword) {
-        return Ok(move_to(progress, next));
+        move_to(progress, next);
+        return Ok(None);
     }
     Err(StlFault::Expected { line, what })
 }
 
-fn begin_solid(progress: Progress, line: u64, word: &[u8], what: What) -> Result<Step, StlFault>
-    requires fits { Fits progress }
-    requires next_fits { FitsStage Stage.FacetOrEnd progress.facets progress.rounded }
-    ensures value { result ≡ after_solid progress line word.now what }
-    ensures step { IfOk result (λ s. IsStep progress s) }
+fn begin_solid(
+    progress: &mut Progress,
+    line: u64,
+    word: &[u8],
+    what: What,
+) -> Result<Option<Tri>, StlFault>
+    requires fits { Fits progress.old }
+    requires next_fits { FitsStage Stage.FacetOrEnd progress.old.facets progress.old.rounded }
+    ensures value { Does progress.new result (after_solid progress.old line word.now what) }
+    ensures step { IfOk result (λ tri. IsStep progress.old (stepped progress.new tri)) }
 {
     if is_keyword(word, b"solid") {
-        return Ok(begin_name(progress, line, Stage::FacetOrEnd));
+        begin_name(progress, line, Stage::FacetOrEnd);
+        return Ok(None);
     }
     Err(StlFault::Expected { line, what })
 }
 
-fn begin_facet(progress: Progress, line: u64) -> Result<Step, StlFault>
-    requires fits { Fits progress }
-    requires stage { progress.stage ≡ Stage.FacetOrEnd }
-    ensures value { result ≡ begun_facet progress line }
-    ensures step { IfOk result (λ s. IsStep progress s) }
+fn begin_facet(progress: &mut Progress, line: u64) -> Result<Option<Tri>, StlFault>
+    requires fits { Fits progress.old }
+    requires stage { progress.old.stage ≡ Stage.FacetOrEnd }
+    ensures value { Does progress.new result (begun_facet progress.old line) }
+    ensures step { IfOk result (λ tri. IsStep progress.old (stepped progress.new tri)) }
 {
     if progress.facets >= MOST_TRIANGLES {
         return Err(StlFault::TooManyTriangles { line });
     }
-    Ok(move_to(progress, Stage::Normal))
+    move_to(progress, Stage::Normal);
+    Ok(None)
 }
 
-fn facet_or_end(progress: Progress, line: u64, word: &[u8]) -> Result<Step, StlFault>
-    requires fits { Fits progress }
-    requires stage { progress.stage ≡ Stage.FacetOrEnd }
-    ensures value { result ≡ after_facet_or_end progress line word.now }
-    ensures step { IfOk result (λ s. IsStep progress s) }
+fn facet_or_end(progress: &mut Progress, line: u64, word: &[u8]) -> Result<Option<Tri>, StlFault>
+    requires fits { Fits progress.old }
+    requires stage { progress.old.stage ≡ Stage.FacetOrEnd }
+    ensures value { Does progress.new result (after_facet_or_end progress.old line word.now) }
+    ensures step { IfOk result (λ tri. IsStep progress.old (stepped progress.new tri)) }
 {
     if is_keyword(word, b"facet") {
         return begin_facet(progress, line);
     }
     if is_keyword(word, b"endsolid") {
-        return Ok(begin_name(progress, line, Stage::SolidOrEnd));
+        begin_name(progress, line, Stage::SolidOrEnd);
+        return Ok(None);
     }
     Err(StlFault::Expected {
         line,
@@ -150,40 +167,35 @@ fn rounded_after(count: u64, rounded: bool) -> u64
     if rounded { count + 1 } else { count }
 }
 
-fn with_coord(progress: Progress, number: u8, reading: Reading) -> Step
-    requires fits { Fits progress }
-    requires stage { progress.stage ≡ Stage.Coord number }
-    requires in_range { Within greatest reading.units }
-    ensures value { result ≡ with_coord_of progress number reading.units reading.rounded }
-    ensures step { IsStep progress result }
+fn put_coord(progress: &mut Progress, number: u8, units: i32, rounded: bool)
+    requires fits { Fits progress.old }
+    requires stage { progress.old.stage ≡ Stage.Coord number }
+    requires in_range { Within greatest units }
+    ensures value { stepped progress.new None ≡ with_coord progress.old number units rounded }
+    ensures step { IsStep progress.old (stepped progress.new None) }
 {
-    let mut coords = progress.coords;
-    coords[usize::from(number)] = reading.units;
-    Step {
-        progress: Progress {
-            stage: stage_after_coord(number),
-            coords,
-            rounded: rounded_after(progress.rounded, reading.rounded),
-            ..progress
-        },
-        tri: None,
-    }
+    progress.coords[usize::from(number)] = units;
+    progress.stage = stage_after_coord(number);
+    progress.rounded = rounded_after(progress.rounded, rounded);
 }
 
 fn take_coord(
     snap: Snap,
-    progress: Progress,
+    progress: &mut Progress,
     line: u64,
     number: u8,
     word: &[u8],
-) -> Result<Step, StlFault>
-    requires fits { Fits progress }
-    requires stage { progress.stage ≡ Stage.Coord number }
-    ensures value { result ≡ after_coord snap progress line number word.now }
-    ensures step { IfOk result (λ s. IsStep progress s) }
+) -> Result<Option<Tri>, StlFault>
+    requires fits { Fits progress.old }
+    requires stage { progress.old.stage ≡ Stage.Coord number }
+    ensures value { Does progress.new result (after_coord snap progress.old line number word.now) }
+    ensures step { IfOk result (λ tri. IsStep progress.old (stepped progress.new tri)) }
 {
     match read_with_rounding(word, snap) {
-        Ok(reading) => Ok(with_coord(progress, number, reading)),
+        Ok(Reading { units, rounded }) => {
+            put_coord(progress, number, units, rounded);
+            Ok(None)
+        }
         Err(fault) => Err(StlFault::Coord { line, fault }),
     }
 }
@@ -213,11 +225,11 @@ fn tri_of(coords: [i32; 9]) -> Tri
     }
 }
 
-fn end_facet(progress: Progress, line: u64, word: &[u8]) -> Result<Step, StlFault>
-    requires fits { Fits progress }
-    requires stage { progress.stage ≡ Stage.EndFacet }
-    ensures value { result ≡ after_end_facet progress line word.now }
-    ensures step { IfOk result (λ s. IsStep progress s) }
+fn end_facet(progress: &mut Progress, line: u64, word: &[u8]) -> Result<Option<Tri>, StlFault>
+    requires fits { Fits progress.old }
+    requires stage { progress.old.stage ≡ Stage.EndFacet }
+    ensures value { Does progress.new result (after_end_facet progress.old line word.now) }
+    ensures step { IfOk result (λ tri. IsStep progress.old (stepped progress.new tri)) }
 {
     if !is_keyword(word, b"endfacet") {
         return Err(StlFault::Expected {
@@ -225,27 +237,22 @@ fn end_facet(progress: Progress, line: u64, word: &[u8]) -> Result<Step, StlFaul
             what: What::EndFacet,
         });
     }
-    Ok(Step {
-        progress: Progress {
-            stage: Stage::FacetOrEnd,
-            facets: progress.facets + 1,
-            ..progress
-        },
-        tri: Some(tri_of(progress.coords)),
-    })
+    progress.stage = Stage::FacetOrEnd;
+    progress.facets += 1;
+    Ok(Some(tri_of(progress.coords)))
 }
 
 fn at_stage(
     snap: Snap,
     stage: Stage,
-    progress: Progress,
+    progress: &mut Progress,
     line: u64,
     word: &[u8],
-) -> Result<Step, StlFault>
-    requires fits { Fits progress }
-    requires stage { stage ≡ progress.stage }
-    ensures value { result ≡ at_stage_of snap stage progress line word.now }
-    ensures step { IfOk result (λ s. IsStep progress s) }
+) -> Result<Option<Tri>, StlFault>
+    requires fits { Fits progress.old }
+    requires stage { stage ≡ progress.old.stage }
+    ensures value { Does progress.new result (at_stage_of snap stage progress.old line word.now) }
+    ensures step { IfOk result (λ tri. IsStep progress.old (stepped progress.new tri)) }
 {
     match stage {
         Stage::Solid => begin_solid(progress, line, word, What::Solid),
@@ -255,7 +262,10 @@ fn at_stage(
             let next = Stage::Ignored(0);
             expect(progress, line, word, b"normal", What::Normal, next)
         }
-        Stage::Ignored(number) => Ok(move_to(progress, stage_after_ignored(number))),
+        Stage::Ignored(number) => {
+            move_to(progress, stage_after_ignored(number));
+            Ok(None)
+        }
         Stage::Outer => expect(progress, line, word, b"outer", What::Outer, Stage::Loop),
         Stage::Loop => expect(progress, line, word, b"loop", What::Loop, Stage::Vertex(0)),
         Stage::Vertex(number) => {
@@ -271,23 +281,20 @@ fn at_stage(
     }
 }
 
-/// What a word of a line does.
+/// What a word of a line does: the triangle of the facet that it ends, if it ends one.
 #[tactic(auto, unfolding(crate::specs::Facets::after_word))]
 pub(crate) fn take_word(
     snap: Snap,
-    progress: Progress,
+    progress: &mut Progress,
     line: u64,
     word: &[u8],
-) -> Result<Step, StlFault>
-    requires { Fits progress }
-    ensures value { result ≡ after_word snap progress line word.now }
-    ensures step { IfOk result (λ s. IsStep progress s) }
+) -> Result<Option<Tri>, StlFault>
+    requires { Fits progress.old }
+    ensures value { Does progress.new result (after_word snap progress.old line word.now) }
+    ensures step { IfOk result (λ tri. IsStep progress.old (stepped progress.new tri)) }
 {
     if line == progress.name_line {
-        return Ok(Step {
-            progress,
-            tri: None,
-        });
+        return Ok(None);
     }
     at_stage(snap, progress.stage, progress, line, word)
 }

@@ -9,6 +9,7 @@
 mod facet;
 mod fault;
 mod reading;
+mod scan;
 mod state;
 
 pub use fault::{StlFault, What};

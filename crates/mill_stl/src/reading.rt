@@ -1,33 +1,17 @@
 //! Reads a whole part text.
 
-ghost use Rattle.std.specs.Prelude.{◌≡◌, ◌≤◌, ◌<◌, ◌^◌, ◌+◌, ◌-◌, ◌*◌, [], length, IfOk, OnOk, IfErr, Ok};
+ghost use Rattle.std.specs.Prelude.{◌≡◌, ◌≤◌, ◌<◌, ◌*◌, [], length, IfOk, OnOk, IfErr, Ok};
 ghost use Rattle.mill_base.specs.Ranges.{TrisInRange};
-ghost use Rattle.mill_stl.specs.Parts.{is_space as is_space_byte, next_line as next_line_of, is_end as is_end_stage, start, reached_at, with_tri, with_word, after_text, part_of, Fails, Gives};
-ghost use Rattle.mill_stl.specs.Bounds.{IsSound, scan_at, scan_after};
+ghost use Rattle.mill_stl.specs.Parts.{is_end as is_end_stage, start, reached_at, with_tri, with_word, whole_part, part_of, Fails, Gives};
+ghost use Rattle.mill_stl.specs.Bounds.{IsSound, IsBeforeWord, meaning_from};
 
 use crate::facet::take_word;
 use crate::fault::StlFault;
+use crate::scan::{behind_spaces, word_end};
 use crate::state::{Cursor, Progress, Stage, StlRead};
 use mill_base::Tri;
 use mill_decimal::Snap;
 use std::alloc::Global;
-
-fn is_space(byte: u8) -> bool
-    ensures { result ≡ is_space_byte byte }
-{
-    if byte == b' ' {
-        return true;
-    }
-    byte >= b'\t' && byte <= b'\r'
-}
-
-fn next_line(line: u64, byte: u8) -> u64
-    requires { line < 2 ^ 64 - 1 }
-    ensures value { result ≡ next_line_of line byte }
-    ensures small { result ≤ line + 1 }
-{
-    if byte == b'\n' { line + 1 } else { line }
-}
 
 fn is_end(stage: Stage) -> bool
     ensures { result ≡ is_end_stage stage }
@@ -38,20 +22,16 @@ fn is_end(stage: Stage) -> bool
     }
 }
 
-fn at_start() -> Cursor
-    ensures value { result ≡ record { progress = start; line = 1; from = 0 } }
-    ensures sound { IsSound result.progress [] }
+fn at_start() -> Progress
+    ensures value { result ≡ start }
+    ensures sound { IsSound result [] }
 {
-    Cursor {
-        progress: Progress {
-            stage: Stage::Solid,
-            name_line: 0,
-            coords: [0; 9],
-            facets: 0,
-            rounded: 0,
-        },
-        line: 1,
-        from: 0,
+    Progress {
+        stage: Stage::Solid,
+        name_line: 0,
+        coords: [0; 9],
+        facets: 0,
+        rounded: 0,
     }
 }
 
@@ -66,8 +46,8 @@ fn add(tris: &mut Vec<Tri>, tri: Option<Tri>) -> Result<(), StlFault>
     Ok(())
 }
 
-// Takes the word that ends, if there is one.
-#[tactic(auto, unfolding(crate::specs::Parts::with_word))]
+// Takes a word that has ended.
+#[tactic(auto, using(crate::proofs::Steps::with_word_some))]
 fn end_word(
     snap: Snap,
     progress: &mut Progress,
@@ -75,7 +55,8 @@ fn end_word(
     line: u64,
     word: &[u8],
 ) -> Result<(), StlFault>
-    requires { IsSound progress.old tris.old.items }
+    requires some { 0 < length word.now }
+    requires sound { IsSound progress.old tris.old.items }
     ensures ok { OnOk result (
         with_word snap (reached_at progress.old tris.old.items) line word.now
         ≡ Ok (reached_at progress.new tris.new.items)) }
@@ -83,80 +64,57 @@ fn end_word(
     ensures fault { IfErr result (λ f.
         Fails f (with_word snap (reached_at progress.old tris.old.items) line word.now)) }
 {
-    match word {
-        [] => Ok(()),
-        [_, ..] => {
-            let step = take_word(snap, *progress, line, word)?;
-            add(tris, step.tri)?;
-            *progress = step.progress;
-            Ok(())
-        }
-    }
-}
-
-// Takes the byte at a place. The cursor is lent, since a loop that hands it over and back copies it
-// for each byte; white space after white space is passed over first, since indentation is long.
-#[tactic(auto, unfolding(crate::specs::Parts::after_byte))]
-fn take_byte(
-    snap: Snap,
-    text: &[u8],
-    place: usize,
-    cursor: &mut Cursor,
-    tris: &mut Vec<Tri>,
-) -> Result<(), StlFault>
-    requires place { place < length text.now }
-    requires from { cursor.old.from ≤ place }
-    requires line { cursor.old.line ≤ place + 1 }
-    requires sound { IsSound cursor.old.progress tris.old.items }
-    ensures ok { OnOk result (
-        scan_after snap text.now place cursor.old tris.old.items
-        ≡ Ok (scan_at text.now (place + 1) cursor.new tris.new.items)) }
-    ensures from { OnOk result (cursor.new.from ≤ place + 1) }
-    ensures line { OnOk result (cursor.new.line ≤ place + 2) }
-    ensures sound { OnOk result (IsSound cursor.new.progress tris.new.items) }
-    ensures fault { IfErr result (λ f.
-        Fails f (scan_after snap text.now place cursor.old tris.old.items)) }
-{
-    let byte = text[place];
-    if !is_space(byte) {
-        return Ok(());
-    }
-    if cursor.from == place {
-        cursor.line = next_line(cursor.line, byte);
-        cursor.from = place + 1;
-        return Ok(());
-    }
-    let word = &text[cursor.from..place];
-    end_word(snap, &mut cursor.progress, tris, cursor.line, word)?;
-    cursor.line = next_line(cursor.line, byte);
-    cursor.from = place + 1;
+    let tri = take_word(snap, progress, line, word)?;
+    add(tris, tri)?;
     Ok(())
 }
 
-// The text ends.
-#[tactic(auto, unfolding(crate::specs::Parts::after_text))]
-fn end_text(
+// Takes the word at the cursor, and passes over the white space behind it.
+fn take_next(
     snap: Snap,
     text: &[u8],
-    mut cursor: Cursor,
-    mut tris: Vec<Tri>,
-) -> Result<StlRead, StlFault>
-    requires from { cursor.from ≤ length text.now }
-    requires sound { IsSound cursor.progress tris.items }
-    ensures gives { Gives result
-        (after_text snap (scan_at text.now (length text.now) cursor tris.items)) }
+    cursor: Cursor,
+    progress: &mut Progress,
+    tris: &mut Vec<Tri>,
+) -> Result<Cursor, StlFault>
+    requires some { cursor.from < length text.now }
+    requires placed { IsBeforeWord text.now cursor }
+    requires sound { IsSound progress.old tris.old.items }
+    ensures meaning { IfOk result (λ next.
+        meaning_from snap text.now next progress.new tris.new.items
+        ≡ meaning_from snap text.now cursor progress.old tris.old.items) }
+    ensures forward { IfOk result (λ next. cursor.from < next.from) }
+    ensures placed { IfOk result (λ next. IsBeforeWord text.now next) }
+    ensures sound { OnOk result (IsSound progress.new tris.new.items) }
+    ensures fault { IfErr result (λ f.
+        Fails f (meaning_from snap text.now cursor progress.old tris.old.items)) }
+{
+    let end = word_end(text, cursor.from);
+    let word = &text[cursor.from..end];
+    end_word(snap, progress, tris, cursor.line, word)?;
+    Ok(behind_spaces(
+        text,
+        Cursor {
+            line: cursor.line,
+            from: end,
+        },
+    ))
+}
+
+// The text ends.
+fn end_text(line: u64, progress: Progress, tris: Vec<Tri>) -> Result<StlRead, StlFault>
+    requires { IsSound progress tris.items }
+    ensures gives { Gives result (whole_part line (reached_at progress tris.items)) }
     ensures in_range { IfOk result (λ read. TrisInRange read.tris.items) }
     ensures few { IfOk result (λ read. length read.tris.items ≤ 200000) }
     ensures few_rounded { IfOk result (λ read. read.rounded ≤ 9 * length read.tris.items) }
 {
-    let word = &text[cursor.from..];
-    end_word(snap, &mut cursor.progress, &mut tris, cursor.line, word)?;
-    if !is_end(cursor.progress.stage) {
-        return Err(StlFault::CutShort { line: cursor.line });
+    if !is_end(progress.stage) {
+        return Err(StlFault::CutShort { line });
     }
     Ok(StlRead {
         tris,
-        rounded: cursor.progress.rounded,
+        rounded: progress.rounded,
     })
 }
 
@@ -177,11 +135,12 @@ pub fn read_stl(alloc: Global, text: &[u8], snap: Snap) -> Result<StlRead, StlFa
     ensures few_rounded { IfOk result (λ read. read.rounded ≤ 9 * length read.tris.items) }
 {
     let mut tris = Vec::new(alloc);
-    let mut cursor = at_start();
-    for place in 0..text.len() {
-        take_byte(snap, text, place, &mut cursor, &mut tris)?;
+    let mut progress = at_start();
+    let mut cursor = behind_spaces(text, Cursor { line: 1, from: 0 });
+    while cursor.from < text.len() {
+        cursor = take_next(snap, text, cursor, &mut progress, &mut tris)?;
     }
-    end_text(snap, text, cursor, tris)
+    end_text(cursor.line, progress, tris)
 }
 
 #[cfg(test)]

@@ -51,20 +51,11 @@ pub(crate) struct Progress {
     pub rounded: u64,
 }
 
-/// What a word has done.
-#[derive(Clone, Copy, Debug, PartialEq, Eq)]
-pub(crate) struct Step {
-    pub progress: Progress,
-    /// The triangle of the facet that has ended with the word.
-    pub tri: Option<Tri>,
-}
-
-/// How far the bytes are read.
+/// Where the reading stands: before a word or white space, or at the end.
 #[derive(Clone, Copy, Debug, PartialEq, Eq)]
 pub(crate) struct Cursor {
-    pub progress: Progress,
     /// The line of the next byte, from 1.
     pub line: u64,
-    /// Where the word that goes on begins.
+    /// The place of the next byte.
     pub from: usize,
 }

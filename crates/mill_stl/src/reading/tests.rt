@@ -58,6 +58,24 @@ fn counts_what_it_rounds(rt: HostRuntime) -> Result<(), StlFault> {
     Ok(())
 }
 
+// Words and white space that are longer than what is looked at together, with bytes below a blank.
+#[test]
+fn reads_long_words(rt: HostRuntime) -> Result<(), StlFault> {
+    let text = "  solid \u{1}\u{2}a name of more than sixteen bytes\u{7f}\u{ff}\n\r\n\n
+                                          facet normal \u{1}23456789012345678901234567890 0123456789abcdef e
+                  outer\u{c}loop\tvertex 0000000000000000000000.5 -00.10 +5.0e-1
+        vertex 1 0 0\u{b}vertex 0\r1 0000000000000000 endloop endfacet
+    endsolid of_more_than_sixteen_bytes\u{1}\u{1f}";
+    let read = read_stl(rt.alloc(), text.as_bytes(), Snap::Exact)?;
+    let want = Tri {
+        a: point(50, -10, 50),
+        b: point(100, 0, 0),
+        c: point(0, 100, 0),
+    };
+    assert_eq!(rt; read.tris.as_slice(), [want].as_slice());
+    Ok(())
+}
+
 #[test]
 fn names_the_first_bad_place(rt: HostRuntime) {
     let spelling = StlFault::Coord {
@@ -89,6 +107,14 @@ fn names_the_first_bad_place(rt: HostRuntime) {
             StlFault::CutShort { line: 7 },
         ),
         ("solid\nendsolid a\nfacet", expected(3, What::SolidOrEnd)),
+        (
+            "solid\n\n                    \r\n                         facet\u{1} normal",
+            expected(4, What::FacetOrEnd),
+        ),
+        (
+            "solid of_more_than_sixteen_bytes\nfacetfacetfacetfacetfacet",
+            expected(2, What::FacetOrEnd),
+        ),
     ] {
         assert_eq!(rt;
             read_stl(rt.alloc(), text.as_bytes(), Snap::Exact).err(),

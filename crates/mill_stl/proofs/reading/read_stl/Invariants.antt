@@ -1,9 +1,14 @@
-use Rattle.std.proofs.Common.{◌≡◌, ◌≤◌, ◌+◌, drop}
-use Rattle.mill_stl.specs.Parts.{read_from, part_of}
-use Rattle.mill_stl.specs.Bounds.{scan_at, IsSound}
+use Rattle.std.proofs.Common.{◌≡◌, ◌-◌, length}
+use Rattle.mill_stl.specs.Parts.{part_of}
+use Rattle.mill_stl.specs.Bounds.{meaning_from, IsBeforeWord, IsSound}
 use Rattle.mill_stl.proofs.reading.read_stl.Given as goal
 
-abbrev pub invariant-loop-place : goal.invariant-loop-place
-invariant-loop-place l =
-    (read_from l.snap (scan_at l.text l.place l.cursor l.tris.items) (drop l.place l.text) ≡ part_of l.snap l.text)
-    × (l.cursor.from ≤ l.place) × (l.cursor.line ≤ l.place + 1) × IsSound l.cursor.progress l.tris.items
+abbrev pub invariant-loop-cursor : goal.invariant-loop-cursor
+invariant-loop-cursor l = record {
+  meaning : meaning_from l.snap l.text l.cursor l.progress l.tris.items ≡ part_of l.snap l.text;
+  placed : IsBeforeWord l.text l.cursor;
+  sound : IsSound l.progress l.tris.items;
+}
+
+abbrev pub decreases-loop-cursor : goal.decreases-loop-cursor
+decreases-loop-cursor l = length l.text - l.cursor.from
