@@ -115,6 +115,13 @@ pub samples_start : (job : Job) (j : ℕ) (m : Move) (d : ℕ) (old : List ℤ) 
 samples_start job j m d old = record { columns = refl; each = λ i within. refl }
 
 -- one sample more
+pub first_and_one : (job : Job) (j : ℕ) (m : Move) (d k : ℕ) (old : List ℤ) (i : ℕ)
+    → top_of_first job j m d (k + 1) old i ≡ top_after_sample job.floor (column_x job i) (column_y job j) (top_of_first job j m d k old i) (sample_at job.cutter m d k)
+first_and_one job j m d k old i =
+    ap (λ (places : List (Option Placed)). fold (top_after_sample job.floor (column_x job i) (column_y job j)) (top_at old i) places)
+    (map-range_with_len_more (sample_at job.cutter m d) 0 k k (omega arith))
+    ∙ fold-append (top_after_sample job.floor (column_x job i) (column_y job j)) (top_at old i) (map (sample_at job.cutter m d) (range_with_len 0 k)) (sample_at job.cutter m d k ∷ [])
+
 pub samples_go_on : (job : Job) (j : ℕ) (m : Move) (d k : ℕ) (old mid new : List ℤ) → IsCutByFirst job j m d k old mid → IsCutBy job j (sample_at job.cutter m d k) mid new
     → IsCutByFirst job j m d (k + 1) old new
 samples_go_on job j m d k old mid new so_far cut = record {
@@ -122,17 +129,11 @@ samples_go_on job j m d k old mid new so_far cut = record {
   each = λ i within.
       cut.each i (in_mid i within)
       ∙ ap (λ t. top_after_sample job.floor (column_x job i) (column_y job j) t (sample_at job.cutter m d k)) (so_far.each i within)
-      ∙ sym (one_more i);
+      ∙ sym (first_and_one job j m d k old i);
 }
   where
     in_mid : (i : ℕ) → i < length old → i < length mid
     in_mid i h = let e = so_far.columns in omega arith
-
-    one_more : (i : ℕ) → top_of_first job j m d (k + 1) old i ≡ top_after_sample job.floor (column_x job i) (column_y job j) (top_of_first job j m d k old i) (sample_at job.cutter m d k)
-    one_more i =
-        ap (λ (places : List (Option Placed)). fold (top_after_sample job.floor (column_x job i) (column_y job j)) (top_at old i) places)
-        (map-range_with_len_more (sample_at job.cutter m d) 0 k k (omega arith))
-        ∙ fold-append (top_after_sample job.floor (column_x job i) (column_y job j)) (top_at old i) (map (sample_at job.cutter m d) (range_with_len 0 k)) (sample_at job.cutter m d k ∷ [])
 
 -- all samples of a move make the tops after the move
 pub samples_end : (job : Job) (j : ℕ) (m : Move) (d k : ℕ) (old new : List ℤ) → d ≡ split_of job.sample m → k ≡ 2 ^ d + 1 → IsCutByFirst job j m d k old new

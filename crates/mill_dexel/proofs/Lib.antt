@@ -5,6 +5,8 @@ mod Inner
 mod Places
 mod Reaches
 mod CutRows
+mod EndCerts
+mod Again
 mod Beyond
 mod LineCerts
 mod Lines

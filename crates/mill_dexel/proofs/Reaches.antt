@@ -99,7 +99,7 @@ cut_is_over s x y h size cut = elim (split_lt h s.tip.z) [
       omega (arith, ints))
 ]
 
-kept_over : (floor top : ℤ) (cut : Option ℤ) → floor ≤ℤ top → ((h : ℤ) → cut ≡ Some h → top ≤ℤ h) → top ≡ lowered_to floor top cut
+pub kept_over : (floor top : ℤ) (cut : Option ℤ) → floor ≤ℤ top → ((h : ℤ) → cut ≡ Some h → top ≤ℤ h) → top ≡ lowered_to floor top cut
 kept_over floor top None low over = refl
 kept_over floor top (Some h) low over = let high = over h refl in rw (not_less h top high) (by (int_lt floor top) refl)
   where

@@ -1,10 +1,11 @@
 -- A row through its turns: one turn more, the end of the turns, and that the moves determine it.
 use Rattle.std.proofs.Common.{◌≡◌, inl, inr, ℕ, zero, suc, ◌+◌, ◌-◌, ◌*◌, ◌<◌, ◌≤◌, refl, sym, subst, ap, ◌∙◌, length, get_or, take, drop, arith}
-use Rattle.std.specs.Prelude.{ℤ, List, [], ◌∷◌, All, Option, Some, None, MatchOption, slice_range}
+use Rattle.std.specs.Prelude.{ℤ, List, [], ◌∷◌, All, Option, Some, None, IfSome, MatchOption, slice_range}
 use Rattle.std.proofs.lemmas.Bool.{cases_lt}
 use Rattle.std.proofs.lemmas.List.{get_or-drop, get_or_default, length-drop}
 use Rattle.std.proofs.lemmas.List.Sums.{fold_more}
 use Rattle.mill_base.specs.Points.{point_tri}
+use Rattle.mill_base.specs.declared.points.Pt3.{Pt3}
 use Rattle.mill_base.specs.declared.points.Tri.{Tri}
 use Rattle.mill_base.specs.declared.motion.Move.{Move}
 use Rattle.mill_base.specs.declared.cutter.Cutter.{Cutter}
@@ -14,10 +15,12 @@ use Rattle.mill_sweep.specs.declared.leaf.Leaf.{Leaf}
 use Rattle.mill_job.specs.declared.job.Job.{Job}
 use Rattle.mill_job.specs.Columns.{row_count, column_count}
 use Rattle.mill_job.specs.Jobs.{IsFrom}
+use Rattle.mill_dexel.specs.Cuts.{IsCutAt}
 use Rattle.mill_dexel.specs.Tops.{tops_after_move}
 use Rattle.mill_dexel.specs.Rows.{RowState, IsRowOf, row_point}
 use Rattle.mill_dexel.specs.Turns.{move_at, ClearsRow, turned, StopsRow, IsStopped, tops_after, row_before, PassesTurn, EndsAt, IsRunOn, IsTurned}
 use Rattle.mill_dexel.specs.declared.fail.RowFail.{RowFail}
+use Rattle.mill_dexel.proofs.Again.{cut_at_end}
 use Rattle.mill_dexel.proofs.RowLaws.{row_stays}
 
 -- the move that the code reads
@@ -68,6 +71,15 @@ run_more job moves old now new k there run clears new_is is_row = record {
   unfailed = run.unfailed;
   is_row = is_row;
 }
+
+-- the row is cut at the point where the last move ended, if one has cut it
+abbrev pub IsLastCut : Job → RowState → Option Pt3 → Type 0
+IsLastCut job r last = IfSome last (λ tip. IsCutAt job r.row tip r.tops)
+
+pub turn_cuts : (job : Job) (moves : List Move) (now new : RowState) (k : ℕ) (d : Move) → k < length moves → new ≡ turned job (move_at moves k) now → IsLastCut job new (Some (get_or moves k d).to)
+turn_cuts job moves now new k d there new_is =
+    subst (λ (m : Move). IsCutAt job new.row m.to new.tops) (sym (move_read moves k d there))
+    (subst (λ (r : RowState). IsCutAt job r.row (move_at moves k).to r.tops) (sym new_is) (cut_at_end job now.row (move_at moves k) now.tops))
 
 -- a row that hadn't failed is turned where it ran on
 runs_on : (job : Job) (moves : List Move) (old new : RowState) → old.failed ≡ None → IsRunOn job moves old new → IsTurned job moves old new

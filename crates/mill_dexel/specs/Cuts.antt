@@ -2,10 +2,12 @@
 use Rattle.std.specs.Prelude.{◌≡◌, ◌⊎◌, ℕ, ◌+◌, ◌<◌, ◌≤◌, neg_ℤ, ℤ, pos, ◌+ℤ◌, ◌≤ℤ◌, List, length, Option, None, Some, MatchOption}
 use Rattle.mill_base.specs.Numbers.{Within, greatest}
 use Rattle.mill_base.specs.Sizes.{IsCutter, radius_of, inner, shift}
+use Rattle.mill_base.specs.declared.points.Pt3.{Pt3}
 use Rattle.mill_base.specs.declared.cutter.Cutter.{Cutter}
 use Rattle.mill_job.specs.declared.job.Job.{Job}
 use Rattle.mill_job.specs.Columns.{column_count, column_x, column_y}
 use Rattle.mill_dexel.specs.declared.sample.Placed.{Placed}
+use Rattle.mill_dexel.specs.Samples.{placed}
 use Rattle.mill_dexel.specs.Tops.{top_after_sample}
 use Rattle.mill_dexel.specs.Rows.{top_at}
 
@@ -13,6 +15,10 @@ use Rattle.mill_dexel.specs.Rows.{top_at}
 pub record IsCutBy (job : Job) (j : ℕ) (s : Option Placed) (old new : List ℤ) : Type 0 where
   pub columns : length new ≡ length old
   pub each : (i : ℕ) → i < length old → top_at new i ≡ top_after_sample job.floor (column_x job i) (column_y job j) (top_at old i) s
+
+-- the tops of row j aren't lowered by the job's cutter with its tip at this point: it has cut there, or is too far away
+abbrev pub IsCutAt : Job → ℕ → Pt3 → List ℤ → Type 0
+IsCutAt job j tip tops = IsCutBy job j (Some (placed job.cutter tip)) tops tops
 
 -- x is at least r under, or over, both a and b
 pub record IsUnderBy (r a b x : ℤ) : Type 0 where

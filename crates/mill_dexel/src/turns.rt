@@ -19,10 +19,12 @@ pub(crate) fn run_on(row: &mut Row, job: &Job, moves: &[Move])
     if row.failed().is_some() {
         return;
     }
+    let mut last = None;
     for t in row.done()..moves.len() as u64 {
-        if !row.turn(job, moves, t) {
+        if !row.turn_after(job, moves, t, last) {
             return;
         }
+        last = Some(moves[t as usize].to);
     }
 }
 
