@@ -12,6 +12,7 @@ mod LineCerts
 mod Lines
 mod UncutRows
 mod RunLaws
+mod Blocks
 mod Chunks
 pub mod TopLaws
 pub mod RowLaws

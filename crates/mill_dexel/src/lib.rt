@@ -7,6 +7,7 @@
 //! radius of a sample (`specs/Cuts`), and of a rapid at those within the radius and 2.
 #![tactic(auto)]
 
+mod band;
 mod cut;
 mod fail;
 mod laws;

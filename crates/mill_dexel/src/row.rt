@@ -3,14 +3,16 @@ ghost use Rattle.mill_base.specs.Ranges.{MoveInRange, MovesInRange};
 ghost use Rattle.mill_base.specs.declared.motion.Kind.TheVariants.{Rapid};
 ghost use Rattle.mill_job.specs.Columns.{row_count, column_count};
 ghost use Rattle.mill_job.specs.Jobs.{IsJob};
+ghost use Rattle.mill_dexel.specs.Bands.{PassesOver};
 ghost use Rattle.mill_dexel.specs.Cuts.{IsCutAt};
 ghost use Rattle.mill_dexel.specs.Tops.{tops_after_move};
 ghost use Rattle.mill_dexel.specs.Rows.{IsRowOf, PassesRow, IsFirstStop, IsBlocked, row_point, uncut_tri};
 ghost use Rattle.mill_dexel.specs.Turns.{ClearsRow, IsStopped, StopsRow, move_at, turned};
 
+use crate::band::Band;
 use crate::cut::cut_move;
 use crate::fail::RowFail;
-use crate::reach::reach_of;
+use crate::reach::{is_apart, reach_of};
 use mill_base::{Kind, Move, Pt3, Tri, WantOfMemory};
 use mill_job::Job;
 use mill_sweep::{Leaf, Sweep, passes_tri};
@@ -152,6 +154,24 @@ impl Row {
         }
         self.cut_after(job, step, last);
         self.done = t + 1;
+        true
+    }
+
+    /// Lets a row that hasn't failed go over the moves of a band at once, where its next move is one of
+    /// them and the band is so far away that none of them touches the row. The answer is whether it is.
+    pub(crate) fn pass_over(&mut self, job: &Job, band: &Band) -> bool
+        requires job { IsJob job.now }
+        requires row { IsRowOf job.now self.old }
+        ensures passed { IsTrue result → PassesOver job.now band.now self.old self.new }
+        ensures kept { result ≡ false → self.new ≡ self.old }
+    {
+        if self.done < band.first || self.done > band.end {
+            return false;
+        }
+        if !is_apart(job, job.row_y(self.number), band.low, band.high) {
+            return false;
+        }
+        self.done = band.end;
         true
     }
 
