@@ -4,6 +4,7 @@ mod InnerCerts
 mod Inner
 mod Places
 mod Reaches
+mod Chords
 mod CutRows
 mod EndCerts
 mod Again

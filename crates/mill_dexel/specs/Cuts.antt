@@ -1,6 +1,6 @@
 -- What one sample does to the tops of a row, and which columns and rows it leaves alone.
 use Rattle.std.specs.Prelude.{◌≡◌, ◌⊎◌, ℕ, ◌+◌, ◌<◌, ◌≤◌, neg_ℤ, ℤ, pos, ◌+ℤ◌, ◌≤ℤ◌, List, length, Option, None, Some, MatchOption}
-use Rattle.mill_base.specs.Numbers.{Within, greatest}
+use Rattle.mill_base.specs.Numbers.{Within, greatest, square}
 use Rattle.mill_base.specs.Sizes.{IsCutter, radius_of, inner, shift}
 use Rattle.mill_base.specs.declared.points.Pt3.{Pt3}
 use Rattle.mill_base.specs.declared.cutter.Cutter.{Cutter}
@@ -42,6 +42,11 @@ IsReach job a b first «end» = IsReachBy job (radius_of job.cutter +ℤ pos 2) 
 -- y is at least r away from the interval from a to b
 abbrev pub IsBeyond : ℤ → ℤ → ℤ → ℤ → Type 0
 IsBeyond r a b y = IsUnderBy r a b y ⊎ IsOverBy r a b y
+
+-- at least half the chord of a circle of radius r that a row crosses at this distance from the middle
+pub record IsHalfChord (r distance chord : ℤ) : Type 0 where
+  pub least : (pos 1) ≤ℤ chord
+  pub wide : square r ≤ℤ (square chord +ℤ square distance)
 
 -- a sample of a job's moves: its cutter has a job's size, and its tip is in range but for a rise of up to 16
 pub record IsSample (s : Placed) : Type 0 where

@@ -9,6 +9,7 @@ ghost use Rattle.mill_dexel.specs.Tops.{top_after_sample, tops_after_move};
 ghost use Rattle.mill_dexel.specs.Rows.{top_at};
 ghost use Rattle.mill_dexel.specs.Cuts.{IsCutAt, IsCutBy, IsSample};
 
+use crate::chord::half_chord;
 use crate::reach::{is_beyond, reach_by};
 use crate::sample::{Placed, halvings, sample_at};
 use mill_base::{Move, Pt3, offset, power_of_two};
@@ -69,8 +70,8 @@ fn cut_sample(tops: &mut [i32], job: &Job, number: u32, sample: Option<Placed>)
     }
 }
 
-/// Lowers the tops of a row to where the sample's cutter cuts. Only columns within its radius in x
-/// are looked at, and none where the row is farther away in y.
+/// Lowers the tops of a row to where the sample's cutter cuts. Only the columns that the row has
+/// inside the circle of its radius are looked at.
 fn cut_row(tops: &mut [i32], job: &Job, number: u32, sample: Placed)
     requires job { IsJob job.now }
     requires row { number < row_count job.now }
@@ -78,12 +79,11 @@ fn cut_row(tops: &mut [i32], job: &Job, number: u32, sample: Placed)
     requires sample_ok { IsSample sample }
     ensures { IsCutBy job.now number (Some sample) tops.old tops.new }
 {
-    let radius = sample.cutter.radius();
     let tip = sample.tip;
-    if is_beyond(job.row_y(number), radius, tip.y, tip.y) {
+    let Some(chord) = half_chord(sample.cutter.radius(), job.row_y(number), tip.y) else {
         return;
-    }
-    let reach = reach_by(job, radius, tip.x, tip.x);
+    };
+    let reach = reach_by(job, chord, tip.x, tip.x);
     for column in reach.first..reach.end {
         cut_column(tops, job, number, column, sample);
     }

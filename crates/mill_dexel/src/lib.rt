@@ -8,6 +8,7 @@
 #![tactic(auto)]
 
 mod band;
+mod chord;
 mod cut;
 mod fail;
 mod laws;
