@@ -1,12 +1,10 @@
-ghost use Rattle.std.specs.Prelude.{◌*◌, ◌-ℤ◌, ◌<◌, ◌≡◌, ◌≤◌, ◌≤ℤ◌, MatchOption, pos};
-ghost use Rattle.mill_base.specs.Numbers.{Within, greatest, square as square_of};
+ghost use Rattle.std.specs.Prelude.{◌*◌, ◌+◌, ◌-ℤ◌, ◌<◌, ◌≤◌, MatchOption, pos};
+ghost use Rattle.mill_base.specs.Numbers.{Within, greatest};
 ghost use Rattle.mill_base.specs.Sizes.{HasRadius};
 ghost use Rattle.mill_dexel.specs.Cuts.{IsBeyond, IsHalfChord};
 
-use mill_base::ceil_root;
-
-/// Half of the chord at which the row at `y` crosses a circle round `middle`, rounded up. There is
-/// none where the row stands at least the radius away.
+/// At least half of the chord at which the row at `y` crosses the circle of the radius round
+/// `middle`. There is none where the row stands at least the radius away.
 pub(crate) fn half_chord(radius: i32, y: i32, middle: i32) -> Option<i32>
     requires radius_ok { HasRadius radius (pos 10000) }
     requires y_ok { Within greatest y }
@@ -18,24 +16,17 @@ pub(crate) fn half_chord(radius: i32, y: i32, middle: i32) -> Option<i32>
     if distance >= radius {
         return None;
     }
-    Some(root(square(radius) - square(distance)))
+    Some(half_width(radius, distance) as i32)
 }
 
-/// The square of a length.
-fn square(length: u32) -> u64
-    requires { length ≤ 10000 }
-    ensures value { result ≡ length * length }
-    ensures bound { result ≤ 100000000 }
+/// A length whose square is at least what the square of `distance` leaves of the square of the
+/// radius. It isn't the least one, which would take a root.
+fn half_width(radius: u32, distance: u32) -> u32
+    requires radius_ok { radius ≤ 10000 }
+    requires near { distance < radius }
+    ensures least { 1 ≤ result }
+    ensures most { result ≤ radius }
+    ensures wide { radius * radius ≤ result * result + distance * distance }
 {
-    u64::from(length) * u64::from(length)
-}
-
-/// The least length whose square is at least `area`.
-fn root(area: u64) -> i32
-    requires least { 0 < area }
-    requires most { area ≤ 100000000 }
-    ensures least { pos 1 ≤ℤ result }
-    ensures wide { pos area ≤ℤ square_of result }
-{
-    ceil_root(area) as i32
+    radius - distance * distance / (2 * radius)
 }
