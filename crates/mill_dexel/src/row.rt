@@ -157,8 +157,8 @@ impl Row {
         true
     }
 
-    /// Lets a row that hasn't failed go over the moves of a band at once, where its next move is one of
-    /// them and the band is so far away that none of them touches the row. The answer is whether it is.
+    /// Lets the row go over the moves of a band at once, and says whether it did: where its next move is
+    /// one of them, and the band is so far away that none of them touches the row.
     pub(crate) fn pass_over(&mut self, job: &Job, band: &Band) -> bool
         requires job { IsJob job.now }
         requires row { IsRowOf job.now self.old }
