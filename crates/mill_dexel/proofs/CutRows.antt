@@ -1,6 +1,6 @@
 -- How a loop over the columns in reach lowers the tops of a row by one sample, and one over the samples of a move by the move.
 use Rattle.std.proofs.Common.{◌≡◌, ◌⊎◌, inl, inr, ℕ, ◌+◌, ◌^◌, ◌<◌, ◌≤◌, ◌≢◌, refl, sym, ap, ◌∙◌, length, arith}
-use Rattle.std.specs.Prelude.{ℤ, pos, ◌≤ℤ◌, List, [], ◌∷◌, fold, map, Option, Some, None, slice_set, replicate}
+use Rattle.std.specs.Prelude.{ℤ, pos, ◌-ℤ◌, ◌≤ℤ◌, List, [], ◌∷◌, fold, map, Option, Some, None, slice_set, replicate}
 use Rattle.std.specs.List.{range_with_len}
 use Rattle.std.specs.Int.{int_min, int_max}
 use Rattle.std.proofs.lemmas.Bool.{cases_lt}
@@ -19,8 +19,8 @@ use Rattle.mill_dexel.specs.declared.sample.Placed.{Placed}
 use Rattle.mill_dexel.specs.Samples.{sample_at, split_of}
 use Rattle.mill_dexel.specs.Tops.{lowered_to, top_after_sample, top_after_move, tops_after_move}
 use Rattle.mill_dexel.specs.Rows.{RowState, IsRowOf, top_at}
-use Rattle.mill_dexel.specs.Cuts.{IsCutBy, IsReachBy, IsBeyond}
-use Rattle.mill_dexel.proofs.Reaches.{beyond_far, far_keeps, free_keeps, outside_keeps}
+use Rattle.mill_dexel.specs.Cuts.{IsCutBy, IsReachBy, IsBeyond, IsHalfChord}
+use Rattle.mill_dexel.proofs.Reaches.{beyond_far, far_keeps, beside_keeps, free_keeps, outside_keeps}
 use Rattle.mill_base.specs.Contact.{Holds}
 use Rattle.mill_base.specs.Points.{point_at}
 use Rattle.mill_dexel.proofs.RowLaws.{length-tops_after_move, tops_after_move-at}
@@ -36,11 +36,11 @@ pub record IsCutBefore (job : Job) (j : ℕ) (s : Placed) (i : ℕ) (old new : L
   pub rest : (k : ℕ) → i ≤ k → top_at new k ≡ top_at old k
 
 -- the columns before the reach are too far away to be lowered
-pub cut_starts : (job : Job) (j : ℕ) (s : Placed) (first «end» : ℕ) (old : List ℤ) → IsCutter s.cutter → IsReachBy job (radius_of s.cutter) s.tip.x s.tip.x first «end»
-    → IsCutBefore job j s first old old
-cut_starts job j s first «end» old size reach = record {
+pub cut_starts : (job : Job) (j : ℕ) (s : Placed) (chord : ℤ) (first «end» : ℕ) (old : List ℤ) → IsHalfChord (radius_of s.cutter) (column_y job j -ℤ s.tip.y) chord
+    → IsReachBy job chord s.tip.x s.tip.x first «end» → IsCutBefore job j s first old old
+cut_starts job j s chord first «end» old half reach = record {
   columns = refl;
-  done = λ k before within. far_keeps s job.floor (column_x job k) (column_y job j) (top_at old k) size (inl (inl (reach.under k before).first));
+  done = λ k before within. beside_keeps s job.floor (column_x job k) (column_y job j) (top_at old k) chord half (inl (reach.under k before).first);
   rest = λ k behind. refl;
 }
 
@@ -73,9 +73,9 @@ cut_goes_on job j s i old new there so_far = record {
     by k (inr before) within = get_or-set_other new i k (cut_top job j s new i) (pos 0) (other k before) ∙ so_far.done k before within
 
 -- the columns from the reach's end on are too far away as well
-pub cut_ends : (job : Job) (j : ℕ) (s : Placed) (first «end» i : ℕ) (old new : List ℤ) → IsCutter s.cutter → IsReachBy job (radius_of s.cutter) s.tip.x s.tip.x first «end»
-    → length old ≡ column_count job → «end» ≤ i → IsCutBefore job j s i old new → IsCutBy job j (Some s) old new
-cut_ends job j s first «end» i old new size reach columns passed so_far = record {
+pub cut_ends : (job : Job) (j : ℕ) (s : Placed) (chord : ℤ) (first «end» i : ℕ) (old new : List ℤ) → IsHalfChord (radius_of s.cutter) (column_y job j -ℤ s.tip.y) chord
+    → IsReachBy job chord s.tip.x s.tip.x first «end» → length old ≡ column_count job → «end» ≤ i → IsCutBefore job j s i old new → IsCutBy job j (Some s) old new
+cut_ends job j s chord first «end» i old new half reach columns passed so_far = record {
   columns = so_far.columns;
   each = λ k within. by k within (cases_lt k i);
 }
@@ -90,7 +90,7 @@ cut_ends job j s first «end» i old new size reach columns passed so_far = reco
     by k within (inl before) = so_far.done k before within
     by k within (inr h) =
         so_far.rest k h
-        ∙ far_keeps s job.floor (column_x job k) (column_y job j) (top_at old k) size (inl (inr (reach.over k (behind k h) (column k within)).first))
+        ∙ beside_keeps s job.floor (column_x job k) (column_y job j) (top_at old k) chord half (inr (reach.over k (behind k h) (column k within)).first)
 
 -- a row too far away in y keeps all its tops
 pub beyond_keeps : (job : Job) (j : ℕ) (s : Placed) (old : List ℤ) → IsCutter s.cutter → IsBeyond (radius_of s.cutter) s.tip.y s.tip.y (column_y job j) → IsCutBy job j (Some s) old old
@@ -115,6 +115,13 @@ pub samples_start : (job : Job) (j : ℕ) (m : Move) (d : ℕ) (old : List ℤ) 
 samples_start job j m d old = record { columns = refl; each = λ i within. refl }
 
 -- one sample more
+pub first_and_one : (job : Job) (j : ℕ) (m : Move) (d k : ℕ) (old : List ℤ) (i : ℕ)
+    → top_of_first job j m d (k + 1) old i ≡ top_after_sample job.floor (column_x job i) (column_y job j) (top_of_first job j m d k old i) (sample_at job.cutter m d k)
+first_and_one job j m d k old i =
+    ap (λ (places : List (Option Placed)). fold (top_after_sample job.floor (column_x job i) (column_y job j)) (top_at old i) places)
+    (map-range_with_len_more (sample_at job.cutter m d) 0 k k (omega arith))
+    ∙ fold-append (top_after_sample job.floor (column_x job i) (column_y job j)) (top_at old i) (map (sample_at job.cutter m d) (range_with_len 0 k)) (sample_at job.cutter m d k ∷ [])
+
 pub samples_go_on : (job : Job) (j : ℕ) (m : Move) (d k : ℕ) (old mid new : List ℤ) → IsCutByFirst job j m d k old mid → IsCutBy job j (sample_at job.cutter m d k) mid new
     → IsCutByFirst job j m d (k + 1) old new
 samples_go_on job j m d k old mid new so_far cut = record {
@@ -122,17 +129,11 @@ samples_go_on job j m d k old mid new so_far cut = record {
   each = λ i within.
       cut.each i (in_mid i within)
       ∙ ap (λ t. top_after_sample job.floor (column_x job i) (column_y job j) t (sample_at job.cutter m d k)) (so_far.each i within)
-      ∙ sym (one_more i);
+      ∙ sym (first_and_one job j m d k old i);
 }
   where
     in_mid : (i : ℕ) → i < length old → i < length mid
     in_mid i h = let e = so_far.columns in omega arith
-
-    one_more : (i : ℕ) → top_of_first job j m d (k + 1) old i ≡ top_after_sample job.floor (column_x job i) (column_y job j) (top_of_first job j m d k old i) (sample_at job.cutter m d k)
-    one_more i =
-        ap (λ (places : List (Option Placed)). fold (top_after_sample job.floor (column_x job i) (column_y job j)) (top_at old i) places)
-        (map-range_with_len_more (sample_at job.cutter m d) 0 k k (omega arith))
-        ∙ fold-append (top_after_sample job.floor (column_x job i) (column_y job j)) (top_at old i) (map (sample_at job.cutter m d) (range_with_len 0 k)) (sample_at job.cutter m d k ∷ [])
 
 -- all samples of a move make the tops after the move
 pub samples_end : (job : Job) (j : ℕ) (m : Move) (d k : ℕ) (old new : List ℤ) → d ≡ split_of job.sample m → k ≡ 2 ^ d + 1 → IsCutByFirst job j m d k old new

@@ -40,3 +40,25 @@ lesser_under a b h = by (int_lt b a)
     by : (t : Bool) → cond t b a <ℤ h → (a <ℤ h) ⊎ (b <ℤ h)
     by true l = inr l
     by false l = inl l
+
+pub lesser_right : (a b : ℤ) → lesser a b ≤ℤ b
+lesser_right a b = by (int_lt b a) refl
+  where
+    by : (t : Bool) → int_lt b a ≡ t → cond t b a ≤ℤ b
+    by true e = omega (arith, ints)
+    by false e = omega (arith, ints)
+
+pub greater_is : (a b : ℤ) → (greater a b ≡ a) ⊎ (greater a b ≡ b)
+greater_is a b = by (int_lt a b)
+  where
+    by : (t : Bool) → (cond t b a ≡ a) ⊎ (cond t b a ≡ b)
+    by true = inr refl
+    by false = inl refl
+
+-- the greater of a number and a lesser one is that number
+pub greater_of_less : (a b : ℤ) → b ≤ℤ a → a ≡ greater a b
+greater_of_less a b h = by (int_lt a b) refl
+  where
+    by : (t : Bool) → int_lt a b ≡ t → a ≡ cond t b a
+    by true e = absurd (omega (arith, ints))
+    by false e = refl

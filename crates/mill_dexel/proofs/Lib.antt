@@ -4,12 +4,16 @@ mod InnerCerts
 mod Inner
 mod Places
 mod Reaches
+mod Chords
 mod CutRows
+mod EndCerts
+mod Again
 mod Beyond
 mod LineCerts
 mod Lines
 mod UncutRows
 mod RunLaws
+mod Blocks
 mod Chunks
 pub mod TopLaws
 pub mod RowLaws

@@ -1,20 +1,19 @@
 -- Where the samples of a move stand: what the code computes of them is what the definitions say, and each is near the tip at its moment.
 use Rattle.std.specs.Prelude.{◌≡◌, ℕ, zero, suc, ◌+◌, ◌-◌, ◌*◌, ◌/◌, ◌%◌, ◌^◌, ◌<◌, ◌≤◌, ◌==◌, nat_eq, nat_le, bit_and, nat_abs, Bool, true, false, if◌then◌else◌, ℤ, pos, negsuc, neg_ℤ, ◌+ℤ◌, ◌-ℤ◌, ◌*ℤ◌, ◌<ℤ◌, ◌≤ℤ◌, int_le, Option, Some, None}
-use Rattle.std.proofs.Common.{[], ◌∷◌, refl, sym, ap, subst, ◌∙◌, arith, to_z, w64}
-use Rattle.std.proofs.Math.Nat.{div-add-mod, div-le_of_le-mul, div-lt_iff_lt-mul, pow-le-pow_right}
-use Rattle.std.proofs.lemmas.Grind.{pow_more}
-use Rattle.std.proofs.lemmas.Int.{ints, to_z_pos}
+use Rattle.std.proofs.Common.{[], ◌∷◌, refl, sym, ap, subst, ◌∙◌, arith, w64}
+use Rattle.std.proofs.Math.Nat.{div-add-mod, div-le_of_le-mul, div-lt_iff_lt-mul}
+use Rattle.std.proofs.lemmas.Int.{ints}
 use Rattle.std.proofs.lemmas.Nat.{pow_pos, and_mask}
 use lib.Signed.{shr_z}
-use Rattle.mill_base.proofs.Divisions.{half_within, half_low, half_high}
-use Rattle.mill_base.proofs.Machine.{Read, Lit, Sum, Diff, Prod, exact, kept, stored}
+use Rattle.mill_base.proofs.Divisions.{half_low, half_high}
+use Rattle.mill_base.proofs.Machine.{Read, Lit, Diff, exact, stored}
 use Rattle.mill_base.specs.Numbers.{floor_div, round_half_up, divides, least_from, Within, greatest}
 use Rattle.mill_base.specs.Points.{point_at}
 use Rattle.mill_base.specs.Sizes.{IsCutter, HasRadius, inner, shift, radius_of, with_radius}
 use Rattle.mill_base.specs.declared.motion.Move.{Move}
 use Rattle.mill_base.specs.declared.cutter.Cutter.{Cutter}
 use Rattle.mill_base.specs.declared.cutter.Cutter.TheVariants.{Flat, Ball, Cone}
-use Rattle.mill_sweep.specs.Leaves.{length_x, length_y, end_of}
+use Rattle.mill_sweep.specs.Leaves.{length_x, length_y}
 use Rattle.mill_dexel.specs.declared.sample.Placed.{Placed}
 use Rattle.mill_dexel.specs.Samples.{placed, is_split, split_of, centre_of, is_whole, raised_over, sample_at}
 use Rattle.mill_dexel.proofs.InnerCerts.{nearest_low, nearest_high}

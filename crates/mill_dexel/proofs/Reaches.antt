@@ -23,7 +23,7 @@ use Rattle.mill_sweep.proofs.Far.{far_passes}
 use Rattle.mill_sweep.proofs.Passing.{radius_least}
 use Rattle.mill_dexel.specs.declared.sample.Placed.{Placed}
 use Rattle.mill_dexel.specs.Tops.{top_after_sample, lowered_to}
-use Rattle.mill_dexel.specs.Cuts.{IsUnderBy, IsOverBy, IsReachBy, IsBeyond}
+use Rattle.mill_dexel.specs.Cuts.{IsUnderBy, IsOverBy, IsReachBy, IsBeyond, IsHalfChord}
 use Rattle.mill_dexel.proofs.FarCerts.{far_under, far_over}
 
 -- two numbers are at least r apart
@@ -72,10 +72,25 @@ pub far_keeps : (s : Placed) (floor x y top : ℤ) → IsCutter s.cutter → IsF
 far_keeps s floor x y top size far =
     sym (ap (λ (cut : Option ℤ). lowered_to floor top cut) (far_is_none s.cutter s.tip x y (radius_least s.cutter size) far))
 
+-- so does one whose row crosses its circle, but beside the column
+beside_is_none : (cutter : Cutter) (tip : Pt3) (x y chord : ℤ) → IsHalfChord (radius_of cutter) (y -ℤ tip.y) chord → AreFar chord x tip.x → cut_height_of cutter tip x y ≡ None
+beside_is_none cutter tip x y chord half far =
+    none_of (is_within cutter tip x y) (tip.z +ℤ surface cutter (square (x -ℤ tip.x) +ℤ square (y -ℤ tip.y)))
+    (not_less (square (x -ℤ tip.x) +ℤ square (y -ℤ tip.y)) (square (radius_of cutter)) (over (square chord) (square (radius_of cutter)) (square (x -ℤ tip.x)) (square (y -ℤ tip.y)) (far_square chord x tip.x half.least far) half.wide))
+  where
+    over : (c r a b : ℤ) → c ≤ℤ a → r ≤ℤ (c +ℤ b) → r ≤ℤ (a +ℤ b)
+    over c r a b h k = omega (arith, ints)
+
+pub beside_keeps : (s : Placed) (floor x y top chord : ℤ) → IsHalfChord (radius_of s.cutter) (y -ℤ s.tip.y) chord → AreFar chord x s.tip.x → top ≡ top_after_sample floor x y top (Some s)
+beside_keeps s floor x y top chord half far = sym (ap (λ (cut : Option ℤ). lowered_to floor top cut) (beside_is_none s.cutter s.tip x y chord half far))
+
 -- the same of numbers that are stored as they are
 pub beyond_same : (r a b y s c d z : ℤ) → r ≡ s → a ≡ c → b ≡ d → y ≡ z → IsBeyond r a b y → IsBeyond s c d z
 beyond_same r a b y s c d z er ea eb ey (inl h) = let l = h.first in let k = h.second in inl (record { first = omega (arith, ints); second = omega (arith, ints) })
 beyond_same r a b y s c d z er ea eb ey (inr h) = let l = h.first in let k = h.second in inr (record { first = omega (arith, ints); second = omega (arith, ints) })
+
+pub half_same : (r a c s b d : ℤ) → r ≡ s → a ≡ b → c ≡ d → IsHalfChord r a c → IsHalfChord s b d
+half_same r a c s b d er ea ec half = rw (← er, ← ea, ← ec) half
 
 pub reach_same : (job : Job) (r a b s c d : ℤ) (first «end» : ℕ) → r ≡ s → a ≡ c → b ≡ d → IsReachBy job r a b first «end» → IsReachBy job s c d first «end»
 reach_same job r a b s c d first «end» er ea eb reach = record {
@@ -99,7 +114,7 @@ cut_is_over s x y h size cut = elim (split_lt h s.tip.z) [
       omega (arith, ints))
 ]
 
-kept_over : (floor top : ℤ) (cut : Option ℤ) → floor ≤ℤ top → ((h : ℤ) → cut ≡ Some h → top ≤ℤ h) → top ≡ lowered_to floor top cut
+pub kept_over : (floor top : ℤ) (cut : Option ℤ) → floor ≤ℤ top → ((h : ℤ) → cut ≡ Some h → top ≤ℤ h) → top ≡ lowered_to floor top cut
 kept_over floor top None low over = refl
 kept_over floor top (Some h) low over = let high = over h refl in rw (not_less h top high) (by (int_lt floor top) refl)
   where

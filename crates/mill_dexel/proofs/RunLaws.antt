@@ -1,10 +1,11 @@
 -- A row through its turns: one turn more, the end of the turns, and that the moves determine it.
 use Rattle.std.proofs.Common.{◌≡◌, inl, inr, ℕ, zero, suc, ◌+◌, ◌-◌, ◌*◌, ◌<◌, ◌≤◌, refl, sym, subst, ap, ◌∙◌, length, get_or, take, drop, arith}
-use Rattle.std.specs.Prelude.{ℤ, List, [], ◌∷◌, All, Option, Some, None, MatchOption, slice_range}
+use Rattle.std.specs.Prelude.{ℤ, List, [], ◌∷◌, All, Option, Some, None, IfSome, MatchOption, slice_range}
 use Rattle.std.proofs.lemmas.Bool.{cases_lt}
 use Rattle.std.proofs.lemmas.List.{get_or-drop, get_or_default, length-drop}
 use Rattle.std.proofs.lemmas.List.Sums.{fold_more}
 use Rattle.mill_base.specs.Points.{point_tri}
+use Rattle.mill_base.specs.declared.points.Pt3.{Pt3}
 use Rattle.mill_base.specs.declared.points.Tri.{Tri}
 use Rattle.mill_base.specs.declared.motion.Move.{Move}
 use Rattle.mill_base.specs.declared.cutter.Cutter.{Cutter}
@@ -14,10 +15,12 @@ use Rattle.mill_sweep.specs.declared.leaf.Leaf.{Leaf}
 use Rattle.mill_job.specs.declared.job.Job.{Job}
 use Rattle.mill_job.specs.Columns.{row_count, column_count}
 use Rattle.mill_job.specs.Jobs.{IsFrom}
+use Rattle.mill_dexel.specs.Cuts.{IsCutAt}
 use Rattle.mill_dexel.specs.Tops.{tops_after_move}
 use Rattle.mill_dexel.specs.Rows.{RowState, IsRowOf, row_point}
-use Rattle.mill_dexel.specs.Turns.{move_at, ClearsRow, turned, StopsRow, IsStopped, tops_after, row_before, PassesTurn, EndsAt, IsRunOn, IsTurned}
+use Rattle.mill_dexel.specs.Turns.{move_at, ClearsRow, turned, StopsRow, IsStopped, tops_after, row_before, PassesTurn, EndsAt, IsRunOn, IsTurned, EndsBy, IsRunUpTo, IsTurnedUpTo}
 use Rattle.mill_dexel.specs.declared.fail.RowFail.{RowFail}
+use Rattle.mill_dexel.proofs.Again.{cut_at_end}
 use Rattle.mill_dexel.proofs.RowLaws.{row_stays}
 
 -- the move that the code reads
@@ -69,27 +72,34 @@ run_more job moves old now new k there run clears new_is is_row = record {
   is_row = is_row;
 }
 
--- a row that hadn't failed is turned where it ran on
-runs_on : (job : Job) (moves : List Move) (old new : RowState) → old.failed ≡ None → IsRunOn job moves old new → IsTurned job moves old new
-runs_on job moves old new unfailed run = subst (λ (o : Option RowFail). MatchOption o (IsRunOn job moves old new) (λ fail. new ≡ old)) (sym unfailed) run
+-- the row is cut at the point where the last move ended, if one has cut it
+abbrev pub IsLastCut : Job → RowState → Option Pt3 → Type 0
+IsLastCut job r last = IfSome last (λ tip. IsCutAt job r.row tip r.tops)
 
-pub run_stopped : (job : Job) (moves : List Move) (old now new : RowState) (k : ℕ) → k < length moves → IsRunTo job moves old now k → IsStopped job (move_at moves k) now new → IsTurned job moves old new
-run_stopped job moves old now new k there run stopped = runs_on job moves old new run.unfailed
-    (subst (IsRunOn job moves old) (sym (stopped.noted ∙ ap (λ (r : RowState). record r { failed = Some stopped.fail }) run.is)) (record {
+pub turn_cuts : (job : Job) (moves : List Move) (now new : RowState) (k : ℕ) (d : Move) → k < length moves → new ≡ turned job (move_at moves k) now → IsLastCut job new (Some (get_or moves k d).to)
+turn_cuts job moves now new k d there new_is =
+    subst (λ (m : Move). IsCutAt job new.row m.to new.tops) (sym (move_read moves k d there))
+    (subst (λ (r : RowState). IsCutAt job r.row (move_at moves k).to r.tops) (sym new_is) (cut_at_end job now.row (move_at moves k) now.tops))
+
+-- a row that hadn't failed is turned where it ran up to a move
+runs_up_to : (job : Job) (moves : List Move) (limit : ℕ) (old new : RowState) → old.failed ≡ None → IsRunUpTo job moves limit old new → IsTurnedUpTo job moves limit old new
+runs_up_to job moves limit old new unfailed run = subst (λ (o : Option RowFail). MatchOption o (IsRunUpTo job moves limit old new) (λ fail. new ≡ old)) (sym unfailed) run
+
+pub run_stopped : (job : Job) (moves : List Move) (limit : ℕ) (old now new : RowState) (k : ℕ) → k < length moves → IsRunTo job moves old now k → IsStopped job (move_at moves k) now new → IsTurnedUpTo job moves limit old new
+run_stopped job moves limit old now new k there run stopped = runs_up_to job moves limit old new run.unfailed
+    (subst (IsRunUpTo job moves limit old) (sym (stopped.noted ∙ ap (λ (r : RowState). record r { failed = Some stopped.fail }) run.is)) (record {
       onward = run.onward;
       passed = run.passed;
       ends = (there, subst (λ (r : RowState). StopsRow job r (move_at moves k) stopped.fail) run.is stopped.stops);
-      row = refl;
-      tops = refl;
+      is = refl;
     }))
 
-pub run_ended : (job : Job) (moves : List Move) (old now : RowState) (k : ℕ) → length moves ≤ k → IsRunTo job moves old now k → IsTurned job moves old now
-run_ended job moves old now k over run = runs_on job moves old now run.unfailed (subst (IsRunOn job moves old) (sym run.is) (record {
+pub run_ended : (job : Job) (moves : List Move) (limit : ℕ) (old now : RowState) (k : ℕ) → limit ≤ k → IsRunTo job moves old now k → IsTurnedUpTo job moves limit old now
+run_ended job moves limit old now k over run = runs_up_to job moves limit old now run.unfailed (subst (IsRunUpTo job moves limit old) (sym run.is) (record {
   onward = run.onward;
   passed = run.passed;
-  ends = subst (EndsAt job moves old k) (sym run.unfailed) over;
-  row = refl;
-  tops = refl;
+  ends = subst (EndsBy job moves old limit k) (sym run.unfailed) over;
+  is = refl;
 }))
 
 -- a row of the job is one after any turns
@@ -109,6 +119,15 @@ turned_is_row job moves old new turned is_row = by old.failed turned
   where
     by : (o : Option RowFail) → MatchOption o (IsRunOn job moves old new) (λ fail. new ≡ old) → IsRowOf job new
     by None run = same_place job (record old { tops = tops_after job old.row (slice_range moves old.done new.done) old.tops }) new run.row run.tops (tops_stay job (slice_range moves old.done new.done) old is_row)
+    by (Some fail) same = subst (IsRowOf job) (sym same) is_row
+
+pub up_to_is_row : (job : Job) (moves : List Move) (limit : ℕ) (old new : RowState) → IsTurnedUpTo job moves limit old new → IsRowOf job old → IsRowOf job new
+up_to_is_row job moves limit old new turned is_row = by old.failed turned
+  where
+    by : (o : Option RowFail) → MatchOption o (IsRunUpTo job moves limit old new) (λ fail. new ≡ old) → IsRowOf job new
+    by None run =
+        same_place job (record old { tops = tops_after job old.row (slice_range moves old.done new.done) old.tops }) new (ap (λ (r : RowState). r.row) run.is) (ap (λ (r : RowState). r.tops) run.is)
+        (tops_stay job (slice_range moves old.done new.done) old is_row)
     by (Some fail) same = subst (IsRowOf job) (sym same) is_row
 
 -- the moves determine what a row comes to

@@ -1,11 +1,13 @@
 -- What one sample does to the tops of a row, and which columns and rows it leaves alone.
 use Rattle.std.specs.Prelude.{◌≡◌, ◌⊎◌, ℕ, ◌+◌, ◌<◌, ◌≤◌, neg_ℤ, ℤ, pos, ◌+ℤ◌, ◌≤ℤ◌, List, length, Option, None, Some, MatchOption}
-use Rattle.mill_base.specs.Numbers.{Within, greatest}
+use Rattle.mill_base.specs.Numbers.{Within, greatest, square}
 use Rattle.mill_base.specs.Sizes.{IsCutter, radius_of, inner, shift}
+use Rattle.mill_base.specs.declared.points.Pt3.{Pt3}
 use Rattle.mill_base.specs.declared.cutter.Cutter.{Cutter}
 use Rattle.mill_job.specs.declared.job.Job.{Job}
 use Rattle.mill_job.specs.Columns.{column_count, column_x, column_y}
 use Rattle.mill_dexel.specs.declared.sample.Placed.{Placed}
+use Rattle.mill_dexel.specs.Samples.{placed}
 use Rattle.mill_dexel.specs.Tops.{top_after_sample}
 use Rattle.mill_dexel.specs.Rows.{top_at}
 
@@ -13,6 +15,10 @@ use Rattle.mill_dexel.specs.Rows.{top_at}
 pub record IsCutBy (job : Job) (j : ℕ) (s : Option Placed) (old new : List ℤ) : Type 0 where
   pub columns : length new ≡ length old
   pub each : (i : ℕ) → i < length old → top_at new i ≡ top_after_sample job.floor (column_x job i) (column_y job j) (top_at old i) s
+
+-- the tops of row j aren't lowered by the job's cutter with its tip at this point: it has cut there, or is too far away
+abbrev pub IsCutAt : Job → ℕ → Pt3 → List ℤ → Type 0
+IsCutAt job j tip tops = IsCutBy job j (Some (placed job.cutter tip)) tops tops
 
 -- x is at least r under, or over, both a and b
 pub record IsUnderBy (r a b x : ℤ) : Type 0 where
@@ -36,6 +42,11 @@ IsReach job a b first «end» = IsReachBy job (radius_of job.cutter +ℤ pos 2) 
 -- y is at least r away from the interval from a to b
 abbrev pub IsBeyond : ℤ → ℤ → ℤ → ℤ → Type 0
 IsBeyond r a b y = IsUnderBy r a b y ⊎ IsOverBy r a b y
+
+-- at least half the chord of a circle of radius r that a row crosses at this distance from the middle
+pub record IsHalfChord (r distance chord : ℤ) : Type 0 where
+  pub least : (pos 1) ≤ℤ chord
+  pub wide : square r ≤ℤ (square chord +ℤ square distance)
 
 -- a sample of a job's moves: its cutter has a job's size, and its tip is in range but for a rise of up to 16
 pub record IsSample (s : Placed) : Type 0 where

@@ -63,6 +63,22 @@ pub record IsRunOn (job : Job) (moves : List Move) (old new : RowState) : Type 0
 abbrev pub IsTurned : Job → List Move → RowState → RowState → Type 0
 IsTurned job moves old new = MatchOption old.failed (IsRunOn job moves old new) (λ fail. new ≡ old)
 
+-- why a row's turns end before move k, where they go up to move limit: that move is next, or move k fails
+abbrev pub EndsBy : Job → List Move → RowState → ℕ → ℕ → Option RowFail → Type 0
+EndsBy job moves r limit k None = limit ≤ k
+EndsBy job moves r limit k (Some fail) = (k < length moves) × StopsRow job (row_before job moves r k) (move_at moves k) fail
+
+-- the row went through its turns, from its next move on, up to move limit or to the first one that failed
+pub record IsRunUpTo (job : Job) (moves : List Move) (limit : ℕ) (old new : RowState) : Type 0 where
+  pub onward : old.done ≤ new.done
+  pub passed : (k : ℕ) → old.done ≤ k → k < new.done → PassesTurn job moves old k
+  pub ends : EndsBy job moves old limit new.done new.failed
+  pub is : new ≡ record (row_before job moves old new.done) { failed = new.failed }
+
+-- a row that had failed is as it was, and each other went through its turns up to move limit
+abbrev pub IsTurnedUpTo : Job → List Move → ℕ → RowState → RowState → Type 0
+IsTurnedUpTo job moves limit old new = MatchOption old.failed (IsRunUpTo job moves limit old new) (λ fail. new ≡ old)
+
 -- the moves determine what a row comes to
 abbrev pub OneOutcome : Type 0
 OneOutcome = (job : Job) (moves : List Move) (row a b : RowState) → IsTurned job moves row a → IsTurned job moves row b → a ≡ b

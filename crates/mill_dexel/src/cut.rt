@@ -1,4 +1,4 @@
-ghost use Rattle.std.specs.Prelude.{◌≡◌, ◌↔◌, ◌<◌, ◌≤ℤ◌, pos, length, slice_set, IsTrue, IfSome, Some};
+ghost use Rattle.std.specs.Prelude.{◌≡◌, ◌↔◌, ◌<◌, ◌≤◌, ◌≤ℤ◌, pos, length, slice_set, IsTrue, IfSome, Some};
 ghost use Rattle.mill_base.specs.Contact.{Holds};
 ghost use Rattle.mill_base.specs.Numbers.{Within, greatest};
 ghost use Rattle.mill_base.specs.Points.{point_at};
@@ -7,21 +7,26 @@ ghost use Rattle.mill_job.specs.Columns.{row_count, column_count, column_x, colu
 ghost use Rattle.mill_job.specs.Jobs.{IsJob};
 ghost use Rattle.mill_dexel.specs.Tops.{top_after_sample, tops_after_move};
 ghost use Rattle.mill_dexel.specs.Rows.{top_at};
-ghost use Rattle.mill_dexel.specs.Cuts.{IsCutBy, IsSample};
+ghost use Rattle.mill_dexel.specs.Cuts.{IsCutAt, IsCutBy, IsSample};
 
+use crate::chord::half_chord;
 use crate::reach::{is_beyond, reach_by};
 use crate::sample::{Placed, halvings, sample_at};
-use mill_base::{Move, offset, power_of_two};
+use mill_base::{Move, Pt3, offset, power_of_two};
 use mill_job::Job;
 use mill_shape::{cut_height, inside, shrink};
 
 /// Lowers the tops of a row to what the cutter leaves after the move: at each of its samples in
 /// turn, none where the whole move is too far away from the row.
-pub(crate) fn cut_move(tops: &mut [i32], job: &Job, number: u32, step: &Move)
+///
+/// `last` is a point at which the row is cut already, if one is known. Most moves start where the
+/// one before them ended, and then the first sample would change nothing.
+pub(crate) fn cut_move(tops: &mut [i32], job: &Job, number: u32, step: &Move, last: Option<Pt3>)
     requires job { IsJob job.now }
     requires row { number < row_count job.now }
     requires columns { length tops.old ≡ column_count job.now }
     requires step_ok { MoveInRange step.now }
+    requires last { IfSome last (λ tip. IsCutAt job.now number tip tops.old) }
     ensures { tops.new ≡ tops_after_move job.now number 0 step.now tops.old }
 {
     if is_beyond(
@@ -34,7 +39,7 @@ pub(crate) fn cut_move(tops: &mut [i32], job: &Job, number: u32, step: &Move)
     }
     let narrowed = shrink(job.cutter);
     let d = halvings(step, job.sample.unsigned_abs());
-    for k in 0..power_of_two(d) + 1 {
+    for k in first_sample(step, last)..power_of_two(d) + 1 {
         cut_sample(
             tops,
             job,
@@ -42,6 +47,14 @@ pub(crate) fn cut_move(tops: &mut [i32], job: &Job, number: u32, step: &Move)
             sample_at(job.cutter, narrowed, step, d, k),
         );
     }
+}
+
+/// The number of the first of a move's samples that may lower a top, in a row that is cut at `last`.
+fn first_sample(step: &Move, last: Option<Pt3>) -> u64
+    ensures bound { result ≤ 1 }
+    ensures known { result ≡ 1 → last ≡ Some step.now.from }
+{
+    if last == Some(step.from) { 1 } else { 0 }
 }
 
 /// Lowers the tops of a row to where the sample's cutter cuts, if there is one.
@@ -57,8 +70,8 @@ fn cut_sample(tops: &mut [i32], job: &Job, number: u32, sample: Option<Placed>)
     }
 }
 
-/// Lowers the tops of a row to where the sample's cutter cuts. Only columns within its radius in x
-/// are looked at, and none where the row is farther away in y.
+/// Lowers the tops of a row to where the sample's cutter cuts. Only the columns that the row has
+/// inside the circle of its radius are looked at.
 fn cut_row(tops: &mut [i32], job: &Job, number: u32, sample: Placed)
     requires job { IsJob job.now }
     requires row { number < row_count job.now }
@@ -66,12 +79,11 @@ fn cut_row(tops: &mut [i32], job: &Job, number: u32, sample: Placed)
     requires sample_ok { IsSample sample }
     ensures { IsCutBy job.now number (Some sample) tops.old tops.new }
 {
-    let radius = sample.cutter.radius();
     let tip = sample.tip;
-    if is_beyond(job.row_y(number), radius, tip.y, tip.y) {
+    let Some(chord) = half_chord(sample.cutter.radius(), job.row_y(number), tip.y) else {
         return;
-    }
-    let reach = reach_by(job, radius, tip.x, tip.x);
+    };
+    let reach = reach_by(job, chord, tip.x, tip.x);
     for column in reach.first..reach.end {
         cut_column(tops, job, number, column, sample);
     }

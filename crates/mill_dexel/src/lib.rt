@@ -3,10 +3,16 @@
 //! It stands on `mill_shape`, `mill_sweep` and `mill_job`. Definitions: `specs/Samples` says where
 //! a move is sampled and by which cutter, `specs/Tops` what a column's top is after a list of moves,
 //! `specs/Rows` what a row is and where a rapid stops at it, `specs/Turns` what becomes of a row in a
-//! program, `specs/Laws` what a top implies. A row looks only at the columns within the cutter's
-//! radius of a sample (`specs/Cuts`), and of a rapid at those within the radius and 2.
+//! program, `specs/Laws` what a top implies.
+//!
+//! Most moves do nothing to most rows, and that is seen early. A row goes over a block of moves at
+//! once where all of them stay far away from it (`specs/Bands`), leaves out a move's first sample
+//! where the move before has cut it there, and looks only at its columns inside the circle of a
+//! sample (`specs/Cuts`), and at a rapid at those within the radius and 2.
 #![tactic(auto)]
 
+mod band;
+mod chord;
 mod cut;
 mod fail;
 mod laws;

@@ -1,5 +1,6 @@
 ghost use Rattle.std.specs.Prelude.{ℕ, ◌<◌, ◌≤◌, ◌*◌, ◌^◌, IsTrue, pos, ◌+ℤ◌, ◌≤ℤ◌, ◌<ℤ◌};
 ghost use Rattle.mill_base.specs.Numbers.{Within};
+ghost use Rattle.mill_base.specs.Sizes.{radius_of};
 ghost use Rattle.mill_job.specs.Columns.{column_count, column_x as x_of_column};
 ghost use Rattle.mill_job.specs.Jobs.{IsJob};
 ghost use Rattle.mill_dexel.specs.Cuts.{IsReach, IsReachBy, IsBeyond};
@@ -90,4 +91,13 @@ pub(crate) fn is_beyond(y: i32, distance: i32, from: i32, to: i32) -> bool
         return true;
     }
     y > high_end(distance, from, to)
+}
+
+/// Whether a row at `y` stands so far away from the interval between two places in y that a move
+/// within it passes the row and leaves it uncut.
+pub(crate) fn is_apart(job: &Job, y: i32, from: i32, to: i32) -> bool
+    requires { IsJob job.now }
+    ensures { IsTrue result → IsBeyond (radius_of job.now.cutter +ℤ pos 2) from to y }
+{
+    is_beyond(y, job.cutter.radius() + PASSES_BEYOND, from, to)
 }

@@ -3,13 +3,16 @@ ghost use Rattle.mill_base.specs.Ranges.{MoveInRange, MovesInRange};
 ghost use Rattle.mill_base.specs.declared.motion.Kind.TheVariants.{Rapid};
 ghost use Rattle.mill_job.specs.Columns.{row_count, column_count};
 ghost use Rattle.mill_job.specs.Jobs.{IsJob};
+ghost use Rattle.mill_dexel.specs.Bands.{PassesOver};
+ghost use Rattle.mill_dexel.specs.Cuts.{IsCutAt};
 ghost use Rattle.mill_dexel.specs.Tops.{tops_after_move};
 ghost use Rattle.mill_dexel.specs.Rows.{IsRowOf, PassesRow, IsFirstStop, IsBlocked, row_point, uncut_tri};
 ghost use Rattle.mill_dexel.specs.Turns.{ClearsRow, IsStopped, StopsRow, move_at, turned};
 
+use crate::band::Band;
 use crate::cut::cut_move;
 use crate::fail::RowFail;
-use crate::reach::reach_of;
+use crate::reach::{is_apart, reach_of};
 use mill_base::{Kind, Move, Pt3, Tri, WantOfMemory};
 use mill_job::Job;
 use mill_sweep::{Leaf, Sweep, passes_tri};
@@ -103,8 +106,7 @@ impl Row {
         ensures tops { self.new ≡ record self.old { tops = tops_after_move job.now self.old.row 0 step.now self.old.tops } }
         ensures row { IsRowOf job.now self.new }
     {
-        let number = self.number;
-        cut_move(&mut self.tops, job, number, step);
+        self.cut_after(job, step, None);
     }
 
     /// The turn of move `t`, the row's next one, in a row that hasn't failed. A rapid is tested
@@ -122,14 +124,69 @@ impl Row {
         ensures stopped { result ≡ false → IsStopped job.now (move_at moves.now t) self.old self.new }
         ensures row { IsRowOf job.now self.new }
     {
+        self.turn_after(job, moves, t, None)
+    }
+
+    /// The same turn of a row that is known to be cut at the point `last`, if one is given.
+    pub(crate) fn turn_after(
+        &mut self,
+        job: &Job,
+        moves: &[Move],
+        t: u64,
+        last: Option<Pt3>,
+    ) -> bool
+        requires job { IsJob job.now }
+        requires moves_ok { MovesInRange moves.now }
+        requires row { IsRowOf job.now self.old }
+        requires unfailed { self.old.failed ≡ None }
+        requires next { t ≡ self.old.done }
+        requires there { t < length moves.now }
+        requires last { IfSome last (λ tip. IsCutAt job.now self.old.row tip self.old.tops) }
+        ensures clears { IsTrue result → ClearsRow job.now self.old (move_at moves.now t) }
+        ensures cut { IsTrue result → self.new ≡ turned job.now (move_at moves.now t) self.old }
+        ensures stopped { result ≡ false → IsStopped job.now (move_at moves.now t) self.old self.new }
+        ensures row { IsRowOf job.now self.new }
+    {
         let step = &moves[t as usize];
         if let Some(fail) = self.stop(job, step) {
             self.failed = Some(fail);
             return false;
         }
-        self.cut_turn(job, step);
+        self.cut_after(job, step, last);
         self.done = t + 1;
         true
+    }
+
+    /// Lets the row go over the moves of a band at once, and says whether it did: where its next move is
+    /// one of them, and the band is so far away that none of them touches the row.
+    pub(crate) fn pass_over(&mut self, job: &Job, band: &Band) -> bool
+        requires job { IsJob job.now }
+        requires row { IsRowOf job.now self.old }
+        ensures passed { IsTrue result → PassesOver job.now band.now self.old self.new }
+        ensures kept { result ≡ false → self.new ≡ self.old }
+    {
+        if self.done < band.first || self.done > band.end {
+            return false;
+        }
+        if !is_apart(job, job.row_y(self.number), band.low, band.high) {
+            return false;
+        }
+        self.done = band.end;
+        true
+    }
+
+    /// Lowers the tops to what the cutter leaves after the move, where they are known to be cut at the
+    /// point `last`, if one is given.
+    fn cut_after(&mut self, job: &Job, step: &Move, last: Option<Pt3>)
+        requires job { IsJob job.now }
+        requires row { IsRowOf job.now self.old }
+        requires step { MoveInRange step.now }
+        requires last { IfSome last (λ tip. IsCutAt job.now self.old.row tip self.old.tops) }
+        ensures tops { self.new ≡ record self.old { tops = tops_after_move job.now self.old.row 0 step.now self.old.tops } }
+        ensures row { IsRowOf job.now self.new }
+    {
+        let number = self.number;
+        cut_move(&mut self.tops, job, number, step, last);
     }
 
     /// The failure of the next move, where the row stops it: a rapid is tested, a feed never.

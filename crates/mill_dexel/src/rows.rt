@@ -1,13 +1,15 @@
-ghost use Rattle.std.specs.Prelude.{◌≡◌, ◌≤◌, ◌^◌, All};
+ghost use Rattle.std.specs.Prelude.{◌≡◌, ◌<◌, ◌≤◌, ◌^◌, All, length};
 ghost use Rattle.std.specs.List.{AllZip};
 ghost use Rattle.mill_base.specs.Ranges.{MovesInRange};
 ghost use Rattle.mill_job.specs.Jobs.{IsJob};
 ghost use Rattle.mill_dexel.specs.Rows.{IsRowOf};
-ghost use Rattle.mill_dexel.specs.Turns.{IsTurned};
+ghost use Rattle.mill_dexel.specs.Bands.{IsBand};
+ghost use Rattle.mill_dexel.specs.Turns.{IsTurned, IsTurnedUpTo};
 ghost use denote.Param.Send.{IsSync};
 
+use crate::band::{Band, band_of};
 use crate::row::Row;
-use crate::turns::run_on;
+use crate::turns::run_to;
 use mill_base::Move;
 use mill_job::Job;
 use std::thread::{Threads, join_mut};
@@ -86,15 +88,47 @@ fn share(count: usize, some: u32, workers: u32) -> usize
     count / workers * some + count % workers * some / workers
 }
 
-/// One worker's chunk, row by row.
+/// How many moves the rows of a chunk go through before the next ones.
+const BLOCK: u64 = 512;
+
+/// One worker's chunk: the moves block by block, so that a row goes over a block that stays far away
+/// from it at once.
 fn run_all(job: &Job, moves: &[Move], rows: &mut [Row])
     requires job { IsJob job.now }
     requires rows_ok { All (IsRowOf job.now) rows.old }
     requires moves_ok { MovesInRange moves.now }
     ensures { AllZip (IsTurned job.now moves.now) rows.old rows.new }
 {
+    let count = moves.len() as u64;
+    let mut first = 0;
+    while first < count {
+        let end = block_end(first, count);
+        run_block(job, moves, &band_of(moves, first, end), rows);
+        first = end;
+    }
+}
+
+/// Where the block from move `first` on ends.
+fn block_end(first: u64, count: u64) -> u64
+    requires { first < count }
+    ensures onward { first < result }
+    ensures within { result ≤ count }
+{
+    first + BLOCK.min(count - first)
+}
+
+/// One block of moves, row by row.
+fn run_block(job: &Job, moves: &[Move], band: &Band, rows: &mut [Row])
+    requires job { IsJob job.now }
+    requires rows_ok { All (IsRowOf job.now) rows.old }
+    requires moves_ok { MovesInRange moves.now }
+    requires there { band.now.end ≤ length moves.now }
+    requires band { IsBand moves.now band.now }
+    ensures turned { AllZip (IsTurnedUpTo job.now moves.now band.now.end) rows.old rows.new }
+    ensures rows_ok { All (IsRowOf job.now) rows.new }
+{
     for row in rows.iter_mut() {
-        run_on(row, job, moves);
+        run_to(row, job, moves, band);
     }
 }
 

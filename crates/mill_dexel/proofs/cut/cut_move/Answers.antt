@@ -4,6 +4,7 @@ use Rattle.mill_base.specs.Sizes.{radius_of}
 use Rattle.mill_job.specs.Columns.{column_y}
 use Rattle.mill_dexel.specs.Samples.{split_of}
 use Rattle.mill_dexel.specs.Cuts.{IsCutBy}
+use Rattle.mill_dexel.proofs.Again.{first_starts}
 use Rattle.mill_dexel.proofs.CutRows.{samples_go_on, samples_end}
 use Rattle.mill_dexel.proofs.Beyond.{move_keeps}
 use Rattle.mill_dexel.proofs.Reaches.{beyond_same}
@@ -14,6 +15,10 @@ returns-then-is_beyond c =
     move_keeps c.args.job.now c.args.number c.args.step.now c.args.tops.now c.requires.job.cutter_ok
     (beyond_same _ _ _ _ (radius_of c.args.job.now.cutter) c.args.step.now.from.y c.args.step.now.to.y (column_y c.args.job.now c.args.number)
     (omega (arith, ints)) (omega (arith, ints)) (omega (arith, ints)) (omega (arith, ints)) (c.is_beyond.ensures.yes c.if-is_beyond.true))
+
+pub loop-k-init : goal.loop-k-init
+loop-k-init c =
+    first_starts c.args.job.now c.args.number c.args.step.now c.halvings-d.result c.first_sample-k.result c.args.last c.args.tops.now c.first_sample-k.ensures.bound c.first_sample-k.ensures.known c.requires.last
 
 pub loop-k-preserved : goal.loop-k-preserved
 loop-k-preserved c =

@@ -1,5 +1,12 @@
-use Rattle.mill_dexel.proofs.Chunks.{AreTurnedTo}
+use Rattle.std.proofs.Common.{◌-◌, length}
+use Rattle.std.specs.Prelude.{All}
+use Rattle.std.specs.List.{AllZip}
+use Rattle.mill_dexel.specs.Rows.{IsRowOf}
+use Rattle.mill_dexel.specs.Turns.{IsTurnedUpTo}
 use Rattle.mill_dexel.proofs.rows.run_all.Given as goal
 
-abbrev pub invariant-loop-row : goal.invariant-loop-row
-invariant-loop-row l = AreTurnedTo l.job l.moves l.row-index l.fn.rows l.rows
+abbrev pub invariant-loop-first : goal.invariant-loop-first
+invariant-loop-first l = AllZip (IsTurnedUpTo l.job l.moves l.first) l.fn.rows l.rows × All (IsRowOf l.job) l.rows
+
+abbrev pub decreases-loop-first : goal.decreases-loop-first
+decreases-loop-first l = length l.moves - l.first
