@@ -1,4 +1,5 @@
--- The covered height, triangle by triangle of those that are near and over the height so far; and whether a height is covered, by those that are near and come up to it.
+-- The covered height, triangle by triangle of those that are near and over the height so far.
+-- And whether a height is covered, by those that are near and come up to it.
 use Rattle.std.proofs.Common.{◌≡◌, ◌⊎◌, ◌↔◌, inl, inr, ℕ, ◌<◌, List, length, get_or, map, sym, subst, ap, ◌∙◌, arith}
 use Rattle.std.specs.List.{Contains}
 use Rattle.std.proofs.lemmas.Int.{ints}
