@@ -8,6 +8,8 @@ use Rattle.mill_base.specs.declared.motion.Move.{Move}
 use Rattle.mill_base.specs.declared.points.Box2.{Box2}
 use Rattle.mill_base.specs.declared.points.Tri.{Tri}
 use Rattle.mill_cells.specs.Boxes.{IsNear}
+use Rattle.mill_cells.specs.Sorted.{Sorted}
+use Rattle.mill_sweep.specs.Sweeps.{Swept}
 use Rattle.mill_sweep.proofs.Far.{far_passes}
 use Rattle.mill_verify.specs.Firsts.{IsEarlier}
 use Rattle.mill_verify.specs.Near.{IsOver, area_of}
