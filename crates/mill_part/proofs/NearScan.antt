@@ -1,14 +1,15 @@
 -- The covered height, triangle by triangle of those that are near and over the height so far.
+-- And whether a height is covered, by those that are near and come up to it.
 use Rattle.std.proofs.Common.{◌≡◌, ◌⊎◌, ◌↔◌, inl, inr, ℕ, ◌<◌, List, length, get_or, map, sym, subst, ap, ◌∙◌, arith}
 use Rattle.std.specs.List.{Contains}
 use Rattle.std.proofs.lemmas.Int.{ints}
 use Rattle.std.proofs.lemmas.List.{length-map, get_or-map, get_or_default}
 use Rattle.std.proofs.lemmas.List.Elements.{Contains-get_or}
-use lib.IntN.{ℤ, pos}
+use lib.IntN.{ℤ, pos, ◌-ℤ◌}
 use lib.Signed.{◌≤ℤ◌}
 use Rattle.mill_base.specs.Numbers.{Within, greatest}
 use Rattle.mill_base.specs.Points.{point_at, highest}
-use Rattle.mill_base.specs.Covers.{Covered}
+use Rattle.mill_base.specs.Covers.{Covered, HasPointOver}
 use Rattle.mill_base.specs.Ranges.{TrisInRange}
 use Rattle.mill_base.specs.declared.points.Tri.{Tri}
 use Rattle.mill_base.specs.declared.points.Box2.{Box2}
@@ -82,6 +83,13 @@ scan_goes_on part d floor band x y near later i height new h s more reached top 
       s.dealt;
 }
 
+-- a triangle that covers the column is near it
+is_near_by : (part : List Tri) (d : Tri) (band x y h : ℤ) (i : ℕ) → i < length part → (pos 0) ≤ℤ band → CoversColumn (get_or part i d) band x y h → IsNearBy part band x y i
+is_near_by part d band x y h i inside least covers = record {
+  within = subst (λ n. i < n) (sym (length-map part box_of)) inside;
+  meets = subst (λ (b : Box2). Meet b (square_about band x y)) (sym (get_or-map box_of part i d origin_box inside)) (covering_meets (get_or part i d) band x y h least covers);
+}
+
 -- after the last one it is exact
 pub scan_ends : (part : List Tri) (d : Tri) (floor band x y : ℤ) (near later : Ahead) (height : ℤ) → (pos 0) ≤ℤ band → NoneComes height near later → CoversSoFar part d floor band x y near height
     → (h : ℤ) → Covered part floor band x y h ↔ (h ≤ℤ height)
@@ -93,11 +101,55 @@ scan_ends part d floor band x y near later height least none s h = (under, λ le
         let m = over.member in
         let place = get_or_default part m.0 d over.tri m.1 ∙ m.2 in
         let covers = subst (λ (t : Tri). CoversColumn t band x y h) (sym place) (covers_of_point part band x y h over) in
-        let near_it : IsNearBy part band x y m.0 = record {
-          within = subst (λ n. m.0 < n) (sym (length-map part box_of)) m.1;
-          meets = subst (λ (b : Box2). Meet b (square_about band x y)) (sym (get_or-map box_of part m.0 d origin_box m.1)) (covering_meets (get_or part m.0 d) band x y h least covers);
-        } in
+        let near_it = is_near_by part d band x y h m.0 m.1 least covers in
         deals_last (IsNearBy part band x y) (IsLow part d band x y height) height near later none (λ j le. low_top part d band x y height near.tops j s.tops le) s.dealt m.0 near_it m.1 h covers
 
 pub scan_bound : (part : List Tri) (d : Tri) (floor band x y : ℤ) (near : Ahead) (height : ℤ) → TrisInRange part → Within greatest floor → CoversSoFar part d floor band x y near height → Within greatest height
 scan_bound part d floor band x y near height ok floor_ok s = covered_bound part floor band x y height ok floor_ok s.kept s.reached
+
+-- a triangle doesn't cover the height
+abbrev pub IsMissed : List Tri → Tri → ℤ → ℤ → ℤ → ℤ → ℕ → Type 0
+IsMissed part d band x y h i = i < length part → ¬ CoversColumn (get_or part i d) band x y h
+
+-- the numbers ahead are those of triangles, and each near triangle is ahead or doesn't cover the height
+pub record NoneSoFar (part : List Tri) (d : Tri) (band x y : ℤ) (near : Ahead) (h : ℤ) : Type 0 where
+  pub tops : near.tops ≡ map highest part
+  pub within : (i : ℕ) → Contains near.numbers i → i < length part
+  pub dealt : AreDealt (IsNearBy part band x y) (IsMissed part d band x y h) near.numbers
+
+pub search_starts : (part : List Tri) (d : Tri) (band x y h : ℤ) (s : Sorted) (near : Ahead) → s ≡ sorted_of part → near.tops ≡ s.tops
+    → ((i : ℕ) → Contains near.numbers i ↔ IsNear s.boxes (square_about band x y) i) → NoneSoFar part d band x y near h
+search_starts part d band x y h s near e same each = record {
+  tops = same ∙ ap (λ (t : Sorted). t.tops) e;
+  within = λ i c. let n = subst (λ (t : Sorted). IsNear t.boxes (square_about band x y) i) e ((each i).0 c) in subst (λ m. i < m) (length-map part box_of) n.within;
+  dealt = λ i n. inl ((each i).1 (subst (λ (t : Sorted). IsNear t.boxes (square_about band x y) i) (sym e) n));
+}
+
+-- a triangle whose top isn't over the next lower height doesn't cover the height
+too_low : (part : List Tri) (d : Tri) (band x y h : ℤ) (tops : List ℤ) (j : ℕ) → tops ≡ map highest part → height_at tops j ≤ℤ (h -ℤ pos 1) → IsMissed part d band x y h j
+too_low part d band x y h tops j e le inside over =
+    let top = ap (λ (ts : List ℤ). height_at ts j) e ∙ top_is part j d inside in
+    clash h (highest (get_or part j d)) (under_highest (get_or part j d) band x y h over) (subst (λ z. z ≤ℤ (h -ℤ pos 1)) top le)
+  where
+    clash : (h z : ℤ) → h ≤ℤ z → z ≤ℤ (h -ℤ pos 1) → ⊥
+    clash h z a b = omega (a, b, arith, ints)
+
+pub search_goes_on : (part : List Tri) (d : Tri) (band x y h lower : ℤ) (near later : Ahead) (i : ℕ) → lower ≡ h -ℤ pos 1 → Comes lower near i later → NoneSoFar part d band x y near h
+    → ¬ CoversColumn (get_or part i d) band x y h → NoneSoFar part d band x y later h
+search_goes_on part d band x y h lower near later i is c s missed = record {
+  tops = c.tops ∙ s.tops;
+  within = λ j k. s.within j (c.rest j k);
+  dealt = deals_on (IsNearBy part band x y) (IsMissed part d band x y h) (IsMissed part d band x y h) lower near later i c (λ j m. m) (λ inside. missed)
+      (λ j le. too_low part d band x y h near.tops j s.tops (subst (λ z. height_at near.tops j ≤ℤ z) is le))
+      s.dealt;
+}
+
+-- after the last one none covers it
+pub search_ends : (part : List Tri) (d : Tri) (band x y h lower : ℤ) (near later : Ahead) → (pos 0) ≤ℤ band → lower ≡ h -ℤ pos 1 → NoneComes lower near later → NoneSoFar part d band x y near h
+    → ¬ HasPointOver part band x y h
+search_ends part d band x y h lower near later least is none s over =
+    let m = over.member in
+    let place = get_or_default part m.0 d over.tri m.1 ∙ m.2 in
+    let covers = subst (λ (t : Tri). CoversColumn t band x y h) (sym place) (covers_of_point part band x y h over) in
+    deals_last (IsNearBy part band x y) (IsMissed part d band x y h) lower near later none (λ j le. too_low part d band x y h near.tops j s.tops (subst (λ z. height_at near.tops j ≤ℤ z) is le))
+    s.dealt m.0 (is_near_by part d band x y h m.0 m.1 least covers) m.1 covers

@@ -15,6 +15,10 @@ coordinate z h = kept w32 z 131071 h.within refl
 pub coordinate_bounds : (z : ℤ) → Within greatest z → (negsuc 131070 ≤ℤ z) × (z ≤ℤ pos 131071)
 coordinate_bounds z h = let k = h.within in (omega (arith, ints), omega (arith, ints))
 
+-- and so is the next lower number
+pub next_lower : (z : ℤ) → Within greatest z → stored w32 (stored w32 z -ℤ pos 1) ≡ z -ℤ pos 1
+next_lower z h = exact (z ∷ []) (131071 ∷ []) (Diff w32 (Read w32 0) (Lit (pos 1))) (h.within, tt) refl
+
 -- so is a band, and so are the ends of the stretch that it reaches about a coordinate
 band_within : (b : ℤ) → (pos 0) ≤ℤ b → b ≤ℤ pos 10000 → nat_abs b ≤ 10000
 band_within b least most = omega (arith, ints)

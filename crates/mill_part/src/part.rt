@@ -88,6 +88,39 @@ impl Part {
         has_point_over(tris, Column { x, y, band }, height)
     }
 
+    /// The same as `covered`, by a look at only those triangles whose boxes are near the column and
+    /// that come up to the height, until one covers it. `cells` finds them, and is made of the part's
+    /// triangles.
+    ///
+    /// It is for many columns: for one alone, making the cells is more work than the looks that they
+    /// save.
+    pub fn covered_near(
+        &self,
+        cells: &Cells,
+        floor: i32,
+        x: i32,
+        y: i32,
+        height: i32,
+        band: i32,
+    ) -> bool
+        requires cells_ok { cells.now ≡ sorted_of self.now }
+        requires floor_ok { Within greatest floor }
+        requires x_ok { Within greatest x }
+        requires y_ok { Within greatest y }
+        requires band_least { pos 0 ≤ℤ band }
+        requires band_most { band ≤ℤ pos 10000 }
+        ensures { IsTrue result ↔ Covered self.now floor band x y height }
+    {
+        let tris = self.tris();
+        if floor >= height {
+            return true;
+        }
+        if height > 131_071 {
+            return false;
+        }
+        has_near_point_over(tris, cells, Column { x, y, band }, height)
+    }
+
     /// The greatest whole height of the column (x, y) that the floor or a point of the part covers,
     /// exactly, in units of 0.01 mm: a point on the column does, and one nearer to it than `band`.
     ///
@@ -146,6 +179,27 @@ fn has_point_over(tris: &[Tri], column: Column, height: i32) -> bool
 {
     for tri in tris {
         if column.is_covered(tri, height) {
+            return true;
+        }
+    }
+    false
+}
+
+/// The same, by a look at the triangles near the column, which `cells` finds.
+///
+/// A triangle comes up to a height if its top is over the next lower one.
+fn has_near_point_over(tris: &[Tri], cells: &Cells, column: Column, height: i32) -> bool
+    requires in_range { TrisInRange tris.now }
+    requires cells_ok { cells.now ≡ sorted_of tris.now }
+    requires height_ok { Within greatest height }
+    ensures yes { IsTrue result → HasPointOver tris.now column.band column.x column.y height }
+    ensures no { result ≡ false
+        → ¬ HasPointOver tris.now column.band column.x column.y height }
+{
+    let lower = height - 1;
+    let mut near = cells.near_over(column.area());
+    while let Some(number) = near.next_over(lower) {
+        if column.is_covered(&tris[number as usize], height) {
             return true;
         }
     }

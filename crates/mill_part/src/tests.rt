@@ -114,6 +114,8 @@ fn is_band(band: i32) -> bool
 #[test]
 fn covers_heights(rt: HostRuntime) -> Result<(), Fail> {
     let plate = plate(&rt)?;
+    let size = Cells::size_for(plate.tris());
+    let cells = Cells::new(rt.alloc(), plate.tris(), size)?;
     let table = [
         (100, 100, 200, 0, true),
         (100, 100, 201, 0, false),
@@ -136,6 +138,8 @@ fn covers_heights(rt: HostRuntime) -> Result<(), Fail> {
         assert!(rt; is_band(band));
         let got = plate.covered(0, x, y, height, band);
         assert_eq!(rt; got, want, "{x}, {y}, {height}, {band}");
+        let near = plate.covered_near(&cells, 0, x, y, height, band);
+        assert_eq!(rt; near, want, "{x}, {y}, {height}, {band}");
     }
     Ok(())
 }
@@ -245,6 +249,9 @@ fn covers_by_near_triangles(rt: HostRuntime) -> Result<(), Fail> {
             want,
             "{x}, {y}, {band}"
         );
+        assert!(rt; part.covered_near(&cells, 0, x, y, want, band));
+        assert!(rt; want < i32::MAX);
+        assert!(rt; !part.covered_near(&cells, 0, x, y, want + 1, band));
     }
     Ok(())
 }

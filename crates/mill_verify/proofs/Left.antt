@@ -1,5 +1,5 @@
 -- What is left over a column's greatest covered height, and the most of it.
-use Rattle.std.specs.Prelude.{◌≡◌, ℕ, ◌+◌, ◌<◌, ◌≤◌, ℤ, pos, ◌-ℤ◌, ◌<ℤ◌, ◌≤ℤ◌, List, Result, Ok, Err, MatchResult, refl}
+use Rattle.std.specs.Prelude.{◌≡◌, ℕ, ◌+◌, ◌<◌, ◌≤◌, ℤ, pos, ◌-ℤ◌, ◌<ℤ◌, ◌≤ℤ◌, ◌⊎◌, List, Result, Ok, Err, MatchResult, refl}
 use Rattle.std.specs.Int.{int_min, int_max}
 use Rattle.std.proofs.Common.{sym, subst, inl, inr, arith}
 use Rattle.std.proofs.lemmas.Bool.{cases_lt}
@@ -10,11 +10,12 @@ use Rattle.mill_base.specs.declared.motion.Move.{Move}
 use Rattle.mill_job.specs.declared.job.Job.{Job}
 use Rattle.mill_job.specs.Columns.{column_x, column_y, row_count, column_count}
 use Rattle.mill_dexel.specs.Tops.{top_after}
+use Rattle.mill_part.proofs.Below.{covered_below}
 use Rattle.mill_verify.specs.Tests.{IsCut}
 use Rattle.mill_verify.specs.Verdicts.{IsLeftOver}
-use Rattle.mill_verify.specs.Firsts.{IsCutTo, IsRowLeft, IsRowUncut, IsMostOf, LeftInRow, AreRowsLeft, IsFirstUncutOf, IsBoth, IsStockLeft, IsFirstUncut}
+use Rattle.mill_verify.specs.Firsts.{IsCutTo, IsMostWith, IsRowLeft, IsRowUncut, IsMostOf, LeftInRow, AreRowsLeft, IsFirstUncutOf, IsBoth, IsStockLeft, IsFirstUncut}
 use Rattle.mill_verify.specs.declared.remains.Uncut.{Uncut}
-use Rattle.mill_verify.proofs.Most.{most_none, most_more, most_both, below_suc}
+use Rattle.mill_verify.proofs.Most.{most_none, most_more, most_stays, most_both, below_suc}
 
 -- covered is the greatest covered height of the column, whatever lies over it
 pub record IsCover (part : List Tri) (floor band x y covered : ℤ) : Type 0 where
@@ -42,24 +43,76 @@ is_cut_to {job} {part} {x} {y} {top} {covered} cover cut is = record {
     too_high : (higher : ℤ) → int_min top covered <ℤ higher → higher ≤ℤ top → higher ≤ℤ covered → ⊥
     too_high higher a b c = omega (a, b, c, arith, ints, clamps)
 
+-- what is left over isn't negative
+not_negative : (top height left : ℤ) → height ≤ℤ top → left ≡ top -ℤ height → (pos 0) ≤ℤ left
+not_negative top height left u d = omega (u, d, arith, ints)
+
+cut_to_low : {job : Job} {part : List Tri} {x y top left : ℤ} → IsCutTo job part x y top left → (pos 0) ≤ℤ left
+cut_to_low {top = top} {left = left} h = not_negative top h.height left h.highest.under h.difference
+
+left_over_low : {job : Job} {part : List Tri} {moves : List Move} {j i : ℕ} {left : ℤ} → IsLeftOver job part moves j i left → (pos 0) ≤ℤ left
+left_over_low {left = left} h = not_negative _ h.height left h.highest.under h.difference
+
+-- a column is left over by at most one number, since its greatest covered height is one
+cut_to_same : {job : Job} {part : List Tri} {x y top a b : ℤ} → IsCutTo job part x y top a → IsCutTo job part x y top b → a ≤ℤ b
+cut_to_same {top = top} {a = a} {b = b} p q =
+    by_lt_z {P = a ≤ℤ b} p.height q.height (λ h. absurd (p.highest.highest q.height h q.highest.under q.highest.covered)) (λ h. by p.height q.height h p.difference q.difference)
+  where
+    by : (m n : ℤ) → n ≤ℤ m → a ≡ top -ℤ m → b ≡ top -ℤ n → a ≤ℤ b
+    by m n h d e = omega (h, d, e, arith, ints)
+
+-- a column is covered so high that it is cut, and no more than most is left there
+pub is_most_kept : {job : Job} {part : List Tri} {x y top most enough : ℤ} → (pos 0) ≤ℤ job.allowance → (pos 0) ≤ℤ most → enough ≡ top -ℤ int_min most job.allowance
+    → Covered part job.floor job.band x y enough → IsMostWith job part x y top most most
+is_most_kept {job} {part} {x} {y} {top} {most} {enough} allowance low e covered = record {
+  cut = covered_below part job.floor job.band x y enough (top -ℤ job.allowance) (omega (e, arith, ints, clamps)) covered;
+  least = omega (arith, ints);
+  there = by_lt_z {P = (((pos 0) <ℤ most) × (most ≡ most)) ⊎ IsCutTo job part x y top most} (pos 0) most (λ some. inl (some, refl)) (λ none. inr (all_cut none));
+  bound = λ left h. by_lt_z {P = left ≤ℤ most} h.height enough (λ under. absurd (h.highest.highest enough under (omega (e, low, allowance, arith, ints, clamps)) covered)) (λ over. bounded h.height left over h.difference);
+}
+  where
+    too_high : (higher : ℤ) → top <ℤ higher → higher ≤ℤ top → ⊥
+    too_high higher a b = omega (a, b, arith, ints)
+
+    all_cut : most ≤ℤ pos 0 → IsCutTo job part x y top most
+    all_cut none = record {
+      cut = covered_below part job.floor job.band x y enough (top -ℤ job.allowance) (omega (e, arith, ints, clamps)) covered;
+      height = top;
+      highest = record {
+        covered = covered_below part job.floor job.band x y enough top (omega (e, none, low, allowance, arith, ints, clamps)) covered;
+        under = omega (arith, ints);
+        highest = λ higher over under _. too_high higher over under;
+      };
+      difference = omega (none, low, arith, ints);
+    }
+
+    bounded : (height left : ℤ) → enough ≤ℤ height → left ≡ top -ℤ height → left ≤ℤ most
+    bounded height left over d = omega (e, over, d, low, allowance, arith, ints, clamps)
+
+-- what is left there is worked out
+pub is_greater : {job : Job} {part : List Tri} {x y top most left next : ℤ} → (pos 0) ≤ℤ most → IsCutTo job part x y top left → next ≡ int_max most left → IsMostWith job part x y top most next
+is_greater {job} {part} {x} {y} {top} {most} {left} {next} low h e = record {
+  cut = h.cut;
+  least = omega (e, arith, ints, clamps);
+  there = by_lt_z {P = (((pos 0) <ℤ most) × (next ≡ most)) ⊎ IsCutTo job part x y top next} left most (λ less. inl (some (cut_to_low h) less, kept less)) (λ more. inr (subst (IsCutTo job part x y top) (raised more) h));
+  bound = λ other k. no_more other (cut_to_same k h);
+}
+  where
+    some : (pos 0) ≤ℤ left → left <ℤ most → (pos 0) <ℤ most
+    some a b = omega (a, b, arith, ints)
+
+    kept : left <ℤ most → next ≡ most
+    kept less = omega (e, less, arith, ints, clamps)
+
+    raised : most ≤ℤ left → left ≡ next
+    raised more = omega (e, more, arith, ints, clamps)
+
+    no_more : (other : ℤ) → other ≤ℤ left → other ≤ℤ next
+    no_more other le = omega (e, le, arith, ints, clamps)
+
 left_over_of : {job : Job} {part : List Tri} {moves : List Move} {j i : ℕ} {left : ℤ} → IsCutTo job part (column_x job i) (column_y job j) (top_after job (column_x job i) (column_y job j) moves) left
     → IsLeftOver job part moves j i left
 left_over_of h = record { height = h.height; highest = h.highest; difference = h.difference }
-
--- what is left over isn't negative
-left_over_low : {job : Job} {part : List Tri} {moves : List Move} {j i : ℕ} {left : ℤ} → IsLeftOver job part moves j i left → (pos 0) ≤ℤ left
-left_over_low {left} h = by _ h.height left h.highest.under h.difference
-  where
-    by : (top height left : ℤ) → height ≤ℤ top → left ≡ top -ℤ height → (pos 0) ≤ℤ left
-    by top height left u d = omega (u, d, arith, ints)
-
--- a column is left over by at most one number, since its greatest covered height is one
-left_over_same : {job : Job} {part : List Tri} {moves : List Move} {j i : ℕ} {a b : ℤ} → IsLeftOver job part moves j i a → IsLeftOver job part moves j i b → a ≤ℤ b
-left_over_same {a} {b} p q =
-    by_lt_z {P = a ≤ℤ b} p.height q.height (λ h. absurd (p.highest.highest q.height h q.highest.under q.highest.covered)) (λ h. by _ p.height q.height a b h p.difference q.difference)
-  where
-    by : (top m n a b : ℤ) → n ≤ℤ m → a ≡ top -ℤ m → b ≡ top -ℤ n → a ≤ℤ b
-    by top m n a b h d e = omega (h, d, e, arith, ints)
 
 -- the columns of row j before n are cut, and this is the most that any of them is left over
 pub record IsRowLeftTo (job : Job) (part : List Tri) (moves : List Move) (j n : ℕ) (left : ℤ) : Type 0 where
@@ -69,14 +122,29 @@ pub record IsRowLeftTo (job : Job) (part : List Tri) (moves : List Move) (j n : 
 pub row_left_none : {job : Job} {part : List Tri} {moves : List Move} {j : ℕ} {left : ℤ} → left ≡ pos 0 → IsRowLeftTo job part moves j 0 left
 row_left_none {left} e = record { cut = λ i h. absurd (omega (h, arith)); most = most_none _ 0 left e }
 
-pub row_left_more : {job : Job} {part : List Tri} {moves : List Move} {j n : ℕ} {most left next : ℤ} → IsRowLeftTo job part moves j n most
-    → IsCutTo job part (column_x job n) (column_y job j) (top_after job (column_x job n) (column_y job j) moves) left → next ≡ int_max most left → IsRowLeftTo job part moves j (n + 1) next
-row_left_more {job} {part} {moves} {j} {n} {most} {left} {next} so_far h e =
-    let here : IsLeftOver job part moves j n left = left_over_of h in
-    record {
-      cut = λ i less. elim (below_suc n i less) [ inl before ↦ so_far.cut i before | inr same ↦ subst (λ (v : ℕ). IsCut job part moves j v) (sym same) h.cut ];
-      most = most_more (IsLeftOver job part moves j) 0 n most left next (omega arith) so_far.most here (λ x k. left_over_same k here) (left_over_low here) e;
-    }
+-- what is left over a column that is cut
+cut_to_of : {job : Job} {part : List Tri} {moves : List Move} {j i : ℕ} {left : ℤ} → IsCut job part moves j i → IsLeftOver job part moves j i left
+    → IsCutTo job part (column_x job i) (column_y job j) (top_after job (column_x job i) (column_y job j) moves) left
+cut_to_of cut h = record { cut = cut; height = h.height; highest = h.highest; difference = h.difference }
+
+pub row_left_more : {job : Job} {part : List Tri} {moves : List Move} {j n : ℕ} {most next : ℤ} → IsRowLeftTo job part moves j n most
+    → IsMostWith job part (column_x job n) (column_y job j) (top_after job (column_x job n) (column_y job j) moves) most next → IsRowLeftTo job part moves j (n + 1) next
+row_left_more {job} {part} {moves} {j} {n} {most} {next} so_far h = record {
+  cut = λ i less. elim (below_suc n i less) [ inl before ↦ so_far.cut i before | inr same ↦ subst (λ (v : ℕ). IsCut job part moves j v) (sym same) h.cut ];
+  most = elim h.there [
+    | inl stays ↦ subst (IsMostOf L 0 (n + 1)) (sym stays.1) (most_stays L 0 n most (omega arith) so_far.most stays.0 (λ x k. subst (λ z. x ≤ℤ z) stays.1 (best x k)))
+    | inr here ↦ most_more L 0 n most next next (omega arith) so_far.most (left_over_of here) best (cut_to_low here) (greater most next h.least)
+  ];
+}
+  where
+    L : ℕ → ℤ → Type 0
+    L = IsLeftOver job part moves j
+
+    best : (x : ℤ) → L n x → x ≤ℤ next
+    best x k = h.bound x (cut_to_of h.cut k)
+
+    greater : (a b : ℤ) → a ≤ℤ b → b ≡ int_max a b
+    greater a b le = omega (le, arith, ints, clamps)
 
 pub row_left_all : {job : Job} {part : List Tri} {moves : List Move} {j n : ℕ} {left : ℤ} → n ≡ column_count job → 0 < column_count job → IsRowLeftTo job part moves j n left → IsRowLeft job part moves j left
 row_left_all {job} {part} {moves} {j} {n} {left} e some h =

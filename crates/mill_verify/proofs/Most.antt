@@ -77,6 +77,21 @@ pub most_more : (L : ℕ → ℤ → Type 0) (s n : ℕ) (most left next : ℤ) 
     → IsMostOf L s (n + 1) next
 most_more L s n most left next order so_far here best low e = most_both L s n (n + 1) most left next order (omega arith) so_far (most_one L n left here best low) e
 
+-- one more index, at which nothing is greater than what there was before
+pub most_stays : (L : ℕ → ℤ → Type 0) (s n : ℕ) (most : ℤ) → s ≤ n → IsMostOf L s n most → (pos 0) <ℤ most → ((x : ℤ) → L n x → x ≤ℤ most) → IsMostOf L s (n + 1) most
+most_stays L s n most order so_far some best = record {
+  low = so_far.low;
+  none = λ h. absurd (omega (h, order, arith));
+  there = λ _. elim (cases_lt s n) [ inl before ↦ earlier (so_far.there before) | inr none ↦ absurd (nothing (so_far.none none)) ];
+  bound = λ i x h k l. elim (below_suc n i k) [ inl before ↦ so_far.bound i x h before l | inr same ↦ best x (subst (λ (v : ℕ). L v x) same l) ];
+}
+  where
+    earlier : (i : ℕ) × (s ≤ i) × (i < n) × L i most → (i : ℕ) × (s ≤ i) × (i < n + 1) × L i most
+    earlier found = (found.0, found.1, omega (found.2, arith), found.3)
+
+    nothing : most ≡ pos 0 → ⊥
+    nothing e = omega (e, some, arith, ints)
+
 -- the greater by comparison is the greater
 pub max_is : (a b : ℤ) → ord_max int_cmp a b ≡ int_max a b
 max_is a b = by (int_lt b a) (int_lt a b)

@@ -8,7 +8,7 @@ use Rattle.mill_base.specs.Numbers.{Within, greatest}
 use Rattle.mill_base.specs.Covers.{Covered}
 use Rattle.mill_base.specs.declared.points.Tri.{Tri}
 use Rattle.mill_base.specs.declared.motion.Move.{Move}
-use Rattle.mill_base.proofs.Machine.{Read, stored, kept, diff_fits}
+use Rattle.mill_base.proofs.Machine.{Read, Diff, stored, kept, exact, diff_fits}
 use Rattle.mill_job.specs.declared.job.Job.{Job}
 use Rattle.mill_job.specs.Jobs.{IsJob, IsFrom}
 use Rattle.mill_job.specs.Columns.{column_x, column_y, column_count}
@@ -16,7 +16,7 @@ use Rattle.mill_dexel.specs.Tops.{top_after}
 use Rattle.mill_dexel.specs.Rows.{RowState}
 use Rattle.mill_verify.specs.Stock.{IsRow}
 use Rattle.mill_verify.specs.Tests.{IsCut}
-use Rattle.mill_verify.specs.Firsts.{IsCutTo, IsRowUncut}
+use Rattle.mill_verify.specs.Firsts.{IsMostWith, IsRowUncut}
 use Rattle.mill_verify.proofs.Ranges.{top_within}
 use Rattle.mill_verify.proofs.Left.{IsCover}
 use Rattle.mill_dexel.proofs.RowLaws.{row_after-at, length-row_after}
@@ -64,6 +64,28 @@ left_fits top covered low t_ok c_ok e =
     small : (t c m : ℤ) → nat_abs t ≤ 131071 → nat_abs c ≤ 131071 → m ≡ int_min t c → nat_abs m ≤ 131071
     small t c m h k e = omega (e, h, k, arith, ints, clamps)
 
+-- the least of two numbers that a column may be left over is small
+small_least : (most allowance low : ℤ) → (pos 0) ≤ℤ most → IsFrom (pos 0) (pos 10000) allowance → low ≡ int_min most (stored w32 allowance) → nat_abs low ≤ 10000
+small_least most allowance low least ok e = by allowance ok.low ok.high (rw (band_in allowance ok) at e)
+  where
+    by : (a : ℤ) → (pos 0) ≤ℤ a → a ≤ℤ pos 10000 → low ≡ int_min most a → nat_abs low ≤ 10000
+    by a h k e = omega (e, h, k, least, arith, ints, clamps)
+
+-- a top less that fits
+pub enough_fits : (top most allowance low : ℤ) → Within greatest top → (pos 0) ≤ℤ most → IsFrom (pos 0) (pos 10000) allowance → low ≡ int_min most (stored w32 allowance)
+    → FitsSigned w32 (stored w32 top -ℤ stored w32 low)
+enough_fits top most allowance low t_ok least ok e =
+    diff_fits w32 (top ∷ low ∷ []) (131071 ∷ 10000 ∷ []) (Read w32 0) (Read w32 1) (t_ok.within, (small_least most allowance low least ok e, tt)) refl
+
+pub enough_stored : {job : Job} {part : List Tri} {x y top most low : ℤ} → IsJob job → Within greatest x → Within greatest y → Within greatest top → (pos 0) ≤ℤ most
+    → low ≡ int_min most (stored w32 job.allowance)
+    → Covered part (stored w32 job.floor) (stored w32 job.band) (stored w32 x) (stored w32 y) (stored w32 (stored w32 top -ℤ stored w32 low))
+    → Covered part job.floor job.band x y (top -ℤ int_min most job.allowance)
+enough_stored {job} {part} {x} {y} {top} {most} {low} ok x_ok y_ok t_ok least e h =
+    let enough = exact (top ∷ low ∷ []) (131071 ∷ 10000 ∷ []) (Diff w32 (Read w32 0) (Read w32 1)) (t_ok.within, (small_least most job.allowance low least ok.allowance_ok e, tt)) refl in
+    let covered : Covered part job.floor job.band x y (top -ℤ low) = rw (kept_in job.floor ok.floor_ok, band_in job.band ok.band_ok, kept_in x x_ok, kept_in y y_ok, enough) at h in
+    subst (λ (z : ℤ). Covered part job.floor job.band x y (top -ℤ z)) (rw (band_in job.allowance ok.allowance_ok) at e) covered
+
 -- where and how high column i of row j stands, as the code has it
 pub record IsAt (job : Job) (moves : List Move) (j i : ℕ) (x y top : ℤ) : Type 0 where
   pub x_is : stored w32 x ≡ column_x job i
@@ -81,9 +103,10 @@ is_at {job} {moves} {j} {i} {x} {y} ok tops h ex x_ok ey y_ok = record {
 pub top_stored : {job : Job} {moves : List Move} {j i : ℕ} {x y top : ℤ} → IsJob job → IsAt job moves j i x y top → Within greatest (stored w32 top)
 top_stored {moves} ok at = subst (Within greatest) (sym at.top_is) (top_within _ _ moves ok)
 
-pub cut_stored : {job : Job} {part : List Tri} {moves : List Move} {j i : ℕ} {x y top left : ℤ} → IsAt job moves j i x y top → IsCutTo job part (stored w32 x) (stored w32 y) (stored w32 top) left
-    → IsCutTo job part (column_x job i) (column_y job j) (top_after job (column_x job i) (column_y job j) moves) left
-cut_stored {job} {part} {left} at h = at_stored (λ (a b c : ℤ). IsCutTo job part a b c left) _ _ _ _ _ _ at.x_is at.y_is at.top_is h
+pub most_stored : {job : Job} {part : List Tri} {moves : List Move} {j i : ℕ} {x y top most next : ℤ} → IsAt job moves j i x y top
+    → IsMostWith job part (stored w32 x) (stored w32 y) (stored w32 top) most next
+    → IsMostWith job part (column_x job i) (column_y job j) (top_after job (column_x job i) (column_y job j) moves) most next
+most_stored {job} {part} {most = most} {next = next} at h = at_stored (λ (a b c : ℤ). IsMostWith job part a b c most next) _ _ _ _ _ _ at.x_is at.y_is at.top_is h
 
 pub uncut_stored : {job : Job} {part : List Tri} {moves : List Move} {j i : ℕ} {x y top : ℤ} → i < column_count job → ((e : ℕ) → e < i → IsCut job part moves j e) → IsAt job moves j i x y top
     → ¬ Covered part job.floor job.band (stored w32 x) (stored w32 y) (stored w32 top -ℤ job.allowance) → IsRowUncut job part moves j i (stored w32 top)

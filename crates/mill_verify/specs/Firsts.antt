@@ -1,5 +1,5 @@
 -- Where each test fails first, apart from the tests before it.
-use Rattle.std.specs.Prelude.{◌≡◌, ◌⊎◌, ℕ, ◌<◌, ◌≤◌, ◌-◌, ◌/◌, ◌%◌, ℤ, pos, ◌-ℤ◌, ◌≤ℤ◌, List, length, take, Option, Some, None, IfSome, IfNone, Result, Ok, Err}
+use Rattle.std.specs.Prelude.{◌≡◌, ◌⊎◌, ℕ, ◌<◌, ◌≤◌, ◌-◌, ◌/◌, ◌%◌, ℤ, pos, ◌-ℤ◌, ◌<ℤ◌, ◌≤ℤ◌, List, length, take, Option, Some, None, IfSome, IfNone, Result, Ok, Err}
 use Rattle.std.specs.Int.{int_max}
 use Rattle.mill_base.specs.declared.points.Tri.{Tri}
 use Rattle.mill_base.specs.declared.motion.Move.{Move}
@@ -148,6 +148,13 @@ pub record IsCutTo (job : Job) (part : List Tri) (x y top left : ℤ) : Type 0 w
   pub height : ℤ
   pub highest : IsHighestCovered part job.floor job.band x y top height
   pub difference : left ≡ top -ℤ height
+
+-- a column at (x, y) with this top is cut to within the allowance, and next is the greater of most and what is left there
+pub record IsMostWith (job : Job) (part : List Tri) (x y top most next : ℤ) : Type 0 where
+  pub cut : Covered part job.floor job.band x y (top -ℤ job.allowance)
+  pub least : most ≤ℤ next
+  pub there : (((pos 0) <ℤ most) × (next ≡ most)) ⊎ IsCutTo job part x y top next
+  pub bound : (left : ℤ) → IsCutTo job part x y top left → left ≤ℤ next
 
 -- every column of row j is cut, and this is the most that any of them is left over
 pub record IsRowLeft (job : Job) (part : List Tri) (moves : List Move) (j : ℕ) (left : ℤ) : Type 0 where

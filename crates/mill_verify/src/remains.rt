@@ -1,11 +1,11 @@
-ghost use Rattle.std.specs.Prelude.{◌≡◌, ◌<◌, ◌≤◌, ◌-ℤ◌, length, MatchOption, MatchResult};
+ghost use Rattle.std.specs.Prelude.{◌≡◌, ◌<◌, ◌≤◌, pos, ◌-ℤ◌, ◌≤ℤ◌, length, MatchOption, MatchResult};
 ghost use Rattle.mill_base.specs.Numbers.{Within, greatest};
 ghost use Rattle.mill_base.specs.Covers.{Covered};
 ghost use Rattle.mill_cells.specs.Sorted.{sorted_of};
 ghost use Rattle.mill_job.specs.Jobs.{IsJob, IsFrom};
 ghost use Rattle.mill_job.specs.Columns.{row_count};
 ghost use Rattle.mill_verify.specs.Stock.{IsRow, IsStock};
-ghost use Rattle.mill_verify.specs.Firsts.{AreRowsLeft, IsBoth, IsCutTo, IsFirstUncut, IsFirstUncutOf, IsRowLeft, IsRowUncut, IsStockLeft};
+ghost use Rattle.mill_verify.specs.Firsts.{AreRowsLeft, IsBoth, IsCutTo, IsFirstUncut, IsFirstUncutOf, IsMostWith, IsRowLeft, IsRowUncut, IsStockLeft};
 ghost use denote.Param.Send.{IsSync};
 
 use mill_base::Move;
@@ -243,8 +243,8 @@ fn row_left(
     let mut most = 0;
     for (index, top) in tops.iter().enumerate() {
         let col = index as u32;
-        match left_over(job, part, cells, job.column_x(col), y, *top) {
-            Some(left) => most = most.max(left),
+        match most_with(job, part, cells, job.column_x(col), y, *top, most) {
+            Some(greater) => most = greater,
             None => {
                 return Err(Uncut {
                     row: number,
@@ -255,6 +255,39 @@ fn row_left(
         }
     }
     Ok(most)
+}
+
+/// The greater of `most` and how much a column with this top is left over its greatest covered
+/// height; none where the top is more than the allowance over it.
+///
+/// Where no more than `most` and the allowance is left, one look whether the column is covered so
+/// high says so, and the greatest height isn't worked out.
+fn most_with(
+    job: &Job,
+    part: &Part,
+    cells: &Cells,
+    x: i32,
+    y: i32,
+    top: i32,
+    most: i32,
+) -> Option<i32>
+    requires job_ok { IsJob job.now }
+    requires cells_ok { cells.now ≡ sorted_of part.now }
+    requires x_ok { Within greatest x }
+    requires y_ok { Within greatest y }
+    requires top_ok { Within greatest top }
+    requires most_ok { pos 0 ≤ℤ most }
+    ensures { MatchOption
+        result
+        (¬ Covered part.now job.now.floor job.now.band x y (top -ℤ job.now.allowance))
+        (IsMostWith job.now part.now x y top most) }
+{
+    let enough = top - most.min(job.allowance);
+    if part.covered_near(cells, job.floor, x, y, enough, job.band) {
+        return Some(most);
+    }
+    let left = left_over(job, part, cells, x, y, top)?;
+    Some(most.max(left))
 }
 
 /// How much a column with this top is left over its greatest covered height; none where the top

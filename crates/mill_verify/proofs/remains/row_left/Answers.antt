@@ -1,10 +1,10 @@
-use Rattle.std.proofs.Common.{◌<◌, ◌∙◌, to_z, of_z, w32, refl, arith}
-use Rattle.std.proofs.lemmas.Int.{ints, clamps}
+use mir.Syntax.{w32}
+use Rattle.std.proofs.Common.{◌<◌, FitsSigned, rules, refl, arith}
+use Rattle.std.proofs.lemmas.Int.{to_z-of_z}
 use Rattle.mill_job.specs.Columns.{column_count}
 use Rattle.mill_verify.proofs.Ranges.{columns_few, some_columns}
-use Rattle.mill_verify.proofs.Most.{max_is}
 use Rattle.mill_verify.proofs.Left.{row_left_none, row_left_more, row_left_all}
-use Rattle.mill_verify.proofs.Stored.{tops_read, is_at, top_stored, cut_stored, uncut_stored}
+use Rattle.mill_verify.proofs.Stored.{tops_read, is_at, top_stored, most_stored, uncut_stored}
 use Rattle.mill_verify.proofs.remains.row_left.Goals as goal
 
 pub loop-index-init : goal.loop-index-init
@@ -20,8 +20,8 @@ column_x-requires-clause-column c =
     let tops = tops_read c.requires.row_ok c.tops-tops.ensures in
     omega (arith, tops.count)
 
-pub left_over-requires-clause-top_ok : goal.left_over-requires-clause-top_ok
-left_over-requires-clause-top_ok c =
+pub most_with-requires-clause-top_ok : goal.most_with-requires-clause-top_ok
+most_with-requires-clause-top_ok c =
     let tops = tops_read c.requires.row_ok c.tops-tops.ensures in
     let there : c.loop-index.index < column_count c.args.job.now = omega (arith, tops.count) in
     top_stored c.requires.job_ok (is_at c.requires.job_ok tops there c.column_x.ensures.value c.column_x.ensures.in_range c.row_y-y.ensures.value c.row_y-y.ensures.in_range)
@@ -38,8 +38,11 @@ loop-index-preserved c =
     let tops = tops_read c.requires.row_ok c.tops-tops.ensures in
     let there : c.loop-index.index < column_count c.args.job.now = omega (arith, tops.count) in
     let at = is_at c.requires.job_ok tops there c.column_x.ensures.value c.column_x.ensures.in_range c.row_y-y.ensures.value c.row_y-y.ensures.in_range in
-    let greater = c.max-most.ensures ∙ max_is (to_z w32 c.loop-index.most-bits) (to_z w32 (of_z w32 c.in-Some.left)) in
-    row_left_more c.loop-index.invariant (cut_stored at c.in-Some.ensures) (omega (arith, ints, clamps, greater))
+    let fits : FitsSigned w32 c.in-Some.greater = search rules in
+    rw (to_z-of_z w32 c.in-Some.greater fits) (row_left_more c.loop-index.invariant (most_stored at c.in-Some.ensures))
+
+pub most_with-requires-clause-most_ok : goal.most_with-requires-clause-most_ok
+most_with-requires-clause-most_ok c = c.loop-index.invariant.most.low
 
 pub returns : goal.returns
 returns c =
