@@ -1,5 +1,5 @@
 -- What was read decides the answer.
-use Rattle.std.proofs.Common.{◌≡◌, ◌⊎◌, ℕ, List, Option, Some, None, Result, Ok, Err, refl, sym, ap, subst, ◌∙◌, inl, inr, arith}
+use Rattle.std.proofs.Common.{◌≡◌, ◌⊎◌, ℕ, List, Result, Ok, Err, refl, sym, ap, subst, ◌∙◌, inl, inr, arith}
 use Rattle.std.specs.Prelude.{◌<◌, ◌≤◌, ℤ, ◌≤ℤ◌, ◌<ℤ◌}
 use Rattle.std.proofs.lemmas.Int.{ints}
 use Rattle.mill_base.specs.declared.points.Tri.{Tri}
@@ -14,15 +14,14 @@ use Rattle.mill_job.specs.declared.fault.JobFault.{JobFault}
 use Rattle.mill_job.specs.Columns.{home}
 use Rattle.mill_job.specs.Documents.{IsJobOf}
 use Rattle.mill_job.proofs.OneAnswer.{one_answer}
-use Rattle.mill_verify.specs.Verdicts.{IsVerdict, IsRejection, OneVerdict}
+use Rattle.mill_verify.specs.Verdicts.{IsVerdict, OneVerdict}
 use Rattle.mill_verify.specs.declared.verdict.Verdict.{Verdict}
-use Rattle.mill_verify.specs.declared.verdict.Verdict.TheVariants.{Accept, Reject}
-use Rattle.mill_verify.specs.declared.verdict.Reason.{Reason}
+use Rattle.mill_plan.specs.Plans.{done, too_many_nodes, too_many_moves, uncut}
 use Rattle.mill_decimal.specs.declared.fault.DecFault.{DecFault}
 use Rattle.camtool.specs.declared.place.Coordinate.{Coordinate}
 use Rattle.camtool.specs.declared.place.Coordinate.TheVariants.{X, Y}
 use Rattle.camtool.specs.declared.place.Place.{Place}
-use Rattle.camtool.specs.Answers.{SetupTexts, Texts, Reads, ReadsJob, ReadsPart, ReadsSetup, ReadsProgram, ReadsPlace, RefusesWord, Answer, IsUnfit, IsVerified, IsDropped, answer_status, refused_word, long_job, refused_job, long_part, refused_part, high_part, long_program, refused_program, judged, dropped}
+use Rattle.camtool.specs.Answers.{SetupTexts, Texts, Reads, ReadsJob, ReadsPart, ReadsSetup, ReadsProgram, ReadsPlace, RefusesWord, Answer, IsUnfit, IsVerified, IsPlanned, IsDropped, answer_status, refused_word, long_job, refused_job, long_part, refused_part, high_part, long_program, refused_program, judged, planned, dropped}
 
 ok_is : {A E : Type 0} (a b : A) → (let r : Result A E = Ok a in r) ≡ Ok b → a ≡ b
 ok_is a b e = cc
@@ -82,6 +81,7 @@ is_fit texts job part (high_part height top) r h =
 is_fit texts job part long_program r h = h
 is_fit texts job part (refused_program fault) r h = h
 is_fit texts job part (judged j p m v) r h = h
+is_fit texts job part (planned answer) r h = h
 is_fit texts job part (dropped height) r h = h
 
 -- ---- `verify`
@@ -104,6 +104,7 @@ is_judged texts job part moves (judged j p m v) r h =
     let f : p ≡ part = same_part texts.setup job p part (subst (λ (x : Job). ReadsPart texts.setup x p) e h.all_read.setup_is.part_is) r.setup_is.part_is in
     let g : m ≡ moves = same_moves texts job m moves (subst (λ (x : Job). ReadsProgram texts x m) e h.all_read.moves_are) r.moves_are in
     (v, subst (λ (x : List Move). IsVerdict job part x v) g (subst (λ (x : List Tri). IsVerdict job x m v) f (subst (λ (x : Job). IsVerdict x p m v) e h.is)), refl)
+is_judged texts job part moves (planned answer) r h = absurd h
 is_judged texts job part moves (dropped height) r h = absurd h
 
 -- where the texts read and the moves are rejected for a reason, the answer has that verdict
@@ -112,6 +113,26 @@ pub has_verdict : OneVerdict → (texts : Texts) (job : Job) (part : List Tri) (
 has_verdict one texts job part moves verdict a r is h =
     let j = is_judged texts job part moves a r h in
     j.2 ∙ ap (λ (v : Verdict). answer_status (judged job part moves v)) (one job part moves j.0 verdict j.1 is)
+
+-- ---- `plan`
+
+-- texts that read have a plan, or there is none, and nothing is refused
+pub is_planned : (texts : SetupTexts) (job : Job) (part : List Tri) (a : Answer) → ReadsSetup texts job part → IsPlanned texts a
+    → (answer_status a ≡ 0) ⊎ ((answer_status a ≡ 8) ⊎ (answer_status a ≡ 9))
+is_planned texts job part (refused_word coordinate fault) r h = absurd h
+is_planned texts job part long_job r h = absurd (is_fit texts job part long_job r h)
+is_planned texts job part (refused_job fault) r h = absurd (is_fit texts job part (refused_job fault) r h)
+is_planned texts job part long_part r h = absurd (is_fit texts job part long_part r h)
+is_planned texts job part (refused_part fault) r h = absurd (is_fit texts job part (refused_part fault) r h)
+is_planned texts job part (high_part height top) r h = absurd (is_fit texts job part (high_part height top) r h)
+is_planned texts job part long_program r h = absurd h
+is_planned texts job part (refused_program fault) r h = absurd h
+is_planned texts job part (judged j p m v) r h = absurd h
+is_planned texts job part (planned (done text count columns left)) r h = inl refl
+is_planned texts job part (planned (uncut row col top)) r h = inr (inl refl)
+is_planned texts job part (planned (too_many_nodes nodes)) r h = inr (inr refl)
+is_planned texts job part (planned too_many_moves) r h = inr (inr refl)
+is_planned texts job part (dropped height) r h = absurd h
 
 -- ---- `drop`
 
@@ -131,4 +152,5 @@ is_dropped x y texts place job part (high_part height top) p r h = absurd (is_fi
 is_dropped x y texts place job part long_program p r h = absurd h.1
 is_dropped x y texts place job part (refused_program fault) p r h = absurd h.1
 is_dropped x y texts place job part (judged j q m v) p r h = absurd h.1
+is_dropped x y texts place job part (planned answer) p r h = absurd h.1
 is_dropped x y texts place job part (dropped height) p r h = refl

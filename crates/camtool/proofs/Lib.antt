@@ -3,3 +3,6 @@ pub mod Works
 pub mod Answering
 pub mod Outcomes
 pub mod Taking
+pub mod Planning
+pub mod Lengths
+pub mod PlanOutcomes

@@ -1,5 +1,5 @@
 -- What a call came to gives the outcome and the headline.
-use Rattle.std.proofs.Common.{◌≡◌, ◌≢◌, ◌⊎◌, ℕ, List, Option, Some, None, true, false, refl, sym, ap, subst, ◌∙◌, inl, inr, arith}
+use Rattle.std.proofs.Common.{◌≡◌, ◌≢◌, ◌⊎◌, ℕ, List, false, refl, sym, subst, ◌∙◌, inl, inr, arith}
 use Rattle.std.specs.Prelude.{◌<◌}
 use Rattle.mill_base.specs.declared.points.Tri.{Tri}
 use Rattle.mill_base.specs.declared.motion.Move.{Move}
@@ -8,27 +8,33 @@ use Rattle.mill_job.specs.declared.job.Job.{Job}
 use Rattle.mill_verify.specs.Verdicts.{OneVerdict}
 use Rattle.mill_verify.specs.declared.verdict.Verdict.{Verdict}
 use Rattle.mill_verify.specs.declared.verdict.Verdict.TheVariants.{Accept, Reject}
-use Rattle.camtool.specs.declared.file.File.{File}
 use Rattle.camtool.specs.declared.place.Place.{Place}
 use Rattle.camtool.specs.declared.ending.Status.{Status}
 use Rattle.camtool.specs.declared.ending.Status.TheVariants as status
-use Rattle.camtool.specs.Words.{Files}
-use Rattle.camtool.specs.Answers.{SetupTexts, Texts, Reads, ReadsSetup, ReadsPlace, Answer, IsVerified, IsDropped, answer_status, verdict_status, refused_word, long_job, refused_job, long_part, refused_part, high_part, long_program, refused_program, judged, dropped}
+use Rattle.camtool.specs.Words.{AsksNoPlan}
+use Rattle.camtool.specs.Answers.{SetupTexts, Texts, Reads, ReadsSetup, ReadsPlace, Answer, IsVerified, IsDropped, answer_status, verdict_status, refused_word, long_job, refused_job, long_part, refused_part, high_part, long_program, refused_program, judged, planned, dropped}
+use Rattle.mill_plan.specs.Plans.{done, too_many_nodes, too_many_moves, uncut}
 use Rattle.camtool.specs.Headline.{Call, Verifies, DropsAt, NoFault, Ending, help, bad_words, no_memory, read_fault, answered, Comes, Serves, ShowsHelp, RefusesWords, IsEnding, Came, IsSafe, Ends, Answered, Outcome, AcceptsSafely, RejectsFirst, Headline}
 use Rattle.camtool.specs.Statuses.{status_code}
 use Rattle.camtool.proofs.Answering.{is_judged, has_verdict, is_dropped}
-use Rattle.camtool.proofs.Taking.{not_taken, same_request}
+use Rattle.camtool.proofs.Taking.{not_taken, same_request, verify_no_plan, drop_no_plan, untaken_no_plan}
 
--- what a call's statuses 6 and 7 say of the counts of faults
+-- what a call's status 6, and its status 7 where it asks for no plan, say of the counts of faults
 pub record BlamesFaults (call : Call) : Type 0 where
-  pub write : call.status ≡ 7 → call.print_faults_before < call.print_faults_after
+  pub write : AsksNoPlan call.words → call.status ≡ 7 → call.print_faults_before < call.print_faults_after
   pub read : call.status ≡ 6 → call.read_faults_before < call.read_faults_after
 
-stays : (a b : ℕ) → a < b → b ≡ a → ⊥
+pub stays : (a b : ℕ) → a < b → b ≡ a → ⊥
 stays a b h e = omega (h, e, arith)
 
-no_seven : (call : Call) → BlamesFaults call → NoFault call → call.status ≢ 7
-no_seven call blames fine e = stays _ _ (blames.write e) fine.prints
+no_seven : (call : Call) → BlamesFaults call → AsksNoPlan call.words → NoFault call → call.status ≢ 7
+no_seven call blames none fine e = stays _ _ (blames.write none e) fine.prints
+
+verify_none : (call : Call) (texts : Texts) → Verifies call texts → AsksNoPlan call.words
+verify_none call texts v = verify_no_plan call.words v.files.job v.files.part v.files.program v.command.0 v.command.1
+
+drop_none : (call : Call) (x y : List ℕ) (texts : SetupTexts) → DropsAt call x y texts → AsksNoPlan call.words
+drop_none call x y texts d = drop_no_plan call.words d.job d.part x y d.command
 
 no_six : (call : Call) → BlamesFaults call → NoFault call → call.status ≢ 6
 no_six call blames fine e = stays _ _ (blames.read e) fine.reads
@@ -83,12 +89,12 @@ answered_by call Is (answered a) is (inr s) n5 n6 n7 = absurd (n7 s.0)
 
 verify_answers : (call : Call) → BlamesFaults call → Ends call → (texts : Texts) → Verifies call texts → NoFault call → call.status ≢ 5 → Answered call (IsVerified texts)
 verify_answers call blames ends texts v fine n5 =
-    answered_by call (IsVerified texts) ends.ending (verify_ends call texts ends.ending ends.is v) ends.shown n5 (no_six call blames fine) (no_seven call blames fine)
+    answered_by call (IsVerified texts) ends.ending (verify_ends call texts ends.ending ends.is v) ends.shown n5 (no_six call blames fine) (no_seven call blames (verify_none call texts v) fine)
 
 drop_answers : (call : Call) → BlamesFaults call → Ends call → (x y : List ℕ) (texts : SetupTexts) → DropsAt call x y texts → NoFault call → call.status ≢ 5
     → Answered call (IsDropped x y texts)
 drop_answers call blames ends x y texts d fine n5 =
-    answered_by call (IsDropped x y texts) ends.ending (drop_ends call x y texts ends.ending ends.is d) ends.shown n5 (no_six call blames fine) (no_seven call blames fine)
+    answered_by call (IsDropped x y texts) ends.ending (drop_ends call x y texts ends.ending ends.is d) ends.shown n5 (no_six call blames fine) (no_seven call blames (drop_none call x y texts d) fine)
 
 -- a call that is served has one of its answers' statuses, or memory was short
 status_by : (call : Call) (Is : Answer → Type 0) (ending : Ending) → Served Is ending → Came ending call.status call.written_before call.written_after
@@ -129,13 +135,13 @@ untaken_by call no_memory is (inr s) u n5 n7 = absurd (n7 s.0)
 untaken_by call (read_fault file) is came u n5 n7 = absurd (not_taken call.words is.asked u is.command)
 untaken_by call (answered a) is came u n5 n7 = absurd (not_taken call.words is.asked u is.command)
 
-differs : (n a b : ℕ) → n ≡ a → n ≡ b → a ≢ b → ⊥
+pub differs : (n a b : ℕ) → n ≡ a → n ≡ b → a ≢ b → ⊥
 differs n a b e f ne = ne (sym e ∙ f)
 
-no : (a b : ℕ) → a < b → a ≢ b
+pub no : (a b : ℕ) → a < b → a ≢ b
 no a b h e = omega (h, e, arith)
 
-on : (a b : ℕ) → b < a → a ≢ b
+pub on : (a b : ℕ) → b < a → a ≢ b
 on a b h e = omega (h, e, arith)
 
 no_two : (a : Answer) → answer_status a ≢ 2
@@ -149,6 +155,10 @@ no_two long_program e = absurd (on 4 2 (omega arith) e)
 no_two (refused_program fault) e = absurd (on 4 2 (omega arith) e)
 no_two (judged job part moves (Accept count columns left)) e = absurd (no 0 2 (omega arith) e)
 no_two (judged job part moves (Reject reason)) e = absurd (on 3 2 (omega arith) e)
+no_two (planned (done text moves columns left)) e = absurd (no 0 2 (omega arith) e)
+no_two (planned (uncut row column top)) e = absurd (on 8 2 (omega arith) e)
+no_two (planned (too_many_nodes nodes)) e = absurd (on 9 2 (omega arith) e)
+no_two (planned too_many_moves) e = absurd (on 9 2 (omega arith) e)
 no_two (dropped height) e = absurd (no 0 2 (omega arith) e)
 
 mistaken_by : (call : Call) (ending : Ending) → IsEnding call ending → Came ending call.status call.written_before call.written_after → call.status ≡ 2 → RefusesWords call.words
@@ -164,10 +174,10 @@ outcome_of call blames ends = record {
   verified = verify_answers call blames ends;
   dropped = drop_answers call blames ends;
   complete = λ texts job part moves v r fine. accepts_or_rejects call.status texts job part moves r
-      (status_by call (IsVerified texts) ends.ending (verify_ends call texts ends.ending ends.is v) ends.shown (no_six call blames fine) (no_seven call blames fine));
+      (status_by call (IsVerified texts) ends.ending (verify_ends call texts ends.ending ends.is v) ends.shown (no_six call blames fine) (no_seven call blames (verify_none call texts v) fine));
   complete_drop = λ x y texts place job part d p r fine. tells_height call.status x y texts place job part p r
-      (status_by call (IsDropped x y texts) ends.ending (drop_ends call x y texts ends.ending ends.is d) ends.shown (no_six call blames fine) (no_seven call blames fine));
-  untaken = λ u fine n5. untaken_by call ends.ending ends.is ends.shown u n5 (no_seven call blames fine);
+      (status_by call (IsDropped x y texts) ends.ending (drop_ends call x y texts ends.ending ends.is d) ends.shown (no_six call blames fine) (no_seven call blames (drop_none call x y texts d) fine));
+  untaken = λ u fine n5. untaken_by call ends.ending ends.is ends.shown u n5 (no_seven call blames (untaken_no_plan call.words u) fine);
   mistaken = λ e. mistaken_by call ends.ending ends.is ends.shown e;
 }
 
@@ -191,6 +201,7 @@ accepts_by call texts (answered (refused_program fault)) is safe (inl s) e = abs
 accepts_by call texts (answered (judged job part moves (Reject reason))) is safe (inl s) e = absurd (differs _ 3 0 s.0 e (on 3 0 (omega arith)))
 accepts_by call texts (answered (judged job part moves (Accept count columns left))) is safe (inl s) e =
     record { job = job; part = part; moves = moves; all_read = is.all_read; safe = safe }
+accepts_by call texts (answered (planned answer)) is safe (inl s) e = absurd is
 accepts_by call texts (answered (dropped height)) is safe (inl s) e = absurd is
 
 rejects_by : (call : Call) (texts : Texts) (ending : Ending) → Served (IsVerified texts) ending → Came ending call.status call.written_before call.written_after
@@ -211,6 +222,7 @@ rejects_by call texts (answered (refused_program fault)) is (inl s) e = absurd (
 rejects_by call texts (answered (judged job part moves (Accept count columns left))) is (inl s) e = absurd (differs _ 0 3 s.0 e (no 0 3 (omega arith)))
 rejects_by call texts (answered (judged job part moves (Reject reason))) is (inl s) e =
     record { job = job; part = part; moves = moves; reason = reason; all_read = is.all_read; first = is.is; line = s.1 }
+rejects_by call texts (answered (planned answer)) is (inl s) e = absurd is
 rejects_by call texts (answered (dropped height)) is (inl s) e = absurd is
 
 pub headline_of : OneVerdict → (call : Call) → BlamesFaults call → Ends call → Headline call
@@ -231,6 +243,8 @@ is_write status.Refused e = absurd (omega (e, arith))
 is_write status.Memory e = absurd (omega (e, arith))
 is_write status.ReadFault e = absurd (omega (e, arith))
 is_write status.WriteFault e = refl
+is_write status.Uncut e = absurd (omega (e, arith))
+is_write status.TooLarge e = absurd (omega (e, arith))
 
 pub is_read : (s : Status) → status_code s ≡ 6 → s ≡ status.ReadFault
 is_read status.Done e = absurd (omega (e, arith))
@@ -240,3 +254,13 @@ is_read status.Refused e = absurd (omega (e, arith))
 is_read status.Memory e = absurd (omega (e, arith))
 is_read status.ReadFault e = refl
 is_read status.WriteFault e = absurd (omega (e, arith))
+is_read status.Uncut e = absurd (omega (e, arith))
+is_read status.TooLarge e = absurd (omega (e, arith))
+
+-- where the store's count of failed writes stays, a failed write is one of the sink
+pub blamed : (s : Status) (a b p q : ℕ) → b ≡ a → (s ≡ status.WriteFault → (a < b) ⊎ (p < q)) → status_code s ≡ 7 → p < q
+blamed s a b p q kept cause e = which (cause (is_write s e))
+  where
+    which : (a < b) ⊎ (p < q) → p < q
+    which (inl rose) = absurd (stays a b rose kept)
+    which (inr rose) = rose

@@ -1,5 +1,5 @@
 -- A line that was told, as the ending that it belongs to.
-use Rattle.std.proofs.Common.{◌≡◌, ◌⊎◌, ℕ, List, Option, refl, ap, subst, ◌∙◌, inl, inr}
+use Rattle.std.proofs.Common.{◌≡◌, ℕ, List, Option, ap, subst, ◌∙◌, inl, inr}
 use Rattle.mill_io.specs.Contents.{Appended, AppendedPart}
 use Rattle.camtool.specs.declared.ending.Status.{Status}
 use Rattle.camtool.specs.Statuses.{status_code}

@@ -1,10 +1,9 @@
 -- What the steps of the work say, put together.
-use Rattle.std.proofs.Common.{◌≡◌, ◌⊎◌, ℕ, List, Option, Some, None, Result, Ok, Err, subst, sym, ◌∙◌, inl, inr}
+use Rattle.std.proofs.Common.{◌≡◌, ℕ, List, Option, Some, None, Result, Ok, Err, subst, sym, ◌∙◌, inl, inr}
 use Rattle.std.specs.Global.{Vec}
 use Rattle.mill_base.specs.declared.memory.WantOfMemory.{WantOfMemory}
 use Rattle.mill_io.specs.Contents.{Appended, AppendedPart}
 use Rattle.std.specs.Prelude.{IfSome, IfOk}
-use Rattle.camtool.specs.declared.file.File.{File}
 use Rattle.camtool.specs.declared.file.File.TheVariants.{Job as JobFile, Part as PartFile, Program as ProgramFile}
 use Rattle.camtool.specs.declared.ending.End.{End}
 use Rattle.camtool.specs.declared.ending.End.TheVariants as end
@@ -18,7 +17,7 @@ use Rattle.mill_job.specs.declared.job.Job.{Job}
 use Rattle.mill_command.specs.Requests.{verify, drop}
 use Rattle.camtool.specs.Words.{Files}
 use Rattle.camtool.specs.Answers.{SetupTexts, Texts, Fits, ReadsSetup, ReadsPlace, RefusesWord, Answer, refused_word, judged, dropped, answer_status, answer_line}
-use Rattle.camtool.specs.Headline.{TellsSetup, Tells, Ending, no_memory, answered, Comes, IsSafe, Came}
+use Rattle.camtool.specs.Headline.{TellsSetup, Tells, no_memory, answered, Comes, IsSafe}
 use Rattle.camtool.specs.Loads.{Loads, LoadsSetup, LoadsProgram, EndsAt, EndsSetup}
 use Rattle.camtool.specs.Shows.{Works, Tries, TellsDrop, CameOr, CameMade}
 use Rattle.camtool.specs.Statuses.{ending_of}
@@ -54,7 +53,8 @@ setup_ends texts (end.ProgramRefused fault) h = absurd h
 setup_ends texts (end.PartTop height top) h = h
 setup_ends texts end.Memory h = tt
 
-safe_end : (e : End) → IsSafe (ending_of e)
+-- no end of the reading accepts a program
+pub safe_end : (e : End) → IsSafe (ending_of e)
 safe_end (end.ReadFault file) = tt
 safe_end (end.TooLong JobFile) = tt
 safe_end (end.TooLong PartFile) = tt

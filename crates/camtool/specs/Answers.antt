@@ -1,5 +1,5 @@
 -- What the program answers to the texts of a command's files: the first check that fails, in the order of work, else the command's own answer.
-use Rattle.std.specs.Prelude.{◌≡◌, ℕ, ◌≤◌, ◌<◌, ◌^◌, ◌++◌, ℤ, ◌<ℤ◌, codes, decimal, List, [], ◌∷◌, length, Ok, Err}
+use Rattle.std.specs.Prelude.{◌≡◌, ℕ, ◌≤◌, ◌<◌, ◌^◌, ℤ, ◌<ℤ◌, codes, decimal, List, [], ◌∷◌, length, Option, None, Ok, Err}
 use Rattle.mill_base.specs.declared.points.Tri.{Tri}
 use Rattle.mill_base.specs.declared.motion.Move.{Move}
 use Rattle.mill_base.specs.Covers.{IsUnder}
@@ -24,6 +24,8 @@ use Rattle.camtool.specs.declared.place.Coordinate.TheVariants.{X, Y}
 use Rattle.camtool.specs.declared.place.Place.{Place}
 use Rattle.camtool.specs.Faults.{coordinate_name, decimal_fault_code, job_fault_words, part_fault_line, part_fault_code, program_fault_line, program_fault_code}
 use Rattle.camtool.specs.Printed.{line, verdict_line}
+use Rattle.mill_plan.specs.Plans.{PlanAnswer, IsPlanAnswer}
+use Rattle.camtool.specs.Planned.{plan_status, plan_line, plan_text}
 
 -- what can be answered
 pub data Answer : Type 0 where
@@ -36,6 +38,7 @@ pub data Answer : Type 0 where
   long_program : Answer
   refused_program : NgcFault → Answer
   judged : Job → List Tri → List Move → Verdict → Answer
+  planned : PlanAnswer → Answer
   dropped : ℤ → Answer
 
 -- ---- the job and the part, for every command
@@ -150,6 +153,20 @@ IsVerified texts (refused_program fault) = RefusesProgram texts fault
 IsVerified texts (judged job part moves verdict) = Judges texts job part moves verdict
 IsVerified texts answer = IsUnfit texts.setup answer
 
+-- ---- `plan`
+
+-- the two texts read as this job and this part, and this is the planner's answer to them
+pub record Plans (texts : SetupTexts) (answer : PlanAnswer) : Type 0 where
+  pub job : Job
+  pub part : List Tri
+  pub setup_is : ReadsSetup texts job part
+  pub is : IsPlanAnswer job part answer
+
+-- this is the answer of `plan` to the two texts
+abbrev pub IsPlanned : SetupTexts → Answer → Type 0
+IsPlanned texts (planned answer) = Plans texts answer
+IsPlanned texts answer = IsUnfit texts answer
+
 -- ---- `drop`
 
 -- the words for x and y read, none of them finer than a unit, as this place
@@ -195,6 +212,7 @@ verdict_status (Reject reason) = 3
 -- the exit status of an answer
 abbrev pub answer_status : Answer → ℕ
 answer_status (judged job part moves verdict) = verdict_status verdict
+answer_status (planned answer) = plan_status answer
 answer_status (dropped height) = 0
 answer_status _ = 4
 
@@ -209,4 +227,10 @@ answer_line (high_part height top) = line (codes "refused" ∷ codes "part-top" 
 answer_line long_program = line (codes "refused" ∷ codes "too-long" ∷ codes "program" ∷ [])
 answer_line (refused_program fault) = line (codes "refused" ∷ codes "program" ∷ codes "line" ∷ decimal (program_fault_line fault) ∷ program_fault_code fault ∷ [])
 answer_line (judged job part moves verdict) = verdict_line job moves verdict
+answer_line (planned answer) = plan_line answer
 answer_line (dropped height) = line (codes "drop" ∷ canonical height ∷ [])
+
+-- the text that is stored with an answer
+abbrev pub answer_text : Answer → Option (List ℕ)
+answer_text (planned answer) = plan_text answer
+answer_text _ = None

@@ -3,7 +3,7 @@ use Rattle.std.specs.Prelude.{◌⊎◌, ◌≡◌, ◌≢◌, ℕ, codes, false
 use Rattle.mill_io.specs.Contents.{Appended, AppendedPart}
 use Rattle.mill_base.specs.declared.points.Tri.{Tri}
 use Rattle.mill_base.specs.declared.motion.Move.{Move}
-use Rattle.mill_command.specs.Requests.{AsksHelp, IsMistaken, Request, faults, is_taken, request, verify, drop}
+use Rattle.mill_command.specs.Requests.{AsksHelp, IsMistaken, Request, faults, is_taken, request, verify, plan, drop}
 use Rattle.mill_job.specs.declared.job.Job.{Job}
 use Rattle.mill_verify.specs.Verdicts.{IsRejection}
 use Rattle.mill_verify.specs.Claims.{CutsSafely}
@@ -12,9 +12,9 @@ use Rattle.mill_verify.specs.declared.verdict.Reason.{Reason}
 use Rattle.camtool.specs.declared.file.File.{File}
 use Rattle.camtool.specs.declared.file.File.TheVariants.{Job as JobFile, Part as PartFile, Program as ProgramFile}
 use Rattle.camtool.specs.declared.place.Place.{Place}
-use Rattle.camtool.specs.Words.{Files, AsksVerify, AsksDrop}
+use Rattle.camtool.specs.Words.{Files, AsksVerify, AsksDrop, PlanFiles}
 use Rattle.camtool.specs.Printed.{line, verdict_line}
-use Rattle.camtool.specs.Answers.{SetupTexts, Texts, Reads, ReadsJob, ReadsSetup, ReadsPlace, HasPlace, Answer, judged, IsVerified, IsDropped, SaysWords, answer_status, answer_line}
+use Rattle.camtool.specs.Answers.{SetupTexts, Texts, Reads, ReadsJob, ReadsSetup, ReadsPlace, HasPlace, Answer, judged, IsVerified, IsPlanned, IsDropped, SaysWords, answer_status, answer_line}
 
 -- one call of the program: its words, what the store of files tells of each name at entry, the status, and what the sink tells and the counts of faults, before and after
 pub record Call : Type 0 where
@@ -123,6 +123,14 @@ abbrev pub ReadsBefore : Texts → File → Type 0
 ReadsBefore texts ProgramFile = (job : Job) × (part : List Tri) × ReadsSetup texts.setup job part
 ReadsBefore texts file = BeforeSetup texts.setup file
 
+-- the work on `plan` comes to this ending: memory was short; or a file couldn't be read, and all before it could; or the texts, where the store tells them, have this answer
+abbrev pub PlanComes : (List ℕ → Option (List ℕ)) → PlanFiles → Ending → Type 0
+PlanComes contents files (help text) = ⊥
+PlanComes contents files (bad_words text) = ⊥
+PlanComes contents files no_memory = Unit {0}
+PlanComes contents files (read_fault file) = (texts : SetupTexts) → TellsSetup contents files.job files.part texts → BeforeSetup texts file
+PlanComes contents files (answered answer) = (texts : SetupTexts) → TellsSetup contents files.job files.part texts → IsPlanned texts answer
+
 -- the work on a request comes to this ending: memory was short; or a file couldn't be read, and all before it could;
 -- or the texts, where the store tells them, have this answer. Words for a place are read or refused whatever the store tells
 abbrev pub Comes : (List ℕ → Option (List ℕ)) → Request → Ending → Type 0
@@ -133,6 +141,8 @@ Comes contents (verify job part program workers) (read_fault file) =
     (texts : Texts) → Tells contents (record { job = job; part = part; program = program }) texts → ReadsBefore texts file
 Comes contents (verify job part program workers) (answered answer) =
     (texts : Texts) → Tells contents (record { job = job; part = part; program = program }) texts → IsVerified texts answer
+Comes contents (plan job part out workers) (read_fault file) = PlanComes contents (record { job = job; part = part; out = out }) (read_fault file)
+Comes contents (plan job part out workers) (answered answer) = PlanComes contents (record { job = job; part = part; out = out }) (answered answer)
 Comes contents (drop job part x y) (read_fault file) = HasPlace x y × ((texts : SetupTexts) → TellsSetup contents job part texts → BeforeSetup texts file)
 Comes contents (drop job part x y) (answered answer) = SaysWords x y answer × ((texts : SetupTexts) → TellsSetup contents job part texts → IsDropped x y texts answer)
 

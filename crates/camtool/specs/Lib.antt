@@ -1,8 +1,10 @@
 pub mod Words
 pub mod Printed
 pub mod Faults
+pub mod Planned
 pub mod Answers
 pub mod Headline
+pub mod Plans
 pub mod Statuses
 pub mod Loads
 pub mod Shows

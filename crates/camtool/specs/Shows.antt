@@ -1,5 +1,5 @@
 -- What printing a line comes to.
-use Rattle.std.specs.Prelude.{◌⊎◌, ◌≡◌, ℕ, ℤ, List, Option, Some, Result, Ok, Err}
+use Rattle.std.specs.Prelude.{◌⊎◌, ◌≡◌, ℕ, ℤ, List, Option, Result, Ok, Err}
 use Rattle.mill_verify.specs.declared.verdict.Verdict.{Verdict}
 use Rattle.mill_verify.specs.Verdicts.{IsVerdict}
 use Rattle.camtool.specs.declared.load.Loaded.{Loaded}
@@ -7,9 +7,10 @@ use Rattle.mill_command.specs.Requests.{Request}
 use Rattle.mill_drop.specs.Drops.{IsDropHeight}
 use Rattle.camtool.specs.declared.load.Setup.{Setup}
 use Rattle.camtool.specs.declared.place.Place.{Place}
-use Rattle.camtool.specs.Answers.{judged, dropped}
+use Rattle.mill_plan.specs.Plans.{PlanAnswer, IsPlanAnswer}
+use Rattle.camtool.specs.Answers.{judged, planned, dropped}
 use Rattle.camtool.specs.Headline.{Ending, no_memory, answered, Comes, Came, IsSafe}
-use Rattle.camtool.specs.declared.file.File.{File}
+use Rattle.camtool.specs.Plans.{StoreCall, Delivers}
 use Rattle.std.specs.Global.{Vec}
 use Rattle.mill_base.specs.declared.memory.WantOfMemory.{WantOfMemory}
 use Rattle.mill_io.specs.Causes.{Rose}
@@ -72,3 +73,16 @@ pub record TellsDrop (s : Setup) (place : Place) (result : ℕ) (before after : 
   pub height : ℤ
   pub is : IsDropHeight s.job.cutter s.part place.x place.y s.job.floor height
   pub shown : CameOr (answered (dropped height)) result before after
+
+-- an ending is shown and its text stored, or one of the two failed; or memory was short
+abbrev pub DeliversOr : Ending → List ℕ → StoreCall → Type 0
+DeliversOr ending name c = Delivers c name ending ⊎ Delivers c name no_memory
+
+-- the planner's answer to what was read, and it is shown and its text stored, or that memory was short
+pub record TellsPlan (s : Setup) (name : List ℕ) (c : StoreCall) : Type 0 where
+  pub answer : PlanAnswer
+  pub is : IsPlanAnswer s.job s.part answer
+  pub delivered : Delivers c name (answered (planned answer))
+
+abbrev pub TriesPlan : Setup → List ℕ → StoreCall → Type 0
+TriesPlan s name c = TellsPlan s name c ⊎ Delivers c name no_memory

@@ -1,4 +1,4 @@
--- The exit statuses, and what ends the work before there is a verdict.
+-- The exit statuses, and what ends the work before there is an answer.
 use Rattle.std.specs.Prelude.{ℕ, string_bytes}
 use Rattle.mill_command.specs.declared.refusal.Refusal.{Refusal}
 use Rattle.mill_command.specs.declared.refusal.Refusal.TheVariants as refusal
@@ -7,7 +7,10 @@ use Rattle.camtool.specs.declared.ending.Status.{Status}
 use Rattle.camtool.specs.declared.ending.Status.TheVariants as status
 use Rattle.camtool.specs.declared.ending.End.{End}
 use Rattle.camtool.specs.declared.ending.End.TheVariants as end
-use Rattle.camtool.specs.Answers.{Answer, long_job, refused_job, long_part, refused_part, high_part, long_program, refused_program}
+use Rattle.mill_plan.specs.Plans.{too_many_nodes, too_many_moves, uncut}
+use Rattle.mill_plan.specs.declared.fault.PlanFault.{PlanFault}
+use Rattle.mill_plan.specs.declared.fault.PlanFault.TheVariants as plan_fault
+use Rattle.camtool.specs.Answers.{long_job, refused_job, long_part, refused_part, high_part, long_program, refused_program, planned}
 use Rattle.camtool.specs.Headline.{Ending, help, bad_words, no_memory, read_fault, answered}
 
 abbrev pub status_code : Status → ℕ
@@ -18,6 +21,8 @@ status_code status.Refused = 4
 status_code status.Memory = 5
 status_code status.ReadFault = 6
 status_code status.WriteFault = 7
+status_code status.Uncut = 8
+status_code status.TooLarge = 9
 
 -- the ending that the run then comes to
 abbrev pub ending_of : End → Ending
@@ -30,6 +35,13 @@ ending_of (end.PartRefused fault) = answered (refused_part fault)
 ending_of (end.ProgramRefused fault) = answered (refused_program fault)
 ending_of (end.PartTop height top) = answered (high_part height top)
 ending_of end.Memory = no_memory
+
+-- the ending of a plan that didn't come to a program
+abbrev pub fault_ending : PlanFault → Ending
+fault_ending (plan_fault.TooManyNodes nodes) = answered (planned (too_many_nodes nodes))
+fault_ending plan_fault.TooManyMoves = answered (planned too_many_moves)
+fault_ending (plan_fault.Uncut row col top) = answered (planned (uncut row col top))
+fault_ending plan_fault.WantOfMemory = no_memory
 
 -- the ending of a run whose words give no command
 abbrev pub refusal_ending : Refusal → Ending

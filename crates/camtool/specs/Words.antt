@@ -1,6 +1,6 @@
 -- What the words of the command line ask for.
 use Rattle.std.specs.Prelude.{◌≡◌, ℕ, List, Some}
-use Rattle.mill_command.specs.Requests.{request, verify, drop}
+use Rattle.mill_command.specs.Requests.{Request, request, verify, plan, drop}
 
 -- the names of the job's, the part's and the program's file
 pub record Files : Type 0 where
@@ -15,3 +15,22 @@ AsksVerify words files = (workers : ℕ) × (request words ≡ Some (verify file
 -- the words are taken as `drop` with the job's and the part's file, and with these words for x and y
 abbrev pub AsksDrop : List (List ℕ) → List ℕ → List ℕ → List ℕ → List ℕ → Type 0
 AsksDrop words job part x y = request words ≡ Some (drop job part x y)
+
+-- the names of the job's and the part's file, and of the file that the program is stored in
+pub record PlanFiles : Type 0 where
+  pub job : List ℕ
+  pub part : List ℕ
+  pub out : List ℕ
+
+-- the words are taken as `plan` with these files, with any number of workers
+abbrev pub AsksPlan : List (List ℕ) → PlanFiles → Type 0
+AsksPlan words files = (workers : ℕ) × (request words ≡ Some (plan files.job files.part files.out workers))
+
+-- the words aren't taken as `plan`
+abbrev pub AsksNoPlan : List (List ℕ) → Type 0
+AsksNoPlan words = (files : PlanFiles) → ¬ AsksPlan words files
+
+-- a request that stores nothing: any but `plan`
+abbrev pub StoresNothing : Request → Type 0
+StoresNothing (plan job part out workers) = ⊥
+StoresNothing _ = Unit {0}

@@ -11,7 +11,8 @@ use mill_stl::StlFault;
 /// How a run ends.
 #[derive(Clone, Copy, Debug, PartialEq, Eq)]
 pub enum Status {
-    /// The program is accepted, the drop height is told, or clap's help or version is shown.
+    /// The program is accepted, a planned program is stored, the drop height is told, or clap's help
+    /// or version is shown.
     Done,
     /// The words aren't taken.
     Words,
@@ -23,8 +24,12 @@ pub enum Status {
     Memory,
     /// A file could not be read.
     ReadFault,
-    /// A line could not be printed.
+    /// A line could not be printed, or a program could not be stored.
     WriteFault,
+    /// A plan leaves stock uncut.
+    Uncut,
+    /// A plan is larger than the planner goes.
+    TooLarge,
 }
 
 impl Status {
@@ -40,6 +45,8 @@ impl Status {
             Status::Memory => 5,
             Status::ReadFault => 6,
             Status::WriteFault => 7,
+            Status::Uncut => 8,
+            Status::TooLarge => 9,
         }
     }
 }

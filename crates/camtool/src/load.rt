@@ -82,6 +82,7 @@ pub fn load_setup<S: Shelf>(
     ensures cause { EndsBy (S.read_faults shelf.old) (S.read_faults shelf.new) result }
     ensures stay { Stay (S.contents shelf.old) (S.contents shelf.new) }
     ensures kept { S.write_faults shelf.new ≡ S.write_faults shelf.old }
+    ensures telling { S.tells shelf.new ≡ S.tells shelf.old }
 {
     let job = match load_job(alloc, shelf, job) {
         Ok(job) => job,
@@ -116,6 +117,7 @@ fn load_job<S: Shelf>(alloc: Global, shelf: &mut S, name: &str) -> Result<Job, E
     ensures cause { EndsBy (S.read_faults shelf.old) (S.read_faults shelf.new) result }
     ensures stay { Stay (S.contents shelf.old) (S.contents shelf.new) }
     ensures kept { S.write_faults shelf.new ≡ S.write_faults shelf.old }
+    ensures telling { S.tells shelf.new ≡ S.tells shelf.old }
 {
     match read_file(alloc, shelf, name, File::Job) {
         Ok(text) => job_from(alloc, &text),
@@ -128,6 +130,7 @@ fn load_part<S: Shelf>(alloc: Global, shelf: &mut S, name: &str, snap: Snap) -> 
     ensures cause { EndsBy (S.read_faults shelf.old) (S.read_faults shelf.new) result }
     ensures stay { Stay (S.contents shelf.old) (S.contents shelf.new) }
     ensures kept { S.write_faults shelf.new ≡ S.write_faults shelf.old }
+    ensures telling { S.tells shelf.new ≡ S.tells shelf.old }
 {
     match read_file(alloc, shelf, name, File::Part) {
         Ok(text) => part_from(alloc, &text, snap),
@@ -163,6 +166,7 @@ fn read_file<S: Shelf>(alloc: Global, shelf: &mut S, name: &str, file: File) -> 
     ensures cause { EndsBy (S.read_faults shelf.old) (S.read_faults shelf.new) result }
     ensures stay { Stay (S.contents shelf.old) (S.contents shelf.new) }
     ensures kept { S.write_faults shelf.new ≡ S.write_faults shelf.old }
+    ensures telling { S.tells shelf.new ≡ S.tells shelf.old }
 {
     match read_whole(alloc, shelf, name, MOST_BYTES) {
         Ok(bytes) => Ok(bytes),

@@ -1,6 +1,7 @@
 //! `camtool verify JOB PART FILE [--workers=W]` verifies a program for a three-axis mill against a
-//! part, a cutter and a stock. `camtool drop JOB PART --x=X --y=Y` tells how low the cutter comes at
-//! one place.
+//! part, a cutter and a stock. `camtool plan JOB PART OUT [--workers=W]` plans a program that it
+//! accepts, and stores it. `camtool drop JOB PART --x=X --y=Y` tells how low the cutter comes at one
+//! place.
 //!
 //! `run` is all that the program does, over any store of files and any sink. Its contract goes
 //! from bytes to bytes: `specs/Answers` says which answer a command has on its texts,
@@ -13,6 +14,7 @@ mod faults;
 mod file;
 mod load;
 mod place;
+mod plan;
 mod print;
 mod run;
 mod tell;

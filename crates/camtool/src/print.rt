@@ -1,11 +1,14 @@
 ghost use Rattle.std.specs.Prelude.{◌≡◌, ◌<◌, ◌++◌, ℤ, decimal, length, OnOk, IfOk};
 ghost use Rattle.mill_decimal.specs.Decimals.{canonical};
+ghost use Rattle.mill_plan.specs.Plans.{answer_of, too_many_nodes, uncut};
+ghost use Rattle.camtool.specs.Planned.{plan_line};
 ghost use Rattle.camtool.specs.Printed.{verdict_line, rejection_line, leaf_end, tolerances_end, NamesMove};
 
 use itoa::Buffer;
 use mill_base::{Move, WantOfMemory};
 use mill_decimal::{NumText, write_decimal};
 use mill_job::Job;
+use mill_plan::Planned;
 use mill_sweep::Leaf;
 use mill_verify::{Reason, Verdict};
 use std::alloc::Global;
@@ -140,6 +143,47 @@ fn line_of_left(
     add_number(&mut line, u64::from(col))?;
     add_text(&mut line, b" top ")?;
     add_length(&mut line, top)?;
+    add_text(&mut line, b"\n")?;
+    Ok(line)
+}
+
+/// The line of a program that was planned.
+pub fn line_of_plan(alloc: Global, planned: &Planned) -> Result<Vec<u8>, WantOfMemory>
+    ensures { IfOk result (λ line. line.items ≡ plan_line (answer_of planned.now)) }
+{
+    let mut line = Vec::new(alloc);
+    add_text(&mut line, b"planned moves ")?;
+    add_number(&mut line, planned.moves)?;
+    add_text(&mut line, b" columns ")?;
+    add_number(&mut line, planned.columns)?;
+    add_text(&mut line, b" left ")?;
+    add_length(&mut line, planned.most_left)?;
+    add_text(&mut line, b"\n")?;
+    Ok(line)
+}
+
+/// The line of a plan that leaves this column's top uncut.
+pub fn line_of_uncut(alloc: Global, row: u32, col: u32, top: i32) -> Result<Vec<u8>, WantOfMemory>
+    ensures { IfOk result (λ line. line.items ≡ plan_line (uncut row col top)) }
+{
+    let mut line = Vec::new(alloc);
+    add_text(&mut line, b"uncut row ")?;
+    add_number(&mut line, u64::from(row))?;
+    add_text(&mut line, b" column ")?;
+    add_number(&mut line, u64::from(col))?;
+    add_text(&mut line, b" top ")?;
+    add_length(&mut line, top)?;
+    add_text(&mut line, b"\n")?;
+    Ok(line)
+}
+
+/// The line of a plan over a lattice of too many nodes.
+pub fn line_of_nodes(alloc: Global, nodes: u64) -> Result<Vec<u8>, WantOfMemory>
+    ensures { IfOk result (λ line. line.items ≡ plan_line (too_many_nodes nodes)) }
+{
+    let mut line = Vec::new(alloc);
+    add_text(&mut line, b"over nodes ")?;
+    add_number(&mut line, nodes)?;
     add_text(&mut line, b"\n")?;
     Ok(line)
 }

@@ -7,6 +7,7 @@ use std::test::Fail;
 
 mod drops;
 mod faults;
+mod plans;
 mod untaken;
 mod verdicts;
 
@@ -34,12 +35,22 @@ const FLAT_JOB: &[u8] =
 const LOW_CLEAR_JOB: &[u8] =
     b"cutter = \"flat\"\nradius = 150\nfloor = 0\ntop = 300\nclear = 200\narea = [0, 0, 200, 200]\nhome = [100, 100]\npitch = 100\nsample = 50\nallowance = 0\nband = 0\n";
 
+const GROOVE_JOB: &[u8] =
+    b"cutter = \"flat\"\nradius = 100\nfloor = 0\ntop = 300\nclear = 400\narea = [0, 0, 1000, 1000]\nhome = [0, 0]\npitch = 100\nsample = 50\nallowance = 0\nband = 0\n";
+
+const FINE_JOB: &[u8] =
+    b"cutter = \"flat\"\nradius = 100\nfloor = 0\ntop = 300\nclear = 400\narea = [0, 0, 2000, 2000]\nhome = [0, 0]\npitch = 100\nsample = 50\nallowance = 50\nband = 0\nraster = 1\n";
+
 const PLATE: &[u8] =
     b"solid plate\nfacet normal 0 0 1\nouter loop\nvertex 0 0 2\nvertex 2 0 2\nvertex 2 2 2\nendloop\nendfacet\nfacet normal 0 0 1\nouter loop\nvertex 0 0 2\nvertex 2 2 2\nvertex 0 2 2\nendloop\nendfacet\nendsolid plate\n";
 
 // It ends 0.50 before the last columns.
 const NARROW: &[u8] =
     b"solid plate\nfacet normal 0 0 1\nouter loop\nvertex 0 0 2\nvertex 1.5 0 2\nvertex 1.5 2 2\nendloop\nendfacet\nfacet normal 0 0 1\nouter loop\nvertex 0 0 2\nvertex 1.5 2 2\nvertex 0 2 2\nendloop\nendfacet\nendsolid plate\n";
+
+// Two plates, with a groove between them that is one unit narrower than the cutter.
+const GROOVE: &[u8] =
+    b"solid\nfacet normal 0 0 1\nouter loop\nvertex 0 0 2\nvertex 4 0 2\nvertex 4 10 2\nendloop\nendfacet\nfacet normal 0 0 1\nouter loop\nvertex 0 0 2\nvertex 4 10 2\nvertex 0 10 2\nendloop\nendfacet\nfacet normal 0 0 1\nouter loop\nvertex 5.99 0 2\nvertex 10 0 2\nvertex 10 10 2\nendloop\nendfacet\nfacet normal 0 0 1\nouter loop\nvertex 5.99 0 2\nvertex 10 10 2\nvertex 5.99 10 2\nendloop\nendfacet\nendsolid\n";
 
 const CORNER: &[u8] =
     b"solid\nfacet normal 0 0 1\nouter loop\nvertex 0 0 2\nvertex 10 0 2\nvertex 0 10 2\nendloop\nendfacet\nendsolid\n";
@@ -62,7 +73,8 @@ fn file(alloc: Global, name: &str, bytes: &[u8]) -> Result<MemFile, AllocError> 
 
 // A store with these three files, whose numbered calls fail.
 fn store(alloc: Global, texts: (&[u8], &[u8], &[u8]), fails: &[u64]) -> Result<MemShelf, Fail>
-    ensures { IfOk result (λ s. ⟦<MemShelf as Shelf>⟧.read_faults s ≡ 0) }
+    ensures reads { IfOk result (λ s. ⟦<MemShelf as Shelf>⟧.read_faults s ≡ 0) }
+    ensures writes { IfOk result (λ s. ⟦<MemShelf as Shelf>⟧.write_faults s ≡ 0) }
 {
     let mut files = Vec::new(alloc);
     files.push(file(alloc, "job", texts.0)?)?;

@@ -1,8 +1,8 @@
 -- What the definitions say of words that are written out.
-use Rattle.std.proofs.Common.{◌≡◌, ◌∷◌, [], codes, refl, Some, None}
+use Rattle.std.proofs.Common.{◌≡◌, ◌∷◌, [], codes, refl, Some}
 use Rattle.clap.specs.declared.error.kind.ErrorKind.TheVariants as kind
 use Rattle.clap.proofs.OnLiterals.{clap_on_literals}
-use Rattle.mill_command.specs.Requests.{faults, request, verify, drop}
+use Rattle.mill_command.specs.Requests.{faults, request, verify, plan, drop}
 
 verify_of_files : request (codes "verify" ∷ codes "j" ∷ codes "p" ∷ codes "f" ∷ []) ≡ Some (verify (codes "j") (codes "p") (codes "f") 1)
 unfolding clap_on_literals
@@ -49,6 +49,10 @@ help_on : faults (codes "help" ∷ []) ≡ kind.DisplayHelp ∷ kind.InvalidSubc
 unfolding clap_on_literals
 help_on = refl
 
-not_yet : request (codes "plan" ∷ codes "j" ∷ codes "p" ∷ codes "f" ∷ []) ≡ None
+plan_to_file : request (codes "plan" ∷ codes "j" ∷ codes "--workers=2" ∷ codes "p" ∷ codes "o" ∷ []) ≡ Some (plan (codes "j") (codes "p") (codes "o") 2)
 unfolding clap_on_literals
-not_yet = refl
+plan_to_file = refl
+
+out_missing : faults (codes "plan" ∷ codes "j" ∷ codes "p" ∷ []) ≡ kind.MissingRequiredArgument ∷ []
+unfolding clap_on_literals
+out_missing = refl

@@ -11,10 +11,10 @@ use Rattle.clap.proofs.OnLiterals.{clap_on_literals}
 use Rattle.mill_command.proofs.Takes.{built_test, is_bare_app, none}
 use Rattle.clap.specs.Takes.{built_takes, is_given, takes}
 use Rattle.clap.specs.Faults.{entered_fault, level_fault}
-use Rattle.mill_command.specs.Set.{commands, verify, drop, workers}
+use Rattle.mill_command.specs.Set.{commands, verify, plan, drop, workers}
 use Rattle.clap.specs.Kinds.{IsAmong, Kinds}
 use Rattle.clap.specs.declared.error.kind.ErrorKind.{ErrorKind}
-use Rattle.mill_command.specs.Requests.{HasWorkers, Reads, Refuses, Request, drop_of, faults, is_taken, request, request_in, verify_of, workers_in, verify as verify_files, drop as drop_at}
+use Rattle.mill_command.specs.Requests.{HasWorkers, Reads, Refuses, Request, drop_of, faults, is_taken, plan_of, request, request_in, verify_of, workers_in, verify as verify_files, plan as plan_to, drop as drop_at}
 use Rattle.mill_command.specs.declared.refusal.Refusal.{Refusal}
 use Rattle.mill_command.specs.declared.refusal.Refusal.TheVariants as refusal
 use Rattle.mill_command.proofs.Faultless.{AreSound, IsSound, IsStopped, defaults_make, given_value, is_full, level_faultless, none_missing, other_sound}
@@ -30,13 +30,16 @@ above = record commands.top { is_built = true }
 abbrev verify_shape : Shape
 verify_shape = built_leaf (inherited above verify.top)
 
+abbrev plan_shape : Shape
+plan_shape = built_leaf (inherited above plan.top)
+
 abbrev drop_shape : Shape
 drop_shape = built_leaf (inherited above drop.top)
 
 abbrev topic_shape : Shape
 topic_shape = built_leaf help_shape
 
-are_built : (built commands).subs ≡ verify_shape ∷ drop_shape ∷ topic_shape ∷ []
+are_built : (built commands).subs ≡ verify_shape ∷ plan_shape ∷ drop_shape ∷ topic_shape ∷ []
 are_built = refl
 
 abbrev HasRequest : Option Request → Type 0
@@ -45,6 +48,10 @@ HasRequest o = (asked : Request) × (o ≡ Some asked) × HasWorkers asked
 verify_some : (job part file : Option Text) (count : Option ℕ) → ((v : Text) × (job ≡ Some v)) → ((v : Text) × (part ≡ Some v)) → ((v : Text) × (file ≡ Some v))
     → ((n : ℕ) × (count ≡ Some n) × (1 ≤ n) × (n ≤ 64)) → HasRequest (verify_of job part file count)
 verify_some job part file count j p f w = (verify_files j.0 p.0 f.0 w.0, rw (j.1, p.1, f.1, w.1) refl, (w.2, w.3))
+
+plan_some : (job part out : Option Text) (count : Option ℕ) → ((v : Text) × (job ≡ Some v)) → ((v : Text) × (part ≡ Some v)) → ((v : Text) × (out ≡ Some v))
+    → ((n : ℕ) × (count ≡ Some n) × (1 ≤ n) × (n ≤ 64)) → HasRequest (plan_of job part out count)
+plan_some job part out count j p o w = (plan_to j.0 p.0 o.0 w.0, rw (j.1, p.1, o.1, w.1) refl, (w.2, w.3))
 
 drop_some : (job part x y : Option Text) → ((v : Text) × (job ≡ Some v)) → ((v : Text) × (part ≡ Some v)) → ((v : Text) × (x ≡ Some v)) → ((v : Text) × (y ≡ Some v))
     → HasRequest (drop_of job part x y)
@@ -74,6 +81,9 @@ top_sound = (other_sound _ refl refl, (other_sound _ refl refl, tt))
 verify_sound : AreSound verify_shape.rules
 verify_sound = (workers_sound, (other_sound _ refl refl, (other_sound _ refl refl, (other_sound _ refl refl, (other_sound _ refl refl, tt)))))
 
+plan_sound : AreSound plan_shape.rules
+plan_sound = (workers_sound, (other_sound _ refl refl, (other_sound _ refl refl, (other_sound _ refl refl, (other_sound _ refl refl, tt)))))
+
 drop_sound : AreSound drop_shape.rules
 drop_sound = (workers_sound, (other_sound _ refl refl, (other_sound _ refl refl, (other_sound _ refl refl, (other_sound _ refl refl, (other_sound _ refl refl, tt))))))
 
@@ -91,6 +101,15 @@ verify_asks words none =
     (given_value (codes "job") rows level.right given.0) (given_value (codes "part") rows level.right given.1) (given_value (codes "file") rows level.right given.2)
     (workers_found rows level.right (has_workers verify_shape.rules words refl))
 
+plan_asks : (words : List Text) → level_fault plan_shape [] nothing_held words false [] ≡ [] → HasRequest (request_in (codes "plan") (rows_after plan_shape.rules [] words))
+plan_asks words none =
+    let rows = rows_after plan_shape.rules [] words in
+    let level = level_faultless plan_shape [] words false [] plan_sound none in
+    let given = three_given (is_given (codes "job") rows) (is_given (codes "part") rows) (is_given (codes "out") rows) (none_missing plan_shape rows false level.checked).1 in
+    plan_some (first_of (codes "job") rows) (first_of (codes "part") rows) (first_of (codes "out") rows) (workers_in rows)
+    (given_value (codes "job") rows level.right given.0) (given_value (codes "part") rows level.right given.1) (given_value (codes "out") rows level.right given.2)
+    (workers_found rows level.right (has_workers plan_shape.rules words refl))
+
 drop_asks : (words : List Text) → level_fault drop_shape [] nothing_held words false [] ≡ [] → HasRequest (request_in (codes "drop") (rows_after drop_shape.rules [] words))
 drop_asks words none =
     let rows = rows_after drop_shape.rules [] words in
@@ -100,16 +119,20 @@ drop_asks words none =
     (given_value (codes "job") rows level.right given.0) (given_value (codes "part") rows level.right given.1)
     (given_value (codes "x") rows level.right given.2) (given_value (codes "y") rows level.right given.3)
 
--- the subcommand that was met is one of the two commands
-named : (v d h : Bool) (words : List Text) → h ≡ false
-    → option_map_or (λ (s : Shape). level_fault s [] nothing_held words false []) (cond (v || false) (Some verify_shape) (cond (d || false) (Some drop_shape) (cond (h || false) (Some topic_shape) None))) [] ≡ []
-    → is_some (option_map (λ (s : Shape). rows_at s words) (cond (v || false) (Some verify_shape) (cond (d || false) (Some drop_shape) (cond (h || false) (Some topic_shape) None)))) ≡ true
-    → HasRequest (option_and_then (λ (m : Text × List Row). request_in m.0 m.1)
-    (option_map (λ (s : Shape). rows_at s words) (cond (v || false) (Some verify_shape) (cond (d || false) (Some drop_shape) (cond (h || false) (Some topic_shape) None)))))
-named true d h words other none some = verify_asks words none
-named false true h words other none some = drop_asks words none
-named false false true words other none some = absurd (true≢false other)
-named false false false words other none some = absurd (true≢false (sym some))
+-- the command that answers to a name, given which names are its own
+abbrev met : Bool → Bool → Bool → Bool → Option Shape
+met v p d h = cond (v || false) (Some verify_shape) (cond (p || false) (Some plan_shape) (cond (d || false) (Some drop_shape) (cond (h || false) (Some topic_shape) None)))
+
+-- the subcommand that was met is one of the commands
+named : (v p d h : Bool) (words : List Text) → h ≡ false
+    → option_map_or (λ (s : Shape). level_fault s [] nothing_held words false []) (met v p d h) [] ≡ []
+    → is_some (option_map (λ (s : Shape). rows_at s words) (met v p d h)) ≡ true
+    → HasRequest (option_and_then (λ (m : Text × List Row). request_in m.0 m.1) (option_map (λ (s : Shape). rows_at s words) (met v p d h)))
+named true p d h words other none some = verify_asks words none
+named false true d h words other none some = plan_asks words none
+named false false true h words other none some = drop_asks words none
+named false false false true words other none some = absurd (true≢false other)
+named false false false false words other none some = absurd (true≢false (sym some))
 
 -- the name of the command for help, either way round
 help_named : (name : Text) → (bytes_eq name (codes "help") && true) ≡ false → bytes_eq (codes "help") name ≡ false
@@ -123,7 +146,7 @@ help_named name other = go (bytes_eq (codes "help") name) refl
 entered_asks : (stop : Option (Text × List Text)) → IsStopped top stop → entered_fault (built commands) stop ≡ [] → is_some (entered (built commands) stop) ≡ true
     → HasRequest (option_and_then (λ (m : Text × List Row). request_in m.0 m.1) (entered (built commands) stop))
 entered_asks None stop none some = absurd (true≢false (sym some))
-entered_asks (Some p) stop none some = named (bytes_eq (codes "verify") p.0) (bytes_eq (codes "drop") p.0) (bytes_eq (codes "help") p.0) p.1 (help_named p.0 stop) none some
+entered_asks (Some p) stop none some = named (bytes_eq (codes "verify") p.0) (bytes_eq (codes "plan") p.0) (bytes_eq (codes "drop") p.0) (bytes_eq (codes "help") p.0) p.1 (help_named p.0 stop) none some
 
 wanted : (b : Bool) → (not b && true) ≡ false → b ≡ true
 wanted true e = refl

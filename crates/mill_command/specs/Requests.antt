@@ -14,16 +14,19 @@ use Rattle.mill_command.specs.declared.refusal.Refusal.TheVariants as refusal
 -- a command with its words: the names of files, the number of workers, and coordinates as they were written
 pub data Request : Type 0 where
   verify : Text → Text → Text → ℕ → Request
+  plan : Text → Text → Text → ℕ → Request
   drop : Text → Text → Text → Text → Request
 
 -- what a command of the code says
 abbrev pub request_of : Command → Request
 request_of (command.Verify job part file workers) = verify job.now part.now file.now workers
+request_of (command.Plan job part out workers) = plan job.now part.now out.now workers
 request_of (command.Drop job part x y) = drop job.now part.now x.now y.now
 
 -- where a request has a number of workers, it is from 1 to 64
 abbrev pub HasWorkers : Request → Type 0
 HasWorkers (verify job part file workers) = (1 ≤ workers) × (workers ≤ 64)
+HasWorkers (plan job part out workers) = (1 ≤ workers) × (workers ≤ 64)
 HasWorkers (drop job part x y) = Unit {0}
 
 -- the number of `u32` that a text stands for
@@ -39,6 +42,11 @@ abbrev pub verify_of : Option Text → Option Text → Option Text → Option �
 verify_of (Some job) (Some part) (Some file) (Some workers) = Some (verify job part file workers)
 verify_of _ _ _ _ = None
 
+-- `plan` where each of its words is there
+abbrev pub plan_of : Option Text → Option Text → Option Text → Option ℕ → Option Request
+plan_of (Some job) (Some part) (Some out) (Some workers) = Some (plan job part out workers)
+plan_of _ _ _ _ = None
+
 -- `drop` where each of its words is there
 abbrev pub drop_of : Option Text → Option Text → Option Text → Option Text → Option Request
 drop_of (Some job) (Some part) (Some x) (Some y) = Some (drop job part x y)
@@ -48,8 +56,9 @@ drop_of _ _ _ _ = None
 abbrev pub request_in : Text → List Row → Option Request
 request_in name rows =
     if bytes_eq name (codes "verify") then verify_of (first_of (codes "job") rows) (first_of (codes "part") rows) (first_of (codes "file") rows) (workers_in rows)
+    else (if bytes_eq name (codes "plan") then plan_of (first_of (codes "job") rows) (first_of (codes "part") rows) (first_of (codes "out") rows) (workers_in rows)
     else (if bytes_eq name (codes "drop") then drop_of (first_of (codes "job") rows) (first_of (codes "part") rows) (first_of (codes "x") rows) (first_of (codes "y") rows)
-    else None)
+    else None))
 
 -- clap takes the words: its own test, for this set of commands
 abbrev pub is_taken : List Text → Bool

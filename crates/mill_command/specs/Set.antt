@@ -30,6 +30,10 @@ with_files name = with_rule (with_rule (with_rule (new_app name) workers) (place
 abbrev pub verify : App
 verify = with_rule (with_files (codes "verify")) (place (codes "file"))
 
+-- `plan JOB PART OUT`
+abbrev pub plan : App
+plan = with_rule (with_files (codes "plan")) (place (codes "out"))
+
 -- `drop JOB PART --x=X --y=Y`
 abbrev pub drop : App
 drop = with_rule (with_rule (with_files (codes "drop")) (option (codes "x"))) (option (codes "y"))
@@ -40,7 +44,7 @@ program = record (new_app (codes "camtool")) { top = record (new_app (codes "cam
 
 -- the set of commands
 abbrev pub commands : App
-commands = with_subcommand (with_subcommand program verify.top) drop.top
+commands = with_subcommand (with_subcommand (with_subcommand program verify.top) plan.top) drop.top
 
 -- the command is as clap sees this one, and none of its arguments is global
 abbrev pub Is : App → Command → Type 0

@@ -1,6 +1,6 @@
 ghost use Rattle.std.specs.Prelude.{◌≡◌, codes, option_map, Some};
 ghost use Rattle.clap.specs.Words.{first_of, found_of, rows_of};
-ghost use Rattle.mill_command.specs.Requests.{drop_of, request_in, request_of, verify_of, workers_in};
+ghost use Rattle.mill_command.specs.Requests.{drop_of, plan_of, request_in, request_of, verify_of, workers_in};
 
 use clap::ArgMatches;
 
@@ -13,6 +13,14 @@ pub enum Command<'a> {
         job: &'a str,
         part: &'a str,
         file: &'a str,
+        workers: u32,
+    },
+    /// A program, planned by the job and the part in the first two files, and stored in the file
+    /// `out`. `workers` is how many threads share the work, from 1 to 64.
+    Plan {
+        job: &'a str,
+        part: &'a str,
+        out: &'a str,
         workers: u32,
     },
     /// How far the job's cutter drops onto the part at (x, y), in millimetres as they were written.
@@ -31,6 +39,7 @@ impl<'a> Command<'a> {
     {
         match name {
             "verify" => Command::verify_from(matches),
+            "plan" => Command::plan_from(matches),
             "drop" => Command::drop_from(matches),
             _ => None,
         }
@@ -43,6 +52,17 @@ impl<'a> Command<'a> {
             job: value(matches, "job")?,
             part: value(matches, "part")?,
             file: value(matches, "file")?,
+            workers: workers(matches)?,
+        })
+    }
+
+    fn plan_from(matches: &ArgMatches<'a>) -> Option<Command<'a>>
+        ensures { option_map request_of result ≡ plan_of (first_of (codes "job") (rows_of (found_of matches.now))) (first_of (codes "part") (rows_of (found_of matches.now))) (first_of (codes "out") (rows_of (found_of matches.now))) (workers_in (rows_of (found_of matches.now))) }
+    {
+        Some(Command::Plan {
+            job: value(matches, "job")?,
+            part: value(matches, "part")?,
+            out: value(matches, "out")?,
             workers: workers(matches)?,
         })
     }

@@ -2,7 +2,7 @@
 //! in `specs/Set.antt`, and where matches are read.
 ghost use Rattle.std.specs.Prelude.{◌≡◌, false, IfOk};
 ghost use Rattle.clap.specs.Words.{App, Rule, new_app, rule_of, with_rule, with_subcommand};
-ghost use Rattle.mill_command.specs.Set.{Is, commands, count_parser, drop as drop_command, option, place, program, verify, with_files, workers};
+ghost use Rattle.mill_command.specs.Set.{Is, commands, count_parser, drop as drop_command, option, place, plan, program, verify, with_files, workers};
 
 use clap::builder::ValueParser;
 use clap::{Arg, Command, value_parser};
@@ -16,6 +16,7 @@ pub fn commands<'a>(alloc: Global) -> Result<Command<'a>, AllocError>
     ensures { IfOk result (Is commands) }
 {
     let program = with_command(program(alloc)?, verify(alloc)?)?;
+    let program = with_command(program, plan(alloc)?)?;
     with_command(program, drop_height(alloc)?)
 }
 
@@ -24,7 +25,7 @@ fn program<'a>(alloc: Global) -> Result<Command<'a>, AllocError>
     ensures { IfOk result (Is program) }
 {
     Command::new(alloc, "camtool")
-        .about("Verifies programs for three-axis mills against a part, a cutter and a stock")
+        .about("Verifies and plans programs for three-axis mills, by a part, a cutter and a stock")
         .version(VERSION)
         .no_binary_name(true)
         .subcommand_required(true)
@@ -39,6 +40,22 @@ fn verify<'a>(alloc: Global) -> Result<Command<'a>, AllocError>
     with_arg(
         command,
         place(alloc, "file", "FILE", "The program's file, RS274/NGC"),
+    )
+}
+
+/// `plan JOB PART OUT`, with how many workers.
+fn plan<'a>(alloc: Global) -> Result<Command<'a>, AllocError>
+    ensures { IfOk result (Is plan) }
+{
+    let command = with_files(alloc, "plan", "Plans a program for the part, and stores it")?;
+    with_arg(
+        command,
+        place(
+            alloc,
+            "out",
+            "OUT",
+            "The file that the program is stored in, RS274/NGC",
+        ),
     )
 }
 

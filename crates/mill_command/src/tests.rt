@@ -37,6 +37,18 @@ fn takes_commands(rt: HostRuntime) -> Result<(), Fail> {
         file: "",
         workers: 1,
     };
+    let plan = Command::Plan {
+        job: "a",
+        part: "b",
+        out: "c",
+        workers: 1,
+    };
+    let shared = Command::Plan {
+        job: "a",
+        part: "b",
+        out: "c",
+        workers: 8,
+    };
     let drop = Command::Drop {
         job: "a",
         part: "b",
@@ -49,7 +61,7 @@ fn takes_commands(rt: HostRuntime) -> Result<(), Fail> {
         x: "",
         y: "--x=1",
     };
-    let table: [(&[&str], Command<'_>); 15] = [
+    let table: [(&[&str], Command<'_>); 18] = [
         (&["verify", "a", "b", "c"], verify),
         (&["verify", "--", "a", "b", "c"], verify),
         (&["verify", "--", "-a", "--help", "verify"], dashed),
@@ -58,6 +70,9 @@ fn takes_commands(rt: HostRuntime) -> Result<(), Fail> {
         (&["verify", "--workers=64", "a", "b", "c"], crowded),
         (&["verify", "a", "--workers", "64", "b", "c"], crowded),
         (&["verify", "a", "b", "--workers=+064", "c"], crowded),
+        (&["plan", "a", "b", "c"], plan),
+        (&["plan", "a", "b", "--workers", "1", "--", "c"], plan),
+        (&["plan", "--workers=8", "a", "b", "c"], shared),
         (&["drop", "a", "b", "--x=-1", "--y=2.5"], drop),
         (&["drop", "--y", "2.5", "a", "--x=-1", "b"], drop),
         (&["drop", "--y=2.5", "--x=-1", "a", "b"], drop),
@@ -81,7 +96,7 @@ fn takes_commands(rt: HostRuntime) -> Result<(), Fail> {
 
 #[test]
 fn shows_help_and_version(rt: HostRuntime) -> Result<(), Fail> {
-    let table: [(&[&str], &str); 10] = [
+    let table: [(&[&str], &str); 11] = [
         (&["--help"], "Usage: camtool <COMMAND>"),
         (&["-h"], "Usage: camtool <COMMAND>"),
         (&["help"], "Usage: camtool <COMMAND>"),
@@ -93,6 +108,10 @@ fn shows_help_and_version(rt: HostRuntime) -> Result<(), Fail> {
         (
             &["verify", "a", "-h"],
             "Usage: camtool verify [OPTIONS] <JOB> <PART> <FILE>",
+        ),
+        (
+            &["plan", "-h"],
+            "Usage: camtool plan [OPTIONS] <JOB> <PART> <OUT>",
         ),
         (
             &["drop", "-h"],
@@ -114,7 +133,7 @@ fn shows_help_and_version(rt: HostRuntime) -> Result<(), Fail> {
 
 #[test]
 fn refuses_words(rt: HostRuntime) -> Result<(), Fail> {
-    let table: [(&[&str], &str); 30] = [
+    let table: [(&[&str], &str); 33] = [
         (&[], "requires a subcommand"),
         (&["--"], "requires a subcommand"),
         (&["verify"], "<JOB>\n  <PART>\n  <FILE>\n"),
@@ -126,7 +145,7 @@ fn refuses_words(rt: HostRuntime) -> Result<(), Fail> {
         ),
         (&["verify", "a", "b", "c", "-V"], "unexpected argument '-V'"),
         (&["verify", "a", "b", "-c"], "unexpected argument '-c'"),
-        (&["plan", "a", "b", "c"], "unrecognized subcommand 'plan'"),
+        (&["mill", "a", "b", "c"], "unrecognized subcommand 'mill'"),
         (
             &["Verify", "a", "b", "c"],
             "unrecognized subcommand 'Verify'",
@@ -135,7 +154,7 @@ fn refuses_words(rt: HostRuntime) -> Result<(), Fail> {
             &["camtool", "verify", "a", "b", "c"],
             "unrecognized subcommand 'camtool'",
         ),
-        (&["help", "plan"], "unrecognized subcommand 'plan'"),
+        (&["help", "mill"], "unrecognized subcommand 'mill'"),
         (
             &["--workers=2", "verify", "a", "b", "c"],
             "unexpected argument '--workers'",
@@ -171,6 +190,12 @@ fn refuses_words(rt: HostRuntime) -> Result<(), Fail> {
         ),
         (
             &["drop", "a", "b", "--x=1", "--y=2", "--workers=65"],
+            "65 is not in 1..=64",
+        ),
+        (&["plan", "a", "b"], "not provided:\n  <OUT>\n"),
+        (&["plan", "a", "b", "c", "d"], "unexpected argument 'd'"),
+        (
+            &["plan", "a", "b", "c", "--workers=65"],
             "65 is not in 1..=64",
         ),
         (&["drop", "a", "b"], "not provided:\n  --x <X>\n  --y <Y>\n"),

@@ -18,3 +18,6 @@ mod Chunks
 pub mod TopLaws
 pub mod RowLaws
 pub mod Removal
+mod LastCerts
+mod Ends
+pub mod Cleared

@@ -1,5 +1,5 @@
 -- Columns at least the cutter's radius away from a sample keep their tops, and a move passes them.
-use Rattle.std.proofs.Common.{◌≡◌, ◌⊎◌, inl, inr, refl, sym, ap, ◌∙◌, [], ◌∷◌, w32, true, false, Bool, ℕ, ◌*◌, ◌<◌, ◌≤◌, arith}
+use Rattle.std.proofs.Common.{◌≡◌, ◌⊎◌, inl, inr, refl, sym, ap, ◌∙◌, [], ◌∷◌, w32, true, false, Bool, ℕ, ◌*◌, ◌<◌, ◌≤◌, FitsSigned, arith}
 use Rattle.std.specs.Prelude.{ℤ, pos, ◌+ℤ◌, ◌-ℤ◌, ◌*ℤ◌, ◌<ℤ◌, ◌≤ℤ◌, negsuc, nat_abs, int_lt, cond, Option, Some, None, if◌then◌else◌}
 use Rattle.std.proofs.lemmas.Int.{ints}
 use Rattle.std.proofs.Math.IntN.{pos-*ℤ-pos}
@@ -12,7 +12,7 @@ use Rattle.mill_base.specs.declared.motion.Move.{Move}
 use Rattle.mill_base.specs.declared.cutter.Cutter.{Cutter}
 use Rattle.mill_base.specs.declared.cutter.Cutter.TheVariants.{Flat, Ball, Cone}
 use Rattle.mill_base.proofs.Exit.{split_lt}
-use Rattle.mill_base.proofs.Machine.{Read, Lit, Sum, exact, stored}
+use Rattle.mill_base.proofs.Machine.{Read, Lit, Sum, exact, sum_fits, stored}
 use Rattle.mill_base.specs.Ranges.{MoveInRange}
 use Rattle.mill_base.proofs.Integers.{sq-ℤ}
 use Rattle.mill_shape.proofs.CutHeights.{cut_height_is_greatest, cutter_is_wide}
@@ -145,13 +145,18 @@ radius_most (Flat r) h = h.within
 radius_most (Ball r) h = h.within
 radius_most (Cone r a b) h = h.0.within
 
--- the distance beyond which a move passes, as the code has it
-pub passes_beyond : (cutter : Cutter) (r : ℤ) → IsCutter cutter → r ≡ radius_of cutter → stored w32 (stored w32 r +ℤ pos 2) ≡ radius_of cutter +ℤ pos 2
-passes_beyond cutter r size e =
-    exact (r ∷ []) (10000 ∷ []) (Sum w32 (Read w32 0) (Lit (pos 2))) (rw e (small (radius_of cutter) (radius_least cutter size) (radius_most cutter size)), tt) refl ∙ ap (λ (s : ℤ). s +ℤ pos 2) e
+radius_small : (cutter : Cutter) (r : ℤ) → IsCutter cutter → r ≡ radius_of cutter → nat_abs r ≤ 10000
+radius_small cutter r size e = rw e (small (radius_of cutter) (radius_least cutter size) (radius_most cutter size))
   where
     small : (q : ℤ) → (pos 1) ≤ℤ q → q ≤ℤ pos 10000 → nat_abs q ≤ 10000
     small q least most = omega (arith, ints)
+
+-- the distance beyond which a move passes, as the code has it
+pub passes_beyond : (cutter : Cutter) (r : ℤ) → IsCutter cutter → r ≡ radius_of cutter → stored w32 (stored w32 r +ℤ pos 2) ≡ radius_of cutter +ℤ pos 2
+passes_beyond cutter r size e = exact (r ∷ []) (10000 ∷ []) (Sum w32 (Read w32 0) (Lit (pos 2))) (radius_small cutter r size e, tt) refl ∙ ap (λ (s : ℤ). s +ℤ pos 2) e
+
+pub beyond_fits : (cutter : Cutter) (r : ℤ) → IsCutter cutter → r ≡ radius_of cutter → FitsSigned w32 (stored w32 r +ℤ pos 2)
+beyond_fits cutter r size e = sum_fits w32 (r ∷ []) (10000 ∷ []) (Read w32 0) (Lit (pos 2)) (radius_small cutter r size e, tt) refl
 
 -- a column that stands at most s after the first one, and one that stands more than s after it
 pub column_inside : (i s p : ℕ) (x0 x pitch : ℤ) → (pos 0) ≤ℤ pitch → p ≡ nat_abs pitch → (x0 +ℤ pos s) ≤ℤ x → i * p ≤ s → (x0 +ℤ pos i *ℤ pitch) ≤ℤ x

@@ -1,6 +1,18 @@
-ghost use Rattle.mill_dexel.specs.Laws.{OverTopIsRemoved};
+ghost use Rattle.mill_dexel.specs.Laws.{OverTopIsRemoved, CutAtEnd, PassesAfterCut};
 
 /// The moves remove every point of a column over its top, up to the uncut stock's.
 pub fn over_top_is_removed()
     ensures { OverTopIsRemoved }
+{}
+
+/// Once the moves are made, the job's cutter with its tip at the end of any of them holds no top of a
+/// column strictly inside, where that end isn't under the floor.
+pub fn cut_at_end()
+    ensures { CutAtEnd }
+{}
+
+/// Once the moves are made, a move straight up from the end of any of them, or straight down to it,
+/// passes the top of every column, where that end isn't under the floor.
+pub fn passes_after_cut()
+    ensures { PassesAfterCut }
 {}

@@ -25,7 +25,7 @@ mod tests;
 mod turns;
 
 pub use fail::RowFail;
-pub use laws::over_top_is_removed;
+pub use laws::{cut_at_end, over_top_is_removed, passes_after_cut};
 pub use row::Row;
 pub use rows::rows_static;
 pub use turns::one_outcome;

@@ -33,6 +33,11 @@ fn three_columns() -> Job
         sample: 100,
         allowance: 0,
         band: 0,
+        lift: 0,
+        raster: 100,
+        rough_raster: 100,
+        layer: 0,
+        rough_stock: 0,
         snap: Snap::Nearest,
     }
 }
@@ -105,6 +110,11 @@ fn long_row(cutter: Cutter) -> Job
         sample: 50,
         allowance: 0,
         band: 0,
+        lift: 0,
+        raster: 5,
+        rough_raster: 5,
+        layer: 0,
+        rough_stock: 0,
         snap: Snap::Nearest,
     }
 }

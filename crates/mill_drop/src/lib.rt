@@ -19,4 +19,5 @@ mod tests;
 
 pub use drop::drop_at;
 pub use map::drop_map;
+pub use nodes::{node, node_columns, node_rows};
 pub use once::drop_once;

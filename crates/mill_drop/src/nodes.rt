@@ -1,11 +1,28 @@
 ghost use Rattle.std.specs.Prelude.{◌≡◌, ◌<◌, ◌≤ℤ◌, pos, length, slice_index_or};
 ghost use Rattle.mill_base.specs.Numbers.{Within, greatest};
-ghost use Rattle.mill_base.specs.Lattices.{lattice_positions};
+ghost use Rattle.mill_base.specs.Lattices.{lattice_positions, lattice_xs, lattice_ys};
 ghost use Rattle.mill_drop.specs.Maps.{IsMapLattice, node_at, nodes_of};
 
 use mill_base::{Box2, Lattice};
 
-/// The place of the node of this number, in x and y.
+/// How many nodes each row of the lattice has: its positions in x.
+pub fn node_columns(lattice: &Lattice) -> u32
+    requires { IsMapLattice lattice.now }
+    ensures { result ≡ length (lattice_xs lattice.now) }
+{
+    positions(lattice.area.x0, lattice.area.x1, lattice.step)
+}
+
+/// How many rows of nodes the lattice has: its positions in y.
+pub fn node_rows(lattice: &Lattice) -> u32
+    requires { IsMapLattice lattice.now }
+    ensures { result ≡ length (lattice_ys lattice.now) }
+{
+    positions(lattice.area.y0, lattice.area.y1, lattice.step)
+}
+
+/// The place of the node of this number, in x and y. Nodes are counted from 0, row by row with y
+/// ascending, and with x ascending along each row.
 pub fn node(lattice: &Lattice, number: u32) -> (i32, i32)
     requires lattice_ok { IsMapLattice lattice.now }
     requires number_ok { number < length (nodes_of lattice.now) }

@@ -1,5 +1,5 @@
 -- The first fault of a list.
-use Rattle.std.proofs.Common.{◌≡◌, List, [], ◌∷◌, ◌++◌, Option, Some, None, refl, IfOk}
+use Rattle.std.proofs.Common.{◌≡◌, List, [], ◌∷◌, ◌++◌, Option, Some, None, refl, IfOk, IfErr}
 use Rattle.mill_job.specs.Tables.{first, checked}
 use Rattle.mill_job.specs.declared.fault.JobFault.{JobFault}
 
@@ -14,6 +14,11 @@ pub first-found : (before after : List (Option JobFault)) (fault : JobFault) →
 first-found [] after fault e = cc
 first-found (None ∷ before) after fault e = first-found before after fault e
 first-found (Some other ∷ before) after fault e = e
+
+-- the fault that is told is the one that there is
+pub if_err : {V : Type 0} (fault : Option JobFault) (v : V) → IfErr (checked fault v) (λ told. fault ≡ Some told)
+if_err None v = tt
+if_err (Some fault) v = refl
 
 -- what holds of the value where there is no fault
 pub if_ok : {V : Type 0} (fault : Option JobFault) (v : V) (P : V → Type 0) → (fault ≡ None → P v) → IfOk (checked fault v) P

@@ -2,4 +2,5 @@ mod Faults
 mod Meaning
 mod Numbers
 pub mod OneAnswer
+mod Stored
 mod UnknownKeys

@@ -1,14 +1,15 @@
 -- What a job's text means: the document, then the keys, then the relations between them.
-use Rattle.std.specs.Prelude.{◌≡◌, ◌⊎◌, IsUtf8, ℕ, ◌*◌, nat_lt, codes, bytes_eq, if◌then◌else◌, pos, int_lt, List, [], ◌∷◌, ◌++◌, Option, Some, None, option_and_then, option_map, Result, Err}
+use Rattle.std.specs.Prelude.{◌≡◌, ◌⊎◌, IsUtf8, ℕ, ◌*◌, nat_lt, codes, bytes_eq, Bool, ◌&&◌, if◌then◌else◌, ℤ, pos, ◌-ℤ◌, ◌*ℤ◌, int_lt, List, [], ◌∷◌, ◌++◌, Option, Some, None, option_and_then, option_map, Result, Err}
 use Rattle.toml.specs.Data.{Members, get_member, as_str}
 use Rattle.toml.specs.Parse.{parse_document}
+use Rattle.mill_base.specs.Numbers.{greatest}
 use Rattle.mill_base.specs.Sizes.{radius_of}
 use Rattle.mill_decimal.specs.declared.snap.Snap.{Snap}
 use Rattle.mill_decimal.specs.declared.snap.Snap.TheVariants.{Nearest, Exact}
 use Rattle.mill_job.specs.Columns.{row_count, column_count}
 use Rattle.mill_job.specs.Cutters.{shape_of, shape_fault, slope_fault, slope_faults, cutter_with}
 use Rattle.mill_job.specs.Keys.{name_of, unknown_in}
-use Rattle.mill_job.specs.Tables.{text_fault_if_there, number_fault, coordinate_fault, array_fault, is_area, is_place, number_given, number_at, numbers_at, area_of, place_of, fault_if, first, checked}
+use Rattle.mill_job.specs.Tables.{text_fault_if_there, number_fault, number_fault_if_there, coordinate_fault, array_fault, is_area, is_place, number_given, number_at, number_or, numbers_at, area_of, place_of, fault_if, first, checked}
 use Rattle.mill_job.specs.declared.job.Job.{Job}
 use Rattle.mill_job.specs.declared.key.Key.TheVariants as key
 use Rattle.mill_job.specs.declared.fault.JobFault.{JobFault}
@@ -30,6 +31,11 @@ key_faults ms =
     ∷ number_fault key.Sample (pos 1) (pos 10000) ms
     ∷ number_fault key.Allowance (pos 0) (pos 10000) ms
     ∷ number_fault key.Band (pos 0) (pos 10000) ms
+    ∷ number_fault_if_there key.Lift (pos 0) (pos 10000) ms
+    ∷ number_fault_if_there key.Raster (pos 1) (pos 10000) ms
+    ∷ number_fault_if_there key.RoughRaster (pos 1) (pos 10000) ms
+    ∷ number_fault_if_there key.Layer (pos 0) (pos greatest) ms
+    ∷ number_fault_if_there key.RoughStock (pos 0) (pos 10000) ms
     ∷ text_fault_if_there key.Snap (codes "nearest" ∷ codes "exact" ∷ []) ms
     ∷ []
 
@@ -41,6 +47,13 @@ snap_from (Some text) = if bytes_eq text (codes "exact") then Exact else Nearest
 -- how a document takes what is finer than a unit
 unfoldable pub snap_of : Members → Snap
 snap_of ms = snap_from (option_and_then as_str (get_member (name_of key.Snap) ms))
+
+-- the raster of a document, its pitch where it names none, and the rough raster, the raster where it names none
+abbrev pub raster_of : Members → ℤ
+raster_of ms = number_or key.Raster (number_at key.Pitch ms) ms
+
+abbrev pub rough_raster_of : Members → ℤ
+rough_raster_of ms = number_or key.RoughRaster (raster_of ms) ms
 
 -- the job of a document with whose keys nothing is wrong
 abbrev pub job_from : Members → Job
@@ -56,12 +69,21 @@ job_from ms = record {
   sample = number_at key.Sample ms;
   allowance = number_at key.Allowance ms;
   band = number_at key.Band ms;
+  lift = number_or key.Lift (pos 0) ms;
+  raster = raster_of ms;
+  rough_raster = rough_raster_of ms;
+  layer = number_or key.Layer (pos 0) ms;
+  rough_stock = number_or key.RoughStock (pos 0) ms;
   snap = snap_of ms;
 }
 
 -- what is wrong between the cutter's keys, in order
 abbrev pub cutter_faults : Members → List (Option JobFault)
 cutter_faults ms = slope_faults (shape_of ms) (number_given key.Rise ms) (number_given key.Run ms)
+
+-- roughing takes off layers, and more than 1,000 of them
+abbrev pub has_many_layers : Job → Bool
+has_many_layers job = int_lt (pos 0) job.layer && int_lt (pos 1000 *ℤ job.layer) (job.top -ℤ job.floor)
 
 -- what is wrong between a job's numbers, in order
 abbrev pub relation_faults : Job → List (Option JobFault)
@@ -70,6 +92,7 @@ relation_faults job =
     ∷ fault_if (int_lt job.clear job.top) (Relation key.Top key.Clear)
     ∷ fault_if (nat_lt 4000000 (row_count job * column_count job)) (Relation key.Area key.Pitch)
     ∷ fault_if (int_lt (radius_of job.cutter) job.band) (Relation key.Band key.Radius)
+    ∷ fault_if (has_many_layers job) (Relation key.Layer key.Top)
     ∷ []
 
 -- the document's first fault: an unknown key, a key's own fault, one between the cutter's keys, one between the others

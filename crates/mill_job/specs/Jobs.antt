@@ -1,5 +1,5 @@
 -- The ranges and relations that a job keeps.
-use Rattle.std.specs.Prelude.{◌*◌, ◌≤◌, ℤ, pos, ◌≤ℤ◌}
+use Rattle.std.specs.Prelude.{◌*◌, ◌≤◌, ℤ, pos, ◌-ℤ◌, ◌*ℤ◌, ◌<ℤ◌, ◌≤ℤ◌}
 use Rattle.mill_base.specs.Numbers.{Within, greatest}
 use Rattle.mill_base.specs.Sizes.{IsCutter, radius_of}
 use Rattle.mill_job.specs.Columns.{row_count, column_count}
@@ -9,6 +9,10 @@ use Rattle.mill_job.specs.declared.job.Job.{Job}
 pub record IsFrom (lo hi z : ℤ) : Type 0 where
   pub low : lo ≤ℤ z
   pub high : z ≤ℤ hi
+
+-- roughing takes off at most 1,000 layers, if any
+abbrev pub HasFewLayers : Job → Type 0
+HasFewLayers job = (pos 0) <ℤ job.layer → (job.top -ℤ job.floor) ≤ℤ (pos 1000 *ℤ job.layer)
 
 -- every number of the job is in its range, and the relations between them hold
 pub record IsJob (job : Job) : Type 0 where
@@ -32,3 +36,9 @@ pub record IsJob (job : Job) : Type 0 where
   pub over_stock : job.top ≤ℤ job.clear
   pub few : (row_count job * column_count job) ≤ 4000000
   pub narrow : job.band ≤ℤ radius_of job.cutter
+  pub lift_ok : IsFrom (pos 0) (pos 10000) job.lift
+  pub raster_ok : IsFrom (pos 1) (pos 10000) job.raster
+  pub rough_raster_ok : IsFrom (pos 1) (pos 10000) job.rough_raster
+  pub layer_ok : IsFrom (pos 0) (pos greatest) job.layer
+  pub rough_stock_ok : IsFrom (pos 0) (pos 10000) job.rough_stock
+  pub layers : HasFewLayers job

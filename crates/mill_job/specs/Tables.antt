@@ -82,6 +82,10 @@ text_fault_if_there key texts ms = may_be key as_str (is_one_of texts) (get_memb
 unfoldable pub number_fault : Key → ℤ → ℤ → Members → Option JobFault
 number_fault key lo hi ms = must_be key as_integer (is_from lo hi) (get_member (name_of key) ms)
 
+-- the same of a whole number that may be left out
+unfoldable pub number_fault_if_there : Key → ℤ → ℤ → Members → Option JobFault
+number_fault_if_there key lo hi ms = may_be key as_integer (is_from lo hi) (get_member (name_of key) ms)
+
 -- what is wrong with the coordinate at a key
 abbrev pub coordinate_fault : Key → Members → Option JobFault
 coordinate_fault key ms = number_fault key (neg_ℤ (pos greatest)) (pos greatest) ms
@@ -97,6 +101,10 @@ number_given key ms = option_and_then as_integer (get_member (name_of key) ms)
 -- the same, 0 where there is none
 unfoldable pub number_at : Key → Members → ℤ
 number_at key ms = unwrap_or (number_given key ms) (pos 0)
+
+-- the same, another number where there is none
+unfoldable pub number_or : Key → ℤ → Members → ℤ
+number_or key other ms = unwrap_or (number_given key ms) other
 
 -- the whole numbers of the array at a key
 unfoldable pub numbers_at : Key → Members → Option (List ℤ)

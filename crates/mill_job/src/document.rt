@@ -49,6 +49,11 @@ fn is_known(name: &str) -> bool
             | "sample"
             | "allowance"
             | "band"
+            | "lift"
+            | "raster"
+            | "rough_raster"
+            | "layer"
+            | "rough_stock"
             | "snap"
     )
 }

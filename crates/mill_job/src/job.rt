@@ -28,6 +28,16 @@ pub struct Job {
     pub allowance: i32,
     /// How near a part point covers a column.
     pub band: i32,
+    /// How much over its drop height a plan's finishing path runs, from 0 to 10,000.
+    pub lift: i32,
+    /// The distance of neighbouring rows and places of a plan's finishing path, from 1 to 10,000.
+    pub raster: i32,
+    /// The same of a plan's roughing paths.
+    pub rough_raster: i32,
+    /// How much a plan's roughing takes off at a time, from 0 to 131,071; 0 means no roughing.
+    pub layer: i32,
+    /// How much a plan's roughing leaves over the part, from 0 to 10,000.
+    pub rough_stock: i32,
     /// How coordinates of the part that are finer than a unit are taken.
     pub snap: Snap,
 }

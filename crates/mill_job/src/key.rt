@@ -19,6 +19,11 @@ pub enum Key {
     Sample,
     Allowance,
     Band,
+    Lift,
+    Raster,
+    RoughRaster,
+    Layer,
+    RoughStock,
     Snap,
 }
 
@@ -41,6 +46,11 @@ impl Key {
             Key::Sample => "sample",
             Key::Allowance => "allowance",
             Key::Band => "band",
+            Key::Lift => "lift",
+            Key::Raster => "raster",
+            Key::RoughRaster => "rough_raster",
+            Key::Layer => "layer",
+            Key::RoughStock => "rough_stock",
             Key::Snap => "snap",
         }
     }

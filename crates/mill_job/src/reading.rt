@@ -1,9 +1,10 @@
-ghost use Rattle.std.specs.Prelude.{◌≡◌, ◌≤◌, ◌*◌, ◌≤ℤ◌, ◌++◌, pos, IfOk, None};
+ghost use Rattle.std.specs.Prelude.{◌≡◌, ◌≤◌, ◌*◌, ◌≤ℤ◌, ◌++◌, pos, false, IfOk, None};
+ghost use Rattle.mill_base.specs.Numbers.{Within, greatest};
 ghost use Rattle.mill_base.specs.Sizes.{radius_of};
 ghost use Rattle.toml.specs.View.{table_view};
 ghost use Rattle.mill_job.specs.Columns.{row_count, column_count};
-ghost use Rattle.mill_job.specs.Documents.{Gives, cutter_faults, job_from, key_faults, relation_faults};
-ghost use Rattle.mill_job.specs.Jobs.{IsFrom, IsJob};
+ghost use Rattle.mill_job.specs.Documents.{Gives, cutter_faults, has_many_layers as many_layers_in, job_from, key_faults, relation_faults};
+ghost use Rattle.mill_job.specs.Jobs.{HasFewLayers, IsFrom, IsJob};
 ghost use Rattle.mill_job.specs.Tables.{IsArea, checked, first};
 
 use crate::arrays::{area, home};
@@ -13,15 +14,32 @@ use crate::fault::JobFault;
 use crate::job::Job;
 use crate::key::Key;
 use crate::positions::column_total;
-use crate::values::{coordinate, number, snap};
+use crate::values::{GREATEST, coordinate, number, number_or, snap};
 use std::alloc::Global;
 use toml::Table;
 
 /// The most columns that a job may have.
 const MOST_COLUMNS: u64 = 4_000_000;
 
+/// The most layers that roughing may take off.
+const MOST_LAYERS: i32 = 1_000;
+
+/// Whether roughing takes off more layers than it may.
+fn has_many_layers(job: &Job) -> bool
+    requires floor_ok { Within greatest job.now.floor }
+    requires top_ok { Within greatest job.now.top }
+    requires layer_ok { IsFrom (pos 0) (pos greatest) job.now.layer }
+    ensures value { result ≡ many_layers_in job.now }
+    ensures no { result ≡ false → HasFewLayers job.now }
+{
+    0 < job.layer && MOST_LAYERS * job.layer < job.top - job.floor
+}
+
 /// The first relation between the values of a job that fails.
 fn relation_fault(job: &Job) -> Option<JobFault>
+    requires floor_ok { Within greatest job.now.floor }
+    requires top_ok { Within greatest job.now.top }
+    requires layer_ok { IsFrom (pos 0) (pos greatest) job.now.layer }
     requires area_ok { IsArea job.now.area }
     requires pitch_ok { IsFrom (pos 1) (pos 10000) job.now.pitch }
     ensures value { result ≡ first (relation_faults job.now) }
@@ -29,6 +47,7 @@ fn relation_fault(job: &Job) -> Option<JobFault>
     ensures over_stock { result ≡ None → job.now.top ≤ℤ job.now.clear }
     ensures few { result ≡ None → row_count job.now * column_count job.now ≤ 4000000 }
     ensures narrow { result ≡ None → job.now.band ≤ℤ radius_of job.now.cutter }
+    ensures layers { result ≡ None → HasFewLayers job.now }
 {
     if job.top < job.floor {
         return Some(JobFault::Relation(Key::Floor, Key::Top));
@@ -41,6 +60,9 @@ fn relation_fault(job: &Job) -> Option<JobFault>
     }
     if job.cutter.radius() < job.band {
         return Some(JobFault::Relation(Key::Band, Key::Radius));
+    }
+    if has_many_layers(job) {
+        return Some(JobFault::Relation(Key::Layer, Key::Top));
     }
     None
 }
@@ -73,6 +95,11 @@ fn job(table: &Table) -> Result<Job, JobFault>
     let sample = number(table, Key::Sample, 1, 10_000)?;
     let allowance = number(table, Key::Allowance, 0, 10_000)?;
     let band = number(table, Key::Band, 0, 10_000)?;
+    let lift = number_or(table, Key::Lift, 0, 10_000, 0)?;
+    let raster = number_or(table, Key::Raster, 1, 10_000, pitch)?;
+    let rough_raster = number_or(table, Key::RoughRaster, 1, 10_000, raster)?;
+    let layer = number_or(table, Key::Layer, 0, GREATEST, 0)?;
+    let rough_stock = number_or(table, Key::RoughStock, 0, 10_000, 0)?;
     let snap = snap(table)?;
     let cutter = cutter(shape, radius, rise, run)?;
     let job = Job {
@@ -87,22 +114,33 @@ fn job(table: &Table) -> Result<Job, JobFault>
         sample,
         allowance,
         band,
+        lift,
+        raster,
+        rough_raster,
+        layer,
+        rough_stock,
         snap,
     };
     unless(relation_fault(&job), job)
 }
 
-/// Reads a job: a TOML 1.0 document with each key of [`Key`] and no other; only `snap` may be left
-/// out, and `rise` and `run` where the cutter is no cone.
+/// Reads a job: a TOML 1.0 document with each key of [`Key`] and no other; `snap`, `lift`,
+/// `raster`, `rough_raster`, `layer` and `rough_stock` may be left out, and `rise` and `run` where
+/// the cutter is no cone.
 ///
 /// Numbers are whole, in units of 0.01 mm. `cutter` is a text, `flat`, `ball` or `cone`. `radius`,
-/// `pitch` and `sample` are from 1 to 10,000, `rise` and `run` from 1 to 100, `allowance` and
-/// `band` from 0 to 10,000. `floor`, `top`, `clear` and the members of `area` and `home` are
-/// coordinates, of a magnitude of at most 131,071. `area` has x0, y0, x1, y1, with x0 at most x1
-/// and y0 at most y1; `home` has x, y. `snap` is a text, `nearest` or `exact`, and a document
-/// without it means `nearest`. The relations are: only a cone has a rise, only a cone has a run,
-/// rise is at most 16 times run, floor at most top, top at most clear, there are at most 4,000,000
-/// columns, and band is at most radius.
+/// `pitch`, `sample`, `raster` and `rough_raster` are from 1 to 10,000, `rise` and `run` from 1 to
+/// 100, `allowance`, `band`, `lift` and `rough_stock` from 0 to 10,000, `layer` from 0 to 131,071.
+/// `floor`, `top`, `clear` and the members of `area` and `home` are coordinates, of a magnitude of
+/// at most 131,071. `area` has x0, y0, x1, y1, with x0 at most x1 and y0 at most y1; `home` has x,
+/// y. `snap` is a text, `nearest` or `exact`.
+///
+/// In a document without them `lift`, `layer` and `rough_stock` are 0, `raster` is the pitch,
+/// `rough_raster` the raster, and `snap` is `nearest`.
+///
+/// The relations are: only a cone has a rise, only a cone has a run, rise is at most 16 times run,
+/// floor at most top, top at most clear, there are at most 4,000,000 columns, band is at most
+/// radius, and where layer isn't 0, top is at most 1,000 layers over floor.
 ///
 /// A fault is the first in this order: the document's syntax; an unknown key, the first by its
 /// bytes; for each key in the order of [`Key`], that it is missing, of a wrong kind or out of

@@ -29,6 +29,9 @@ pitch = 50
 sample = 50
 allowance = 0
 band = -1
+lift = 2.5
+layer = 1
+rough_stock = 10001
 snap = \"near\"
 ";
 
@@ -49,6 +52,11 @@ const JOB: Job = Job {
     sample: 50,
     allowance: 0,
     band: 0,
+    lift: 0,
+    raster: 100,
+    rough_raster: 100,
+    layer: 0,
+    rough_stock: 0,
     snap: Snap::Nearest,
 };
 
@@ -132,6 +140,80 @@ fn refuses_other_texts(rt: HostRuntime) -> Result<(), Fail> {
     Ok(())
 }
 
+#[test]
+fn reads_the_numbers_of_a_plan(rt: HostRuntime) -> Result<(), Fail> {
+    let alloc = rt.alloc();
+    let rows = [
+        ("", (0, 100, 100, 0, 0)),
+        ("lift = 10000", (10000, 100, 100, 0, 0)),
+        ("raster = 1", (0, 1, 1, 0, 0)),
+        ("rough_raster = 10000", (0, 100, 10000, 0, 0)),
+        ("raster = 10000\nrough_raster = 1", (0, 10000, 1, 0, 0)),
+        ("layer = 131071", (0, 100, 100, 131071, 0)),
+        ("rough_stock = 10000", (0, 100, 100, 0, 10000)),
+        ("lift = 0\nlayer = 0\nrough_stock = 0", (0, 100, 100, 0, 0)),
+    ];
+    for (added, want) in rows {
+        let text = format!(in alloc; "{EXAMPLE}{added}\n")?;
+        let job = read_job(alloc, text.as_bytes())?;
+        let given = (
+            job.lift,
+            job.raster,
+            job.rough_raster,
+            job.layer,
+            job.rough_stock,
+        );
+        assert_eq!(rt; given, want, "{added}");
+    }
+    Ok(())
+}
+
+#[test]
+fn refuses_other_numbers_of_a_plan(rt: HostRuntime) -> Result<(), Fail> {
+    let alloc = rt.alloc();
+    let rows = [
+        ("lift = true", "wrong kind of lift"),
+        ("lift = -1", "lift out of range"),
+        ("lift = 10001", "lift out of range"),
+        ("raster = [1]", "wrong kind of raster"),
+        ("raster = 0", "raster out of range"),
+        ("raster = 10001", "raster out of range"),
+        ("rough_raster = \"1\"", "wrong kind of rough_raster"),
+        ("rough_raster = 0", "rough_raster out of range"),
+        ("rough_raster = 10001", "rough_raster out of range"),
+        ("layer = 1.0", "wrong kind of layer"),
+        ("layer = -1", "layer out of range"),
+        ("layer = 131072", "layer out of range"),
+        ("rough_stock = {}", "wrong kind of rough_stock"),
+        ("rough_stock = -1", "rough_stock out of range"),
+        ("rough_stock = 10001", "rough_stock out of range"),
+        ("levels = []", "unknown levels"),
+    ];
+    for (added, want) in rows {
+        let text = format!(in alloc; "{EXAMPLE}{added}\n")?;
+        assert_eq!(rt; fault_text(alloc, text.as_str())?.as_str(), want);
+    }
+    Ok(())
+}
+
+/// With a layer of 1 the stock may be 1,000 high, and without roughing higher.
+#[test]
+fn bounds_the_layers(rt: HostRuntime) -> Result<(), Fail> {
+    let alloc = rt.alloc();
+    let high = EXAMPLE.replace(alloc, "floor = 0", "floor = -701\nlayer = 1")?;
+    assert_eq!(rt;
+        fault_text(alloc, high.as_str())?.as_str(),
+        "layer doesn't fit top"
+    );
+    let lower = high.replace(alloc, "-701", "-700")?;
+    assert_eq!(rt; read_job(alloc, lower.as_bytes())?.layer, 1);
+    let thicker = high.replace(alloc, "layer = 1", "layer = 2")?;
+    assert_eq!(rt; read_job(alloc, thicker.as_bytes())?.layer, 2);
+    let whole = high.replace(alloc, "layer = 1", "layer = 0")?;
+    assert_eq!(rt; read_job(alloc, whole.as_bytes())?.floor, -701);
+    Ok(())
+}
+
 /// Each repair mends the first of the faults that are left.
 #[test]
 fn first_fault_decides(rt: HostRuntime) -> Result<(), Fail> {
@@ -148,12 +230,15 @@ fn first_fault_decides(rt: HostRuntime) -> Result<(), Fail> {
         ("area out of range", "9, 131071, 0]", "0, 131071, 131071]"),
         ("wrong kind of home", "1.5", "100"),
         ("band out of range", "band = -1", "band = 151"),
+        ("wrong kind of lift", "2.5", "10000"),
+        ("rough_stock out of range", "10001", "10000"),
         ("snap out of range", "\"near\"", "\"nearest\""),
         ("rise doesn't fit run", "rise = 17", "rise = 16"),
-        ("floor doesn't fit top", "floor = 301", "floor = 0"),
+        ("floor doesn't fit top", "floor = 301", "floor = -701"),
         ("top doesn't fit clear", "clear = 200", "clear = 400"),
         ("area doesn't fit pitch", "131071, 131071", "200, 200"),
         ("band doesn't fit radius", "band = 151", "band = 0"),
+        ("layer doesn't fit top", "floor = -701", "floor = -700"),
     ];
     let mut text = FAULTY.to_string(alloc)?;
     for (want, old, new) in repairs {
@@ -169,7 +254,13 @@ fn first_fault_decides(rt: HostRuntime) -> Result<(), Fail> {
         read_job(alloc, text.as_bytes())?,
         Job {
             cutter: cone,
+            floor: -700,
             pitch: 50,
+            lift: 10000,
+            raster: 50,
+            rough_raster: 50,
+            layer: 1,
+            rough_stock: 10000,
             ..JOB
         }
     );

@@ -1,11 +1,11 @@
 ghost use Rattle.std.specs.Prelude.{◌≡◌, codes, neg_ℤ, pos, true, false, IfOk, IfErr, None, Some, [], ◌∷◌, option_map};
 ghost use Rattle.mill_base.specs.Numbers.{Within, greatest};
-ghost use Rattle.toml.specs.Data.{get_member};
+ghost use Rattle.toml.specs.Data.{as_integer, get_member};
 ghost use Rattle.toml.specs.View.{table_view, view};
 ghost use Rattle.mill_job.specs.Documents.{snap_of};
 ghost use Rattle.mill_job.specs.Jobs.{IsFrom};
 ghost use Rattle.mill_job.specs.Keys.{name_of};
-ghost use Rattle.mill_job.specs.Tables.{coordinate_fault, is_coordinate, is_from, number_at, number_fault, text_fault_if_there};
+ghost use Rattle.mill_job.specs.Tables.{coordinate_fault, is_coordinate, is_from, kind_fault, number_at, number_fault, number_fault_if_there, number_or as number_or_other, text_fault_if_there};
 
 use crate::fault::JobFault;
 use crate::key::Key;
@@ -13,7 +13,7 @@ use mill_decimal::Snap;
 use toml::{Table, Value};
 
 /// The greatest magnitude of a coordinate, in units of 0.01 mm.
-const GREATEST: i32 = 131_071;
+pub const GREATEST: i32 = 131_071;
 
 /// The value at a key.
 pub fn find<'a>(table: &'a Table, key: Key) -> Option<&'a Value>
@@ -44,6 +44,18 @@ pub fn as_coordinate(number: i64, key: Key) -> Result<i32, JobFault>
     in_range(number, key, -GREATEST, GREATEST)
 }
 
+/// The whole number from `low` to `high` that a value is.
+fn whole_number(value: &Value, key: Key, low: i32, high: i32) -> Result<i32, JobFault>
+    ensures ok { IfOk result (λ n. (kind_fault key (is_from low high) (as_integer (view value.now)) ≡ None) × (as_integer (view value.now) ≡ Some n)) }
+    ensures err { IfErr result (λ fault. kind_fault key (is_from low high) (as_integer (view value.now)) ≡ Some fault) }
+    ensures in_range { IfOk result (IsFrom low high) }
+{
+    let Some(number) = value.as_integer() else {
+        return Err(JobFault::WrongKind(key));
+    };
+    in_range(number, key, low, high)
+}
+
 /// The whole number from `low` to `high` at a key.
 #[tactic(auto, unfolding(crate::specs::Tables::number_fault, crate::specs::Tables::number_at, crate::specs::Tables::number_given))]
 pub fn number(table: &Table, key: Key, low: i32, high: i32) -> Result<i32, JobFault>
@@ -54,10 +66,21 @@ pub fn number(table: &Table, key: Key, low: i32, high: i32) -> Result<i32, JobFa
     let Some(value) = find(table, key) else {
         return Err(JobFault::Missing(key));
     };
-    let Some(number) = value.as_integer() else {
-        return Err(JobFault::WrongKind(key));
-    };
-    in_range(number, key, low, high)
+    whole_number(value, key, low, high)
+}
+
+/// The whole number from `low` to `high` at a key, and `other` where the document lacks the key.
+#[tactic(auto, unfolding(crate::specs::Tables::number_fault_if_there, crate::specs::Tables::number_or, crate::specs::Tables::number_given))]
+pub fn number_or(table: &Table, key: Key, low: i32, high: i32, other: i32) -> Result<i32, JobFault>
+    requires { IsFrom low high other }
+    ensures ok { IfOk result (λ n. (number_fault_if_there key low high (table_view table.now) ≡ None) × (n ≡ number_or_other key other (table_view table.now))) }
+    ensures err { IfErr result (λ fault. number_fault_if_there key low high (table_view table.now) ≡ Some fault) }
+    ensures in_range { IfOk result (IsFrom low high) }
+{
+    match find(table, key) {
+        Some(value) => whole_number(value, key, low, high),
+        None => Ok(other),
+    }
 }
 
 /// The coordinate at a key.

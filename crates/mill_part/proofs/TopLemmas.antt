@@ -1,14 +1,16 @@
 -- The greatest height of the triangles before a place in a list.
-use Rattle.std.proofs.Common.{◌≡◌, ◌⊎◌, ◌↔◌, ℕ, ◌+◌, ◌<◌, ◌≤◌, Bool, true, false, cond, List, length, take, get_or, take_all, rules, refl, sym, subst, arith}
-use Rattle.std.specs.Prelude.{Option, Some, None, IsNone, IfSome}
+use Rattle.std.proofs.Common.{◌≡◌, ◌⊎◌, ◌↔◌, ℕ, zero, suc, ◌+◌, ◌<◌, ◌≤◌, Bool, true, false, cond, List, [], ◌∷◌, length, take, get_or, take_all, rules, refl, sym, subst, ap, inl, inr, arith}
+use Rattle.std.specs.Prelude.{Option, Some, None, IsNone, IfSome, int_lt}
 use Rattle.std.specs.Option.{option_cmp}
 use Rattle.std.specs.Ordering.{int_cmp, is_lt, ord_max}
+use Rattle.mill_base.specs.Covers.{IsUnder}
 use Rattle.std.specs.List.{All, Contains}
 use Rattle.std.proofs.lemmas.List.Elements.{All-nil, All-more, All-weaker, All-contains, Contains-get_or}
 use Rattle.std.proofs.lemmas.Int.{ints}
 use Rattle.mill_base.specs.Numbers.{greater}
 use Rattle.mill_base.specs.Points.{highest}
 use Rattle.mill_base.specs.declared.points.Tri.{Tri}
+use Rattle.mill_part.specs.Parts.{top_of}
 use Rattle.mill_part.specs.Tops.{HasCornerAt, IsTop}
 use lib.IntN.{ℤ}
 use lib.Signed.{◌≤ℤ◌}
@@ -80,13 +82,6 @@ highest_is tri = one3 tri.a.z tri.b.z tri.c.z
 all_of : (P : Tri → Type 0) (part : List Tri) (k : ℕ) → length part ≤ k → All P (take k part) → All P part
 all_of P part k end all = subst (All P) (take_all k part end) all
 
-some_is_not_none : (top : ℤ) → IsNone (Some top) → ⊥
-some_is_not_none top h = cc
-
-pub top_none : (part : List Tri) (k : ℕ) (top : Option ℤ) → length part ≤ k → k ≤ length part → TopBefore part k top → IsNone top ↔ (length part ≡ 0)
-top_none part k None end within before = (λ _. omega arith, λ _. search rules)
-top_none part k (Some top) end within before = (λ h. absurd (some_is_not_none top h), λ h. absurd (omega (arith, before.some)))
-
 pub top_some : (part : List Tri) (k : ℕ) (top : Option ℤ) → length part ≤ k → TopBefore part k top → IfSome top (λ t. IsTop part t)
 top_some part k None end before = tt
 top_some part k (Some top) end before = record {
@@ -98,3 +93,89 @@ top_some part k (Some top) end before = record {
   member = before.member;
   corner = subst (HasCornerAt before.tri) before.corner (highest_is before.tri);
 }
+
+-- members of a list of one and more
+cons_cases : (x : Tri) (xs : List Tri) (y : Tri) → Contains (x ∷ xs) y → (x ≡ y) ⊎ Contains xs y
+cons_cases x xs y h = by h.0 h.1 h.2
+  where
+    by : (k : ℕ) → k < length (x ∷ xs) → get_or (x ∷ xs) k y ≡ y → (x ≡ y) ⊎ Contains xs y
+    by zero w e = inl e
+    by (suc k) w e = inr (k, omega (arith, w), e)
+
+here : (x : Tri) (xs : List Tri) → Contains (x ∷ xs) x
+here x xs = (0, omega arith, refl)
+
+there : (x : Tri) (xs : List Tri) (y : Tri) → Contains xs y → Contains (x ∷ xs) y
+there x xs y h = (suc h.0, omega (arith, h.1), h.2)
+
+-- the greatest height of one triangle, and of one and others
+one_top : (tri : Tri) → IsTop (tri ∷ []) (highest tri)
+one_top tri = record {
+  under = λ t m. elim (cons_cases tri [] t m) [
+    | inl same ↦ subst (λ t. (t.a.z ≤ℤ highest tri) × (t.b.z ≤ℤ highest tri) × (t.c.z ≤ℤ highest tri)) same (corners_under tri)
+    | inr more ↦ absurd (omega (arith, more.1))
+  ];
+  tri = tri;
+  member = here tri [];
+  corner = highest_is tri;
+}
+
+more_top : (tri : Tri) (tris : List Tri) (top : ℤ) → IsTop tris top → IsTop (tri ∷ tris) (greater (highest tri) top)
+more_top tri tris top is = by (int_lt (highest tri) top) refl
+  where
+    under_of : (most : ℤ) → highest tri ≤ℤ most → top ≤ℤ most → IsUnder (tri ∷ tris) most
+    under_of most own others t m = elim (cons_cases tri tris t m) [
+      | inl same ↦ subst (λ t. (t.a.z ≤ℤ most) × (t.b.z ≤ℤ most) × (t.c.z ≤ℤ most)) same
+          (let u = corners_under tri in (omega (arith, ints), omega (arith, ints), omega (arith, ints)))
+      | inr more ↦ let u = is.under t more in (omega (arith, ints), omega (arith, ints), omega (arith, ints))
+    ]
+
+    by : (b : Bool) → int_lt (highest tri) top ≡ b → IsTop (tri ∷ tris) (cond b top (highest tri))
+    by true less = record {
+      under = under_of top (grind (arith, ints)) (omega (arith, ints));
+      tri = is.tri;
+      member = there tri tris is.tri is.member;
+      corner = is.corner;
+    }
+    by false other = record {
+      under = under_of (highest tri) (omega (arith, ints)) (grind (arith, ints));
+      tri = tri;
+      member = here tri tris;
+      corner = highest_is tri;
+    }
+
+-- the height that the definition computes is the greatest, and no other is
+top_is_greatest : (tris : List Tri) → IfSome (top_of tris) (λ top. IsTop tris top)
+top_is_greatest [] = tt
+top_is_greatest (tri ∷ []) = one_top tri
+top_is_greatest (tri ∷ next ∷ tris) = more_top tri (next ∷ tris) _ (top_is_greatest (next ∷ tris))
+
+top_of-none : (tris : List Tri) → IsNone (top_of tris) ↔ (length tris ≡ 0)
+top_of-none [] = (λ _. refl, λ _. search rules)
+top_of-none (tri ∷ tris) = (λ h. absurd (cc), λ h. absurd (omega (arith, h)))
+
+not_over : (tris : List Tri) (low high : ℤ) → IsTop tris low → IsTop tris high → low ≤ℤ high
+not_over tris low high is other = by (other.under is.tri is.member) is.corner
+  where
+    by : (is.tri.a.z ≤ℤ high) × (is.tri.b.z ≤ℤ high) × (is.tri.c.z ≤ℤ high) → HasCornerAt is.tri low → low ≤ℤ high
+    by u (inl e) = subst (λ z. z ≤ℤ high) e (omega (arith, ints, u))
+    by u (inr (inl e)) = subst (λ z. z ≤ℤ high) e (omega (arith, ints, u))
+    by u (inr (inr e)) = subst (λ z. z ≤ℤ high) e (omega (arith, ints, u))
+
+same_top : (tris : List Tri) (top other : ℤ) → IsTop tris top → IsTop tris other → top ≡ other
+same_top tris top other is also = let a = not_over tris top other is also in let b = not_over tris other top also is in omega (arith, ints)
+
+-- what is found before the end of the list is what the definition computes
+pub top_of_is : (part : List Tri) (k : ℕ) (top : Option ℤ) → length part ≤ k → k ≤ length part → TopBefore part k top → top ≡ top_of part
+top_of_is [] k None end within before = refl
+top_of_is [] k (Some top) end within before = absurd (omega (arith, before.some))
+top_of_is (tri ∷ tris) k None end within before = absurd (omega (arith, before))
+top_of_is (tri ∷ tris) k (Some top) end within before =
+    ap Some (same_top (tri ∷ tris) top _ (top_some (tri ∷ tris) k (Some top) end before) (top_is_greatest (tri ∷ tris)))
+
+-- so it is with a height that is kept beside the list
+pub kept_none : (part tris : List Tri) (top : Option ℤ) → top ≡ top_of tris → tris ≡ part → IsNone top ↔ (length part ≡ 0)
+kept_none part tris top kept same = rw (kept, same) (top_of-none part)
+
+pub kept_some : (part tris : List Tri) (top : Option ℤ) → top ≡ top_of tris → tris ≡ part → IfSome top (λ t. IsTop part t)
+kept_some part tris top kept same = rw (kept, same) (top_is_greatest part)

@@ -3,6 +3,7 @@ ghost use Rattle.mill_base.specs.Covers.{Covered, HasPointOver};
 ghost use Rattle.mill_base.specs.Numbers.{Within, greatest};
 ghost use Rattle.mill_base.specs.Ranges.{TrisInRange};
 ghost use Rattle.mill_cells.specs.Sorted.{sorted_of};
+ghost use Rattle.mill_part.specs.Parts.{top_of};
 
 use crate::near::{Column, highest};
 use mill_base::Tri;
@@ -16,19 +17,20 @@ use std::marker::Model;
 #[derive(Drop)]
 pub struct Part {
     triangles: Vec<Tri>,
+    top: Option<i32>,
 }
 
 impl Model for Part {
-    ghost use Rattle.std.specs.Prelude.{List, length, ◌<◌, ◌^◌};
-    ghost use Rattle.mill_base.specs.Ranges.{TrisInRange};
+    ghost use Rattle.std.specs.Prelude.{◌≡◌, List};
     ghost use Rattle.mill_base.specs.declared.points.Tri.{Tri};
-    ghost use Rattle.mill_part.specs.Parts.{IsPartList};
+    ghost use Rattle.mill_part.specs.Parts.{IsPartList, top_of};
 
     ghost Value = { List Tri };
 
     ghost view = { λ part. part.triangles.items };
 
-    ghost invariant = { λ part. IsPartList part.triangles.items };
+    ghost invariant = { λ part. IsPartList part.triangles.items
+        × (part.top ≡ top_of part.triangles.items) };
 }
 
 impl Part {
@@ -41,7 +43,11 @@ impl Part {
         requires count { length tris.items < 2 ^ 32 }
         ensures { result ≡ tris.items }
     {
-        Part { triangles: tris }
+        let top = greatest_height(&tris);
+        Part {
+            triangles: tris,
+            top,
+        }
     }
 
     /// The triangles.
@@ -54,15 +60,13 @@ impl Part {
     }
 
     /// The greatest height of any corner, in units of 0.01 mm; none without triangles.
+    ///
+    /// It looks at no triangle: `new` has found it.
     pub fn top(&self) -> Option<i32>
         ensures none { IsNone result ↔ (length self.now ≡ 0) }
         ensures greatest { IfSome result (λ top. IsTop self.now top) }
     {
-        let mut top = None;
-        for tri in self.tris() {
-            top = top.max(Some(highest(tri)));
-        }
-        top
+        self.top
     }
 
     /// Whether the floor, or a point of the part at least as high as `height`, covers the column
@@ -167,6 +171,17 @@ impl Part {
         }
         height
     }
+}
+
+/// The greatest height of any corner; none without triangles.
+fn greatest_height(tris: &[Tri]) -> Option<i32>
+    ensures { result ≡ top_of tris.now }
+{
+    let mut top = None;
+    for tri in tris {
+        top = top.max(Some(highest(tri)));
+    }
+    top
 }
 
 /// Whether a point of the triangles at least as high as `height` covers the column.

@@ -17,3 +17,6 @@ mod Firsts
 mod Segments
 mod Blocking
 pub mod Passing
+mod UnscaledCerts
+mod Unscaled
+pub mod Vertical

@@ -26,7 +26,7 @@ over_up : (a b : ℤ) → (pos 0) <ℤ a → a ≤ℤ b → (pos 0) <ℤ b
 over_up a b p q = omega (arith, ints)
 
 -- what is inside a cutter stays inside when it is raised
-inside_rises : (cutter : Cutter) (n : ℤ) (d : Pt3) (z : ℤ) → d.z ≤ℤ z → Inside cutter n d → Inside cutter n (point_at d.x d.y z)
+pub inside_rises : (cutter : Cutter) (n : ℤ) (d : Pt3) (z : ℤ) → d.z ≤ℤ z → Inside cutter n d → Inside cutter n (point_at d.x d.y z)
 inside_rises (Flat r) n d z h i = record { near = i.near; over = over_up d.z z i.over h }
 inside_rises (Ball r) n d z h i = record {
   near = i.near;

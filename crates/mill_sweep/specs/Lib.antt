@@ -3,3 +3,4 @@ pub mod Leaves
 pub mod Halving
 pub mod Sweeps
 pub mod Moments
+pub mod Vertical

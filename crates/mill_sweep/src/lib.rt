@@ -2,9 +2,10 @@
 //!
 //! It stands on `mill_base`, `mill_shape` and the contact crates. Definitions: `specs/Leaves` says
 //! what the leaves of a move are and where they lie, `specs/Halving` which moves pass and which leaf
-//! of another move fails, `specs/Apart` when a triangle lies beside a move or under it, and
-//! `specs/Moments` what passing implies at each moment. `passes_tri` decides whether a move passes,
-//! and `first_block` names its failing leaf. A `Sweep` does so for many triangles and one move.
+//! of another move fails, `specs/Apart` when a triangle lies beside a move or under it,
+//! `specs/Moments` what passing implies at each moment, and `specs/Vertical` what a move straight up
+//! or down passes. `passes_tri` decides whether a move passes, and `first_block` names its failing
+//! leaf. A `Sweep` does so for many triangles and one move.
 #![tactic(auto)]
 
 mod beside;
@@ -28,6 +29,7 @@ pub use leaf::{Leaf, Span};
 pub use leaf_span::span;
 pub use moments::{
     failing_is_blocked, far_passes, halving_is_clear, halving_keeps_point, outer_holds,
+    vertical_passes, vertical_passes_point,
 };
 pub use move_depth::depth;
 pub use sweep::Sweep;

@@ -1,4 +1,5 @@
 ghost use Rattle.mill_sweep.specs.Moments.{OuterHolds, PassingIsClear, PassingKeepsPoint, FarPasses, FailingIsBlocked};
+ghost use Rattle.mill_sweep.specs.Vertical.{VerticalPasses, VerticalPassesPoint};
 
 /// A law: every point strictly inside the cutter at a moment of a leaf is strictly inside the
 /// leaf's outer cutter.
@@ -21,6 +22,18 @@ pub fn halving_keeps_point()
 /// cutter's radius and 2 away from it in x or in y.
 pub fn far_passes()
     ensures { FarPasses }
+{}
+
+/// A law: a move straight up or down passes each triangle that the cutter doesn't touch with its
+/// tip at the move's lower end, or at a place under it.
+pub fn vertical_passes()
+    ensures { VerticalPasses }
+{}
+
+/// A law: a move straight up or down passes each point that the cutter doesn't hold with its tip at
+/// the move's lower end, or at a place under it.
+pub fn vertical_passes_point()
+    ensures { VerticalPassesPoint }
 {}
 
 /// A law: a failing leaf has a reach of at most 2, and it can't be that it isn't blocked.

@@ -10,7 +10,6 @@ mod Stored
 mod Unique
 mod Safe
 mod Accepted
-mod Looking
 mod Scanning
 mod Striping
 mod Limits

@@ -27,7 +27,7 @@ limit_gouge job part moves e fail floor f =
         first = f.first.first;
         fails = f.first.fails;
       };
-      shown = f.blocked;
+      shown = f.first.blocked;
     }
 
 -- the first move that fails test (i), all before it clearing the part

@@ -1,5 +1,5 @@
 -- The moves of a block that clear the part, and the first that doesn't.
-use Rattle.std.specs.Prelude.{ℕ, ◌+◌, ◌≤◌, List}
+use Rattle.std.specs.Prelude.{ℕ, ◌+◌, ◌<◌, ◌≤◌, List}
 use Rattle.std.proofs.Common.{sym, subst, inl, inr, arith}
 use Rattle.mill_base.specs.declared.points.Tri.{Tri}
 use Rattle.mill_base.specs.declared.motion.Move.{Move}
@@ -7,6 +7,10 @@ use Rattle.mill_job.specs.declared.job.Job.{Job}
 use Rattle.mill_verify.specs.Tests.{ClearsPart}
 use Rattle.mill_verify.specs.Firsts.{ClearsBetween}
 use Rattle.mill_verify.proofs.Most.{below_suc}
+
+-- a number before the end is one of a move
+pub inside : {k e n : ℕ} → k < e → e ≤ n → k < n
+inside h g = omega (h, g, arith)
 
 module _ (job : Job) (part : List Tri) (moves : List Move) where
   -- one move more

@@ -117,7 +117,6 @@ module _ (job : Job) (part : List Tri) (moves : List Move) where
     stripe = record { start = omega (f.start, so_far.at.place, arith); first = omega (same, arith); last = omega (same, some, arith) };
     before = λ k less h. elim (cases_lt k block) [ inl before ↦ so_far.clears k before (omega (less, there, arith)) h | inr from ↦ f.before k from less ];
     first = f.first;
-    blocked = f.blocked;
   }
     where
       there : fail.at < stripes.«end»
@@ -145,7 +144,6 @@ module _ (job : Job) (part : List Tri) (moves : List Move) where
     there = h.there;
     before = λ k low high. h.before k high (all_in s e w k some low);
     first = h.first;
-    blocked = h.blocked;
   }
 
   module _ (s e w a m b : ℕ) (low : a ≤ m) (high : m ≤ b) where
@@ -174,7 +172,6 @@ module _ (job : Job) (part : List Tri) (moves : List Move) where
       stripe = record { start = f.stripe.start; first = f.stripe.first; last = less_to _ m b f.stripe.last high };
       before = halves_clear fail.at f.before right;
       first = f.first;
-      blocked = f.blocked;
     }
 
     right_whole : (fail : PartFail) → ClearsStripesTo job part moves left_half fail.at → IsFirstStripesFail job part moves right_half fail → IsFirstStripesFail job part moves whole fail
@@ -183,7 +180,6 @@ module _ (job : Job) (part : List Tri) (moves : List Move) where
       stripe = record { start = f.stripe.start; first = up a m _ low f.stripe.first; last = f.stripe.last };
       before = halves_clear fail.at left f.before;
       first = f.first;
-      blocked = f.blocked;
     }
       where
         up : (x y z : ℕ) → x ≤ y → y ≤ z → x ≤ z

@@ -4,60 +4,33 @@ use Rattle.std.specs.Int.{int_max}
 use Rattle.mill_base.specs.declared.points.Tri.{Tri}
 use Rattle.mill_base.specs.declared.motion.Move.{Move}
 use Rattle.mill_base.specs.declared.motion.Kind.TheVariants.{Rapid}
-use Rattle.mill_base.specs.declared.cutter.Cutter.{Cutter}
 use Rattle.mill_base.specs.Points.{point_tri}
 use Rattle.mill_base.specs.Covers.{Covered, IsHighestCovered}
-use Rattle.mill_sweep.specs.Leaves.{span_of}
-use Rattle.mill_sweep.specs.Halving.{Passes, FailsAt, Blocks}
+use Rattle.mill_sweep.specs.Halving.{FailsAt}
 use Rattle.mill_sweep.specs.declared.leaf.Leaf.{Leaf}
 use Rattle.mill_job.specs.declared.job.Job.{Job}
 use Rattle.mill_job.specs.Columns.{IsColumn, IsBefore, column_x, column_y, column_count}
 use Rattle.mill_dexel.specs.Tops.{top_after, top_point}
 use Rattle.mill_dexel.specs.declared.fail.RowFail.{RowFail}
-use Rattle.mill_verify.specs.Tests.{move_at, tri_at, PassesTri, ClearsPart, PassesColumn, ClearsStock, IsOverFloor, IsCut, GoodBefore}
-use Rattle.mill_verify.specs.Verdicts.{IsLeftOver, IsMostLeft, IsRejection, IsBlocked, IsStopped, ShowsBlock}
-use Rattle.mill_verify.specs.declared.gouge.Gouge.{Gouge}
+use Rattle.mill_gouge.specs.Gouges.{IsFirstGouge}
+use Rattle.mill_verify.specs.Tests.{move_at, ClearsPart, PassesColumn, ClearsStock, IsOverFloor, IsCut, GoodBefore}
+use Rattle.mill_verify.specs.Verdicts.{IsLeftOver, IsMostLeft, IsRejection, IsStopped, ShowsBlock}
 use Rattle.mill_verify.specs.declared.limit.Limit.{Limit}
 use Rattle.mill_verify.specs.declared.part_fail.PartFail.{PartFail}
 use Rattle.mill_verify.specs.declared.part_fail.Stripes.{Stripes}
 use Rattle.mill_verify.specs.declared.remains.Uncut.{Uncut}
 use Rattle.mill_verify.specs.declared.stop.Stop.{Stop}
 
--- triangle t is the first that move k doesn't pass, and the test fails at this leaf
-pub record IsFirstGouge (job : Job) (part : List Tri) (moves : List Move) (k t : ℕ) (leaf : Leaf) : Type 0 where
-  pub tri : t < length part
-  pub first : (e : ℕ) → e < t → PassesTri job part moves k e
-  pub fails : FailsAt job.cutter (move_at moves k) (tri_at part t) leaf
-
--- triangle t comes before the first gouge so far, if there is one
-abbrev pub ComesBefore : ℕ → Option Gouge → Type 0
-ComesBefore t None = Unit {0}
-ComesBefore t (Some gouge) = t < gouge.tri
-
--- the triangle, of number t, is the gouge that is told: the move fails at it, and it blocks the leaf that is named
-pub record IsGouge (cutter : Cutter) (m : Move) (tri : Tri) (t : ℕ) (told : Option Gouge) : Type 0 where
-  pub leaf : Leaf
-  pub told_so : told ≡ Some (record { tri = t; leaf = leaf })
-  pub fails : FailsAt cutter m tri leaf
-  pub blocked : Blocks cutter (span_of m leaf.d leaf.k) tri
-
--- with the triangle of number t, the first gouge so far becomes another: itself, where t doesn't come before it or the move passes the triangle; else the triangle's
-abbrev pub IsEarlier : Cutter → Move → Tri → ℕ → Option Gouge → Option Gouge → Type 0
-IsEarlier cutter m tri t first next =
-    ((next ≡ first) × ((¬ ComesBefore t first) ⊎ Passes cutter m tri))
-    ⊎ (ComesBefore t first × IsGouge cutter m tri t next)
-
 -- the moves from number s to before e clear the part
 abbrev pub ClearsBetween : Job → List Tri → List Move → ℕ → ℕ → Type 0
 ClearsBetween job part moves s e = (k : ℕ) → s ≤ k → k < e → ClearsPart job part moves k
 
--- of the moves from number s to before e, this is the first that doesn't clear the part, with its first gouge, whose triangle blocks the leaf
+-- of the moves from number s to before e, this is the first that doesn't clear the part, with its first gouge
 pub record IsFirstPartFail (job : Job) (part : List Tri) (moves : List Move) (s e : ℕ) (fail : PartFail) : Type 0 where
   pub start : s ≤ fail.at
   pub there : fail.at < e
   pub before : ClearsBetween job part moves s fail.at
-  pub first : IsFirstGouge job part moves fail.at fail.gouge.tri fail.gouge.leaf
-  pub blocked : IsBlocked job part moves fail.at fail.gouge.tri fail.gouge.leaf
+  pub first : IsFirstGouge job.cutter (move_at moves fail.at) part fail.gouge
 
 -- the moves from the start on stand in blocks of 64, which go to the stripes in turn: this is the stripe of move k
 abbrev pub stripe_of : Stripes → ℕ → ℕ
@@ -85,13 +58,12 @@ ClearsStripesTo job part moves stripes e = (k : ℕ) → k < e → IsInStripes s
 abbrev pub ClearsStripes : Job → List Tri → List Move → Stripes → Type 0
 ClearsStripes job part moves stripes = ClearsStripesTo job part moves stripes stripes.«end»
 
--- of the moves that are in these stripes, this is the first that doesn't clear the part, with its first gouge, whose triangle blocks the leaf
+-- of the moves that are in these stripes, this is the first that doesn't clear the part, with its first gouge
 pub record IsFirstStripesFail (job : Job) (part : List Tri) (moves : List Move) (stripes : Stripes) (fail : PartFail) : Type 0 where
   pub there : fail.at < stripes.«end»
   pub stripe : IsInStripes stripes fail.at
   pub before : ClearsStripesTo job part moves stripes fail.at
-  pub first : IsFirstGouge job part moves fail.at fail.gouge.tri fail.gouge.leaf
-  pub blocked : IsBlocked job part moves fail.at fail.gouge.tri fail.gouge.leaf
+  pub first : IsFirstGouge job.cutter (move_at moves fail.at) part fail.gouge
 
 -- of two answers this is the one whose move comes before that of the other
 abbrev pub IsEarlierFail : Option PartFail → Option PartFail → Option PartFail → Type 0

@@ -3,4 +3,3 @@ pub mod Verdicts
 pub mod Claims
 pub mod Stock
 pub mod Firsts
-pub mod Near

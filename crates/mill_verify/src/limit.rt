@@ -3,7 +3,6 @@ ghost use Rattle.mill_base.specs.Ranges.{MovesInRange};
 ghost use Rattle.mill_cells.specs.Sorted.{sorted_of};
 ghost use Rattle.mill_job.specs.Jobs.{IsJob};
 ghost use Rattle.mill_verify.specs.Firsts.{IsFloorEnd, IsLimit};
-ghost use Rattle.mill_verify.specs.Near.{IsLid};
 ghost use Rattle.mill_verify.specs.Tests.{IsOverFloor};
 
 use crate::part_fail::first_part_fail;
@@ -40,8 +39,7 @@ pub fn part_limit<R: Threads + Sync>(
     ensures { IsLimit job.now part.now moves.now result }
 {
     let end = floor_end(job, moves);
-    let part_top = lid(part);
-    if let Some(fail) = first_part_fail(rt, job, part, cells, part_top, moves, 0, end, workers) {
+    if let Some(fail) = first_part_fail(rt, job, part, cells, moves, 0, end, workers) {
         return Limit {
             passed: fail.at,
             fails: Some(Reason::Gouge {
@@ -86,11 +84,4 @@ fn is_over_floor(job: &Job, moves: &[Move], number: usize) -> bool
         return false;
     }
     step.to.z >= job.floor
-}
-
-/// The height of the part's highest corner, any where it has none.
-fn lid(part: &Part) -> i32
-    ensures { IsLid part.now result }
-{
-    part.top().unwrap_or(0)
 }

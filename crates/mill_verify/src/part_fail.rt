@@ -3,12 +3,11 @@ ghost use Rattle.mill_base.specs.Ranges.{MovesInRange};
 ghost use Rattle.mill_cells.specs.Sorted.{sorted_of};
 ghost use Rattle.mill_job.specs.Jobs.{IsJob};
 ghost use Rattle.mill_verify.specs.Firsts.{AreStripes, ClearsBetween, ClearsStripes, IsEarlierFail, IsFirstPartFail, IsFirstStripesFail};
-ghost use Rattle.mill_verify.specs.Near.{IsLid};
 ghost use denote.Param.Send.{IsSync};
 
-use crate::gouge::{Gouge, first_gouge};
 use mill_base::Move;
 use mill_cells::Cells;
+use mill_gouge::{Gouge, first_gouge};
 use mill_job::Job;
 use mill_part::Part;
 use std::thread::{Threads, join};
@@ -39,13 +38,12 @@ pub struct Stripes {
 /// part; none where they all do.
 ///
 /// Blocks of 64 moves are handed in turn to `workers` threads, at most 64. The cells are those of
-/// the part's triangles, and no part point is higher than `part_top`.
+/// the part's triangles.
 pub fn first_part_fail<R: Threads + Sync>(
     rt: &R,
     job: &Job,
     part: &Part,
     cells: &Cells,
-    part_top: i32,
     moves: &[Move],
     start: usize,
     end: usize,
@@ -53,7 +51,6 @@ pub fn first_part_fail<R: Threads + Sync>(
 ) -> Option<PartFail>
     requires job_ok { IsJob job.now }
     requires cells_ok { cells.now ≡ sorted_of part.now }
-    requires top_ok { IsLid part.now part_top }
     requires moves_ok { MovesInRange moves.now }
     requires order { start ≤ end }
     requires there { end ≤ length moves.now }
@@ -72,7 +69,7 @@ pub fn first_part_fail<R: Threads + Sync>(
         first: 0,
         last: count,
     };
-    first_in_stripes(rt, job, part, cells, part_top, moves, stripes)
+    first_in_stripes(rt, job, part, cells, moves, stripes)
 }
 
 /// How many stripes this many moves are in: one for each worker, and no more than there are blocks.
@@ -93,13 +90,11 @@ fn first_in_stripes<R: Threads + Sync>(
     job: &Job,
     part: &Part,
     cells: &Cells,
-    part_top: i32,
     moves: &[Move],
     stripes: Stripes,
 ) -> Option<PartFail>
     requires job_ok { IsJob job.now }
     requires cells_ok { cells.now ≡ sorted_of part.now }
-    requires top_ok { IsLid part.now part_top }
     requires moves_ok { MovesInRange moves.now }
     requires few { length moves.now ≤ 1000000 }
     requires stripes_ok { AreStripes moves.now stripes }
@@ -110,7 +105,7 @@ fn first_in_stripes<R: Threads + Sync>(
 {
     let some = stripes.last - stripes.first;
     if some <= 1 {
-        return scan_stripe(job, part, cells, part_top, moves, stripes);
+        return scan_stripe(job, part, cells, moves, stripes);
     }
     let middle = stripes.first + some / 2;
     let left = Stripes {
@@ -127,7 +122,6 @@ fn first_in_stripes<R: Threads + Sync>(
             requires sync { IsSync R.row }
             requires job_ok { IsJob job.now }
             requires cells_ok { cells.now ≡ sorted_of part.now }
-            requires top_ok { IsLid part.now part_top }
             requires moves_ok { MovesInRange moves.now }
             requires few { length moves.now ≤ 1000000 }
             requires stripes_ok { AreStripes moves.now left }
@@ -135,12 +129,11 @@ fn first_in_stripes<R: Threads + Sync>(
                 result
                 (ClearsStripes job.entry.now part.entry.now moves.entry.now left)
                 (IsFirstStripesFail job.entry.now part.entry.now moves.entry.now left) }
-        { first_in_stripes(rt, job, part, cells, part_top, moves, left) },
+        { first_in_stripes(rt, job, part, cells, moves, left) },
         || -> Option<PartFail>
             requires sync { IsSync R.row }
             requires job_ok { IsJob job.now }
             requires cells_ok { cells.now ≡ sorted_of part.now }
-            requires top_ok { IsLid part.now part_top }
             requires moves_ok { MovesInRange moves.now }
             requires few { length moves.now ≤ 1000000 }
             requires stripes_ok { AreStripes moves.now right }
@@ -148,7 +141,7 @@ fn first_in_stripes<R: Threads + Sync>(
                 result
                 (ClearsStripes job.entry.now part.entry.now moves.entry.now right)
                 (IsFirstStripesFail job.entry.now part.entry.now moves.entry.now right) }
-        { first_in_stripes(rt, job, part, cells, part_top, moves, right) },
+        { first_in_stripes(rt, job, part, cells, moves, right) },
     );
     earlier(left_fail, right_fail)
 }
@@ -174,13 +167,11 @@ fn scan_stripe(
     job: &Job,
     part: &Part,
     cells: &Cells,
-    part_top: i32,
     moves: &[Move],
     stripe: Stripes,
 ) -> Option<PartFail>
     requires job_ok { IsJob job.now }
     requires cells_ok { cells.now ≡ sorted_of part.now }
-    requires top_ok { IsLid part.now part_top }
     requires moves_ok { MovesInRange moves.now }
     requires few { length moves.now ≤ 1000000 }
     requires stripe_ok { AreStripes moves.now stripe }
@@ -194,7 +185,7 @@ fn scan_stripe(
     let mut block = stripe.start + stripe.first * BLOCK;
     while block < stripe.end {
         let block_end = stripe.end.min(block + BLOCK);
-        if let Some(fail) = scan(job, part, cells, part_top, moves, block, block_end) {
+        if let Some(fail) = scan(job, part, cells, moves, block, block_end) {
             return Some(fail);
         }
         block += turn;
@@ -207,14 +198,12 @@ fn scan(
     job: &Job,
     part: &Part,
     cells: &Cells,
-    part_top: i32,
     moves: &[Move],
     start: usize,
     end: usize,
 ) -> Option<PartFail>
     requires job_ok { IsJob job.now }
     requires cells_ok { cells.now ≡ sorted_of part.now }
-    requires top_ok { IsLid part.now part_top }
     requires moves_ok { MovesInRange moves.now }
     requires order { start ≤ end }
     requires there { end ≤ length moves.now }
@@ -224,7 +213,7 @@ fn scan(
         (IsFirstPartFail job.now part.now moves.now start end) }
 {
     for at in start..end {
-        if let Some(gouge) = first_gouge(job, part, cells, part_top, moves, at) {
+        if let Some(gouge) = first_gouge(job.cutter, part, cells, &moves[at]) {
             return Some(PartFail { at, gouge });
         }
     }

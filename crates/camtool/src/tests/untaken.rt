@@ -9,7 +9,7 @@ use std::test::Fail;
 #[test]
 fn answers_untaken_words(rt: HostRuntime) -> Result<(), Fail> {
     let alloc = rt.alloc();
-    let table: [(&[&str], Status, &str); 24] = [
+    let table: [(&[&str], Status, &str); 27] = [
         (&["--help"], Status::Done, "Usage: camtool <COMMAND>"),
         (&["-h"], Status::Done, "Usage: camtool <COMMAND>"),
         (&["help", "drop"], Status::Done, "--x <X>"),
@@ -71,6 +71,17 @@ fn answers_untaken_words(rt: HostRuntime) -> Result<(), Fail> {
             &["--workers=2", "verify", "job", "part", "program"],
             Status::Words,
             "unexpected argument '--workers'",
+        ),
+        (&["plan", "job", "part"], Status::Words, "<OUT>"),
+        (
+            &["plan", "job", "part", "out", "more"],
+            Status::Words,
+            "unexpected argument 'more'",
+        ),
+        (
+            &["plan", "job", "part", "out", "--workers=65"],
+            Status::Words,
+            "65 is not in 1..=64",
         ),
         (&["drop", "job", "--x=1", "--y=2"], Status::Words, "<PART>"),
         (&["drop", "job", "part", "--y=2"], Status::Words, "--x <X>"),

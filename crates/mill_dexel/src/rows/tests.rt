@@ -35,6 +35,11 @@ fn five_rows() -> Job
         sample: 100,
         allowance: 0,
         band: 0,
+        lift: 0,
+        raster: 100,
+        rough_raster: 100,
+        layer: 0,
+        rough_stock: 0,
         snap: Snap::Nearest,
     }
 }

@@ -37,6 +37,11 @@ fn block_job(band: i32) -> Job
         sample: 50,
         allowance: 0,
         band,
+        lift: 0,
+        raster: 100,
+        rough_raster: 100,
+        layer: 0,
+        rough_stock: 0,
         snap: Snap::Nearest,
     }
 }
@@ -64,6 +69,11 @@ fn ball_job() -> Job
         sample: 50,
         allowance: 100,
         band: 0,
+        lift: 0,
+        raster: 100,
+        rough_raster: 100,
+        layer: 0,
+        rough_stock: 0,
         snap: Snap::Nearest,
     }
 }

@@ -1,7 +1,7 @@
-use Rattle.std.proofs.Common.{refl, ap}
+use Rattle.std.proofs.Common.{refl}
 use Rattle.std.specs.Prelude.{string_bytes}
 use Rattle.camtool.specs.declared.ending.Status.TheVariants as status
-use Rattle.camtool.specs.Headline.{help, bad_words, no_memory}
+use Rattle.camtool.specs.Headline.{help}
 use Rattle.camtool.proofs.Shown.{shown_came}
 use Rattle.camtool.proofs.run.tell_refusal.Goals as goal
 

@@ -2,8 +2,11 @@ use Rattle.std.proofs.Common.{arith}
 use Rattle.std.specs.Prelude.{pos, ◌+ℤ◌}
 use Rattle.std.proofs.lemmas.Int.{ints}
 use Rattle.mill_base.specs.Sizes.{radius_of}
-use Rattle.mill_dexel.proofs.Reaches.{reach_same, passes_beyond}
+use Rattle.mill_dexel.proofs.Reaches.{reach_same, passes_beyond, beyond_fits}
 use Rattle.mill_dexel.proofs.reach.reach_of.Goals as goal
+
+pub overflow_add-radius : goal.overflow_add-radius
+overflow_add-radius c = beyond_fits c.args.job.now.cutter c.radius.result c.requires.cutter_ok c.radius.ensures
 
 pub returns : goal.returns
 returns c =

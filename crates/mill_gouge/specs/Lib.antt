@@ -1,0 +1,3 @@
+pub mod Gouges
+pub mod Near
+pub mod Firsts

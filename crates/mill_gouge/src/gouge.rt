@@ -1,0 +1,71 @@
+ghost use Rattle.std.specs.Prelude.{◌≡◌, MatchOption};
+ghost use Rattle.mill_base.specs.Ranges.{MoveInRange, TriInRange};
+ghost use Rattle.mill_base.specs.Sizes.{IsCutter};
+ghost use Rattle.mill_cells.specs.Sorted.{sorted_of};
+ghost use Rattle.mill_gouge.specs.Firsts.{IsEarlier};
+ghost use Rattle.mill_gouge.specs.Gouges.{IsFirstGouge, PassesPart};
+
+use crate::area::{area_about, is_over, low_end};
+use crate::top::lid;
+use mill_base::{Cutter, Move, Tri};
+use mill_cells::Cells;
+use mill_part::Part;
+use mill_sweep::{Leaf, Sweep};
+
+/// A triangle that a move doesn't pass, and the leaf of the move that it blocks. Triangles are
+/// counted from 0.
+#[derive(Clone, Copy)]
+pub struct Gouge {
+    pub tri: u32,
+    pub leaf: Leaf,
+}
+
+/// The first triangle that the move doesn't pass, with its failing leaf; none exactly where the move
+/// passes each triangle of the part.
+///
+/// Only the triangles are tried whose boxes are near the move, by `cells`, which are those of the
+/// part's triangles, and that come over the lower of the move's ends. No triangle is tried where the
+/// move stays over the part's highest corner.
+///
+/// Lengths are in units of 0.01 mm, and the ends of the move of at most 131,071 in magnitude.
+pub fn first_gouge(cutter: Cutter, part: &Part, cells: &Cells, step: &Move) -> Option<Gouge>
+    requires cutter_ok { IsCutter cutter }
+    requires cells_ok { cells.now ≡ sorted_of part.now }
+    requires move_ok { MoveInRange step.now }
+    ensures { MatchOption
+        result
+        (PassesPart cutter step.now part.now)
+        (IsFirstGouge cutter step.now part.now) }
+{
+    let part_top = lid(part);
+    if is_over(step, part_top) {
+        return None;
+    }
+    let tris = part.tris();
+    let low = low_end(step);
+    let sweep = Sweep::new(cutter, step);
+    let mut first = None;
+    let mut near = cells.near_over(area_about(cutter, step));
+    while let Some(tri) = near.next_over(low) {
+        first = earlier(first, &sweep, &tris[tri as usize], tri);
+    }
+    first
+}
+
+/// The first gouge of those triangles that were tried, and of the triangle of this number.
+///
+/// The cells give the triangles in no order; one that comes after the first gouge isn't tried.
+fn earlier(first: Option<Gouge>, sweep: &Sweep, tri: &Tri, number: u32) -> Option<Gouge>
+    requires { TriInRange tri.now }
+    ensures { IsEarlier sweep.now.cutter sweep.now.move tri.now number first result }
+{
+    if let Some(gouge) = first {
+        if gouge.tri <= number {
+            return first;
+        }
+    }
+    match sweep.first_block(tri) {
+        Some(leaf) => Some(Gouge { tri: number, leaf }),
+        None => first,
+    }
+}

@@ -1,0 +1,20 @@
+//! Whether a move passes each triangle of a part, and if not, which is the first that it doesn't
+//! pass.
+//!
+//! It stands on the part and its cells (mill_part, mill_cells) and on `mill_sweep`, which tries one
+//! triangle. It promises that `clears` is so exactly where the move passes each triangle by halving,
+//! and that `first_gouge` else names the least triangle that the move doesn't pass, with its failing
+//! leaf, which that triangle blocks. Only triangles near the move are tried. Definitions:
+//! `specs/Gouges`; `specs/Near` and `specs/Firsts` serve the functions within.
+#![tactic(auto)]
+
+mod area;
+mod clear;
+mod gouge;
+mod top;
+
+pub use clear::clears;
+pub use gouge::{Gouge, first_gouge};
+
+#[cfg(test)]
+mod tests;

@@ -1,0 +1,285 @@
+-- The moves of links, tours and the way home are safe, and lead on from each other.
+use Rattle.std.specs.Prelude.{◌≡◌, ℕ, ◌<◌, Bool, true, false, ◌&&◌, if◌then◌else◌, ℤ, ◌≤ℤ◌, int_lt, List, [], ◌∷◌, ◌++◌, length, All}
+use Rattle.std.specs.Ordering.{int_eq}
+use Rattle.std.specs.List.{flat_map}
+use Rattle.std.proofs.Common.{inl, inr, refl, sym, subst, ap, arith}
+use Rattle.std.proofs.lemmas.Int.{ints}
+use Rattle.std.proofs.lemmas.List.{append_assoc, append-nil}
+use Rattle.std.proofs.lemmas.List.Elements.{All-head, All-tail, Contains-get_or, Contains-append_right}
+use Rattle.mill_base.specs.Covers.{IsUnder}
+use Rattle.mill_base.specs.Numbers.{Within, greatest, greater}
+use Rattle.mill_base.specs.Points.{highest, point_at, point_tri}
+use Rattle.mill_base.specs.Ranges.{IsInRange, MoveInRange}
+use Rattle.mill_base.specs.declared.points.Pt3.{Pt3}
+use Rattle.mill_base.specs.declared.points.Tri.{Tri}
+use Rattle.mill_base.specs.declared.motion.Move.{Move}
+use Rattle.mill_base.specs.declared.motion.Kind.TheVariants.{Rapid, Feed}
+use Rattle.mill_dexel.specs.Tops.{top_after}
+use Rattle.mill_dexel.proofs.TopLaws.{top_after_stays}
+use Rattle.mill_dexel.proofs.Cleared.{passes_after_cut}
+use Rattle.mill_gouge.specs.Gouges.{tri_at}
+use Rattle.mill_job.specs.Columns.{home}
+use Rattle.mill_job.specs.Jobs.{IsJob}
+use Rattle.mill_job.specs.declared.job.Job.{Job}
+use Rattle.mill_sweep.specs.Halving.{Passes}
+use Rattle.mill_sweep.specs.Vertical.{StaysOver}
+use Rattle.mill_sweep.proofs.Far.{top_passes}
+use Rattle.mill_sweep.proofs.Vertical.{vertical_passes}
+use Rattle.mill_paths.specs.Links.{at_height, feed_to, rapid_to, is_over_place, climb, cross, descend, plunge, detour, MayFeed, IsLink, way_home}
+use Rattle.mill_paths.specs.Tours.{AreLinks, last_place}
+use Rattle.mill_paths.specs.Safety.{IsSafe, AreSafe, Connect, IsFreePlace, IsEndOf, IsReached, GoSafely, LinkIsSafe, TourIsSafe, WayHomeIsSafe}
+use Rattle.mill_paths.specs.declared.visit.Visit.{Visit}
+use Rattle.mill_paths.proofs.Points.{same_pair}
+
+through : (a b c : ℤ) → a ≤ℤ b → b ≤ℤ c → a ≤ℤ c
+through a b c p q = omega (p, q, arith, ints)
+
+at_most_itself : (a : ℤ) → a ≤ℤ a
+at_most_itself a = omega (arith, ints)
+
+all_low : (a b c h : ℤ) → a ≤ℤ h → b ≤ℤ h → c ≤ℤ h → greater a (greater b c) ≤ℤ h
+all_low a b c h p q r = grind (p, q, r, arith, ints)
+
+feed_is_no_rapid : Feed ≡ Rapid → ⊥
+feed_is_no_rapid e = cc
+
+-- lists of safe moves, one after the other
+module _ (job : Job) (part : List Tri) where
+  safe-append : (done ms ns : List Move) → AreSafe job part done ms → AreSafe job part (done ++ ms) ns → AreSafe job part done (ms ++ ns)
+  safe-append done [] ns none rest = subst (λ l. AreSafe job part l ns) (append-nil done) rest
+  safe-append done (m ∷ ms) ns first rest =
+      (first.0, safe-append (done ++ m ∷ []) ms ns first.1 (subst (λ l. AreSafe job part l ns) (sym (append_assoc done (m ∷ []) ms)) rest))
+
+  connect-append : (from mid to : Pt3) (ms ns : List Move) → Connect from ms mid → Connect mid ns to → Connect from (ms ++ ns) to
+  connect-append from mid to [] ns first rest = subst (λ p. Connect p ns to) first rest
+  connect-append from mid to (m ∷ ms) ns first rest = (first.0, connect-append m.to mid to ms ns first.1 rest)
+
+  go_nowhere : (done : List Move) (from to : Pt3) → to ≡ from → IsReached job part done from → GoSafely job part done from [] to
+  go_nowhere done from to same at = record {
+    safe = tt;
+    connect = same;
+    reached = subst (λ p. IsReached job part (done ++ []) p) (sym same) (subst (λ l. IsReached job part l from) (sym (append-nil done)) at);
+  }
+
+  go_once : (done : List Move) (m : Move) → IsSafe job part done m → IsReached job part (done ++ m ∷ []) m.to → GoSafely job part done m.from (m ∷ []) m.to
+  go_once done m safe at = record { safe = (safe, tt); connect = (refl, refl); reached = at }
+
+  pub go_on : (done : List Move) (from mid to : Pt3) (ms ns : List Move) → GoSafely job part done from ms mid → GoSafely job part (done ++ ms) mid ns to
+      → GoSafely job part done from (ms ++ ns) to
+  go_on done from mid to ms ns first rest = record {
+    safe = safe-append done ms ns first.safe rest.safe;
+    connect = connect-append from mid to ms ns first.connect rest.connect;
+    reached = subst (λ l. IsReached job part l to) (append_assoc done ms ns) rest.reached;
+  }
+
+-- the moves themselves
+module _ (job : Job) (part : List Tri) (ok : IsJob job) (under : IsUnder part job.top) where
+  -- a move over the stock
+  over_safe : (done : List Move) (m : Move) → MoveInRange m → job.top ≤ℤ m.from.z → job.top ≤ℤ m.to.z → IsSafe job part done m
+  over_safe done m ranged from to = record {
+    ranged = ranged;
+    floor_from = through _ _ _ ok.stock from;
+    floor_to = through _ _ _ ok.stock to;
+    passes = λ t inside. let h = low_tri t inside in top_passes job.cutter m (tri_at part t) (through _ _ _ h from) (through _ _ _ h to);
+    stock = λ rapid x y. let h = low_column x y in
+        top_passes job.cutter m (point_tri (point_at x y (top_after job x y done))) (through _ _ _ h from) (through _ _ _ h to);
+  }
+    where
+      low_tri : (t : ℕ) → t < length part → highest (tri_at part t) ≤ℤ job.top
+      low_tri t inside = let h = under (tri_at part t) (Contains-get_or part t _ inside) in by _ _ _ h
+        where
+          by : (a b c : ℤ) → (a ≤ℤ job.top) × (b ≤ℤ job.top) × (c ≤ℤ job.top) → greater a (greater b c) ≤ℤ job.top
+          by a b c h = all_low a b c job.top (omega (arith, ints, h)) (omega (arith, ints, h)) (omega (arith, ints, h))
+
+      low_column : (x y : ℤ) → highest (point_tri (point_at x y (top_after job x y done))) ≤ℤ job.top
+      low_column x y = let h = (top_after_stays job x y done ok.stock).high in all_low _ _ _ job.top h h h
+
+  -- the cutter touches no triangle at a free place, so a move straight over it passes each
+  passes_over : (m : Move) (p : Pt3) → IsFreePlace job part p → StaysOver p m → (t : ℕ) → t < length part → Passes job.cutter m (tri_at part t)
+  passes_over m p at over t inside =
+      vertical_passes job.cutter m (tri_at part t) p over (λ touches. at.free (record { tri = tri_at part t; member = Contains-get_or part t _ inside; touches = touches }))
+
+  raised_range : (p : Pt3) (z : ℤ) → IsInRange p → Within greatest z → IsInRange (at_height p z)
+  raised_range p z ranged high = record { x_ok = ranged.x_ok; y_ok = ranged.y_ok; z_ok = high }
+
+  at_clear : (done : List Move) (p : Pt3) → IsInRange p → IsReached job part done (at_height p job.clear)
+  at_clear done p ranged = record {
+    ranged = raised_range p job.clear ranged ok.clear_ok;
+    floor = through _ _ _ ok.stock ok.over_stock;
+    low = at_most_itself job.clear;
+    place = inl (at_most_itself job.clear);
+  }
+
+  at_end : (done : List Move) (p : Pt3) → IsFreePlace job part p → IsEndOf done p → IsReached job part done p
+  at_end done p at end = record { ranged = at.ranged; floor = at.floor; low = through _ _ _ at.top ok.over_stock; place = inr (at, end) }
+
+  last_of : (done ms : List Move) (m : Move) → IsEndOf (done ++ (ms ++ m ∷ [])) m.to
+  last_of done ms m = record {
+    move = m;
+    member = Contains-append_right done (ms ++ m ∷ []) m (Contains-append_right ms (m ∷ []) m (0, omega arith, refl));
+    here = refl;
+  }
+
+  -- up
+  climb_safe : (done : List Move) (from : Pt3) → IsFreePlace job part from → IsEndOf done from → IsSafe job part done (rapid_to from (at_height from job.clear))
+  climb_safe done from at end = record {
+    ranged = record { from_ok = at.ranged; to_ok = raised_range from job.clear at.ranged ok.clear_ok };
+    floor_from = at.floor;
+    floor_to = through _ _ _ ok.stock ok.over_stock;
+    passes = passes_over up from at stays;
+    stock = λ rapid x y. passes_after_cut job done end.move up x y ok.cutter_ok end.member
+        (subst (λ p. job.floor ≤ℤ p.z) (sym end.here) at.floor) (subst (λ p. StaysOver p up) (sym end.here) stays);
+  }
+    where
+      up : Move
+      up = rapid_to from (at_height from job.clear)
+
+      stays : StaysOver from up
+      stays = record {
+        from = record { x_same = refl; y_same = refl; z_least = at_most_itself from.z };
+        to = record { x_same = refl; y_same = refl; z_least = through _ _ _ at.top ok.over_stock };
+      }
+
+  climb_goes : (done : List Move) (from : Pt3) → IsReached job part done from → GoSafely job part done from (climb job from) (at_height from job.clear)
+  climb_goes done from at = by (int_lt from.z job.clear) refl
+    where
+      up : int_lt from.z job.clear ≡ true → IsSafe job part done (rapid_to from (at_height from job.clear))
+      up low = elim at.place [
+        | inl high ↦ absurd (clash from.z job.clear low high)
+        | inr free ↦ climb_safe done from free.0 free.1
+      ]
+        where
+          clash : (a b : ℤ) → int_lt a b ≡ true → b ≤ℤ a → ⊥
+          clash a b e h = grind (e, h, arith, ints)
+
+      same : int_lt from.z job.clear ≡ false → at_height from job.clear ≡ from
+      same high = ap (λ z. point_at from.x from.y z) (equal from.z job.clear high at.low)
+        where
+          equal : (a b : ℤ) → int_lt a b ≡ false → a ≤ℤ b → b ≡ a
+          equal a b e h = grind (e, h, arith, ints)
+
+      by : (b : Bool) → int_lt from.z job.clear ≡ b
+          → GoSafely job part done from (if b then rapid_to from (at_height from job.clear) ∷ [] else []) (at_height from job.clear)
+      by true low = go_once job part done (rapid_to from (at_height from job.clear)) (up low) (at_clear _ from at.ranged)
+      by false high = go_nowhere job part done from (at_height from job.clear) (same high) at
+
+  -- across
+  cross_goes : (done : List Move) (from at : Pt3) → IsInRange from → IsInRange at
+      → GoSafely job part done (at_height from job.clear) (cross job from at) (at_height at job.clear)
+  cross_goes done from at ranged at_ok = by (is_over_place from at) refl
+    where
+      same : is_over_place from at ≡ true → at_height at job.clear ≡ at_height from job.clear
+      same e = equal from.x from.y at.x at.y e
+        where
+          equal : (x y u v : ℤ) → (int_eq x u && int_eq y v) ≡ true → point_at u v job.clear ≡ point_at x y job.clear
+          equal x y u v e = let h = same_pair x y u v e in rw (h.0, h.1) refl
+
+      over : Move
+      over = rapid_to (at_height from job.clear) (at_height at job.clear)
+
+      by : (b : Bool) → is_over_place from at ≡ b
+          → GoSafely job part done (at_height from job.clear) (if b then [] else over ∷ []) (at_height at job.clear)
+      by true e = go_nowhere job part done (at_height from job.clear) (at_height at job.clear) (same e) (at_clear done from ranged)
+      by false e = go_once job part done over
+          (over_safe done over (record { from_ok = raised_range from job.clear ranged ok.clear_ok; to_ok = raised_range at job.clear at_ok ok.clear_ok }) ok.over_stock ok.over_stock)
+          (at_clear _ at at_ok)
+
+  -- down
+  plunge_safe : (done : List Move) (at : Pt3) → IsFreePlace job part at → IsSafe job part done (plunge job at)
+  plunge_safe done at free = record {
+    ranged = record { from_ok = raised_range at job.top free.ranged ok.top_ok; to_ok = free.ranged };
+    floor_from = ok.stock;
+    floor_to = free.floor;
+    passes = passes_over (plunge job at) at free (record {
+      from = record { x_same = refl; y_same = refl; z_least = free.top };
+      to = record { x_same = refl; y_same = refl; z_least = at_most_itself at.z };
+    });
+    stock = λ rapid x y. absurd (feed_is_no_rapid rapid);
+  }
+
+  down_goes : (done : List Move) (at : Pt3) → IsFreePlace job part at
+      → GoSafely job part done (at_height at job.clear) (descend job at ++ plunge job at ∷ []) at
+  down_goes done at free = by (int_lt job.top job.clear) refl
+    where
+      down : Move
+      down = rapid_to (at_height at job.clear) (at_height at job.top)
+
+      same : int_lt job.top job.clear ≡ false → at_height at job.top ≡ at_height at job.clear
+      same high = ap (λ z. point_at at.x at.y z) (equal job.top job.clear high ok.over_stock)
+        where
+          equal : (a b : ℤ) → int_lt a b ≡ false → a ≤ℤ b → a ≡ b
+          equal a b e h = grind (e, h, arith, ints)
+
+      by : (b : Bool) → int_lt job.top job.clear ≡ b
+          → GoSafely job part done (at_height at job.clear) ((if b then down ∷ [] else []) ++ plunge job at ∷ []) at
+      by true low = record {
+        safe = (
+          over_safe done down (record { from_ok = raised_range at job.clear free.ranged ok.clear_ok; to_ok = raised_range at job.top free.ranged ok.top_ok }) ok.over_stock (at_most_itself job.top),
+          (plunge_safe (done ++ down ∷ []) at free, tt),
+        );
+        connect = (refl, (refl, refl));
+        reached = at_end _ at free (last_of done (down ∷ []) (plunge job at));
+      }
+      by false high = record {
+        safe = (plunge_safe done at free, tt);
+        connect = (same high, refl);
+        reached = at_end _ at free (last_of done [] (plunge job at));
+      }
+
+  -- round
+  detour_goes : (done : List Move) (from at : Pt3) → IsReached job part done from → IsFreePlace job part at
+      → GoSafely job part done from (detour job from at) at
+  detour_goes done from at reached free =
+      subst (λ ms. GoSafely job part done from ms at) (sym (append_assoc (climb job from ++ cross job from at) (descend job at) (plunge job at ∷ [])))
+      (go_on job part done from (at_height at job.clear) at (climb job from ++ cross job from at) (descend job at ++ plunge job at ∷ [])
+      (go_on job part done from (at_height from job.clear) (at_height at job.clear) (climb job from) (cross job from at)
+      (climb_goes done from reached) (cross_goes _ from at reached.ranged free.ranged))
+      (down_goes _ at free))
+
+  -- straight
+  straight_goes : (done : List Move) (from : Pt3) (visit : Visit) → IsReached job part done from → IsFreePlace job part visit.at → MayFeed job part from visit
+      → GoSafely job part done from (feed_to from visit.at ∷ []) visit.at
+  straight_goes done from visit reached free may = go_once job part done (feed_to from visit.at)
+      (record {
+        ranged = record { from_ok = reached.ranged; to_ok = free.ranged };
+        floor_from = reached.floor;
+        floor_to = free.floor;
+        passes = may.passes;
+        stock = λ rapid x y. absurd (feed_is_no_rapid rapid);
+      })
+      (at_end _ visit.at free (last_of done [] (feed_to from visit.at)))
+
+  link_goes : (done : List Move) (from : Pt3) (visit : Visit) (moves : List Move) → IsReached job part done from → IsFreePlace job part visit.at
+      → IsLink job part from visit moves → GoSafely job part done from moves visit.at
+  link_goes done from visit moves reached free (inl stay) =
+      subst (λ ms. GoSafely job part done from ms visit.at) (sym stay.none) (go_nowhere job part done from visit.at stay.there reached)
+  link_goes done from visit moves reached free (inr (inl straight)) =
+      subst (λ ms. GoSafely job part done from ms visit.at) (sym straight.feed) (straight_goes done from visit reached free straight.free)
+  link_goes done from visit moves reached free (inr (inr round)) =
+      subst (λ ms. GoSafely job part done from ms visit.at) (sym round.round) (detour_goes done from visit.at reached free)
+
+  links_go : (done : List Move) (from : Pt3) (visits : List Visit) (links : List (List Move)) → IsReached job part done from
+      → All (λ v. IsFreePlace job part v.at) visits → AreLinks job part from visits links
+      → GoSafely job part done from (flat_map (λ link. link) links) (last_place from visits)
+  links_go done from [] [] reached free are = go_nowhere job part done from from refl reached
+  links_go done from [] (link ∷ links) reached free are = absurd are
+  links_go done from (v ∷ vs) [] reached free are = absurd are
+  links_go done from (v ∷ vs) (link ∷ links) reached free are =
+      let first = link_goes done from v link reached (All-head (λ v. IsFreePlace job part v.at) v vs free) are.0 in
+      go_on job part done from v.at (last_place v.at vs) link (flat_map (λ link. link) links) first
+      (links_go (done ++ link) v.at vs links first.reached (All-tail (λ v. IsFreePlace job part v.at) v vs free) are.1)
+
+  home_goes : (done : List Move) (from : Pt3) → IsReached job part done from → GoSafely job part done from (way_home job from) (home job)
+  home_goes done from reached =
+      go_on job part done from (at_height from job.clear) (home job) (climb job from) (cross job from (home job))
+      (climb_goes done from reached) (cross_goes _ from (home job) reached.ranged (record { x_ok = ok.home_x_ok; y_ok = ok.home_y_ok; z_ok = ok.clear_ok }))
+
+pub link_is_safe : LinkIsSafe
+link_is_safe job part done from visit moves ok under reached free link = link_goes job part ok under done from visit moves reached free link
+
+pub tour_is_safe : TourIsSafe
+tour_is_safe job part done from visits moves ok under reached free tour =
+    subst (λ ms. GoSafely job part done from ms (last_place from visits)) (sym tour.joined) (links_go job part ok under done from visits tour.links reached free tour.are)
+
+pub way_home_is_safe : WayHomeIsSafe
+way_home_is_safe job part done from ok under reached = home_goes job part ok under done from reached

@@ -1,0 +1,184 @@
+-- How many moves a plan has at least.
+use Rattle.std.specs.Prelude.{◌≡◌, ℕ, ◌+◌, ◌<◌, ◌≤◌, Bool, true, false, ◌&&◌, if◌then◌else◌, ℤ, pos, ◌+ℤ◌, int_lt, int_le, List, [], ◌∷◌, ◌++◌, length, get_or, All}
+use Rattle.std.specs.Ordering.{int_eq}
+use Rattle.std.specs.List.{flat_map}
+use Rattle.std.proofs.Common.{inl, inr, refl, sym, ◌∙◌, subst, arith}
+use Rattle.std.proofs.lemmas.Bool.{and_from}
+use Rattle.std.proofs.lemmas.Bool.Decides.{Decides-int_eq}
+use Rattle.std.proofs.lemmas.List.{append-nil, length-append, length_push}
+use Rattle.std.proofs.lemmas.List.Elements.{All-nil, All-cons, All-head, All-tail}
+use Rattle.mill_base.specs.declared.lattice.Lattice.{Lattice}
+use Rattle.mill_base.specs.declared.motion.Move.{Move}
+use Rattle.mill_base.specs.declared.points.Pt3.{Pt3}
+use Rattle.mill_base.specs.declared.points.Tri.{Tri}
+use Rattle.mill_job.specs.Columns.{home}
+use Rattle.mill_job.specs.declared.job.Job.{Job}
+use Rattle.mill_paths.specs.Lattices.{finish_lattice, rough_lattice, zigzag_of}
+use Rattle.mill_paths.specs.Limits.{change_count, changes_after, is_same_point, is_same_visit, most_changes}
+use Rattle.mill_paths.specs.Links.{IsLink, climb, cross, descend, plunge, way_home}
+use Rattle.mill_paths.specs.Tours.{AreLinks, IsPlan, IsTour, last_place}
+use Rattle.mill_paths.specs.Unique.{ManyFinishVisitsMakeMoves, ManyRoughVisitsMakeMoves, PlanIsLonger}
+use Rattle.mill_paths.specs.Visits.{finish_visit, finish_visits_of, height_at, rough_levels, rough_visit, rough_visits_of, rough_visits_on, visit_at, visit_if}
+use Rattle.mill_paths.specs.declared.visit.Visit.{Visit}
+use Rattle.mill_paths.proofs.Uniqueness.{one_finish, one_link, one_rough, same_visits}
+use Rattle.mill_paths.proofs.VisitLemmas.{All-flat_map}
+
+-- the moves of links, one after the other
+abbrev joined : List (List Move) → List Move
+joined links = flat_map (λ link. link) links
+
+least : (n : ℕ) → 0 ≤ n
+least n = omega arith
+
+-- a list that others are added to
+longer : (a b : List Move) → length a ≤ length (a ++ b)
+longer a b = omega (length-append a b, arith)
+
+sum : (m n : ℕ) (a b : List Move) → m ≤ length a → n ≤ length b → m + n ≤ length (a ++ b)
+sum m n a b h g = omega (h, g, length-append a b, arith)
+
+after : (n : ℕ) (a b : List Move) → n ≤ length b → n ≤ length (a ++ b)
+after n a b h = omega (h, length-append a b, arith)
+
+both : (a b c d : List Move) → a ≡ b → length c ≤ length d → length (a ++ c) ≤ length (b ++ d)
+both a b c d e h = subst (λ (ms : List Move). length (a ++ c) ≤ length (ms ++ d)) e (omega (h, length-append a c, length-append a d, arith))
+
+module _ (job : Job) (part : List Tri) where
+  -- links to the first visits are the first of the links to all
+  links_begin : (from : Pt3) (first rest : List Visit) (ls ks : List (List Move)) → AreLinks job part from first ls → AreLinks job part from (first ++ rest) ks
+      → length (joined ls) ≤ length (joined ks)
+  links_begin from [] rest [] ks h g = least (length (joined ks))
+  links_begin from [] rest (l ∷ ls) ks h g = absurd h
+  links_begin from (v ∷ vs) rest [] ks h g = absurd h
+  links_begin from (v ∷ vs) rest (l ∷ ls) [] h g = absurd g
+  links_begin from (v ∷ vs) rest (l ∷ ls) (k ∷ ks) h g =
+      both l k (joined ls) (joined ks) (one_link job part from v l k h.0 g.0) (links_begin v.at vs rest ls ks h.1 g.1)
+
+  tour_begins : (from : Pt3) (first rest : List Visit) (a b : List Move) → IsTour job part from first a → IsTour job part from (first ++ rest) b → length a ≤ length b
+  tour_begins from first rest a b h g =
+      subst (λ (ms : List Move). length ms ≤ length b) (sym h.joined)
+      (subst (λ (ms : List Move). length (joined h.links) ≤ length ms) (sym g.joined) (links_begin from first rest h.links g.links h.are g.are))
+
+  -- a plan has the moves of its tour
+  tour_within : (moves : List Move) (plan : IsPlan job part moves) → length plan.toured ≤ length moves
+  tour_within moves plan =
+      subst (λ (ms : List Move). length plan.toured ≤ length ms) (sym plan.joined)
+      (longer plan.toured (way_home job (last_place (home job) (plan.rough ++ plan.finish))))
+
+pub plan_is_longer : PlanIsLonger
+plan_is_longer job part rough finish begun moves are_rough are_finish begins plan =
+    let visits : plan.rough ++ plan.finish ≡ begins.first ++ begins.rest =
+    same_visits job part plan.rough plan.finish rough finish plan.are_rough plan.are_finish are_rough are_finish ∙ begins.all in
+    let tour : IsTour job part (home job) (begins.first ++ begins.rest) plan.toured = subst (λ (vs : List Visit). IsTour job part (home job) vs plan.toured) visits plan.tour in
+    through (length begun) (length plan.toured) (length moves)
+    (tour_begins job part (home job) begins.first begins.rest begun plan.toured begins.tour tour) (tour_within job part moves plan)
+  where
+    through : (a b c : ℕ) → a ≤ b → b ≤ c → a ≤ c
+    through a b c h g = omega (h, g, arith)
+
+-- two visits at one place and with one step are the same
+number_itself : (x : ℤ) → int_eq x x ≡ true
+number_itself x = (Decides-int_eq x x).1 refl
+
+point_itself : (p : Pt3) → is_same_point p p ≡ true
+point_itself p =
+    and_from (int_eq p.x p.x) (int_eq p.y p.y && int_eq p.z p.z) (number_itself p.x)
+    (and_from (int_eq p.y p.y) (int_eq p.z p.z) (number_itself p.y) (number_itself p.z))
+
+same_visit : (v w : Visit) → w.at ≡ v.at → w.step ≡ v.step → is_same_visit v w ≡ true
+same_visit v w there step =
+    and_from (is_same_point v.at w.at) (int_eq v.step w.step)
+    (subst (λ (p : Pt3). is_same_point v.at p ≡ true) (sym there) (point_itself v.at))
+    (subst (λ (s : ℤ). int_eq v.step s ≡ true) (sym step) (number_itself v.step))
+
+at_most_one : (t : Bool) (n : ℕ) → 0 < n → (if t then 0 else 1) ≤ n
+at_most_one true n some = omega arith
+at_most_one false n some = omega arith
+
+-- every visit of a path has its step
+abbrev HaveStep : ℤ → List Visit → Type 0
+HaveStep step visits = All (λ (v : Visit). v.step ≡ step) visits
+
+step_if : (holds : Bool) (lattice : Lattice) (number : ℕ) (z : ℤ) → HaveStep lattice.step (visit_if holds lattice number z)
+step_if true lattice number z = All-cons (λ (v : Visit). v.step ≡ lattice.step) (visit_at lattice number z) [] refl (All-nil (λ (v : Visit). v.step ≡ lattice.step))
+step_if false lattice number z = All-nil (λ (v : Visit). v.step ≡ lattice.step)
+
+rough_step : (job : Job) (heights : List ℤ) (z : ℤ) (number : ℕ) → HaveStep job.rough_raster (rough_visit job heights z number)
+rough_step job heights z number = step_if (int_le (height_at heights number +ℤ job.rough_stock) z) (rough_lattice job) number z
+
+rough_steps : (job : Job) (heights : List ℤ) → HaveStep job.rough_raster (rough_visits_of job heights)
+rough_steps job heights =
+    All-flat_map (λ (v : Visit). v.step ≡ job.rough_raster) (rough_visits_on job heights) (rough_levels job) (pos 0) (λ k inside.
+    All-flat_map (λ (v : Visit). v.step ≡ job.rough_raster) (rough_visit job heights (get_or (rough_levels job) k (pos 0))) (zigzag_of (rough_lattice job)) 0 (λ place within.
+    rough_step job heights (get_or (rough_levels job) k (pos 0)) (get_or (zigzag_of (rough_lattice job)) place 0)))
+
+finish_step : (job : Job) (heights : List ℤ) (number : ℕ) → HaveStep job.raster (finish_visit job heights number)
+finish_step job heights number = step_if (int_lt (height_at heights number +ℤ job.lift) job.top) (finish_lattice job) number (height_at heights number +ℤ job.lift)
+
+finish_steps : (job : Job) (heights : List ℤ) → HaveStep job.raster (finish_visits_of job heights)
+finish_steps job heights =
+    All-flat_map (λ (v : Visit). v.step ≡ job.raster) (finish_visit job heights) (zigzag_of (finish_lattice job)) 0 (λ place within.
+    finish_step job heights (get_or (zigzag_of (finish_lattice job)) place 0))
+
+module _ (job : Job) (part : List Tri) where
+  -- the link from a visit to another of its path has a move, where they differ
+  link_counts : (v w : Visit) (link : List Move) → w.step ≡ v.step → IsLink job part v.at w link → (if is_same_visit v w then 0 else 1) ≤ length link
+  link_counts v w link step (inl stay) =
+      subst (λ (t : Bool). (if t then 0 else 1) ≤ length link) (sym (same_visit v w stay.there step)) (least (length link))
+  link_counts v w link step (inr (inl straight)) =
+      at_most_one (is_same_visit v w) (length link) (subst (λ (ms : List Move). 0 < length ms) (sym straight.feed) (omega arith))
+  link_counts v w link step (inr (inr round)) =
+      at_most_one (is_same_visit v w) (length link)
+      (subst (λ (ms : List Move). 0 < length ms) (sym round.round) (some (climb job v.at ++ cross job v.at w.at ++ descend job w.at) (plunge job w.at)))
+    where
+      some : (ms : List Move) (m : Move) → 0 < length (ms ++ m ∷ [])
+      some ms m = omega (length_push ms m, arith)
+
+  -- so a tour through the visits of a path has a move for each that differs from the one before it
+  counted_after : (step : ℤ) (v : Visit) (vs more : List Visit) (links : List (List Move)) → v.step ≡ step → HaveStep step vs
+      → AreLinks job part v.at (vs ++ more) links → changes_after v vs ≤ length (joined links)
+  counted_after step v [] more links is steps are = least (length (joined links))
+  counted_after step v (w ∷ ws) more [] is steps are = absurd are
+  counted_after step v (w ∷ ws) more (l ∷ ls) is steps are =
+      let next : w.step ≡ step = All-head (λ (u : Visit). u.step ≡ step) w ws steps in
+      sum (if is_same_visit v w then 0 else 1) (changes_after w ws) l (joined ls) (link_counts v w l (next ∙ sym is) are.0)
+      (counted_after step w ws more ls next (All-tail (λ (u : Visit). u.step ≡ step) w ws steps) are.1)
+
+  -- also where it comes through others before and after them
+  counted : (step : ℤ) (from : Pt3) (before visits more : List Visit) (links : List (List Move)) → HaveStep step visits
+      → AreLinks job part from (before ++ (visits ++ more)) links → change_count visits ≤ length (joined links)
+  counted step from [] [] more links steps are = least (length (joined links))
+  counted step from [] (v ∷ vs) more [] steps are = absurd are
+  counted step from [] (v ∷ vs) more (l ∷ ls) steps are =
+      after (changes_after v vs) l (joined ls)
+      (counted_after step v vs more ls (All-head (λ (u : Visit). u.step ≡ step) v vs steps) (All-tail (λ (u : Visit). u.step ≡ step) v vs steps) are.1)
+  counted step from (b ∷ bs) visits more [] steps are = absurd are
+  counted step from (b ∷ bs) visits more (l ∷ ls) steps are = after (change_count visits) l (joined ls) (counted step b.at bs visits more ls steps are.1)
+
+  tour_counts : (step : ℤ) (from : Pt3) (before visits more : List Visit) (moves : List Move) → HaveStep step visits
+      → IsTour job part from (before ++ (visits ++ more)) moves → change_count visits ≤ length moves
+  tour_counts step from before visits more moves steps tour =
+      subst (λ (ms : List Move). change_count visits ≤ length ms) (sym tour.joined) (counted step from before visits more tour.links steps tour.are)
+
+over : (a b c d : ℕ) → a < b → b ≤ c → c ≤ d → a < d
+over a b c d h g k = omega (h, g, k, arith)
+
+pub many_rough : ManyRoughVisitsMakeMoves
+many_rough job part moves layer many plan =
+    let same : plan.rough ≡ rough_visits_of job many.heights =
+    one_rough job part plan.rough (rough_visits_of job many.heights) plan.are_rough (record { heights = many.heights; are = λ some. many.are; visits = refl }) in
+    let count : most_changes < change_count plan.rough = subst (λ (vs : List Visit). most_changes < change_count vs) (sym same) many.many in
+    let steps : HaveStep job.rough_raster plan.rough = subst (λ (vs : List Visit). HaveStep job.rough_raster vs) (sym same) (rough_steps job many.heights) in
+    over most_changes (change_count plan.rough) (length plan.toured) (length moves) count
+    (tour_counts job part job.rough_raster (home job) [] plan.rough plan.finish plan.toured steps plan.tour) (tour_within job part moves plan)
+
+pub many_finish : ManyFinishVisitsMakeMoves
+many_finish job part moves many plan =
+    let same : plan.finish ≡ finish_visits_of job many.heights =
+    one_finish job part plan.finish (finish_visits_of job many.heights) plan.are_finish (record { heights = many.heights; are = many.are; visits = refl }) in
+    let count : most_changes < change_count plan.finish = subst (λ (vs : List Visit). most_changes < change_count vs) (sym same) many.many in
+    let steps : HaveStep job.raster plan.finish = subst (λ (vs : List Visit). HaveStep job.raster vs) (sym same) (finish_steps job many.heights) in
+    let tour : IsTour job part (home job) (plan.rough ++ (plan.finish ++ [])) plan.toured =
+    subst (λ (vs : List Visit). IsTour job part (home job) (plan.rough ++ vs) plan.toured) (sym (append-nil plan.finish)) plan.tour in
+    over most_changes (change_count plan.finish) (length plan.toured) (length moves) count
+    (tour_counts job part job.raster (home job) plan.rough plan.finish [] plan.toured steps tour) (tour_within job part moves plan)

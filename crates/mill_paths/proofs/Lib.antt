@@ -1,0 +1,15 @@
+mod Rows
+pub mod Going
+mod Joining
+mod Points
+pub mod Changes
+pub mod Adding
+pub mod PathLemmas
+pub mod ZigzagLemmas
+pub mod LevelLemmas
+pub mod VisitLemmas
+pub mod FaultLemmas
+pub mod Steps
+pub mod Uniqueness
+pub mod Lengths
+pub mod Rounds

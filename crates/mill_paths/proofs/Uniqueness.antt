@@ -1,0 +1,125 @@
+-- A job and a part settle the heights, the visits, the links and so the moves of their plan.
+use Rattle.std.specs.Prelude.{◌≡◌, Bool, true, false, if◌then◌else◌, ℤ, pos, ◌-ℤ◌, ◌*ℤ◌, ◌<ℤ◌, ◌≤ℤ◌, int_lt, List, [], ◌∷◌, ◌++◌, map}
+use Rattle.std.specs.List.{AllZip, flat_map, range_with_len}
+use Rattle.std.proofs.Common.{inl, inr, refl, sym, ap, ◌∙◌, subst, arith}
+use Rattle.std.proofs.lemmas.Int.{ints}
+use Rattle.mill_base.specs.declared.cutter.Cutter.{Cutter}
+use Rattle.mill_base.specs.declared.lattice.Lattice.{Lattice}
+use Rattle.mill_base.specs.declared.motion.Move.{Move}
+use Rattle.mill_base.specs.declared.points.Pt3.{Pt3}
+use Rattle.mill_base.specs.declared.points.Tri.{Tri}
+use Rattle.mill_drop.specs.Drops.{IsDropHeight}
+use Rattle.mill_drop.specs.Maps.{AreDropHeights, IsHeightAt, nodes_of}
+use Rattle.mill_job.specs.Columns.{home}
+use Rattle.mill_job.specs.declared.job.Job.{Job}
+use Rattle.mill_paths.specs.Lattices.{finish_lattice, rough_lattice}
+use Rattle.mill_paths.specs.Links.{IsLink, way_home}
+use Rattle.mill_paths.specs.Tours.{AreLinks, IsTour, last_place}
+use Rattle.mill_paths.specs.Unique.{OnePlan}
+use Rattle.mill_paths.specs.Visits.{AreFinishVisits, AreRoughVisits, finish_visits_of, level_count, rough_visits_of, rough_visits_on}
+use Rattle.mill_paths.specs.declared.visit.Visit.{Visit}
+
+level : (z : ℤ) → z ≤ℤ z
+level z = omega (arith, ints)
+
+not_under : (z w : ℤ) → ¬ (z <ℤ w) → w ≤ℤ z
+not_under z w h = by (int_lt z w) refl
+  where
+    under : int_lt z w ≡ true → z <ℤ w
+    under e = omega (e, arith, ints)
+
+    by : (t : Bool) → int_lt z w ≡ t → w ≤ℤ z
+    by true e = absurd (h (under e))
+    by false e = omega (e, arith, ints)
+
+same_height : (z w : ℤ) → ¬ (z <ℤ w) → ¬ (w <ℤ z) → z ≡ w
+same_height z w h k = equal (not_under z w h) (not_under w z k)
+  where
+    equal : w ≤ℤ z → z ≤ℤ w → z ≡ w
+    equal p q = omega (p, q, arith, ints)
+
+-- each of two drop heights is the least
+pub one_height : (cutter : Cutter) (part : List Tri) (x y floor z w : ℤ) → IsDropHeight cutter part x y floor z → IsDropHeight cutter part x y floor w → z ≡ w
+one_height cutter part x y floor z w h g =
+    same_height z w (λ low. h.free z (level z) (g.least z h.kept low)) (λ low. g.free w (level w) (h.least w g.kept low))
+
+-- lists that each item of another settles place by place
+one_list : {A B : Type 0} (R : A → B → Type 0) → ((x : A) (y z : B) → R x y → R x z → y ≡ z) → (xs : List A) (ys zs : List B)
+    → AllZip R xs ys → AllZip R xs zs → ys ≡ zs
+one_list R one [] [] [] h g = refl
+one_list R one [] [] (z ∷ zs) h g = absurd g
+one_list R one [] (y ∷ ys) zs h g = absurd h
+one_list R one (x ∷ xs) [] zs h g = absurd h
+one_list R one (x ∷ xs) (y ∷ ys) [] h g = absurd g
+one_list R one (x ∷ xs) (y ∷ ys) (z ∷ zs) h g = ap (λ w. w ∷ ys) (one x y z h.0 g.0) ∙ ap (λ ws. z ∷ ws) (one_list R one xs ys zs h.1 g.1)
+
+pub one_map : (cutter : Cutter) (part : List Tri) (floor : ℤ) (lattice : Lattice) (a b : List ℤ) → AreDropHeights cutter part floor lattice a
+    → AreDropHeights cutter part floor lattice b → a ≡ b
+one_map cutter part floor lattice a b h g =
+    one_list (IsHeightAt cutter part floor) (λ node z w p q. one_height cutter part node.0 node.1 floor z w p q) (nodes_of lattice) a b h g
+
+-- without a layer there is no level, and no roughing visit
+none_rough : (job : Job) (heights : List ℤ) → int_lt (pos 0) job.layer ≡ false → rough_visits_of job heights ≡ []
+none_rough job heights none =
+    ap (λ (t : Bool). flat_map (rough_visits_on job heights) (if t then map (λ k. job.top -ℤ pos k *ℤ job.layer) (range_with_len 1 (level_count job)) else [])) none
+
+pub one_rough : (job : Job) (part : List Tri) (a b : List Visit) → AreRoughVisits job part a → AreRoughVisits job part b → a ≡ b
+one_rough job part a b h g = h.visits ∙ by (int_lt (pos 0) job.layer) refl ∙ sym g.visits
+  where
+    some : (layer : ℤ) → int_lt (pos 0) layer ≡ true → (pos 0) <ℤ layer
+    some layer e = omega (arith, ints)
+
+    by : (t : Bool) → int_lt (pos 0) job.layer ≡ t → rough_visits_of job h.heights ≡ rough_visits_of job g.heights
+    by true e =
+        ap (λ (heights : List ℤ). rough_visits_of job heights)
+        (one_map job.cutter part job.floor (rough_lattice job) h.heights g.heights (h.are (some job.layer e)) (g.are (some job.layer e)))
+    by false e = none_rough job h.heights e ∙ sym (none_rough job g.heights e)
+
+pub one_finish : (job : Job) (part : List Tri) (a b : List Visit) → AreFinishVisits job part a → AreFinishVisits job part b → a ≡ b
+one_finish job part a b h g =
+    h.visits
+    ∙ ap (λ (heights : List ℤ). finish_visits_of job heights) (one_map job.cutter part job.floor (finish_lattice job) h.heights g.heights h.are g.are)
+    ∙ sym g.visits
+
+-- the link to a visit: the three kinds exclude each other
+pub one_link : (job : Job) (part : List Tri) (from : Pt3) (visit : Visit) (a b : List Move) → IsLink job part from visit a → IsLink job part from visit b → a ≡ b
+one_link job part from visit a b (inl h) (inl g) = h.none ∙ sym g.none
+one_link job part from visit a b (inl h) (inr (inl g)) = absurd (g.away h.there)
+one_link job part from visit a b (inl h) (inr (inr g)) = absurd (g.away h.there)
+one_link job part from visit a b (inr (inl h)) (inl g) = absurd (h.away g.there)
+one_link job part from visit a b (inr (inl h)) (inr (inl g)) = h.feed ∙ sym g.feed
+one_link job part from visit a b (inr (inl h)) (inr (inr g)) = absurd (g.barred h.free)
+one_link job part from visit a b (inr (inr h)) (inl g) = absurd (h.away g.there)
+one_link job part from visit a b (inr (inr h)) (inr (inl g)) = absurd (h.barred g.free)
+one_link job part from visit a b (inr (inr h)) (inr (inr g)) = h.round ∙ sym g.round
+
+one_links : (job : Job) (part : List Tri) (from : Pt3) (visits : List Visit) (ls ks : List (List Move)) → AreLinks job part from visits ls
+    → AreLinks job part from visits ks → ls ≡ ks
+one_links job part from [] [] [] h g = refl
+one_links job part from [] [] (k ∷ ks) h g = absurd g
+one_links job part from [] (l ∷ ls) ks h g = absurd h
+one_links job part from (v ∷ vs) [] ks h g = absurd h
+one_links job part from (v ∷ vs) (l ∷ ls) [] h g = absurd g
+one_links job part from (v ∷ vs) (l ∷ ls) (k ∷ ks) h g =
+    ap (λ (m : List Move). m ∷ ls) (one_link job part from v l k h.0 g.0) ∙ ap (λ (ms : List (List Move)). k ∷ ms) (one_links job part v.at vs ls ks h.1 g.1)
+
+pub one_tour : (job : Job) (part : List Tri) (from : Pt3) (visits : List Visit) (a b : List Move) → IsTour job part from visits a
+    → IsTour job part from visits b → a ≡ b
+one_tour job part from visits a b h g =
+    h.joined ∙ ap (λ (links : List (List Move)). flat_map (λ (link : List Move). link) links) (one_links job part from visits h.links g.links h.are g.are) ∙ sym g.joined
+
+-- the visits of a plan are those of each other list of its roughing and finishing visits
+pub same_visits : (job : Job) (part : List Tri) (r f s g : List Visit) → AreRoughVisits job part r → AreFinishVisits job part f
+    → AreRoughVisits job part s → AreFinishVisits job part g → r ++ f ≡ s ++ g
+same_visits job part r f s g are_r are_f are_s are_g =
+    ap (λ (vs : List Visit). vs ++ f) (one_rough job part r s are_r are_s) ∙ ap (λ (vs : List Visit). s ++ vs) (one_finish job part f g are_f are_g)
+
+pub one_plan : OnePlan
+one_plan job part a b h g =
+    let visits : h.rough ++ h.finish ≡ g.rough ++ g.finish = same_visits job part h.rough h.finish g.rough g.finish h.are_rough h.are_finish g.are_rough g.are_finish in
+    let tour : IsTour job part (home job) (h.rough ++ h.finish) g.toured = subst (λ (vs : List Visit). IsTour job part (home job) vs g.toured) (sym visits) g.tour in
+    let moves : h.toured ≡ g.toured = one_tour job part (home job) (h.rough ++ h.finish) h.toured g.toured h.tour tour in
+    h.joined
+    ∙ ap (λ (ms : List Move). ms ++ way_home job (last_place (home job) (h.rough ++ h.finish))) moves
+    ∙ ap (λ (vs : List Visit). g.toured ++ way_home job (last_place (home job) vs)) visits
+    ∙ sym g.joined

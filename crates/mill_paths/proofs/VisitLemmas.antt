@@ -1,0 +1,147 @@
+-- Each visit of a plan is in range, between floor and top, and free of the part.
+use Rattle.std.proofs.Common.{◌≡◌, ℕ, zero, suc, ◌+◌, ◌*◌, ◌/◌, ◌%◌, ◌<◌, Bool, true, false, List, [], ◌∷◌, length, get_or, refl, sym, ◌∙◌, subst, mod-lt, arith}
+use Rattle.std.specs.Prelude.{nat_abs, int_lt, int_le, ℤ, pos, ◌+ℤ◌, ◌-ℤ◌, ◌<ℤ◌, ◌≤ℤ◌, All}
+use Rattle.std.specs.List.{AllZip, flat_map, range_with_len}
+use Rattle.std.specs.Int.{div_ceil}
+use Rattle.std.proofs.lemmas.Int.{ints}
+use Rattle.std.proofs.lemmas.List.Elements.{All-append, All-cons, All-nil}
+use Rattle.std.proofs.lemmas.List.FromFn.{length-range_with_len, get_or-range_with_len}
+use Rattle.mill_base.specs.Numbers.{Within, greatest}
+use Rattle.mill_base.specs.Lattices.{lattice_positions, lattice_xs, lattice_ys}
+use Rattle.mill_base.specs.declared.lattice.Lattice.{Lattice}
+use Rattle.mill_base.specs.declared.points.Tri.{Tri}
+use Rattle.mill_drop.specs.Drops.{IsDropHeight}
+use Rattle.mill_drop.specs.Maps.{AreDropHeights, IsHeightAt, IsMapLattice, node_at, nodes_of}
+use Rattle.mill_drop.proofs.NodeLemmas.{get_or-rows, get_or-positions, length-positions, length-rows, position_within, row_within}
+use Rattle.mill_job.specs.Jobs.{IsFrom, IsJob}
+use Rattle.mill_job.specs.declared.job.Job.{Job}
+use Rattle.mill_paths.specs.Lattices.{finish_lattice, rough_lattice, zigzag_of, zigzag_row}
+use Rattle.mill_paths.specs.Visits.{IsVisit, finish_visit, finish_visits_of, height_at, rough_levels, rough_visit, rough_visits_of, rough_visits_on, visit_at, visit_if}
+use Rattle.mill_paths.specs.declared.visit.Visit.{Visit}
+use Rattle.mill_paths.proofs.Adding.{flat_map-nested}
+use Rattle.mill_paths.proofs.LevelLemmas.{IsLevel, is_level}
+use Rattle.mill_paths.proofs.ZigzagLemmas.{length-zigzag_row, number_within}
+
+-- what holds place by place of two lists holds at each number
+pub AllZip-at : {A B : Type 0} (R : A → B → Type 0) (xs : List A) (ys : List B) (k : ℕ) (d : A) (e : B) → AllZip R xs ys → k < length xs → R (get_or xs k d) (get_or ys k e)
+AllZip-at R [] ys k d e h inside = absurd (omega arith)
+AllZip-at R (x ∷ xs) [] k d e h inside = absurd h
+AllZip-at R (x ∷ xs) (y ∷ ys) zero d e h inside = h.0
+AllZip-at R (x ∷ xs) (y ∷ ys) (suc k) d e h inside = AllZip-at R xs ys k d e h.1 (omega arith)
+
+-- what holds of all that each item gives holds of all together
+pub All-flat_map : {X A : Type 0} (P : A → Type 0) (f : X → List A) (xs : List X) (d : X) → ((k : ℕ) → k < length xs → All P (f (get_or xs k d))) → All P (flat_map f xs)
+All-flat_map P f [] d each = All-nil P
+All-flat_map P f (x ∷ xs) d each =
+    All-append P (f x) (flat_map f xs) (each 0 (omega arith)) (All-flat_map P f xs d (λ k inside. each (suc k) (omega arith)))
+
+-- the positions of a lattice along an axis are some, and in range
+some_positions : (lo hi step : ℤ) → 0 < length (lattice_positions lo hi step)
+some_positions lo hi step =
+    subst (λ n. 0 < n) (sym (length-positions lo hi step)) (more (div_ceil (nat_abs (hi -ℤ lo)) (nat_abs step)))
+  where
+    more : (n : ℕ) → 0 < n + 1
+    more n = omega arith
+
+positions_within : (lo hi step : ℤ) (k : ℕ) → Within greatest lo → Within greatest hi → lo ≤ℤ hi → (pos 1) ≤ℤ step → k < length (lattice_positions lo hi step)
+    → Within greatest (get_or (lattice_positions lo hi step) k (pos 0))
+positions_within lo hi step k low high order some inside =
+    subst (λ z. Within greatest z) (sym (get_or-positions lo hi step k order some inside)) (position_within lo hi (k * nat_abs step) low high order)
+
+-- the node of each number is in range
+record IsPlace (node : ℤ × ℤ) : Type 0 where
+  pub x_ok : Within greatest node.0
+  pub y_ok : Within greatest node.1
+
+node_within : (lattice : Lattice) (number : ℕ) → IsMapLattice lattice → number < length (nodes_of lattice) → IsPlace (node_at lattice number)
+node_within lattice number ok inside =
+    let xs : List ℤ = lattice_xs lattice in
+    let ys : List ℤ = lattice_ys lattice in
+    let some : 0 < length xs = some_positions lattice.area.x0 lattice.area.x1 lattice.step in
+    let product : number < length xs * length ys = subst (λ n. number < n) (length-rows xs ys) inside in
+    let is : node_at lattice number ≡ (get_or xs (number % length xs) (pos 0), get_or ys (number / length xs) (pos 0)) = get_or-rows xs ys number (pos 0, pos 0) some product in
+    subst (λ node. IsPlace node) (sym is) (record {
+      x_ok = positions_within lattice.area.x0 lattice.area.x1 lattice.step (number % length xs) ok.x0_ok ok.x1_ok ok.x_order ok.step_ok (mod-lt number some);
+      y_ok = positions_within lattice.area.y0 lattice.area.y1 lattice.step (number / length xs) ok.y0_ok ok.y1_ok ok.y_order ok.step_ok (row_within xs ys (length xs) number refl some inside);
+    })
+
+-- a visit of a job over a node, from its drop height on and under the top
+visit_ok : (job : Job) (part : List Tri) (lattice : Lattice) (heights : List ℤ) (number : ℕ) (z : ℤ) → IsJob job → IsMapLattice lattice → IsFrom (pos 1) (pos 10000) lattice.step
+    → AreDropHeights job.cutter part job.floor lattice heights → number < length (nodes_of lattice) → height_at heights number ≤ℤ z → z <ℤ job.top
+    → IsVisit job part (visit_at lattice number z)
+visit_ok job part lattice heights number z ok map_ok step are inside free under =
+    let node : ℤ × ℤ = node_at lattice number in
+    let place : IsPlace node = node_within lattice number map_ok inside in
+    let drop : IsDropHeight job.cutter part node.0 node.1 job.floor (height_at heights number) =
+    AllZip-at (IsHeightAt job.cutter part job.floor) (nodes_of lattice) heights number (pos 0, pos 0) (pos 0) are inside in
+    let kept : job.floor ≤ℤ z = upto job.floor (height_at heights number) z drop.kept free in
+    record {
+      in_range = record { x_ok = place.x_ok; y_ok = place.y_ok; z_ok = between job.floor z job.top ok.floor_ok ok.top_ok kept under };
+      kept = kept;
+      under_top = under;
+      free = λ higher h. drop.free higher (upto (height_at heights number) z higher free h);
+      step_ok = step;
+    }
+  where
+    upto : (a b c : ℤ) → a ≤ℤ b → b ≤ℤ c → a ≤ℤ c
+    upto a b c h e = omega (arith, ints)
+
+    between : (a b c : ℤ) → Within greatest a → Within greatest c → a ≤ℤ b → b <ℤ c → Within greatest b
+    between a b c h e low high = let low_ok = h.within in let high_ok = e.within in record { within = omega (arith, ints) }
+
+-- what holds of the one visit where there is one holds of all of it
+if_ok : (P : Visit → Type 0) (holds : Bool) (lattice : Lattice) (number : ℕ) (z : ℤ) → (holds ≡ true → P (visit_at lattice number z)) → All P (visit_if holds lattice number z)
+if_ok P true lattice number z h = All-cons P (visit_at lattice number z) [] (h refl) (All-nil P)
+if_ok P false lattice number z h = All-nil P
+
+-- each visit on a level between floor and top
+rough_visit_ok : (job : Job) (part : List Tri) (heights : List ℤ) (z : ℤ) (number : ℕ) → IsJob job → IsMapLattice (rough_lattice job) → IsLevel job z
+    → AreDropHeights job.cutter part job.floor (rough_lattice job) heights → number < length (nodes_of (rough_lattice job)) → All (IsVisit job part) (rough_visit job heights z number)
+rough_visit_ok job part heights z number ok map_ok level are inside =
+    if_ok (IsVisit job part) (int_le (height_at heights number +ℤ job.rough_stock) z) (rough_lattice job) number z
+    (λ holds. visit_ok job part (rough_lattice job) heights number z ok map_ok ok.rough_raster_ok are inside (less (height_at heights number) job.rough_stock z ok.rough_stock_ok.low holds) level.under)
+  where
+    less : (h stock z : ℤ) → (pos 0) ≤ℤ stock → int_le (h +ℤ stock) z ≡ true → h ≤ℤ z
+    less h stock z least e = omega (arith, ints)
+
+finish_visit_ok : (job : Job) (part : List Tri) (heights : List ℤ) (number : ℕ) → IsJob job → IsMapLattice (finish_lattice job)
+    → AreDropHeights job.cutter part job.floor (finish_lattice job) heights → number < length (nodes_of (finish_lattice job)) → All (IsVisit job part) (finish_visit job heights number)
+finish_visit_ok job part heights number ok map_ok are inside =
+    if_ok (IsVisit job part) (int_lt (height_at heights number +ℤ job.lift) job.top) (finish_lattice job) number (height_at heights number +ℤ job.lift)
+    (λ holds. visit_ok job part (finish_lattice job) heights number (height_at heights number +ℤ job.lift) ok map_ok ok.raster_ok are inside
+    (more (height_at heights number) job.lift ok.lift_ok.low) (less (height_at heights number +ℤ job.lift) job.top holds))
+  where
+    more : (h lift : ℤ) → (pos 0) ≤ℤ lift → h ≤ℤ (h +ℤ lift)
+    more h lift least = omega (arith, ints)
+
+    less : (a b : ℤ) → int_lt a b ≡ true → a <ℤ b
+    less a b e = omega (arith, ints)
+
+-- what holds of all that each node gives holds of all in zigzag order
+zigzag_ok : (P : Visit → Type 0) (f : ℕ → List Visit) (lattice : Lattice) → ((number : ℕ) → number < length (nodes_of lattice) → All P (f number)) → All P (flat_map f (zigzag_of lattice))
+zigzag_ok P f lattice each =
+    let columns : ℕ = length (lattice_xs lattice) in
+    let rows : ℕ = length (lattice_ys lattice) in
+    subst (λ (vs : List Visit). All P vs) (sym (flat_map-nested f (zigzag_row columns) (range_with_len 0 rows)))
+    (All-flat_map P (λ (row : ℕ). flat_map f (zigzag_row columns row)) (range_with_len 0 rows) 0 (λ k inside.
+    let row : k < rows = subst (λ n. k < n) (length-range_with_len 0 rows) inside in
+    let is : get_or (range_with_len 0 rows) k 0 ≡ k = get_or-range_with_len 0 rows k 0 row ∙ plain k in
+    subst (λ (n : ℕ). All P (flat_map f (zigzag_row columns n))) (sym is)
+    (All-flat_map P f (zigzag_row columns k) 0 (λ place within.
+    each (get_or (zigzag_row columns k) place 0) (number_within lattice columns k place refl row (subst (λ n. place < n) (length-zigzag_row columns k) within))))))
+  where
+    plain : (n : ℕ) → 0 + n ≡ n
+    plain n = omega arith
+
+-- the finishing visits, and the roughing visits
+pub finish_visits_ok : (job : Job) (part : List Tri) (heights : List ℤ) → IsJob job → IsMapLattice (finish_lattice job)
+    → AreDropHeights job.cutter part job.floor (finish_lattice job) heights → All (IsVisit job part) (finish_visits_of job heights)
+finish_visits_ok job part heights ok map_ok are =
+    zigzag_ok (IsVisit job part) (finish_visit job heights) (finish_lattice job) (λ number inside. finish_visit_ok job part heights number ok map_ok are inside)
+
+pub rough_visits_ok : (job : Job) (part : List Tri) (heights : List ℤ) → IsJob job → (pos 0) <ℤ job.layer → IsMapLattice (rough_lattice job)
+    → AreDropHeights job.cutter part job.floor (rough_lattice job) heights → All (IsVisit job part) (rough_visits_of job heights)
+rough_visits_ok job part heights ok some map_ok are =
+    All-flat_map (IsVisit job part) (rough_visits_on job heights) (rough_levels job) (pos 0) (λ k inside.
+    zigzag_ok (IsVisit job part) (rough_visit job heights (get_or (rough_levels job) k (pos 0))) (rough_lattice job) (λ number within.
+    rough_visit_ok job part heights (get_or (rough_levels job) k (pos 0)) number ok map_ok (is_level job k ok some inside) are within))

@@ -1,0 +1,114 @@
+use Rattle.std.proofs.Common.{◌≡◌, ◌∙◌, List, [], refl, sym, ap, subst}
+use Rattle.std.specs.Prelude.{ℤ, pos, ◌<ℤ◌, All, Err}
+use Rattle.std.specs.List.{flat_map}
+use Rattle.std.proofs.lemmas.List.Elements.{All-nil}
+use Rattle.std.proofs.lemmas.Result.{err_from_is_err_and}
+use Rattle.std.proofs.lemmas.Slice.Zip.{AllZip-long}
+use Rattle.mill_drop.specs.Maps.{AreDropHeights, IsHeightAt, IsMapLattice, nodes_of}
+use Rattle.mill_part.proofs.Stored.{band_kept}
+use Rattle.mill_paths.specs.Lattices.{rough_lattice}
+use Rattle.mill_paths.specs.Limits.{IsHeightsFault, IsListFault}
+use Rattle.mill_paths.specs.Visits.{IsVisit, rough_visits_of, rough_visits_on}
+use Rattle.mill_paths.specs.declared.visit.Visit.{Visit}
+use Rattle.mill_paths.proofs.FaultLemmas.{heights_fault, heights_fault_visits, list_fault, list_fault_visits, list_there, step_least, layer_none, layer_some, list_without_layer, no_layer, with_layer}
+use Rattle.mill_paths.proofs.LevelLemmas.{layer_within, no_levels}
+use Rattle.mill_paths.proofs.VisitLemmas.{rough_visits_ok}
+use Rattle.mill_paths.proofs.visits.rough_visits.Goals as goal
+
+pub returns-then-job-eq0-clause-list : goal.returns-then-job-eq0-clause-list
+returns-then-job-eq0-clause-list g c =
+    let none = layer_none c.args.job.now.layer (layer_within c.args.job.now c.requires.job_ok) c.if-job-eq0.true in
+    record {
+      heights = [];
+      are = λ some. absurd (no_layer c.args.job.now.layer none some);
+      visits = c.new.ensures.items ∙ sym (ap (λ (levels : List ℤ). flat_map (rough_visits_on c.args.job.now []) levels) (no_levels c.args.job.now none));
+    }
+
+pub returns-then-job-eq0-clause-each : goal.returns-then-job-eq0-clause-each
+returns-then-job-eq0-clause-each g c =
+    subst (λ (visits : List Visit). All (IsVisit c.args.job.now c.args.part.now) visits) (sym c.new.ensures.items) (All-nil (IsVisit c.args.job.now c.args.part.now))
+
+pub returns-then-job-eq0-clause-nodes : goal.returns-then-job-eq0-clause-nodes
+returns-then-job-eq0-clause-nodes g c =
+    let none = layer_none c.args.job.now.layer (layer_within c.args.job.now c.requires.job_ok) c.if-job-eq0.true in
+    λ nodes. list_without_layer c.new.result (rough_lattice c.args.job.now) c.args.job.now.layer none nodes
+
+pub returns-in_err-heights-clause-nodes : goal.returns-in_err-heights-clause-nodes
+returns-in_err-heights-clause-nodes g c =
+    let some : (pos 0) <ℤ c.args.job.now.layer = layer_some c.args.job.now.layer c.requires.job_ok.layer_ok.low c.if-job-eq0.false in
+    let p = err_from_is_err_and c.from_residual.result c.from_residual.ensures.1 in
+    let is : c.from_residual.result ≡ Err c.in_err-heights.field-0.0 = rw (p.1, p.2) refl in
+    let step = band_kept c.args.job.now.rough_raster (step_least c.args.job.now.rough_raster c.requires.job_ok.rough_raster_ok.low) c.requires.job_ok.rough_raster_ok.high in
+    let fault : IsHeightsFault (rough_lattice c.args.job.now) c.in_err-heights.field-0.0 = simp step at c.in_err-heights.ensures.fault in
+    λ nodes. with_layer c.args.job.now.layer some (heights_fault c.from_residual.result (rough_lattice c.args.job.now) c.in_err-heights.field-0.0 is fault nodes)
+
+pub returns-in_err-heights-clause-visits : goal.returns-in_err-heights-clause-visits
+returns-in_err-heights-clause-visits g c =
+    let p = err_from_is_err_and c.from_residual.result c.from_residual.ensures.1 in
+    let is : c.from_residual.result ≡ Err c.in_err-heights.field-0.0 = rw (p.1, p.2) refl in
+    let step = band_kept c.args.job.now.rough_raster (step_least c.args.job.now.rough_raster c.requires.job_ok.rough_raster_ok.low) c.requires.job_ok.rough_raster_ok.high in
+    let fault : IsHeightsFault (rough_lattice c.args.job.now) c.in_err-heights.field-0.0 = simp step at c.in_err-heights.ensures.fault in
+    λ told. absurd (heights_fault_visits c.from_residual.result (rough_lattice c.args.job.now) c.in_err-heights.field-0.0 is fault told)
+
+pub add_levels-requires-clause-lattice_ok : goal.add_levels-requires-clause-lattice_ok
+add_levels-requires-clause-lattice_ok g c =
+    let step = band_kept c.args.job.now.rough_raster (step_least c.args.job.now.rough_raster c.requires.job_ok.rough_raster_ok.low) c.requires.job_ok.rough_raster_ok.high in
+    simp step at c.in_ok-heights.ensures.lattice_ok
+
+pub add_levels-requires-clause-heights_ok : goal.add_levels-requires-clause-heights_ok
+add_levels-requires-clause-heights_ok g c =
+    let step = band_kept c.args.job.now.rough_raster (step_least c.args.job.now.rough_raster c.requires.job_ok.rough_raster_ok.low) c.requires.job_ok.rough_raster_ok.high in
+    let are : AreDropHeights c.args.job.now.cutter c.args.part.now c.args.job.now.floor (rough_lattice c.args.job.now) c.in_ok-heights.heights.items = simp step at c.in_ok-heights.ensures.heights in
+    rw c.deref.ensures.value (AllZip-long (IsHeightAt c.args.job.now.cutter c.args.part.now c.args.job.now.floor) (nodes_of (rough_lattice c.args.job.now)) c.in_ok-heights.heights.items are)
+
+pub returns-in_err-add_levels-clause-nodes : goal.returns-in_err-add_levels-clause-nodes
+returns-in_err-add_levels-clause-nodes g c =
+    let some : (pos 0) <ℤ c.args.job.now.layer = layer_some c.args.job.now.layer c.requires.job_ok.layer_ok.low c.if-job-eq0.false in
+    let p = err_from_is_err_and c.from_residual-in_err-add_levels.result c.from_residual-in_err-add_levels.ensures.1 in
+    let is : c.from_residual-in_err-add_levels.result ≡ Err c.in_err-add_levels.field-0.0 = rw (p.1, p.2) refl in
+    let fault : IsListFault (rough_visits_of c.args.job.now c.in_ok-heights.heights.items) c.in_err-add_levels.field-0.0 = rw (c.new-list.ensures, c.deref.ensures.value) at c.in_err-add_levels.ensures.fault in
+    let step = band_kept c.args.job.now.rough_raster (step_least c.args.job.now.rough_raster c.requires.job_ok.rough_raster_ok.low) c.requires.job_ok.rough_raster_ok.high in
+    let map_ok : IsMapLattice (rough_lattice c.args.job.now) = simp step at c.in_ok-heights.ensures.lattice_ok in
+    λ nodes. with_layer c.args.job.now.layer some (list_fault c.from_residual-in_err-add_levels.result (rough_lattice c.args.job.now) (rough_visits_of c.args.job.now c.in_ok-heights.heights.items) c.in_err-add_levels.field-0.0 is fault map_ok nodes)
+
+pub returns-in_err-add_levels-clause-visits : goal.returns-in_err-add_levels-clause-visits
+returns-in_err-add_levels-clause-visits g c =
+    let some : (pos 0) <ℤ c.args.job.now.layer = layer_some c.args.job.now.layer c.requires.job_ok.layer_ok.low c.if-job-eq0.false in
+    let p = err_from_is_err_and c.from_residual-in_err-add_levels.result c.from_residual-in_err-add_levels.ensures.1 in
+    let is : c.from_residual-in_err-add_levels.result ≡ Err c.in_err-add_levels.field-0.0 = rw (p.1, p.2) refl in
+    let fault : IsListFault (rough_visits_of c.args.job.now c.in_ok-heights.heights.items) c.in_err-add_levels.field-0.0 = rw (c.new-list.ensures, c.deref.ensures.value) at c.in_err-add_levels.ensures.fault in
+    let step = band_kept c.args.job.now.rough_raster (step_least c.args.job.now.rough_raster c.requires.job_ok.rough_raster_ok.low) c.requires.job_ok.rough_raster_ok.high in
+    let are : AreDropHeights c.args.job.now.cutter c.args.part.now c.args.job.now.floor (rough_lattice c.args.job.now) c.in_ok-heights.heights.items = simp step at c.in_ok-heights.ensures.heights in
+    λ told. (
+      some,
+      record {
+        heights = c.in_ok-heights.heights.items;
+        are = are;
+        many = list_fault_visits c.from_residual-in_err-add_levels.result (rough_visits_of c.args.job.now c.in_ok-heights.heights.items) c.in_err-add_levels.field-0.0 is fault told;
+      },
+    )
+
+pub returns-clause-list : goal.returns-clause-list
+returns-clause-list g c =
+    let step = band_kept c.args.job.now.rough_raster (step_least c.args.job.now.rough_raster c.requires.job_ok.rough_raster_ok.low) c.requires.job_ok.rough_raster_ok.high in
+    let are : AreDropHeights c.args.job.now.cutter c.args.part.now c.args.job.now.floor (rough_lattice c.args.job.now) c.in_ok-heights.heights.items = simp step at c.in_ok-heights.ensures.heights in
+    let added = rw (c.new-list.ensures, c.deref.ensures.value) at c.in_ok-add_levels.ensures.ok in
+    let visits : c.into_visits.result.items ≡ rough_visits_of c.args.job.now c.in_ok-heights.heights.items = c.into_visits.ensures.visits ∙ added in
+    record { heights = c.in_ok-heights.heights.items; are = λ some. are; visits = visits }
+
+pub returns-clause-each : goal.returns-clause-each
+returns-clause-each g c =
+    let some : (pos 0) <ℤ c.args.job.now.layer = layer_some c.args.job.now.layer c.requires.job_ok.layer_ok.low c.if-job-eq0.false in
+    let step = band_kept c.args.job.now.rough_raster (step_least c.args.job.now.rough_raster c.requires.job_ok.rough_raster_ok.low) c.requires.job_ok.rough_raster_ok.high in
+    let are : AreDropHeights c.args.job.now.cutter c.args.part.now c.args.job.now.floor (rough_lattice c.args.job.now) c.in_ok-heights.heights.items = simp step at c.in_ok-heights.ensures.heights in
+    let map_ok : IsMapLattice (rough_lattice c.args.job.now) = simp step at c.in_ok-heights.ensures.lattice_ok in
+    let added = rw (c.new-list.ensures, c.deref.ensures.value) at c.in_ok-add_levels.ensures.ok in
+    let visits : c.into_visits.result.items ≡ rough_visits_of c.args.job.now c.in_ok-heights.heights.items = c.into_visits.ensures.visits ∙ added in
+    subst (λ (list : List Visit). All (IsVisit c.args.job.now c.args.part.now) list) (sym visits) (rough_visits_ok c.args.job.now c.args.part.now c.in_ok-heights.heights.items c.requires.job_ok some map_ok are)
+
+pub returns-clause-nodes : goal.returns-clause-nodes
+returns-clause-nodes g c =
+    let some : (pos 0) <ℤ c.args.job.now.layer = layer_some c.args.job.now.layer c.requires.job_ok.layer_ok.low c.if-job-eq0.false in
+    let step = band_kept c.args.job.now.rough_raster (step_least c.args.job.now.rough_raster c.requires.job_ok.rough_raster_ok.low) c.requires.job_ok.rough_raster_ok.high in
+    let map_ok : IsMapLattice (rough_lattice c.args.job.now) = simp step at c.in_ok-heights.ensures.lattice_ok in
+    λ nodes. with_layer c.args.job.now.layer some (list_there c.into_visits.result (rough_lattice c.args.job.now) map_ok nodes)

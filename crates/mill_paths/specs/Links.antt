@@ -1,0 +1,106 @@
+-- The moves that link the place where the cutter is to the next visit.
+use Rattle.std.specs.Prelude.{◌≡◌, ◌≢◌, ◌⊎◌, Bool, ◌&&◌, if◌then◌else◌, ℤ, pos, nat_abs, ◌-ℤ◌, ◌*ℤ◌, ◌≤ℤ◌, int_lt, List, [], ◌∷◌, ◌++◌}
+use Rattle.std.specs.Ordering.{int_eq}
+use Rattle.mill_base.specs.Points.{point_at}
+use Rattle.mill_base.specs.declared.points.Pt3.{Pt3}
+use Rattle.mill_base.specs.declared.points.Tri.{Tri}
+use Rattle.mill_base.specs.declared.motion.Move.{Move}
+use Rattle.mill_base.specs.declared.motion.Kind.TheVariants.{Rapid, Feed}
+use Rattle.mill_gouge.specs.Gouges.{PassesPart}
+use Rattle.mill_job.specs.Columns.{home}
+use Rattle.mill_job.specs.declared.job.Job.{Job}
+use Rattle.mill_paths.specs.declared.visit.Visit.{Visit}
+
+-- how far one coordinate lies from another
+abbrev pub distance : ℤ → ℤ → ℤ
+distance a b = pos (nat_abs (a -ℤ b))
+
+-- the visit lies at most twice its step away, in x and in y
+pub record IsNearBy (from : Pt3) (visit : Visit) : Type 0 where
+  pub x_near : distance visit.at.x from.x ≤ℤ (pos 2 *ℤ visit.step)
+  pub y_near : distance visit.at.y from.y ≤ℤ (pos 2 *ℤ visit.step)
+
+-- the feed from one place to another
+abbrev pub feed_to : Pt3 → Pt3 → Move
+feed_to from at = record { kind = Feed; from = from; to = at }
+
+-- the rapid from one place to another
+abbrev pub rapid_to : Pt3 → Pt3 → Move
+rapid_to from at = record { kind = Rapid; from = from; to = at }
+
+-- the place at this height over or under another
+abbrev pub at_height : Pt3 → ℤ → Pt3
+at_height p z = point_at p.x p.y z
+
+-- up to the clear height, from a place under it
+abbrev pub climb : Job → Pt3 → List Move
+climb job from = if int_lt from.z job.clear then rapid_to from (at_height from job.clear) ∷ [] else []
+
+-- two places have the same x and y
+abbrev pub is_over_place : Pt3 → Pt3 → Bool
+is_over_place p q = int_eq p.x q.x && int_eq p.y q.y
+
+-- across at the clear height, to another x or y
+abbrev pub cross : Job → Pt3 → Pt3 → List Move
+cross job from at = if is_over_place from at then [] else rapid_to (at_height from job.clear) (at_height at job.clear) ∷ []
+
+-- from the clear height down to the top of the stock, where that is lower
+abbrev pub descend : Job → Pt3 → List Move
+descend job at = if int_lt job.top job.clear then rapid_to (at_height at job.clear) (at_height at job.top) ∷ [] else []
+
+-- from the top of the stock down to the place
+abbrev pub plunge : Job → Pt3 → Move
+plunge job at = feed_to (at_height at job.top) at
+
+-- the way round over everything: up, across and down
+abbrev pub detour : Job → Pt3 → Pt3 → List Move
+detour job from at = climb job from ++ cross job from at ++ descend job at ++ plunge job at ∷ []
+
+-- the straight feed to the visit may be made: it is near, and the feed passes each triangle of the part
+pub record MayFeed (job : Job) (part : List Tri) (from : Pt3) (visit : Visit) : Type 0 where
+  pub near : IsNearBy from visit
+  pub passes : PassesPart job.cutter (feed_to from visit.at) part
+
+-- the cutter is at the visit already, and no move is made
+pub record IsStay (from : Pt3) (visit : Visit) (moves : List Move) : Type 0 where
+  pub there : visit.at ≡ from
+  pub none : moves ≡ []
+
+-- it isn't there, the straight feed may be made, and it is
+pub record IsStraight (job : Job) (part : List Tri) (from : Pt3) (visit : Visit) (moves : List Move) : Type 0 where
+  pub away : visit.at ≢ from
+  pub free : MayFeed job part from visit
+  pub feed : moves ≡ feed_to from visit.at ∷ []
+
+-- it isn't there, the straight feed may not be made, and the cutter goes round
+pub record IsDetour (job : Job) (part : List Tri) (from : Pt3) (visit : Visit) (moves : List Move) : Type 0 where
+  pub away : visit.at ≢ from
+  pub barred : ¬ MayFeed job part from visit
+  pub round : moves ≡ detour job from visit.at
+
+-- these moves link the place to the visit
+abbrev pub IsLink : Job → List Tri → Pt3 → Visit → List Move → Type 0
+IsLink job part from visit moves = IsStay from visit moves ⊎ (IsStraight job part from visit moves ⊎ IsDetour job part from visit moves)
+
+-- the way home: up and across
+abbrev pub way_home : Job → Pt3 → List Move
+way_home job from = climb job from ++ cross job from (home job)
+
+-- the list gets the first of these moves, or all or none of them
+pub record AddsFirst (moves old new : List Move) : Type 0 where
+  pub added : List Move
+  pub left : List Move
+  pub whole : moves ≡ added ++ left
+  pub joined : new ≡ old ++ added
+
+-- the list gets the moves of a link
+pub record AddsLink (job : Job) (part : List Tri) (from : Pt3) (visit : Visit) (old new : List Move) : Type 0 where
+  pub moves : List Move
+  pub link : IsLink job part from visit moves
+  pub joined : new ≡ old ++ moves
+
+-- the list gets the first of a link's moves
+pub record BeginsLink (job : Job) (part : List Tri) (from : Pt3) (visit : Visit) (old new : List Move) : Type 0 where
+  pub moves : List Move
+  pub link : IsLink job part from visit moves
+  pub begins : AddsFirst moves old new

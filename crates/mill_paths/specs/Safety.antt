@@ -1,0 +1,78 @@
+-- What every move of a plan keeps: it is in range and over the floor, it passes the part, and as a rapid it passes what is left of the stock.
+use Rattle.std.specs.Prelude.{◌≡◌, ◌⊎◌, ℤ, pos, ◌≤ℤ◌, List, [], ◌∷◌, ◌++◌, All, Contains}
+use Rattle.mill_base.specs.Contact.{Gouges}
+use Rattle.mill_base.specs.Covers.{IsUnder}
+use Rattle.mill_base.specs.Points.{point_at}
+use Rattle.mill_base.specs.Ranges.{IsInRange, MoveInRange}
+use Rattle.mill_base.specs.declared.points.Pt3.{Pt3}
+use Rattle.mill_base.specs.declared.points.Tri.{Tri}
+use Rattle.mill_base.specs.declared.motion.Move.{Move}
+use Rattle.mill_base.specs.declared.motion.Kind.TheVariants.{Rapid}
+use Rattle.mill_dexel.specs.Tops.{top_after}
+use Rattle.mill_gouge.specs.Gouges.{PassesPart}
+use Rattle.mill_job.specs.Columns.{home}
+use Rattle.mill_job.specs.Jobs.{IsJob}
+use Rattle.mill_job.specs.declared.job.Job.{Job}
+use Rattle.mill_sweep.specs.Halving.{PassesPoint}
+use Rattle.mill_paths.specs.Links.{IsLink, way_home}
+use Rattle.mill_paths.specs.Tours.{IsTour, last_place}
+use Rattle.mill_paths.specs.declared.visit.Visit.{Visit}
+
+-- after the moves done so far, this one is safe
+pub record IsSafe (job : Job) (part : List Tri) (done : List Move) (m : Move) : Type 0 where
+  pub ranged : MoveInRange m
+  pub floor_from : job.floor ≤ℤ m.from.z
+  pub floor_to : job.floor ≤ℤ m.to.z
+  pub passes : PassesPart job.cutter m part
+  pub stock : m.kind ≡ Rapid → (x y : ℤ) → PassesPoint job.cutter m (point_at x y (top_after job x y done))
+
+-- so are these moves, each after those before it
+abbrev pub AreSafe : Job → List Tri → List Move → List Move → Type 0
+AreSafe job part done [] = Unit {0}
+AreSafe job part done (m ∷ ms) = IsSafe job part done m × AreSafe job part (done ++ m ∷ []) ms
+
+-- the moves go from one place to another, each from where the one before it ends
+abbrev pub Connect : Pt3 → List Move → Pt3 → Type 0
+Connect from [] to = to ≡ from
+Connect from (m ∷ ms) to = (m.from ≡ from) × Connect m.to ms to
+
+-- the cutter may stand here: the place is in range, from the floor to the top of the stock, and no part point is strictly inside the cutter
+pub record IsFreePlace (job : Job) (part : List Tri) (p : Pt3) : Type 0 where
+  pub ranged : IsInRange p
+  pub floor : job.floor ≤ℤ p.z
+  pub top : p.z ≤ℤ job.top
+  pub free : ¬ Gouges job.cutter (pos 1) p part
+
+-- one of the moves ends here
+pub record IsEndOf (moves : List Move) (p : Pt3) : Type 0 where
+  pub move : Move
+  pub member : Contains moves move
+  pub here : move.to ≡ p
+
+-- after these moves the cutter may be here: at the clear height, or at a free place where one of them ends
+pub record IsReached (job : Job) (part : List Tri) (done : List Move) (p : Pt3) : Type 0 where
+  pub ranged : IsInRange p
+  pub floor : job.floor ≤ℤ p.z
+  pub low : p.z ≤ℤ job.clear
+  pub place : (job.clear ≤ℤ p.z) ⊎ (IsFreePlace job part p × IsEndOf done p)
+
+-- the moves go from one place to another safely, and the cutter is there then
+pub record GoSafely (job : Job) (part : List Tri) (done : List Move) (from : Pt3) (moves : List Move) (to : Pt3) : Type 0 where
+  pub safe : AreSafe job part done moves
+  pub connect : Connect from moves to
+  pub reached : IsReached job part (done ++ moves) to
+
+-- a link to a free place goes there safely
+abbrev pub LinkIsSafe : Type 0
+LinkIsSafe = (job : Job) (part : List Tri) (done : List Move) (from : Pt3) (visit : Visit) (moves : List Move) → IsJob job → IsUnder part job.top
+    → IsReached job part done from → IsFreePlace job part visit.at → IsLink job part from visit moves → GoSafely job part done from moves visit.at
+
+-- so does a tour of free places
+abbrev pub TourIsSafe : Type 0
+TourIsSafe = (job : Job) (part : List Tri) (done : List Move) (from : Pt3) (visits : List Visit) (moves : List Move) → IsJob job → IsUnder part job.top
+    → IsReached job part done from → All (λ v. IsFreePlace job part v.at) visits → IsTour job part from visits moves → GoSafely job part done from moves (last_place from visits)
+
+-- and the way home
+abbrev pub WayHomeIsSafe : Type 0
+WayHomeIsSafe = (job : Job) (part : List Tri) (done : List Move) (from : Pt3) → IsJob job → IsUnder part job.top
+    → IsReached job part done from → GoSafely job part done from (way_home job from) (home job)

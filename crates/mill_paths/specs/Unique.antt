@@ -1,0 +1,45 @@
+-- What a job and a part settle of their plan.
+use Rattle.std.specs.Prelude.{◌≡◌, ◌<◌, ◌≤◌, pos, ◌<ℤ◌, List, [], ◌++◌, length, All}
+use Rattle.mill_base.specs.Covers.{IsUnder}
+use Rattle.mill_base.specs.declared.points.Pt3.{Pt3}
+use Rattle.mill_base.specs.declared.points.Tri.{Tri}
+use Rattle.mill_base.specs.declared.motion.Move.{Move}
+use Rattle.mill_job.specs.Columns.{home}
+use Rattle.mill_job.specs.Jobs.{IsJob}
+use Rattle.mill_job.specs.declared.job.Job.{Job}
+use Rattle.mill_paths.specs.Limits.{most_changes}
+use Rattle.mill_paths.specs.Links.{way_home}
+use Rattle.mill_paths.specs.Safety.{GoSafely}
+use Rattle.mill_paths.specs.Tours.{IsTour, IsPlan, last_place}
+use Rattle.mill_paths.specs.Visits.{AreRoughVisits, AreFinishVisits, HaveManyRoughVisits, HaveManyFinishVisits, IsVisit}
+use Rattle.mill_paths.specs.declared.visit.Visit.{Visit}
+
+-- a job and a part have at most one plan
+abbrev pub OnePlan : Type 0
+OnePlan = (job : Job) (part : List Tri) (a b : List Move) → IsPlan job part a → IsPlan job part b → a ≡ b
+
+-- the moves go from this place through the first of the visits
+pub record BeginsTour (job : Job) (part : List Tri) (from : Pt3) (visits : List Visit) (moves : List Move) : Type 0 where
+  pub first : List Visit
+  pub rest : List Visit
+  pub all : visits ≡ first ++ rest
+  pub tour : IsTour job part from first moves
+
+-- a plan has at least as many moves as the links to the first of its visits
+abbrev pub PlanIsLonger : Type 0
+PlanIsLonger = (job : Job) (part : List Tri) (rough finish : List Visit) (begun moves : List Move) → AreRoughVisits job part rough → AreFinishVisits job part finish
+    → BeginsTour job part (home job) (rough ++ finish) begun → IsPlan job part moves → length begun ≤ length moves
+
+-- where too many roughing visits differ from the one before them, a plan has too many moves
+abbrev pub ManyRoughVisitsMakeMoves : Type 0
+ManyRoughVisitsMakeMoves = (job : Job) (part : List Tri) (moves : List Move) → (pos 0) <ℤ job.layer → HaveManyRoughVisits job part → IsPlan job part moves
+    → most_changes < length moves
+
+-- so it has where too many finishing visits do
+abbrev pub ManyFinishVisitsMakeMoves : Type 0
+ManyFinishVisitsMakeMoves = (job : Job) (part : List Tri) (moves : List Move) → HaveManyFinishVisits job part → IsPlan job part moves → most_changes < length moves
+
+-- a tour of visits from home, and the way home from its last, go safely
+abbrev pub RoundIsSafe : Type 0
+RoundIsSafe = (job : Job) (part : List Tri) (visits : List Visit) (toured : List Move) → IsJob job → IsUnder part job.top → All (IsVisit job part) visits
+    → IsTour job part (home job) visits toured → GoSafely job part [] (home job) (toured ++ way_home job (last_place (home job) visits)) (home job)

@@ -1,0 +1,86 @@
+-- The places that a plan comes to, in their order, from the drop heights over its lattices.
+use Rattle.std.specs.Prelude.{◌≡◌, ℕ, ◌-◌, ◌/◌, ◌<◌, nat_abs, Bool, if◌then◌else◌, ℤ, pos, ◌+ℤ◌, ◌-ℤ◌, ◌*ℤ◌, ◌<ℤ◌, ◌≤ℤ◌, int_lt, int_le, List, [], ◌∷◌, map, slice_index_or}
+use Rattle.std.specs.List.{flat_map, range_with_len}
+use Rattle.mill_base.specs.Points.{point_at}
+use Rattle.mill_base.specs.Ranges.{IsInRange}
+use Rattle.mill_base.specs.declared.lattice.Lattice.{Lattice}
+use Rattle.mill_base.specs.declared.points.Tri.{Tri}
+use Rattle.mill_drop.specs.Drops.{GougesAt}
+use Rattle.mill_drop.specs.Maps.{AreDropHeights, node_at}
+use Rattle.mill_job.specs.Jobs.{IsFrom}
+use Rattle.mill_job.specs.declared.job.Job.{Job}
+use Rattle.mill_paths.specs.Lattices.{finish_lattice, rough_lattice, zigzag_of}
+use Rattle.mill_paths.specs.Limits.{change_count, most_changes}
+use Rattle.mill_paths.specs.declared.visit.Visit.{Visit}
+
+-- the visit over the node of this number at height z
+abbrev pub visit_at : Lattice → ℕ → ℤ → Visit
+visit_at lattice number z = record { at = point_at (node_at lattice number).0 (node_at lattice number).1 z; step = lattice.step }
+
+-- that visit alone, or none where the condition fails
+abbrev pub visit_if : Bool → Lattice → ℕ → ℤ → List Visit
+visit_if holds lattice number z = if holds then visit_at lattice number z ∷ [] else []
+
+-- the drop height at the node of this number
+abbrev pub height_at : List ℤ → ℕ → ℤ
+height_at heights number = slice_index_or heights number (pos 0)
+
+-- roughing goes down from the top by layers: how many levels lie over the floor
+abbrev pub level_count : Job → ℕ
+level_count job = (nat_abs (job.top -ℤ job.floor) - 1) / nat_abs job.layer
+
+-- the levels: top - layer, top - 2*layer and so on, while over the floor; without a layer there are none
+abbrev pub rough_levels : Job → List ℤ
+rough_levels job = if int_lt (pos 0) job.layer then map (λ k. job.top -ℤ pos k *ℤ job.layer) (range_with_len 1 (level_count job)) else []
+
+-- roughing comes to a node at this level where the level is at least the rough stock over the drop height
+abbrev pub rough_visit : Job → List ℤ → ℤ → ℕ → List Visit
+rough_visit job heights level number = visit_if (int_le (height_at heights number +ℤ job.rough_stock) level) (rough_lattice job) number level
+
+-- the roughing visits on one level, in zigzag order
+abbrev pub rough_visits_on : Job → List ℤ → ℤ → List Visit
+rough_visits_on job heights level = flat_map (rough_visit job heights level) (zigzag_of (rough_lattice job))
+
+-- the roughing visits: level by level, and on each in zigzag order
+abbrev pub rough_visits_of : Job → List ℤ → List Visit
+rough_visits_of job heights = flat_map (rough_visits_on job heights) (rough_levels job)
+
+-- the finishing path comes to a node at its drop height and lift, where that is under the top
+abbrev pub finish_visit : Job → List ℤ → ℕ → List Visit
+finish_visit job heights number = visit_if (int_lt (height_at heights number +ℤ job.lift) job.top) (finish_lattice job) number (height_at heights number +ℤ job.lift)
+
+-- the finishing visits, in zigzag order
+abbrev pub finish_visits_of : Job → List ℤ → List Visit
+finish_visits_of job heights = flat_map (finish_visit job heights) (zigzag_of (finish_lattice job))
+
+-- these are the roughing visits; without a layer there are none, whatever the heights
+pub record AreRoughVisits (job : Job) (part : List Tri) (list : List Visit) : Type 0 where
+  pub heights : List ℤ
+  pub are : (pos 0) <ℤ job.layer → AreDropHeights job.cutter part job.floor (rough_lattice job) heights
+  pub visits : list ≡ rough_visits_of job heights
+
+-- these are the finishing visits
+pub record AreFinishVisits (job : Job) (part : List Tri) (list : List Visit) : Type 0 where
+  pub heights : List ℤ
+  pub are : AreDropHeights job.cutter part job.floor (finish_lattice job) heights
+  pub visits : list ≡ finish_visits_of job heights
+
+-- with the drop heights over the lattice, roughing has too many visits that differ from the one before them
+pub record HaveManyRoughVisits (job : Job) (part : List Tri) : Type 0 where
+  pub heights : List ℤ
+  pub are : AreDropHeights job.cutter part job.floor (rough_lattice job) heights
+  pub many : most_changes < change_count (rough_visits_of job heights)
+
+-- with the drop heights over the lattice, the finishing path has too many of them
+pub record HaveManyFinishVisits (job : Job) (part : List Tri) : Type 0 where
+  pub heights : List ℤ
+  pub are : AreDropHeights job.cutter part job.floor (finish_lattice job) heights
+  pub many : most_changes < change_count (finish_visits_of job heights)
+
+-- a place that a plan may come to: in range, from the floor on and under the top, with the step of a job's path; there and at every greater height the cutter doesn't gouge
+pub record IsVisit (job : Job) (part : List Tri) (visit : Visit) : Type 0 where
+  pub in_range : IsInRange visit.at
+  pub kept : job.floor ≤ℤ visit.at.z
+  pub under_top : visit.at.z <ℤ job.top
+  pub free : (higher : ℤ) → visit.at.z ≤ℤ higher → ¬ GougesAt job.cutter part visit.at.x visit.at.y higher
+  pub step_ok : IsFrom (pos 1) (pos 10000) visit.step

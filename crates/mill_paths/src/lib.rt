@@ -1,0 +1,35 @@
+//! The paths of a plan: the places that the cutter comes to, in their order, and the moves between.
+//!
+//! It stands on the job (mill_job) and on the drop heights over a lattice (mill_drop), and the links
+//! between the places on `mill_gouge`, which tries one move against the part. `specs/Lattices` says
+//! which lattices the paths go over and in which order, `specs/Visits` which places they come to, and
+//! how high, `specs/Limits` how many they may be, `specs/Links` which moves link one place to the
+//! next, and `specs/Tours` which moves make a plan. `specs/Safety` says what each of these moves
+//! keeps, and `specs/Unique` that a job and a part have one plan at most; `specs/Paths` serves the
+//! functions within.
+#![tactic(auto)]
+
+mod fault;
+mod lattices;
+mod link_laws;
+#[cfg(test)]
+mod link_tests;
+mod links;
+mod path;
+mod plan_laws;
+#[cfg(test)]
+mod test_shape;
+#[cfg(test)]
+mod tests;
+mod visit;
+mod visit_list;
+mod visits;
+mod zigzag;
+
+pub use fault::PathFault;
+pub use lattices::{finish_lattice, rough_lattice};
+pub use link_laws::{link_is_safe, tour_is_safe, way_home_is_safe};
+pub use links::{home, link};
+pub use plan_laws::{many_visits_make_moves, one_plan, plan_is_longer, round_is_safe};
+pub use visit::Visit;
+pub use visits::{finish_visits, rough_visits};

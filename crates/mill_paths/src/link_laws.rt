@@ -1,0 +1,17 @@
+ghost use Rattle.mill_paths.specs.Safety.{LinkIsSafe, TourIsSafe, WayHomeIsSafe};
+
+/// From where the cutter is, a link to a free place goes there safely: its moves lead on from each
+/// other, stay in range and over the floor, and pass the part, and its rapids pass every column.
+pub fn link_is_safe()
+    ensures { LinkIsSafe }
+{}
+
+/// So does a tour of free places.
+pub fn tour_is_safe()
+    ensures { TourIsSafe }
+{}
+
+/// And so does the way home.
+pub fn way_home_is_safe()
+    ensures { WayHomeIsSafe }
+{}

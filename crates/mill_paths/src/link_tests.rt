@@ -1,0 +1,135 @@
+ghost use Rattle.mill_base.specs.Ranges.{IsInRange, TriInRange};
+ghost use Rattle.mill_job.specs.Jobs.{IsJob};
+
+use crate::test_shape::{Shape, at, shape_of};
+use crate::{Visit, home, link};
+use mill_base::{Box2, Cutter, Kind, Move, Pt3, Tri};
+use mill_decimal::Snap;
+use mill_job::Job;
+use std::test::Fail;
+
+/// The stock is 400 high, and the cutter starts over (-300, 0) at 500.
+fn job() -> Job
+    ensures { IsJob result }
+{
+    Job {
+        cutter: Cutter::Flat { radius: 100 },
+        floor: 0,
+        top: 400,
+        clear: 500,
+        area: Box2 {
+            x0: -300,
+            y0: -300,
+            x1: 300,
+            y1: 300,
+        },
+        home_x: -300,
+        home_y: 0,
+        pitch: 100,
+        sample: 100,
+        allowance: 0,
+        band: 0,
+        lift: 0,
+        raster: 100,
+        rough_raster: 200,
+        layer: 0,
+        rough_stock: 0,
+        snap: Snap::Nearest,
+    }
+}
+
+/// A visit at the height 200.
+fn visit(x: i16, y: i16, step: i16) -> Visit
+    ensures { IsInRange result.at }
+{
+    Visit {
+        at: at(x, y, 200),
+        step: i32::from(step),
+    }
+}
+
+/// A post of no width at the origin, 300 high.
+fn post() -> Tri
+    ensures { TriInRange result }
+{
+    let top = at(0, 0, 300);
+    Tri {
+        a: top,
+        b: top,
+        c: top,
+    }
+}
+
+fn one_post<R: AllocGlobal>(rt: &R) -> Result<Shape, Fail> {
+    let mut tris = Vec::new(rt.alloc());
+    tris.push(post())?;
+    shape_of(rt, tris)
+}
+
+fn feed(from: Pt3, to: Pt3) -> Move {
+    Move {
+        kind: Kind::Feed,
+        from,
+        to,
+    }
+}
+
+fn rapid(from: Pt3, to: Pt3) -> Move {
+    Move {
+        kind: Kind::Rapid,
+        from,
+        to,
+    }
+}
+
+// The first visit is near the start and is fed to straight; at the second time the cutter is there.
+#[test]
+fn near_visits_are_fed_to(rt: HostRuntime) -> Result<(), Fail> {
+    let shape = one_post(&rt)?;
+    let job = job();
+    let to = visit(-200, 0, 100);
+    let mut out = Vec::new(rt.alloc());
+    link(&job, &shape.part, &shape.cells, job.home(), to, &mut out)?;
+    link(&job, &shape.part, &shape.cells, to.at, to, &mut out)?;
+    assert_eq!(rt;
+        out.as_slice(),
+        [feed(at(-300, 0, 500), at(-200, 0, 200))].as_slice()
+    );
+    Ok(())
+}
+
+// The post stands between the first two visits; the others are three steps apart, with nothing
+// between them.
+#[test]
+fn others_are_gone_round_to(rt: HostRuntime) -> Result<(), Fail> {
+    let shape = one_post(&rt)?;
+    let job = job();
+    for (y, step) in [(0, 200), (-300, 100)] {
+        let from = visit(-200, y, step);
+        let to = visit(200, y, step);
+        let mut out = Vec::new(rt.alloc());
+        link(&job, &shape.part, &shape.cells, from.at, to, &mut out)?;
+        let want = [
+            rapid(from.at, at(-200, y, 500)),
+            rapid(at(-200, y, 500), at(200, y, 500)),
+            rapid(at(200, y, 500), at(200, y, 400)),
+            feed(at(200, y, 400), to.at),
+        ];
+        assert_eq!(rt; out.as_slice(), want.as_slice(), "at {y}");
+    }
+    Ok(())
+}
+
+#[test]
+fn goes_home(rt: HostRuntime) -> Result<(), Fail> {
+    let job = job();
+    let mut out = Vec::new(rt.alloc());
+    home(&job, at(200, 100, 200), &mut out)?;
+    home(&job, job.home(), &mut out)?;
+    let want = [
+        rapid(at(200, 100, 200), at(200, 100, 500)),
+        rapid(at(200, 100, 500), at(-300, 0, 500)),
+    ];
+    assert_eq!(rt; out.as_slice(), want.as_slice());
+    Ok(())
+}

@@ -1,0 +1,67 @@
+ghost use Rattle.std.specs.Prelude.{◌≡◌, ◌<◌, length, option_to_list};
+ghost use Rattle.mill_drop.specs.Maps.{IsMapLattice, nodes_of};
+ghost use Rattle.mill_job.specs.Jobs.{IsJob};
+ghost use Rattle.mill_paths.specs.Paths.{path_height, path_lattice, path_visit};
+
+use crate::lattices::{finish_lattice, rough_lattice};
+use crate::visit::Visit;
+use mill_base::{Lattice, Pt3};
+use mill_drop::node;
+use mill_job::Job;
+
+/// A path over a lattice.
+#[derive(Clone, Copy, Debug, PartialEq, Eq)]
+pub(crate) enum Path {
+    /// Roughing at this height, in units of 0.01 mm.
+    Level { z: i32 },
+    /// The finishing path.
+    Finish,
+}
+
+/// The lattice that the path goes over.
+pub(crate) fn lattice_of(job: &Job, path: Path) -> Lattice
+    ensures { result ≡ path_lattice job.now path }
+{
+    match path {
+        Path::Level { .. } => rough_lattice(job),
+        Path::Finish => finish_lattice(job),
+    }
+}
+
+/// The path's visit at the node of this number, if it comes there. `heights` are the drop heights
+/// at the nodes.
+pub(crate) fn visit_of(job: &Job, heights: &[i32], path: Path, number: u32) -> Option<Visit>
+    requires job_ok { IsJob job.now }
+    requires lattice_ok { IsMapLattice (path_lattice job.now path) }
+    requires heights_ok { length heights.now ≡ length (nodes_of (path_lattice job.now path)) }
+    requires number_ok { number < length (nodes_of (path_lattice job.now path)) }
+    ensures { option_to_list result ≡ path_visit job.now heights.now path number }
+{
+    let z = tip_height(job, path, heights[number as usize])?;
+    let lattice = lattice_of(job, path);
+    let (x, y) = node(&lattice, number);
+    Some(Visit {
+        at: Pt3 { x, y, z },
+        step: lattice.step,
+    })
+}
+
+/// How high the tip is over a node with this drop height; none where the path doesn't come there.
+fn tip_height(job: &Job, path: Path, drop: i32) -> Option<i32>
+    requires { IsJob job.now }
+    ensures { result ≡ path_height job.now path drop }
+{
+    match path {
+        Path::Level { z } => {
+            let least = i64::from(drop) + i64::from(job.rough_stock);
+            if least <= i64::from(z) { Some(z) } else { None }
+        }
+        Path::Finish => {
+            if drop < job.top - job.lift {
+                Some(drop + job.lift)
+            } else {
+                None
+            }
+        }
+    }
+}

@@ -1,0 +1,23 @@
+ghost use Rattle.mill_paths.specs.Unique.{ManyFinishVisitsMakeMoves, ManyRoughVisitsMakeMoves, OnePlan, PlanIsLonger, RoundIsSafe};
+
+/// A job and a part have at most one plan.
+pub fn one_plan()
+    ensures { OnePlan }
+{}
+
+/// A plan has at least as many moves as the links to the first of its visits.
+pub fn plan_is_longer()
+    ensures { PlanIsLonger }
+{}
+
+/// Where more than 1,000,000 visits of a path differ from the one before them, a plan has more than
+/// 1,000,000 moves.
+pub fn many_visits_make_moves()
+    ensures rough { ManyRoughVisitsMakeMoves }
+    ensures finish { ManyFinishVisitsMakeMoves }
+{}
+
+/// A tour of visits from home, and the way home from its last, go safely.
+pub fn round_is_safe()
+    ensures { RoundIsSafe }
+{}

@@ -1,0 +1,158 @@
+ghost use Rattle.std.specs.Prelude.{◌≡◌, ◌↔◌, ℕ, ◌<◌, ◌≤◌, ◌++◌, pos, ◌<ℤ◌, length, slice_index_or, All, IfErr, IfOk, IsErrOf, OnOk};
+ghost use Rattle.mill_cells.specs.Sorted.{sorted_of};
+ghost use Rattle.mill_drop.specs.Maps.{AreDropHeights, IsMapLattice, nodes_of};
+ghost use Rattle.mill_job.specs.Jobs.{IsFrom, IsJob};
+ghost use Rattle.mill_paths.specs.Lattices.{finish_lattice, lattice_by, rough_lattice};
+ghost use Rattle.mill_paths.specs.Limits.{change_count, most_changes, HasManyNodes, IsHeightsFault, IsListFault};
+ghost use Rattle.mill_paths.specs.Visits.{AreRoughVisits, AreFinishVisits, HaveManyRoughVisits, HaveManyFinishVisits, IsVisit, rough_levels, rough_visits_of};
+ghost use Rattle.mill_paths.specs.declared.fault.PathFault.TheVariants.{TooManyNodes, TooManyVisits};
+
+use crate::fault::PathFault;
+use crate::path::Path;
+use crate::visit::Visit;
+use crate::visit_list::VisitList;
+use crate::zigzag::add_path;
+use mill_base::Lattice;
+use mill_cells::Cells;
+use mill_drop::drop_map;
+use mill_job::Job;
+use mill_part::Part;
+use std::alloc::Global;
+use std::thread::Threads;
+
+/// The most nodes of a lattice that paths go over.
+const MOST_NODES: u64 = 4_000_000;
+
+/// The visits of a plan's roughing, level by level from the top, and on each in zigzag order: over
+/// each node of the rough lattice at which the level is at least the rough stock over the drop
+/// height. Without a layer there are none, and the lattice isn't gone over.
+///
+/// `cells` are those of the part's triangles. The visits are the same whatever the number of threads.
+///
+/// # Errors
+///
+/// `TooManyNodes` exactly where there is a layer and the rough lattice has more than 4,000,000
+/// nodes; `TooManyVisits` only where more than 1,000,000 visits differ from the one before them, of
+/// which the first has none before it.
+pub fn rough_visits<R: Threads + Sync>(
+    rt: &R,
+    alloc: Global,
+    job: &Job,
+    part: &Part,
+    cells: &Cells,
+) -> Result<Vec<Visit>, PathFault>
+    requires job_ok { IsJob job.now }
+    requires cells_ok { cells.now ≡ sorted_of part.now }
+    ensures list { IfOk result (λ visits. AreRoughVisits job.now part.now visits.items) }
+    ensures each { IfOk result (λ visits. All (IsVisit job.now part.now) visits.items) }
+    ensures few { IfOk result (λ visits. change_count visits.items ≤ most_changes) }
+    ensures nodes { (nodes : ℕ) → IsErrOf result (TooManyNodes nodes)
+        ↔ (((pos 0) <ℤ job.now.layer) × HasManyNodes (rough_lattice job.now) nodes) }
+    ensures visits { IsErrOf result TooManyVisits
+        → ((pos 0) <ℤ job.now.layer) × HaveManyRoughVisits job.now part.now }
+{
+    if job.layer == 0 {
+        return Ok(Vec::new(alloc));
+    }
+    let heights = drop_heights(rt, alloc, job, part, cells, job.rough_raster)?;
+    let mut list = VisitList::new(alloc);
+    add_levels(job, &heights, &mut list)?;
+    Ok(list.into_visits())
+}
+
+/// The visits of a plan's finishing path, in zigzag order: over each node of the finishing lattice
+/// at its drop height and the lift, where that is under the top.
+///
+/// `cells` are those of the part's triangles. The visits are the same whatever the number of threads.
+///
+/// # Errors
+///
+/// `TooManyNodes` exactly where the lattice has more than 4,000,000 nodes; `TooManyVisits` only
+/// where more than 1,000,000 visits differ from the one before them.
+pub fn finish_visits<R: Threads + Sync>(
+    rt: &R,
+    alloc: Global,
+    job: &Job,
+    part: &Part,
+    cells: &Cells,
+) -> Result<Vec<Visit>, PathFault>
+    requires job_ok { IsJob job.now }
+    requires cells_ok { cells.now ≡ sorted_of part.now }
+    ensures list { IfOk result (λ visits. AreFinishVisits job.now part.now visits.items) }
+    ensures each { IfOk result (λ visits. All (IsVisit job.now part.now) visits.items) }
+    ensures few { IfOk result (λ visits. change_count visits.items ≤ most_changes) }
+    ensures nodes { (nodes : ℕ) → IsErrOf result (TooManyNodes nodes)
+        ↔ HasManyNodes (finish_lattice job.now) nodes }
+    ensures visits { IsErrOf result TooManyVisits → HaveManyFinishVisits job.now part.now }
+{
+    let heights = drop_heights(rt, alloc, job, part, cells, job.raster)?;
+    let mut list = VisitList::new(alloc);
+    add_path(job, &heights, Path::Finish, &mut list)?;
+    Ok(list.into_visits())
+}
+
+/// The drop heights over the lattice of the job's area by this step, where it has at most 4,000,000
+/// nodes.
+fn drop_heights<R: Threads + Sync>(
+    rt: &R,
+    alloc: Global,
+    job: &Job,
+    part: &Part,
+    cells: &Cells,
+    step: i32,
+) -> Result<Vec<i32>, PathFault>
+    requires job_ok { IsJob job.now }
+    requires cells_ok { cells.now ≡ sorted_of part.now }
+    requires step_ok { IsFrom (pos 1) (pos 10000) step }
+    ensures heights { IfOk result (λ heights. AreDropHeights job.now.cutter part.now job.now.floor (lattice_by job.now step) heights.items) }
+    ensures lattice_ok { IfOk result (λ _. IsMapLattice (lattice_by job.now step)) }
+    ensures fault { IfErr result (IsHeightsFault (lattice_by job.now step)) }
+{
+    let lattice = Lattice {
+        area: job.area,
+        step,
+    };
+    let nodes = lattice.nodes();
+    if nodes > MOST_NODES {
+        return Err(PathFault::TooManyNodes { nodes });
+    }
+    Ok(drop_map(rt, alloc, part, cells, job.cutter, &lattice, job.floor)?)
+}
+
+/// Adds the visits of all levels. `heights` are the drop heights at the nodes of the rough lattice.
+fn add_levels(job: &Job, heights: &[i32], list: &mut VisitList) -> Result<(), PathFault>
+    requires job_ok { IsJob job.now }
+    requires layer_ok { (pos 0) <ℤ job.now.layer }
+    requires lattice_ok { IsMapLattice (rough_lattice job.now) }
+    requires heights_ok { length heights.now ≡ length (nodes_of (rough_lattice job.now)) }
+    ensures ok { OnOk result
+        (list.new.visits.items ≡ list.old.visits.items ++ rough_visits_of job.now heights.now) }
+    ensures fault { IfErr result
+        (IsListFault (list.old.visits.items ++ rough_visits_of job.now heights.now)) }
+{
+    for number in 0..level_count(job) {
+        let z = level(job, number);
+        add_path(job, heights, Path::Level { z }, list)?;
+    }
+    Ok(())
+}
+
+/// How many levels roughing has.
+fn level_count(job: &Job) -> u32
+    requires job_ok { IsJob job.now }
+    requires layer_ok { (pos 0) <ℤ job.now.layer }
+    ensures { result ≡ length (rough_levels job.now) }
+{
+    job.top.abs_diff(job.floor).saturating_sub(1) / job.layer.unsigned_abs()
+}
+
+/// The height of the level of this number, counted from 0, in units of 0.01 mm.
+fn level(job: &Job, number: u32) -> i32
+    requires job_ok { IsJob job.now }
+    requires layer_ok { (pos 0) <ℤ job.now.layer }
+    requires number_ok { number < length (rough_levels job.now) }
+    ensures { result ≡ slice_index_or (rough_levels job.now) number (pos 0) }
+{
+    let lowered = (number + 1) * job.layer.unsigned_abs();
+    job.top - lowered as i32
+}

@@ -1,0 +1,104 @@
+ghost use Rattle.std.specs.Prelude.{◌≡◌, ◌+◌, ◌*◌, ◌<◌, ◌≤◌, ◌++◌, length, slice_index, IfErr, OnOk};
+ghost use Rattle.std.specs.List.{flat_map};
+ghost use Rattle.mill_base.specs.Lattices.{lattice_xs, lattice_ys};
+ghost use Rattle.mill_drop.specs.Maps.{IsMapLattice, nodes_of};
+ghost use Rattle.mill_job.specs.Jobs.{IsJob};
+ghost use Rattle.mill_paths.specs.Lattices.{zigzag_row};
+ghost use Rattle.mill_paths.specs.Limits.{IsListFault, most_nodes};
+ghost use Rattle.mill_paths.specs.Paths.{path_lattice, path_visit, path_visits};
+
+use crate::fault::PathFault;
+use crate::path::{Path, lattice_of, visit_of};
+use crate::visit_list::VisitList;
+use mill_drop::{node_columns, node_rows};
+use mill_job::Job;
+
+/// Adds the visits of a path, in zigzag order. `heights` are the drop heights at the nodes of its
+/// lattice.
+pub(crate) fn add_path(
+    job: &Job,
+    heights: &[i32],
+    path: Path,
+    list: &mut VisitList,
+) -> Result<(), PathFault>
+    requires job_ok { IsJob job.now }
+    requires lattice_ok { IsMapLattice (path_lattice job.now path) }
+    requires heights_ok { length heights.now ≡ length (nodes_of (path_lattice job.now path)) }
+    ensures ok { OnOk result
+        (list.new.visits.items ≡ list.old.visits.items ++ path_visits job.now heights.now path) }
+    ensures fault { IfErr result
+        (IsListFault (list.old.visits.items ++ path_visits job.now heights.now path)) }
+{
+    let lattice = lattice_of(job, path);
+    let columns = node_columns(&lattice);
+    for row in 0..node_rows(&lattice) {
+        add_row(job, heights, path, columns, row, list)?;
+    }
+    Ok(())
+}
+
+/// Adds the visits of a path on one row.
+fn add_row(
+    job: &Job,
+    heights: &[i32],
+    path: Path,
+    columns: u32,
+    row: u32,
+    list: &mut VisitList,
+) -> Result<(), PathFault>
+    requires job_ok { IsJob job.now }
+    requires lattice_ok { IsMapLattice (path_lattice job.now path) }
+    requires heights_ok { length heights.now ≡ length (nodes_of (path_lattice job.now path)) }
+    requires columns_ok { columns ≡ length (lattice_xs (path_lattice job.now path)) }
+    requires row_ok { row < length (lattice_ys (path_lattice job.now path)) }
+    ensures ok { OnOk result
+        (list.new.visits.items ≡ list.old.visits.items
+        ++ flat_map (path_visit job.now heights.now path) (zigzag_row columns row)) }
+    ensures fault { IfErr result
+        (IsListFault (list.old.visits.items
+        ++ flat_map (path_visit job.now heights.now path) (zigzag_row columns row))) }
+{
+    for place in 0..columns {
+        add_node(job, heights, path, node_number(columns, row, place), list)?;
+    }
+    Ok(())
+}
+
+/// Adds the visit of a path at the node of this number, if it comes there.
+fn add_node(
+    job: &Job,
+    heights: &[i32],
+    path: Path,
+    number: u32,
+    list: &mut VisitList,
+) -> Result<(), PathFault>
+    requires job_ok { IsJob job.now }
+    requires lattice_ok { IsMapLattice (path_lattice job.now path) }
+    requires heights_ok { length heights.now ≡ length (nodes_of (path_lattice job.now path)) }
+    requires number_ok { number < length (nodes_of (path_lattice job.now path)) }
+    ensures ok { OnOk result
+        (list.new.visits.items ≡ list.old.visits.items
+        ++ path_visit job.now heights.now path number) }
+    ensures fault { IfErr result
+        (IsListFault (list.old.visits.items ++ path_visit job.now heights.now path number)) }
+{
+    match visit_of(job, heights, path, number) {
+        Some(visit) => list.push(visit),
+        None => Ok(()),
+    }
+}
+
+/// The number of the node at this place on the path along a row. The places go from the least x in
+/// the rows 0, 2, 4 and so on, and from the greatest in the others.
+fn node_number(columns: u32, row: u32, place: u32) -> u32
+    requires place_ok { place < columns }
+    requires row_ok { row * columns + columns ≤ most_nodes }
+    ensures { result ≡ slice_index (zigzag_row columns row) place }
+{
+    let first = row * columns;
+    if row % 2 == 0 {
+        first + place
+    } else {
+        first + (columns - 1 - place)
+    }
+}

@@ -1,0 +1,102 @@
+-- Some move of a plan ends at each of its finishing visits.
+use Rattle.std.specs.Prelude.{◌≡◌, ◌⊎◌, ℤ, ◌<ℤ◌, ◌≤ℤ◌, List, [], ◌∷◌, ◌++◌, slice_index_or, All}
+use Rattle.std.specs.List.{flat_map}
+use Rattle.std.proofs.Common.{inl, inr, refl, sym, ap, ◌∙◌, subst, arith}
+use Rattle.std.proofs.lemmas.Int.{ints}
+use Rattle.std.proofs.lemmas.List.Elements.{All-nil, All-cons, All-tail, All-weaker, Contains-append_left, Contains-append_right}
+use Rattle.mill_base.specs.declared.motion.Move.{Move}
+use Rattle.mill_base.specs.declared.points.Pt3.{Pt3}
+use Rattle.mill_base.specs.declared.points.Tri.{Tri}
+use Rattle.mill_drop.specs.Maps.{IsMapLattice}
+use Rattle.mill_job.specs.Columns.{home}
+use Rattle.mill_job.specs.Jobs.{IsJob}
+use Rattle.mill_job.specs.declared.job.Job.{Job}
+use Rattle.mill_paths.specs.Lattices.{finish_lattice}
+use Rattle.mill_paths.specs.Links.{IsLink, climb, cross, descend, feed_to, plunge, way_home}
+use Rattle.mill_paths.specs.Safety.{IsEndOf}
+use Rattle.mill_paths.specs.Tours.{AreLinks, IsPlan, last_place}
+use Rattle.mill_paths.specs.Visits.{AreFinishVisits, IsVisit}
+use Rattle.mill_paths.specs.declared.visit.Visit.{Visit}
+use Rattle.mill_paths.proofs.VisitLemmas.{finish_visits_ok}
+use Rattle.mill_plan.specs.Plans.{HasFewNodes}
+
+-- a move of a list ends there, also where others stand before or after the list
+ends_left : (xs ys : List Move) (p : Pt3) → IsEndOf xs p → IsEndOf (xs ++ ys) p
+ends_left xs ys p end = record { move = end.move; member = Contains-append_left xs ys end.move end.member; here = end.here }
+
+ends_right : (xs ys : List Move) (p : Pt3) → IsEndOf ys p → IsEndOf (xs ++ ys) p
+ends_right xs ys p end = record { move = end.move; member = Contains-append_right xs ys end.move end.member; here = end.here }
+
+ends_once : (m : Move) → IsEndOf (m ∷ []) m.to
+ends_once m = record { move = m; member = (0, omega arith, refl); here = refl }
+
+-- the place is where the moves start, or where one of them ends
+abbrev IsOnTheWay : Pt3 → List Move → Pt3 → Type 0
+IsOnTheWay from moves p = (p ≡ from) ⊎ IsEndOf moves p
+
+module _ (job : Job) (part : List Tri) where
+  link_ends : (from : Pt3) (visit : Visit) (moves : List Move) → IsLink job part from visit moves → IsOnTheWay from moves visit.at
+  link_ends from visit moves (inl stay) = inl stay.there
+  link_ends from visit moves (inr (inl straight)) =
+      inr (subst (λ (ms : List Move). IsEndOf ms visit.at) (sym straight.feed) (ends_once (feed_to from visit.at)))
+  link_ends from visit moves (inr (inr round)) =
+      inr (subst (λ (ms : List Move). IsEndOf ms visit.at) (sym round.round)
+      (ends_right (climb job from ++ cross job from visit.at ++ descend job visit.at) (plunge job visit.at ∷ []) visit.at (ends_once (plunge job visit.at))))
+
+  -- what is on the way from the first visit is so from the start
+  on_the_way : (from mid : Pt3) (first rest : List Move) (p : Pt3) → IsOnTheWay from first mid → IsOnTheWay mid rest p → IsOnTheWay from (first ++ rest) p
+  on_the_way from mid first rest p (inl start) (inl here) = inl (here ∙ start)
+  on_the_way from mid first rest p (inr end) (inl here) = inr (ends_left first rest p (subst (λ (q : Pt3). IsEndOf first q) (sym here) end))
+  on_the_way from mid first rest p before (inr end) = inr (ends_right first rest p end)
+
+  started : (from : Pt3) (first rest : List Move) (p : Pt3) → IsOnTheWay from first p → IsOnTheWay from (first ++ rest) p
+  started from first rest p (inl start) = inl start
+  started from first rest p (inr end) = inr (ends_left first rest p end)
+
+  links_end : (from : Pt3) (visits : List Visit) (links : List (List Move)) → AreLinks job part from visits links
+      → All (λ (v : Visit). IsOnTheWay from (flat_map (λ (link : List Move). link) links) v.at) visits
+  links_end from [] [] are = All-nil (λ (v : Visit). IsOnTheWay from [] v.at)
+  links_end from [] (link ∷ links) are = absurd are
+  links_end from (v ∷ vs) [] are = absurd are
+  links_end from (v ∷ vs) (link ∷ links) are =
+      let rest : List Move = flat_map (λ (l : List Move). l) links in
+      let here : IsOnTheWay from link v.at = link_ends from v link are.0 in
+      All-cons (λ (w : Visit). IsOnTheWay from (link ++ rest) w.at) v vs (started from link rest v.at here)
+      (All-weaker (λ (w : Visit). IsOnTheWay v.at rest w.at) (λ (w : Visit). IsOnTheWay from (link ++ rest) w.at)
+      (λ w later. on_the_way from v.at link rest w.at here later) vs (links_end v.at vs links are.1))
+
+-- what holds of all of two lists holds of all of the second
+behind : (P : Visit → Type 0) (xs ys : List Visit) → All P (xs ++ ys) → All P ys
+behind P [] ys all = all
+behind P (x ∷ xs) ys all = behind P xs ys (All-tail P x (xs ++ ys) all)
+
+-- the finishing visits are visits that a plan may come to
+pub finish_ok : (job : Job) (part : List Tri) (visits : List Visit) → IsJob job → HasFewNodes job → AreFinishVisits job part visits → All (IsVisit job part) visits
+finish_ok job part visits ok few are =
+    subst (λ (vs : List Visit). All (IsVisit job part) vs) (sym are.visits) (finish_visits_ok job part are.heights ok map_ok are.are)
+  where
+    map_ok : IsMapLattice (finish_lattice job)
+    map_ok = record { x0_ok = ok.x0_ok; x1_ok = ok.x1_ok; y0_ok = ok.y0_ok; y1_ok = ok.y1_ok; x_order = ok.x_order; y_order = ok.y_order; step_ok = ok.raster_ok.low; few = few.finish }
+
+-- none of them is home, which isn't under the top
+not_home : (job : Job) (part : List Tri) (visit : Visit) → IsJob job → IsVisit job part visit → visit.at ≡ home job → ⊥
+not_home job part visit ok is there = clash visit.at.z job.top job.clear is.under_top ok.over_stock (ap (λ (p : Pt3). p.z) there)
+  where
+    clash : (z top clear : ℤ) → z <ℤ top → top ≤ℤ clear → z ≡ clear → ⊥
+    clash z top clear under over e = omega (under, over, e, arith, ints)
+
+pub finish_ends : (job : Job) (part : List Tri) (moves : List Move) (plan : IsPlan job part moves) → IsJob job → HasFewNodes job → All (λ (v : Visit). IsEndOf moves v.at) plan.finish
+finish_ends job part moves plan ok few =
+    let visits : List Visit = plan.rough ++ plan.finish in
+    let links : List Move = flat_map (λ (link : List Move). link) plan.tour.links in
+    let way : All (λ (v : Visit). IsOnTheWay (home job) links v.at) plan.finish =
+    behind (λ (v : Visit). IsOnTheWay (home job) links v.at) plan.rough plan.finish (links_end job part (home job) visits plan.tour.links plan.tour.are) in
+    let each : All (IsVisit job part) plan.finish = finish_ok job part plan.finish ok few plan.are_finish in
+    λ k d inside. ends (slice_index_or plan.finish k d) (each k d inside) (way k d inside)
+  where
+    ends : (v : Visit) → IsVisit job part v → IsOnTheWay (home job) (flat_map (λ (link : List Move). link) plan.tour.links) v.at → IsEndOf moves v.at
+    ends v is (inl there) = absurd (not_home job part v ok is there)
+    ends v is (inr end) =
+        subst (λ (ms : List Move). IsEndOf ms v.at) (sym plan.joined)
+        (ends_left plan.toured (way_home job (last_place (home job) (plan.rough ++ plan.finish))) v.at
+        (subst (λ (ms : List Move). IsEndOf ms v.at) (sym plan.tour.joined) end))

@@ -1,0 +1,41 @@
+-- What the verdict on a plan's moves comes to.
+use Rattle.std.specs.Prelude.{◌≡◌, ℕ, ℤ, List, []}
+use Rattle.mill_base.specs.declared.motion.Move.{Move}
+use Rattle.mill_base.specs.declared.points.Tri.{Tri}
+use Rattle.mill_job.specs.Columns.{home}
+use Rattle.mill_job.specs.Jobs.{IsJob}
+use Rattle.mill_job.specs.declared.job.Job.{Job}
+use Rattle.mill_paths.specs.Safety.{GoSafely}
+use Rattle.mill_post.specs.Readings.{ReadsBack}
+use Rattle.mill_post.specs.Texts.{program_text}
+use Rattle.mill_verify.specs.Claims.{CutsSafely}
+use Rattle.mill_verify.specs.Verdicts.{IsVerdict}
+use Rattle.mill_verify.specs.declared.verdict.Verdict.TheVariants.{Accept, Reject}
+use Rattle.mill_verify.specs.declared.verdict.Reason.{Reason}
+use Rattle.mill_verify.specs.declared.verdict.Reason.TheVariants.{Left}
+use Rattle.mill_plan.specs.Plans.{HasPlan, IsDone, IsUncut}
+use Rattle.mill_plan.proofs.Good.{follow, good, in_range, none_rejected}
+use Rattle.mill_plan.proofs.Reach.{out_of_reach}
+
+module _ (job : Job) (part : List Tri) (moves : List Move) (plan : HasPlan job part moves) where
+  -- an acceptance and the text of the moves are an answer
+  pub done_told : (text : List ℕ) (count columns : ℕ) (left : ℤ) → GoSafely job part [] (home job) moves (home job) → text ≡ program_text moves → ReadsBack moves text
+      → IsVerdict job part moves (Accept count columns left) → CutsSafely job part moves → IsDone job part text count columns left
+  done_told text count columns left go written reads accepted safe = record {
+    moves = moves;
+    plan = plan;
+    written = written;
+    reads = reads (home job) (follow job part (home job) (home job) moves go) (in_range job part (home job) (home job) moves go) plan.few;
+    in_range = in_range job part (home job) (home job) moves go;
+    accepted = accepted;
+    safe = safe;
+  }
+
+  -- so is a rejection for stock that is left
+  pub uncut_told : (row col : ℕ) (top : ℤ) → IsJob job → IsVerdict job part moves (Reject (Left row col top)) → IsUncut job part row col top
+  uncut_told row col top ok left = record { moves = moves; plan = plan; left = left; out_of_reach = out_of_reach job part moves row col top ok plan left }
+
+-- and there is no other rejection
+pub no_other : (job : Job) (part : List Tri) (moves : List Move) (reason : Reason) → GoSafely job part [] (home job) moves (home job) → IsVerdict job part moves (Reject reason)
+    → ((row col : ℕ) (top : ℤ) → reason ≡ Left row col top → ⊥) → ⊥
+no_other job part moves reason go rejected other = none_rejected job part moves reason (good job part (home job) (home job) moves go) rejected other

@@ -1,0 +1,37 @@
+use Rattle.std.proofs.Common.{◌≡◌, ◌∙◌, ap, rules, subst, to_z, of_z, w32, Ok}
+use Rattle.std.proofs.lemmas.Int.{to_z-of_z}
+use Rattle.mill_job.specs.Columns.{home}
+use Rattle.mill_verify.specs.Verdicts.{IsVerdict}
+use Rattle.mill_verify.specs.declared.verdict.Reason.{Reason}
+use Rattle.mill_verify.specs.declared.verdict.Verdict.{Verdict}
+use Rattle.mill_verify.specs.declared.verdict.Verdict.TheVariants.{Reject}
+use Rattle.mill_plan.proofs.Good.{follow, in_range}
+use Rattle.mill_plan.proofs.Telling.{done_told, no_other, uncut_told}
+use Rattle.mill_plan.proofs.program.verified.Goals as goal
+
+pub verify-requires-clause-moves_ok : goal.verify-requires-clause-moves_ok
+verify-requires-clause-moves_ok g c κs within = in_range c.args.job.now c.args.part.now (home c.args.job.now) (home c.args.job.now) c.args.moves.now c.requires.safe
+
+pub verify-requires-clause-follow : goal.verify-requires-clause-follow
+verify-requires-clause-follow g c κs within = follow c.args.job.now c.args.part.now (home c.args.job.now) (home c.args.job.now) c.args.moves.now c.requires.safe
+
+pub unreachable-requires : goal.unreachable-requires
+unreachable-requires g c =
+    no_other c.args.job.now c.args.part.now c.args.moves.now c.in-Reject.reason c.requires.safe
+    (subst (λ (v : Verdict). IsVerdict c.args.job.now c.args.part.now c.args.moves.now v) c.in-Reject.is c.in_ok-count.ensures.verdict) c.in_default.not-Left
+
+pub returns-in_ok-program-in-Accept-clause-planned : goal.returns-in_ok-program-in-Accept-clause-planned
+returns-in_ok-program-in-Accept-clause-planned g c =
+    let left : to_z w32 (of_z w32 c.in-Accept.most_left) ≡ c.in-Accept.most_left = to_z-of_z w32 c.in-Accept.most_left (search rules) in
+    rw left
+    (done_told c.args.job.now c.args.part.now c.args.moves.now c.requires.plan_ok c.in_ok-program-in-Accept.program.items c.in-Accept.count c.in-Accept.columns c.in-Accept.most_left
+    c.requires.safe c.in_ok-program-in-Accept.ensures.text c.in_ok-program-in-Accept.ensures.reads
+    (subst (λ (v : Verdict). IsVerdict c.args.job.now c.args.part.now c.args.moves.now v) c.in-Accept.is c.in_ok-count.ensures.verdict)
+    (c.verify.ensures.safe c.in-Accept.count c.in-Accept.columns c.in-Accept.most_left (c.in_ok-count.was ∙ ap (λ (v : Verdict). Ok v) c.in-Accept.is)))
+
+pub returns-in-Left-clause-fault : goal.returns-in-Left-clause-fault
+returns-in-Left-clause-fault g c =
+    let top : to_z w32 (of_z w32 c.in-Left.top) ≡ c.in-Left.top = to_z-of_z w32 c.in-Left.top (search rules) in
+    rw top
+    (uncut_told c.args.job.now c.args.part.now c.args.moves.now c.requires.plan_ok c.in-Left.row c.in-Left.col c.in-Left.top c.requires.job_ok
+    (subst (λ (v : Verdict). IsVerdict c.args.job.now c.args.part.now c.args.moves.now v) (c.in-Reject.is ∙ ap (λ (r : Reason). Reject r) c.in-Left.is) c.in_ok-count.ensures.verdict))

@@ -1,0 +1,4 @@
+pub mod Faults
+pub mod Plans
+pub mod Steps
+pub mod Laws

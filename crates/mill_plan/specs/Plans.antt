@@ -1,0 +1,110 @@
+-- What a planner can answer to a job and a part, and when each answer is right.
+use Rattle.std.specs.Prelude.{◌≡◌, ◌⊎◌, ℕ, ◌≤◌, ◌<◌, ℤ, pos, ◌+ℤ◌, ◌<ℤ◌, List, length, All, Ok}
+use Rattle.mill_base.specs.Contact.{Holds}
+use Rattle.mill_base.specs.Covers.{IsHighestCovered}
+use Rattle.mill_base.specs.Lattices.{node_count}
+use Rattle.mill_base.specs.Points.{point_at}
+use Rattle.mill_base.specs.Ranges.{MovesInRange}
+use Rattle.mill_base.specs.declared.points.Tri.{Tri}
+use Rattle.mill_base.specs.declared.motion.Move.{Move}
+use Rattle.mill_job.specs.Columns.{home, column_x, column_y}
+use Rattle.mill_job.specs.declared.job.Job.{Job}
+use Rattle.mill_ngc.specs.Programs.{program_of}
+use Rattle.mill_paths.specs.Lattices.{finish_lattice, rough_lattice}
+use Rattle.mill_paths.specs.Limits.{most_nodes, HasManyNodes}
+use Rattle.mill_paths.specs.Tours.{IsPlan}
+use Rattle.mill_paths.specs.Visits.{AreFinishVisits}
+use Rattle.mill_paths.specs.declared.visit.Visit.{Visit}
+use Rattle.mill_post.specs.Texts.{program_text}
+use Rattle.mill_verify.specs.Claims.{CutsSafely}
+use Rattle.mill_verify.specs.Verdicts.{IsVerdict}
+use Rattle.mill_verify.specs.declared.verdict.Verdict.TheVariants.{Accept, Reject}
+use Rattle.mill_verify.specs.declared.verdict.Reason.TheVariants.{Left}
+use Rattle.mill_plan.specs.declared.planned.Planned.{Planned}
+use Rattle.mill_plan.specs.declared.fault.PlanFault.{PlanFault}
+use Rattle.mill_plan.specs.declared.fault.PlanFault.TheVariants.{TooManyNodes, TooManyMoves, Uncut, WantOfMemory}
+
+-- the most moves of a plan
+abbrev pub most_moves : ℕ
+most_moves = 1000000
+
+-- what a planner answers: a program's text, how many moves it has, how many columns the job has, and the most that a column's top stands over what covers it;
+-- or a lattice with so many nodes is too large; or the moves are too many; or the plan leaves this row's and column's stock uncut at a height
+pub data PlanAnswer : Type 0 where
+  done : List ℕ → ℕ → ℕ → ℤ → PlanAnswer
+  too_many_nodes : ℕ → PlanAnswer
+  too_many_moves : PlanAnswer
+  uncut : ℕ → ℕ → ℤ → PlanAnswer
+
+-- ---- the limits
+
+-- each lattice that the paths go over is within its limit; the rough one is gone over only where there is a layer
+pub record HasFewNodes (job : Job) : Type 0 where
+  pub finish : node_count (finish_lattice job) ≤ most_nodes
+  pub rough : (pos 0) <ℤ job.layer → node_count (rough_lattice job) ≤ most_nodes
+
+-- the finishing lattice is within its limit, and the rough one, which is gone over, has so many nodes, and that is too many
+pub record HasManyRoughNodes (job : Job) (nodes : ℕ) : Type 0 where
+  pub finish : node_count (finish_lattice job) ≤ most_nodes
+  pub layer : (pos 0) <ℤ job.layer
+  pub rough : HasManyNodes (rough_lattice job) nodes
+
+-- the first lattice that is over its limit has so many nodes: the finishing one, else the rough one
+abbrev pub IsOverNodes : Job → ℕ → Type 0
+IsOverNodes job nodes = HasManyNodes (finish_lattice job) nodes ⊎ HasManyRoughNodes job nodes
+
+-- the lattices are within their limits, and the plan's list of moves is too long
+pub record IsOverMoves (job : Job) (part : List Tri) : Type 0 where
+  pub nodes : HasFewNodes job
+  pub many : (moves : List Move) → IsPlan job part moves → most_moves < length moves
+
+-- the lattices are within their limits, and so is this list of moves, which is the plan
+pub record HasPlan (job : Job) (part : List Tri) (moves : List Move) : Type 0 where
+  pub nodes : HasFewNodes job
+  pub is : IsPlan job part moves
+  pub few : length moves ≤ most_moves
+
+-- ---- the answers
+
+-- the text is the plan's and reads back as its moves, which are in range, from the job's home; the verdict on them is acceptance, with these numbers, and they cut safely
+pub record IsDone (job : Job) (part : List Tri) (text : List ℕ) (count columns : ℕ) (left : ℤ) : Type 0 where
+  pub moves : List Move
+  pub plan : HasPlan job part moves
+  pub written : text ≡ program_text moves
+  pub reads : program_of (home job) text ≡ Ok moves
+  pub in_range : MovesInRange moves
+  pub accepted : IsVerdict job part moves (Accept count columns left)
+  pub safe : CutsSafely job part moves
+
+-- no finishing visit has the point strictly inside the cutter that lies one unit over the column's greatest covered height and the allowance
+abbrev pub IsOutOfReach : Job → List Tri → ℕ → ℕ → ℤ → Type 0
+IsOutOfReach job part row col top = (visits : List Visit) (height : ℤ) → AreFinishVisits job part visits
+    → IsHighestCovered part job.floor job.band (column_x job col) (column_y job row) top height
+    → All (λ v. ¬ Holds job.cutter (pos 1) v.at (pos 1) (point_at (column_x job col) (column_y job row) (height +ℤ job.allowance +ℤ pos 1))) visits
+
+-- the verdict on the plan's moves is that the column's top is left too high, and the finishing path can't come to it
+pub record IsUncut (job : Job) (part : List Tri) (row col : ℕ) (top : ℤ) : Type 0 where
+  pub moves : List Move
+  pub plan : HasPlan job part moves
+  pub left : IsVerdict job part moves (Reject (Left row col top))
+  pub out_of_reach : IsOutOfReach job part row col top
+
+-- this is the planner's answer
+abbrev pub IsPlanAnswer : Job → List Tri → PlanAnswer → Type 0
+IsPlanAnswer job part (done text count columns left) = IsDone job part text count columns left
+IsPlanAnswer job part (too_many_nodes nodes) = IsOverNodes job nodes
+IsPlanAnswer job part too_many_moves = IsOverMoves job part
+IsPlanAnswer job part (uncut row col top) = IsUncut job part row col top
+
+-- ---- the call
+
+-- the answer of a plan that was made
+abbrev pub answer_of : Planned → PlanAnswer
+answer_of p = done p.program.items p.moves p.columns p.most_left
+
+-- a fault is the planner's answer, or tells of want of memory alone
+abbrev pub IsPlanFault : Job → List Tri → PlanFault → Type 0
+IsPlanFault job part (TooManyNodes nodes) = IsPlanAnswer job part (too_many_nodes nodes)
+IsPlanFault job part TooManyMoves = IsPlanAnswer job part too_many_moves
+IsPlanFault job part (Uncut row col top) = IsPlanAnswer job part (uncut row col top)
+IsPlanFault job part WantOfMemory = Unit {0}

@@ -1,0 +1,21 @@
+//! Plans a program that the verifier accepts, or says why there is none.
+//!
+//! It stands on the visits and links of `mill_paths`, on `mill_verify`, and on `mill_post`, which
+//! writes the program's text. It promises that the answer is the planner's, for any number of workers,
+//! and that there is at most one; that a program that it planned reads back as the plan's moves and is
+//! accepted; and that no plan is rejected but for stock that it leaves. Definitions: `specs/Plans` are
+//! the answers; `specs/Faults` and `specs/Steps` serve the functions within.
+#![tactic(auto)]
+
+mod fault;
+mod laws;
+mod moves;
+mod planned;
+mod program;
+#[cfg(test)]
+mod tests;
+
+pub use fault::PlanFault;
+pub use laws::one_plan_answer;
+pub use planned::Planned;
+pub use program::plan;

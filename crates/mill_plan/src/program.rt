@@ -1,0 +1,98 @@
+ghost use Rattle.std.specs.Prelude.{◌≡◌, ◌↔◌, ℕ, ◌≤◌, [], IfErr, IfOk, IsErrOf};
+ghost use Rattle.mill_base.specs.Covers.{IsUnder};
+ghost use Rattle.mill_job.specs.Columns.{home};
+ghost use Rattle.mill_job.specs.Jobs.{IsJob};
+ghost use Rattle.mill_paths.specs.Safety.{GoSafely};
+ghost use Rattle.mill_plan.specs.Plans.{HasPlan, IsOverNodes, IsPlanAnswer, IsPlanFault, answer_of};
+ghost use Rattle.mill_plan.specs.declared.fault.PlanFault.TheVariants.{TooManyNodes};
+
+use crate::fault::PlanFault;
+use crate::moves::{check_nodes, planned_moves};
+use crate::planned::Planned;
+use mill_base::Move;
+use mill_job::Job;
+use mill_part::Part;
+use mill_post::write_program;
+use mill_verify::{Reason, Verdict, verify};
+use std::alloc::Global;
+use std::thread::Threads;
+
+/// Plans a program that cuts the job's part, and verifies it.
+///
+/// The cutter starts at the job's home, comes to the roughing and then to the finishing visits
+/// (mill_paths), each by its link, and goes home. The text is that of `mill_post`; it reads back as
+/// these moves, which the verifier accepts, with the numbers that are told.
+///
+/// The verifying is handed to `workers` threads, from 1 to 64, and the drop heights to as many as the
+/// machine has; the answer doesn't depend on their number. The part is nowhere higher than the uncut
+/// stock. Lengths are in units of 0.01 mm.
+///
+/// # Errors
+///
+/// The first of these: `TooManyNodes` exactly where the finishing lattice has more than 4,000,000
+/// nodes, or, where there is a layer, the rough lattice; the finishing one is named first.
+/// `TooManyMoves` where the plan has more than 1,000,000 moves. `Uncut` where the verdict on the plan
+/// is that this column's top is left too high: the finishing path can't come to it. By
+/// `one_plan_answer` no two of the answers are right at a time. `WantOfMemory` may come in the place
+/// of any of them.
+pub fn plan<R: Threads + Sync>(
+    rt: &R,
+    alloc: Global,
+    job: &Job,
+    part: &Part,
+    workers: u32,
+) -> Result<Planned, PlanFault>
+    requires job_ok { IsJob job.now }
+    requires under { IsUnder part.now job.now.top }
+    requires some_workers { 1 ≤ workers }
+    requires few_workers { workers ≤ 64 }
+    ensures planned { IfOk result (λ planned. IsPlanAnswer job.now part.now (answer_of planned)) }
+    ensures fault { IfErr result (IsPlanFault job.now part.now) }
+    ensures nodes { (nodes : ℕ) → IsErrOf result (TooManyNodes nodes) ↔ IsOverNodes job.now nodes }
+{
+    check_nodes(job)?;
+    let moves = planned_moves(rt, alloc, job, part)?;
+    verified(rt, alloc, job, part, &moves, workers)
+}
+
+/// The planner's answer, from the verdict on the plan's moves.
+fn verified<R: Threads + Sync>(
+    rt: &R,
+    alloc: Global,
+    job: &Job,
+    part: &Part,
+    moves: &[Move],
+    workers: u32,
+) -> Result<Planned, PlanFault>
+    requires job_ok { IsJob job.now }
+    requires under { IsUnder part.now job.now.top }
+    requires plan_ok { HasPlan job.now part.now moves.now }
+    requires safe { GoSafely job.now part.now [] (home job.now) moves.now (home job.now) }
+    requires some_workers { 1 ≤ workers }
+    requires few_workers { workers ≤ 64 }
+    ensures planned { IfOk
+        result
+        (λ planned. IsPlanAnswer job.now part.now (answer_of planned)) }
+    ensures fault { IfErr result (IsPlanFault job.now part.now) }
+{
+    match verify(rt, alloc, job, part, moves, workers)? {
+        Verdict::Accept {
+            moves: count,
+            columns,
+            most_left,
+        } => {
+            let program = write_program(alloc, moves)?;
+            Ok(Planned {
+                program,
+                moves: count,
+                columns,
+                most_left,
+            })
+        }
+        Verdict::Reject(reason) => match reason {
+            Reason::Left { row, col, top } => Err(PlanFault::Uncut { row, col, top }),
+            // No move of a plan fails: each ends over the floor, and passes the part and the stock.
+            _ => unreachable!(),
+        },
+    }
+}

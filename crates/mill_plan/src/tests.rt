@@ -1,0 +1,168 @@
+ghost use Rattle.std.specs.Prelude.{◌≡◌, ◌≤ℤ◌, pos, IfOk};
+ghost use Rattle.mill_base.specs.Covers.{IsUnder};
+ghost use Rattle.mill_base.specs.Numbers.{Within, greatest};
+ghost use Rattle.mill_base.specs.Points.{point_at};
+ghost use Rattle.mill_job.specs.Jobs.{IsJob};
+
+use crate::{PlanFault, plan};
+use mill_base::{Box2, Cutter, Pt3, Tri, WantOfMemory};
+use mill_decimal::Snap;
+use mill_job::Job;
+use mill_part::Part;
+use std::alloc::Global;
+use std::test::Fail;
+
+/// A block from 0 to 300 over a square of 300, and sixteen columns and finishing nodes in it.
+fn block_job(layer: i32, lift: i32) -> Job
+    requires layer_least { pos 0 ≤ℤ layer }
+    requires layer_most { layer ≤ℤ pos 300 }
+    requires lift_least { pos 0 ≤ℤ lift }
+    requires lift_most { lift ≤ℤ pos 300 }
+    ensures job { IsJob result }
+    ensures top { result.top ≡ pos 300 }
+{
+    Job {
+        cutter: Cutter::Flat { radius: 100 },
+        floor: 0,
+        top: 300,
+        clear: 400,
+        area: Box2 {
+            x0: 0,
+            y0: 0,
+            x1: 300,
+            y1: 300,
+        },
+        home_x: 0,
+        home_y: 0,
+        pitch: 100,
+        sample: 50,
+        allowance: 0,
+        band: 0,
+        lift,
+        raster: 100,
+        rough_raster: 100,
+        layer,
+        rough_stock: 0,
+        snap: Snap::Nearest,
+    }
+}
+
+/// A block from 0 to 300 over a square of 4,000, with paths of these rasters.
+fn fine_job(raster: i32, rough_raster: i32, layer: i32) -> Job
+    requires raster_least { pos 1 ≤ℤ raster }
+    requires raster_most { raster ≤ℤ pos 100 }
+    requires rough_raster_least { pos 1 ≤ℤ rough_raster }
+    requires rough_raster_most { rough_raster ≤ℤ pos 100 }
+    requires layer_least { pos 0 ≤ℤ layer }
+    requires layer_most { layer ≤ℤ pos 300 }
+    ensures job { IsJob result }
+    ensures top { result.top ≡ pos 300 }
+{
+    Job {
+        cutter: Cutter::Flat { radius: 100 },
+        floor: 0,
+        top: 300,
+        clear: 400,
+        area: Box2 {
+            x0: 0,
+            y0: 0,
+            x1: 4000,
+            y1: 4000,
+        },
+        home_x: 0,
+        home_y: 0,
+        pitch: 100,
+        sample: 50,
+        allowance: 0,
+        band: 0,
+        lift: 0,
+        raster,
+        rough_raster,
+        layer,
+        rough_stock: 0,
+        snap: Snap::Nearest,
+    }
+}
+
+fn corner(x: i32, y: i32) -> Pt3
+    requires x_ok { Within greatest x }
+    requires y_ok { Within greatest y }
+    ensures { result ≡ point_at x y (pos 200) }
+{
+    Pt3 { x, y, z: 200 }
+}
+
+/// A plate at the height 200: the triangle from the x of `east` to (300, 0) and (300, 300), and that
+/// from (0, 0) to the x of `west` at y = 300 and to (0, 300).
+fn plate(alloc: Global, east: i32, west: i32) -> Result<Part, WantOfMemory>
+    requires east_ok { Within greatest east }
+    requires west_ok { Within greatest west }
+    ensures { IfOk result (λ part. IsUnder part (pos 300)) }
+{
+    let mut tris = Vec::new(alloc);
+    tris.push(Tri {
+        a: corner(east, 0),
+        b: corner(300, 0),
+        c: corner(300, 300),
+    })?;
+    tris.push(Tri {
+        a: corner(0, 0),
+        b: corner(west, 300),
+        c: corner(0, 300),
+    })?;
+    Ok(Part::new(tris))
+}
+
+// Straight down from home, fifteen feeds from node to node, and two rapids home; each roughing level
+// has as many feeds, and the way round from the end of one path to the start of the next four moves.
+#[test]
+fn plans_a_plate(rt: HostRuntime) -> Result<(), Fail> {
+    let alloc = rt.alloc();
+    let part = plate(alloc, 0, 300)?;
+    let finishing: &[u8] = b"%\nG17 G21 G90\nG1 X0.00 Y0.00 Z2.00\nG1 X1.00 Y0.00 Z2.00\n";
+    let roughing: &[u8] = b"%\nG17 G21 G90\nG1 X0.00 Y0.00 Z2.50\nG1 X1.00 Y0.00 Z2.50\n";
+    let end: &[u8] = b"\nG1 X0.00 Y3.00 Z2.00\nG0 X0.00 Y3.00 Z4.00\nG0 X0.00 Y0.00 Z4.00\nM2\n%\n";
+    for (layer, start, moves) in [(0, finishing, 18), (50, roughing, 56)] {
+        let planned = plan(&rt, alloc, &block_job(layer, 0), &part, 2)?;
+        assert!(rt; planned.program.starts_with(start));
+        assert!(rt; planned.program.ends_with(end));
+        assert_eq!(rt; planned.moves, moves);
+        assert_eq!(rt; planned.columns, 16);
+        assert_eq!(rt; planned.most_left, 0);
+    }
+    Ok(())
+}
+
+// The finishing path runs 10 over the plate where nothing may be left; or the cutter doesn't get into
+// the gap between two triangles, in which the second column stands.
+#[test]
+fn names_the_stock_that_stays_uncut(rt: HostRuntime) -> Result<(), Fail> {
+    for (east, west, lift, col, top) in [(0, 300, 10, 0, 210), (150, 50, 0, 1, 200)] {
+        let part = plate(rt.alloc(), east, west)?;
+        let planned = plan(&rt, rt.alloc(), &block_job(0, lift), &part, 2);
+        let uncut = PlanFault::Uncut { row: 0, col, top };
+        assert_eq!(rt; planned.err(), Some(uncut));
+    }
+    Ok(())
+}
+
+// Of two lattices that are too large the finishing one is named.
+#[test]
+fn names_a_lattice_that_is_too_large(rt: HostRuntime) -> Result<(), Fail> {
+    let part = plate(rt.alloc(), 0, 300)?;
+    for (raster, rough_raster, layer, nodes) in [
+        (1, 2, 100, 16_008_001),
+        (2, 1, 100, 4_004_001),
+        (100, 2, 100, 4_004_001),
+    ] {
+        let planned = plan(
+            &rt,
+            rt.alloc(),
+            &fine_job(raster, rough_raster, layer),
+            &part,
+            2,
+        );
+        assert_eq!(rt; planned.err(), Some(PlanFault::TooManyNodes { nodes }));
+    }
+    Ok(())
+}
