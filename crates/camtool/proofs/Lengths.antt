@@ -5,8 +5,9 @@ use Rattle.std.specs.List.{flat_map}
 use Rattle.std.proofs.lemmas.Bool.Decides.{nat_tests}
 use Rattle.std.proofs.lemmas.Fmt.{length-decimal-le}
 use Rattle.std.proofs.lemmas.List.Elements.{Contains-append_right}
-use Rattle.mill_base.specs.Numbers.{Within, greatest}
-use Rattle.mill_base.specs.Ranges.{IsInRange, MoveInRange, MovesInRange}
+use Rattle.mill_base.specs.Numbers.{Within}
+use Rattle.mill_base.specs.declared.limits.TheConstants.{MAX_TEXT_COORDINATE}
+use Rattle.mill_base.specs.Ranges.{IsInTextRange, MoveInTextRange, MovesInTextRange}
 use Rattle.mill_base.specs.declared.motion.Kind.{Kind}
 use Rattle.mill_base.specs.declared.motion.Kind.TheVariants.{Rapid, Feed}
 use Rattle.mill_base.specs.declared.motion.Move.{Move}
@@ -20,7 +21,7 @@ use Rattle.camtool.specs.Answers.{Fits}
 abbrev unsigned : ℕ → List ℕ
 unsigned n = decimal (n / 100) ++ 46 ∷ (48 + n / 10 % 10) ∷ (48 + n % 10) ∷ []
 
-length-unsigned : (n : ℕ) → n ≤ greatest → length (unsigned n) ≤ 7
+length-unsigned : (n : ℕ) → n ≤ MAX_TEXT_COORDINATE → length (unsigned n) ≤ 7
 length-unsigned n fits =
     omega (arith, length-append (decimal (n / 100)) (46 ∷ (48 + n / 10 % 10) ∷ (48 + n % 10) ∷ []), length-decimal-le 4 (n / 100) (omega arith) (omega arith) (omega arith))
 
@@ -35,7 +36,7 @@ canonical-negsuc : (n : ℕ) → canonical (negsuc n) ≡ 45 ∷ unsigned (suc n
 unfolding canonical
 canonical-negsuc n = refl
 
-length-canonical : (z : ℤ) → Within greatest z → length (canonical z) ≤ 8
+length-canonical : (z : ℤ) → Within MAX_TEXT_COORDINATE z → length (canonical z) ≤ 8
 length-canonical (pos n) fits = rw (canonical-pos n) (omega (arith, length-unsigned n fits.within))
 length-canonical (negsuc n) fits = rw (canonical-negsuc n) (omega (arith, length-unsigned (suc n) fits.within))
 
@@ -43,7 +44,7 @@ length-motion : (kind : Kind) → length (motion_word kind) ≤ 2
 length-motion Rapid = omega arith
 length-motion Feed = omega arith
 
-length-move : (m : Move) → IsInRange m.to → length (move_line m) ≤ 32
+length-move : (m : Move) → IsInTextRange m.to → length (move_line m) ≤ 32
 unfolding move_line
 length-move m fits =
     simp length-append (omega (arith, length-motion m.kind, length-canonical m.to.x fits.x_ok, length-canonical m.to.y fits.y_ok, length-canonical m.to.z fits.z_ok))
@@ -54,11 +55,11 @@ length-move m fits =
 abbrev rest_of : List Move → List (List ℕ)
 rest_of moves = map move_line moves ++ codes "M2" ∷ codes "%" ∷ []
 
-length-rest : (moves : List Move) → MovesInRange moves → length (flat_map ended (rest_of moves)) ≤ 33 * length moves + 5
+length-rest : (moves : List Move) → MovesInTextRange moves → length (flat_map ended (rest_of moves)) ≤ 33 * length moves + 5
 length-rest [] fits = omega arith
 length-rest (m ∷ moves) fits =
-    let first : MoveInRange m = fits m (search rules) in
-    let others : MovesInRange moves = λ n member. fits n (Contains-append_right (m ∷ []) moves n member) in
+    let first : MoveInTextRange m = fits m (search rules) in
+    let others : MovesInTextRange moves = λ n member. fits n (Contains-append_right (m ∷ []) moves n member) in
     omega (
       arith,
       length-append (ended (move_line m)) (flat_map ended (rest_of moves)),
@@ -67,7 +68,7 @@ length-rest (m ∷ moves) fits =
       length-rest moves others,
     )
 
-length-program : (moves : List Move) → MovesInRange moves → length (program_text moves) ≤ 33 * length moves + 19
+length-program : (moves : List Move) → MovesInTextRange moves → length (program_text moves) ≤ 33 * length moves + 19
 unfolding program_text
 length-program moves fits =
     omega (
@@ -78,7 +79,7 @@ length-program moves fits =
     )
 
 -- a program of at most 1,000,000 moves in range fits into a file
-pub plan_fits : (moves : List Move) (text : List ℕ) → MovesInRange moves → length moves ≤ 1000000 → text ≡ program_text moves → Fits text
+pub plan_fits : (moves : List Move) (text : List ℕ) → MovesInTextRange moves → length moves ≤ 1000000 → text ≡ program_text moves → Fits text
 plan_fits moves text fits few written =
     let short : length (program_text moves) ≤ 33 * length moves + 19 = length-program moves fits in
     rw written (omega (arith, short, few))

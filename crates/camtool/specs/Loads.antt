@@ -4,9 +4,10 @@ use Rattle.std.specs.Global.{Vec}
 use Rattle.mill_base.specs.declared.points.Tri.{Tri}
 use Rattle.mill_base.specs.declared.motion.Move.{Move}
 use Rattle.mill_base.specs.Motion.{Follow}
-use Rattle.mill_base.specs.Ranges.{MovesInRange}
+use Rattle.mill_base.specs.Ranges.{MovesInTextRange}
 use Rattle.mill_base.specs.Covers.{IsUnder}
-use Rattle.mill_base.specs.Numbers.{Within, greatest}
+use Rattle.mill_base.specs.Numbers.{Within}
+use Rattle.mill_base.specs.declared.limits.TheConstants.{MAX_TEXT_COORDINATE}
 use Rattle.mill_decimal.specs.declared.snap.Snap.{Snap}
 use Rattle.mill_stl.specs.Parts.{part_of}
 use Rattle.mill_ngc.specs.Programs.{program_of}
@@ -109,7 +110,7 @@ pub record IsSetup (s : Setup) : Type 0 where
 -- what was read is within the ranges that the verifier asks for
 pub record IsReady (l : Loaded) : Type 0 where
   pub job_ok : IsJob l.job
-  pub moves_ok : MovesInRange l.moves.items
+  pub moves_ok : MovesInTextRange l.moves.items
   pub under : IsUnder l.part l.job.top
   pub follow : Follow (home l.job) l.moves.items
   pub few : length l.moves.items ≤ 1000000
@@ -126,5 +127,5 @@ PlaceFrom x y (Err f) = RefusesWord x y f.coordinate f.fault
 
 -- the place is in range
 pub record IsPlace (place : Place) : Type 0 where
-  pub x_ok : Within greatest place.x
-  pub y_ok : Within greatest place.y
+  pub x_ok : Within MAX_TEXT_COORDINATE place.x
+  pub y_ok : Within MAX_TEXT_COORDINATE place.y

@@ -1,7 +1,7 @@
 ghost use Rattle.std.specs.Prelude.{◌≡◌, ◌≤◌, ◌<◌, ◌^◌, List, ℕ, Some, length, IfOk, IfSome, IfErr};
 ghost use Rattle.mill_base.specs.Covers.{IsUnder};
 ghost use Rattle.mill_base.specs.Motion.{Follow};
-ghost use Rattle.mill_base.specs.Ranges.{MovesInRange};
+ghost use Rattle.mill_base.specs.Ranges.{MovesInTextRange};
 ghost use Rattle.mill_io.specs.Contents.{Stay};
 ghost use Rattle.mill_job.specs.Columns.{home};
 ghost use Rattle.mill_job.specs.Jobs.{IsJob};
@@ -146,7 +146,7 @@ fn load_program<S: Shelf>(
 ) -> Result<Vec<Move>, End>
     requires { IsJob job.now }
     ensures told { IfSome (S.contents shelf.old name.now) (λ text. LoadsProgram job.now text result) }
-    ensures in_range { IfOk result (λ moves. MovesInRange moves.items) }
+    ensures in_range { IfOk result (λ moves. MovesInTextRange moves.items) }
     ensures follow { IfOk result (λ moves. Follow (home job.now) moves.items) }
     ensures few { IfOk result (λ moves. length moves.items ≤ 1000000) }
     ensures cause { EndsBy (S.read_faults shelf.old) (S.read_faults shelf.new) result }
@@ -205,7 +205,7 @@ fn program_from(alloc: Global, text: &[u8], job: &Job) -> Result<Vec<Move>, End>
     requires fits { Fits text.now }
     requires job_ok { IsJob job.now }
     ensures told { LoadsProgram job.now text.now result }
-    ensures in_range { IfOk result (λ moves. MovesInRange moves.items) }
+    ensures in_range { IfOk result (λ moves. MovesInTextRange moves.items) }
     ensures follow { IfOk result (λ moves. Follow (home job.now) moves.items) }
     ensures few { IfOk result (λ moves. length moves.items ≤ 1000000) }
     ensures cause { EndsBy 0 0 result }

@@ -10,3 +10,4 @@ pub mod RootLemmas
 pub mod Squares
 pub mod ExitCerts
 pub mod Exit
+pub mod Ranges

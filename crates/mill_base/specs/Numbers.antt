@@ -47,10 +47,6 @@ lesser a b = cond (int_lt b a) b a
 abbrev pub greater : ℤ → ℤ → ℤ
 greater a b = cond (int_lt a b) b a
 
--- the greatest magnitude of a coordinate, in units of 0.01 mm
-abbrev pub greatest : ℕ
-greatest = 131071
-
 -- the magnitude is at most m
 pub record Within (m : ℕ) (a : ℤ) : Type 0 where
   pub within : nat_abs a ≤ m

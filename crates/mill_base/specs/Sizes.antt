@@ -4,6 +4,7 @@ use Rattle.mill_base.specs.Numbers.{square, floor_root_of, ceil_root_of, ceil_di
 use Rattle.mill_base.specs.Points.{point_at}
 use Rattle.mill_base.specs.Contact.{Holds}
 use Rattle.mill_base.specs.declared.points.Pt3.{Pt3}
+use Rattle.mill_base.specs.declared.limits.TheConstants.{MAX_RADIUS, MAX_WIDE_RADIUS}
 use Rattle.mill_base.specs.declared.cutter.Cutter.{Cutter}
 use Rattle.mill_base.specs.declared.cutter.Cutter.TheVariants.{Flat, Ball, Cone}
 
@@ -34,11 +35,11 @@ IsCutterUpTo limit (Cone r a b) = HasRadius r limit × IsSlope a b
 
 -- a cutter of a job
 abbrev pub IsCutter : Cutter → Type 0
-IsCutter cutter = IsCutterUpTo (pos 10000) cutter
+IsCutter cutter = IsCutterUpTo MAX_RADIUS cutter
 
--- a cutter of a contact test, which may be a job's widened by up to 1,024
+-- a cutter of a contact test, which may be a job's widened by the greatest reach
 abbrev pub IsWideCutter : Cutter → Type 0
-IsWideCutter cutter = IsCutterUpTo (pos 11024) cutter
+IsWideCutter cutter = IsCutterUpTo MAX_WIDE_RADIUS cutter
 
 -- the same cutter with the radius s
 abbrev pub with_radius : Cutter → ℤ → Cutter

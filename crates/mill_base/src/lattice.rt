@@ -1,5 +1,6 @@
 ghost use Rattle.std.specs.Prelude.{◌≡◌, ◌+◌, ◌*◌, ◌≤◌, ◌≤ℤ◌, pos, length};
-ghost use Rattle.mill_base.specs.Numbers.{Within, greatest};
+ghost use Rattle.mill_base.specs.Numbers.{Within};
+ghost use Rattle.mill_base.specs.declared.limits.TheConstants.{MAX_COORDINATE};
 ghost use Rattle.mill_base.specs.Lattices.{lattice_positions, node_count};
 
 use crate::points::Box2;
@@ -16,10 +17,10 @@ pub struct Lattice {
 impl Lattice {
     /// How many nodes the lattice has.
     pub fn nodes(&self) -> u64
-        requires x0_ok { Within greatest self.now.area.x0 }
-        requires x1_ok { Within greatest self.now.area.x1 }
-        requires y0_ok { Within greatest self.now.area.y0 }
-        requires y1_ok { Within greatest self.now.area.y1 }
+        requires x0_ok { Within MAX_COORDINATE self.now.area.x0 }
+        requires x1_ok { Within MAX_COORDINATE self.now.area.x1 }
+        requires y0_ok { Within MAX_COORDINATE self.now.area.y0 }
+        requires y1_ok { Within MAX_COORDINATE self.now.area.y1 }
         requires x_order { self.now.area.x0 ≤ℤ self.now.area.x1 }
         requires y_order { self.now.area.y0 ≤ℤ self.now.area.y1 }
         requires step_ok { pos 1 ≤ℤ self.now.step }
@@ -32,12 +33,12 @@ impl Lattice {
 
 /// How many positions there are from `first` to `last`.
 fn positions(first: i32, last: i32, step: i32) -> u64
-    requires first_ok { Within greatest first }
-    requires last_ok { Within greatest last }
+    requires first_ok { Within MAX_COORDINATE first }
+    requires last_ok { Within MAX_COORDINATE last }
     requires order { first ≤ℤ last }
     requires step_ok { pos 1 ≤ℤ step }
     ensures value { result ≡ length (lattice_positions first last step) }
-    ensures bound { result ≤ 2 * greatest + 1 }
+    ensures bound { result ≤ 2 * MAX_COORDINATE + 1 }
 {
     let length = last.abs_diff(first);
     u64::from(length.div_ceil(step.unsigned_abs())) + 1

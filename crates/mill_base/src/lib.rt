@@ -1,4 +1,5 @@
-//! Points, triangles, moves and cutters on the grid of 0.01 mm, and exact whole-number arithmetic.
+//! Points, triangles, moves and cutters on the grid of 0.01 mm, the limits of the whole program, and
+//! exact whole-number arithmetic.
 //!
 //! It stands on nothing but std, and every other crate stands on it. Its definitions say what a
 //! point of a triangle is, which points a cutter strictly holds, what a move gouges and removes,
@@ -9,6 +10,7 @@
 mod arithmetic;
 mod cutter;
 mod lattice;
+mod limits;
 mod memory;
 mod motion;
 mod points;
@@ -21,6 +23,11 @@ mod tests;
 pub use arithmetic::{offset, product, square, square_sum};
 pub use cutter::Cutter;
 pub use lattice::Lattice;
+pub use limits::{
+    LOWEST_TIP, MAX_COLUMNS, MAX_COORDINATE, MAX_DEPTH, MAX_FILE_BYTES, MAX_LAST_REACH, MAX_MOVES,
+    MAX_NODES, MAX_RADIUS, MAX_REACH, MAX_TEXT_COORDINATE, MAX_TRIANGLES, MAX_WIDE_RADIUS,
+    MAX_WORKERS,
+};
 pub use memory::WantOfMemory;
 pub use motion::{Kind, Move};
 pub use points::{Box2, Pt3, Tri};

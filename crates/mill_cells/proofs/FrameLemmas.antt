@@ -7,7 +7,8 @@ use Rattle.std.proofs.lemmas.Nat.{le-div, div_below, div-mul-add, mod-mul-add}
 use Rattle.std.proofs.lemmas.Bool.{and_parts, and_from, and_left, and_right, leb-true, le-leb, lt-leb}
 use lib.IntN.{ℤ, ◌-ℤ◌}
 use lib.Signed.{◌≤ℤ◌}
-use Rattle.mill_base.specs.Numbers.{Within, greatest}
+use Rattle.mill_base.specs.Numbers.{Within}
+use Rattle.mill_base.specs.declared.limits.TheConstants.{MAX_TEXT_COORDINATE}
 use Rattle.mill_base.specs.declared.points.Box2.{Box2}
 use Rattle.mill_cells.specs.Boxes.{IsInside, IsBounds}
 use Rattle.mill_cells.specs.Frames.{cell_of, cell_count, block_of, width_of, height_of, area_of, has_cell, covers, IsBlock, IsFrame}
@@ -21,7 +22,7 @@ div_mono m n k h le = le-div (m / k) n k h (omega (arith, div-mul-le_self m k))
 pub cell_mono : (low : ℤ) (size : ℕ) (a b : ℤ) → 0 < size → low ≤ℤ a → a ≤ℤ b → cell_of low size a ≤ cell_of low size b
 cell_mono low size a b h p q = div_mono (nat_abs (a -ℤ low)) (nat_abs (b -ℤ low)) size h (omega (arith, ints))
 
-pub cell_small : (low : ℤ) (size : ℕ) (a : ℤ) → Within greatest low → Within greatest a → cell_of low size a < 2 ^ 18
+pub cell_small : (low : ℤ) (size : ℕ) (a : ℤ) → Within MAX_TEXT_COORDINATE low → Within MAX_TEXT_COORDINATE a → cell_of low size a < 2 ^ 18
 cell_small low size a hl ha =
     let k = hl.within in
     let l = ha.within in
@@ -52,7 +53,7 @@ block_in f b h i =
       low = omega arith;
     }
 
-within_bounds : (lo hi a : ℤ) → Within greatest lo → Within greatest hi → lo ≤ℤ a → a ≤ℤ hi → Within greatest a
+within_bounds : (lo hi a : ℤ) → Within MAX_TEXT_COORDINATE lo → Within MAX_TEXT_COORDINATE hi → lo ≤ℤ a → a ≤ℤ hi → Within MAX_TEXT_COORDINATE a
 within_bounds lo hi a p q h k = let u = p.within in let v = q.within in record { within = omega (arith, ints) }
 
 -- a box within bounds has ends in range
@@ -132,7 +133,7 @@ itself_inside b h = record {
 }
 
 -- a column and a row of the frame begin within its bounds
-place_room : (low high : ℤ) (size at : ℕ) → Within greatest low → Within greatest high → at ≤ cell_of low size high → at * size < 2 ^ 18
+place_room : (low high : ℤ) (size at : ℕ) → Within MAX_TEXT_COORDINATE low → Within MAX_TEXT_COORDINATE high → at ≤ cell_of low size high → at * size < 2 ^ 18
 place_room low high size at hl hh le =
     let k = hl.within in
     let l = hh.within in

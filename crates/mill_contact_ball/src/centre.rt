@@ -1,6 +1,6 @@
 ghost use Rattle.std.specs.Prelude.{◌≡◌, ◌+ℤ◌, ◌-ℤ◌, pos};
 ghost use Rattle.mill_base.specs.Numbers.{Within};
-ghost use Rattle.mill_base.specs.Ranges.{IsInRange};
+ghost use Rattle.mill_base.specs.Ranges.{IsInTextRange};
 ghost use Rattle.mill_base.specs.Sizes.{HasRadius};
 ghost use Rattle.mill_geom.specs.Offsets.{OffsetInRange, IsOffset, IsCentre, farthest};
 ghost use Rattle.mill_contact_ball.specs.Centres.{centre_of};
@@ -31,7 +31,7 @@ fn raised_difference(a: i32, b: i32, radius: i32) -> i64
 
 /// How far `point` is from the centre of the sphere of `radius` that stands on `tip`.
 pub fn offset_from_centre(point: Pt3, tip: Pt3, radius: i32) -> Offset
-    requires point_ok { IsInRange point }
+    requires point_ok { IsInTextRange point }
     requires tip_ok { IsCentre tip }
     requires radius_ok { HasRadius radius (pos 11024) }
     ensures place { IsOffset result point (centre_of radius tip) }

@@ -12,7 +12,7 @@
 ghost use Rattle.std.specs.Prelude.{◌≡◌, ◌^◌, ◌<ℤ◌, pos, false, IsTrue};
 ghost use Rattle.mill_base.specs.Contact.{Touches};
 ghost use Rattle.mill_base.specs.Numbers.{Within};
-ghost use Rattle.mill_base.specs.Ranges.{TriInRange};
+ghost use Rattle.mill_base.specs.Ranges.{TriInTextRange};
 ghost use Rattle.mill_base.specs.Sizes.{HasRadius, IsWideCutter, radius_of};
 ghost use Rattle.mill_base.specs.declared.cutter.Cutter.TheVariants.{Ball};
 ghost use Rattle.mill_geom.specs.Offsets.{IsCentre, OffsetInRange};
@@ -59,7 +59,7 @@ fn touch_along_x(a: Offset, b: Offset, c: Offset, radius: i64) -> Touch
 /// How the triangle lies to the ball cutter of `radius` with its tip at `tip`, for positions along
 /// `axis`.
 fn touch_ball(tri: &Tri, radius: i32, tip: Pt3, axis: Axis) -> Touch
-    requires tri_ok { TriInRange tri.now }
+    requires tri_ok { TriInTextRange tri.now }
     requires radius_ok { HasRadius radius (pos 11024) }
     requires tip_ok { IsCentre tip }
     ensures { IsTouch result (λ t. Touches (Ball radius) (pos 1) (along axis tip t) tri.now) }
@@ -76,7 +76,7 @@ fn touch_ball(tri: &Tri, radius: i32, tip: Pt3, axis: Axis) -> Touch
 ///
 /// Lengths are in units of 0.01 mm. Corners may be equal or collinear.
 pub fn touch(tri: &Tri, cutter: Cutter, tip: Pt3, axis: Axis) -> Touch
-    requires tri_ok { TriInRange tri.now }
+    requires tri_ok { TriInTextRange tri.now }
     requires cutter_ok { IsWideCutter cutter }
     requires tip_ok { IsCentre tip }
     ensures { IsTouch result (λ t. Touches (Ball (radius_of cutter)) (pos 1) (along axis tip t) tri.now) }
@@ -104,7 +104,7 @@ fn meets_here(a: Offset, b: Offset, c: Offset, radius: i64) -> bool
 /// Whether some point of the triangle is strictly inside the ball cutter of `radius` with its tip at
 /// `tip`.
 fn holds_some(tri: &Tri, radius: i32, tip: Pt3) -> bool
-    requires tri_ok { TriInRange tri.now }
+    requires tri_ok { TriInTextRange tri.now }
     requires radius_ok { HasRadius radius (pos 11024) }
     requires tip_ok { IsCentre tip }
     ensures yes { IsTrue result → Touches (Ball radius) (pos 1) tip tri.now }
@@ -121,7 +121,7 @@ fn holds_some(tri: &Tri, radius: i32, tip: Pt3) -> bool
 ///
 /// Lengths are in units of 0.01 mm. Corners may be equal or collinear.
 pub fn is_inside(tri: &Tri, cutter: Cutter, tip: Pt3) -> bool
-    requires tri_ok { TriInRange tri.now }
+    requires tri_ok { TriInTextRange tri.now }
     requires cutter_ok { IsWideCutter cutter }
     requires tip_ok { IsCentre tip }
     ensures yes { IsTrue result → Touches (Ball (radius_of cutter)) (pos 1) tip tri.now }

@@ -1,4 +1,4 @@
-ghost use Rattle.mill_base.specs.Ranges.{IsInRange, TriInRange};
+ghost use Rattle.mill_base.specs.Ranges.{IsInTextRange, TriInTextRange};
 ghost use Rattle.mill_geom.specs.Offsets.{IsCentre};
 
 use crate::{is_inside, touch};
@@ -15,7 +15,7 @@ const MORE: Touch = Touch::Apart(Side::More);
 const NEVER: Touch = Touch::Apart(Side::Never);
 
 fn at(x: i16, y: i16, z: i16) -> Pt3
-    ensures corner { IsInRange result }
+    ensures corner { IsInTextRange result }
     ensures centre { IsCentre result }
 {
     Pt3 {
@@ -27,14 +27,14 @@ fn at(x: i16, y: i16, z: i16) -> Pt3
 
 /// Whether a ball of radius 100 has the triangle inside.
 fn holds(tri: &Tri, tip: (i16, i16, i16)) -> bool
-    requires { TriInRange tri.now }
+    requires { TriInTextRange tri.now }
 {
     is_inside(tri, Cutter::Ball { radius: 100 }, at(tip.0, tip.1, tip.2))
 }
 
 /// How the triangle lies to a ball of radius 100 along X and along Y.
 fn lies(tri: &Tri, tip: (i16, i16, i16)) -> (Touch, Touch)
-    requires { TriInRange tri.now }
+    requires { TriInTextRange tri.now }
 {
     let cutter = Cutter::Ball { radius: 100 };
     let tip = at(tip.0, tip.1, tip.2);

@@ -10,7 +10,7 @@
 ghost use Rattle.std.specs.Prelude.{◌≡◌, ◌^◌, ◌↔◌, ◌+ℤ◌, ◌*ℤ◌, ◌<ℤ◌, pos, false, IsTrue};
 ghost use Rattle.mill_base.specs.Contact.{Touches};
 ghost use Rattle.mill_base.specs.Numbers.{Within};
-ghost use Rattle.mill_base.specs.Ranges.{TriInRange};
+ghost use Rattle.mill_base.specs.Ranges.{TriInTextRange};
 ghost use Rattle.mill_base.specs.Sizes.{IsWideCutter, radius_of};
 ghost use Rattle.mill_base.specs.declared.cutter.Cutter.TheVariants.{Flat};
 ghost use Rattle.mill_geom.specs.Contacts.{TouchesTriangle};
@@ -49,7 +49,7 @@ fn touch_along_x(a: Offset, b: Offset, c: Offset, radius: i64) -> Touch
 ///
 /// Lengths are in units of 0.01 mm. Corners may be equal or collinear.
 pub fn touch(tri: &Tri, cutter: Cutter, tip: Pt3, axis: Axis) -> Touch
-    requires tri_ok { TriInRange tri.now }
+    requires tri_ok { TriInTextRange tri.now }
     requires cutter_ok { IsWideCutter cutter }
     requires tip_ok { IsCentre tip }
     ensures { IsTouch result (λ t. Touches (Flat (radius_of cutter)) (pos 1) (along axis tip t) tri.now) }
@@ -139,7 +139,7 @@ fn touches_here(a: Offset, b: Offset, c: Offset, radius: i64) -> bool
 ///
 /// Lengths are in units of 0.01 mm. Corners may be equal or collinear.
 pub fn is_inside(tri: &Tri, cutter: Cutter, tip: Pt3) -> bool
-    requires tri_ok { TriInRange tri.now }
+    requires tri_ok { TriInTextRange tri.now }
     requires cutter_ok { IsWideCutter cutter }
     requires tip_ok { IsCentre tip }
     ensures yes { IsTrue result → Touches (Flat (radius_of cutter)) (pos 1) tip tri.now }

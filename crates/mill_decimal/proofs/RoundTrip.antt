@@ -6,7 +6,8 @@ use Rattle.std.specs.Str.Parse.{AllDigits, digits_value}
 use Rattle.std.proofs.lemmas.Bool.Decides.{nat_tests}
 use Rattle.std.proofs.lemmas.Fmt.{digits_decimal, digits_value-decimal, decimal_nonempty, length-decimal-le}
 use Rattle.std.proofs.lemmas.Str.Parse.{IsNumeralModel, numerals_by_value, tells_digits}
-use Rattle.mill_base.specs.Numbers.{Within, greatest}
+use Rattle.mill_base.specs.Numbers.{Within}
+use Rattle.mill_base.specs.declared.limits.TheConstants.{MAX_TEXT_COORDINATE}
 use Rattle.mill_decimal.specs.declared.scaled.Scaled.{Scaled}
 use Rattle.mill_decimal.specs.declared.snap.Snap.{Snap}
 use Rattle.mill_decimal.specs.declared.snap.Snap.TheVariants.{Nearest, Exact}
@@ -66,21 +67,21 @@ scaled_unsigned-decimal negative m a b small sa sb =
 abbrev unsigned_text : ℕ → List ℕ
 unsigned_text n = decimal (n / 100) ++ 46 ∷ (48 + n / 10 % 10) ∷ (48 + n % 10) ∷ []
 
-scaled_unsigned-text : (negative : Bool) (n : ℕ) → n ≤ greatest → scaled_unsigned negative (unsigned_text n) ≡ Ok (whole_units negative n)
+scaled_unsigned-text : (negative : Bool) (n : ℕ) → n ≤ MAX_TEXT_COORDINATE → scaled_unsigned negative (unsigned_text n) ≡ Ok (whole_units negative n)
 scaled_unsigned-text negative n fits =
     let whole : (n / 100 * 10 + n / 10 % 10) * 10 + n % 10 ≡ n = omega arith in
     scaled_unsigned-decimal negative (n / 100) (n / 10 % 10) (n % 10) (omega arith) (omega arith) (omega arith) ∙ ap (λ (k : ℕ). Ok (whole_units negative k)) whole
 
 -- ---- the units
 
-in_range-taken : (n : ℕ) → n ≤ greatest → in_range n ≡ Some n
+in_range-taken : (n : ℕ) → n ≤ MAX_TEXT_COORDINATE → in_range n ≡ Some n
 in_range-taken n fits = grind (arith, nat_tests)
 
 nearest-whole : (n : ℕ) → nearest n (pos 0) ≡ n
 unfolding nearest
 nearest-whole n = omega arith
 
-units_of-whole : (snap : Snap) (negative : Bool) (n : ℕ) → n ≤ greatest → units_of snap (whole_units negative n) ≡ Ok (signed negative n)
+units_of-whole : (snap : Snap) (negative : Bool) (n : ℕ) → n ≤ MAX_TEXT_COORDINATE → units_of snap (whole_units negative n) ≡ Ok (signed negative n)
 unfolding is_whole
 units_of-whole Nearest negative n fits = rw (nearest-whole n, in_range-taken n fits) refl
 units_of-whole Exact negative n fits = rw (nearest-whole n, in_range-taken n fits) refl
@@ -90,13 +91,13 @@ no_sign : (ds rest : List ℕ) → 0 < length ds → AllDigits 10 ds → (is_neg
 no_sign [] rest some all = absurd (omega arith)
 no_sign (d ∷ ds) rest some all = (grind (arith, nat_tests), grind (arith, nat_tests))
 
-read_positive : (snap : Snap) (n : ℕ) → n ≤ greatest → read_as snap (unsigned_text n) ≡ Ok (pos n)
+read_positive : (snap : Snap) (n : ℕ) → n ≤ MAX_TEXT_COORDINATE → read_as snap (unsigned_text n) ≡ Ok (pos n)
 unfolding read_as scaled_of
 read_positive snap n fits =
     let plain = no_sign (decimal (n / 100)) (46 ∷ (48 + n / 10 % 10) ∷ (48 + n % 10) ∷ []) (decimal_nonempty (n / 100) (omega arith)) (digits_decimal model (n / 100) (omega arith)) in
     rw (plain.0, plain.1, scaled_unsigned-text false n fits) (units_of-whole snap false n fits)
 
-read_negative : (snap : Snap) (n : ℕ) → suc n ≤ greatest → read_as snap (45 ∷ unsigned_text (suc n)) ≡ Ok (negsuc n)
+read_negative : (snap : Snap) (n : ℕ) → suc n ≤ MAX_TEXT_COORDINATE → read_as snap (45 ∷ unsigned_text (suc n)) ≡ Ok (negsuc n)
 unfolding read_as scaled_of
 read_negative snap n fits = rw (scaled_unsigned-text true (suc n) fits) (units_of-whole snap true (suc n) fits)
 
@@ -104,7 +105,7 @@ not_negative : (n : ℕ) → int_lt (pos n) (pos 0) ≡ false
 not_negative n = grind (arith, nat_tests)
 
 -- what is written reads back
-pub read_as-canonical : (snap : Snap) (z : ℤ) → Within greatest z → read_as snap (canonical z) ≡ Ok z
+pub read_as-canonical : (snap : Snap) (z : ℤ) → Within MAX_TEXT_COORDINATE z → read_as snap (canonical z) ≡ Ok z
 unfolding canonical
 read_as-canonical snap (pos n) fits = rw (not_negative n) (read_positive snap n fits.within)
 read_as-canonical snap (negsuc n) fits = read_negative snap n fits.within

@@ -1,6 +1,6 @@
 -- What a decimal text of millimetres means in units of 0.01 mm, and how a number of units is written.
 use Rattle.std.specs.Prelude.{ℕ, suc, ◌+◌, ◌*◌, ◌/◌, ◌%◌, ◌^◌, ◌==◌, nat_le, Bool, true, false, not, ◌&&◌, if◌then◌else◌, ℤ, pos, negsuc, nat_abs, int_lt, List, [], ◌∷◌, ◌++◌, Option, Some, None, Result, Ok, Err, is_ok, decimal}
-use Rattle.mill_base.specs.Numbers.{greatest}
+use Rattle.mill_base.specs.declared.limits.TheConstants.{MAX_TEXT_COORDINATE}
 use Rattle.mill_decimal.specs.Spelling.{signed, scaled_of}
 use Rattle.mill_decimal.specs.declared.snap.Snap.{Snap}
 use Rattle.mill_decimal.specs.declared.snap.Snap.TheVariants.{Nearest, Exact}
@@ -35,7 +35,7 @@ rounded s = nearest s.mantissa s.power
 
 -- a number of units, if it is in range
 abbrev pub in_range : ℕ → Option ℕ
-in_range n = if nat_le n greatest then Some n else None
+in_range n = if nat_le n MAX_TEXT_COORDINATE then Some n else None
 
 -- units with their sign, where they are in range
 abbrev pub or_out_of_range : Bool → Option ℕ → Result ℤ DecFault

@@ -1,5 +1,6 @@
 ghost use Rattle.std.specs.Prelude.{◌≡◌, ◌<◌, ◌≤◌, ◌^◌, ◌-◌, Ok, Err, IfOk, IfErr, IfSome};
-ghost use Rattle.mill_base.specs.Numbers.{Within, greatest};
+ghost use Rattle.mill_base.specs.Numbers.{Within};
+ghost use Rattle.mill_base.specs.declared.limits.TheConstants.{MAX_TEXT_COORDINATE};
 ghost use Rattle.mill_decimal.specs.Decimals.{read_as, units_of as units_of_scaled, is_rounded, is_refused as is_refused_under, is_between, units_or_fault};
 ghost use Rattle.mill_decimal.specs.declared.snap.Snap.{Snap};
 ghost use Rattle.mill_decimal.specs.Shorts.{scaled_from};
@@ -30,7 +31,7 @@ pub struct Reading {
 /// several of these hold, the first named is told.
 pub fn read_decimal(text: &[u8], snap: Snap) -> Result<i32, DecFault>
     ensures value { result ≡ read_as snap text.now }
-    ensures in_range { IfOk result (λ z. Within greatest z) }
+    ensures in_range { IfOk result (λ z. Within MAX_TEXT_COORDINATE z) }
 {
     match read_with_rounding(text, snap) {
         Ok(reading) => Ok(reading.units),
@@ -42,7 +43,7 @@ pub fn read_decimal(text: &[u8], snap: Snap) -> Result<i32, DecFault>
 #[tactic(auto, unfolding(crate::specs::Decimals::read_as, crate::specs::Decimals::is_rounded))]
 pub fn read_with_rounding(text: &[u8], snap: Snap) -> Result<Reading, DecFault>
     ensures units { IfOk result (λ reading. read_as snap text.now ≡ Ok reading.units) }
-    ensures in_range { IfOk result (λ reading. Within greatest reading.units) }
+    ensures in_range { IfOk result (λ reading. Within MAX_TEXT_COORDINATE reading.units) }
     ensures rounded { IfOk result (λ reading. reading.rounded ≡ is_rounded text.now) }
     ensures fault { IfErr result (λ fault. read_as snap text.now ≡ Err fault) }
 {
@@ -56,7 +57,7 @@ pub fn read_with_rounding(text: &[u8], snap: Snap) -> Result<Reading, DecFault>
 #[tactic(auto, unfolding(crate::specs::Decimals::read_as, crate::specs::Decimals::is_rounded))]
 fn long_reading(text: &[u8], snap: Snap) -> Result<Reading, DecFault>
     ensures units { IfOk result (λ reading. read_as snap text.now ≡ Ok reading.units) }
-    ensures in_range { IfOk result (λ reading. Within greatest reading.units) }
+    ensures in_range { IfOk result (λ reading. Within MAX_TEXT_COORDINATE reading.units) }
     ensures rounded { IfOk result (λ reading. reading.rounded ≡ is_rounded text.now) }
     ensures fault { IfErr result (λ fault. read_as snap text.now ≡ Err fault) }
 {
@@ -71,7 +72,7 @@ fn short_reading(short: Short, snap: Snap) -> Result<Reading, DecFault>
     requires bound { short.mantissa < 10 ^ 16 }
     requires places { short.places ≤ 16 }
     ensures units { IfOk result (λ reading. units_of_scaled snap (scaled_from short) ≡ Ok reading.units) }
-    ensures in_range { IfOk result (λ reading. Within greatest reading.units) }
+    ensures in_range { IfOk result (λ reading. Within MAX_TEXT_COORDINATE reading.units) }
     ensures rounded { IfOk result (λ reading. reading.rounded ≡ is_between (scaled_from short)) }
     ensures fault { IfErr result (λ fault. units_of_scaled snap (scaled_from short) ≡ Err fault) }
 {
@@ -88,7 +89,7 @@ fn whole_reading(short: Short) -> Result<Reading, DecFault>
     requires bound { short.mantissa < 10 ^ 16 }
     requires places { short.places ≤ 2 }
     ensures units { (snap : Snap) → IfOk result (λ reading. units_of_scaled snap (scaled_from short) ≡ Ok reading.units) }
-    ensures in_range { IfOk result (λ reading. Within greatest reading.units) }
+    ensures in_range { IfOk result (λ reading. Within MAX_TEXT_COORDINATE reading.units) }
     ensures rounded { IfOk result (λ reading. reading.rounded ≡ is_between (scaled_from short)) }
     ensures fault { (snap : Snap) → IfErr result (λ fault. units_of_scaled snap (scaled_from short) ≡ Err fault) }
 {
@@ -121,7 +122,7 @@ fn divided_reading(short: Short, snap: Snap) -> Result<Reading, DecFault>
     requires low { 2 < short.places }
     requires places { short.places ≤ 16 }
     ensures units { IfOk result (λ reading. units_of_scaled snap (scaled_from short) ≡ Ok reading.units) }
-    ensures in_range { IfOk result (λ reading. Within greatest reading.units) }
+    ensures in_range { IfOk result (λ reading. Within MAX_TEXT_COORDINATE reading.units) }
     ensures rounded { IfOk result (λ reading. reading.rounded ≡ is_between (scaled_from short)) }
     ensures fault { IfErr result (λ fault. units_of_scaled snap (scaled_from short) ≡ Err fault) }
 {
@@ -134,7 +135,7 @@ fn divided_reading(short: Short, snap: Snap) -> Result<Reading, DecFault>
 fn reading_of(scaled: Scaled, snap: Snap) -> Result<Reading, DecFault>
     requires { scaled.mantissa < 10 ^ 24 }
     ensures units { IfOk result (λ reading. units_of_scaled snap scaled ≡ Ok reading.units) }
-    ensures in_range { IfOk result (λ reading. Within greatest reading.units) }
+    ensures in_range { IfOk result (λ reading. Within MAX_TEXT_COORDINATE reading.units) }
     ensures rounded { IfOk result (λ reading. reading.rounded ≡ is_between scaled) }
     ensures fault { IfErr result (λ fault. units_of_scaled snap scaled ≡ Err fault) }
 {
@@ -150,9 +151,9 @@ fn reading_from(
     units: Option<u32>,
     snap: Snap,
 ) -> Result<Reading, DecFault>
-    requires { IfSome units (λ n. n ≤ greatest) }
+    requires { IfSome units (λ n. n ≤ MAX_TEXT_COORDINATE) }
     ensures units { IfOk result (λ reading. units_or_fault snap negative is_between units ≡ Ok reading.units) }
-    ensures in_range { IfOk result (λ reading. Within greatest reading.units) }
+    ensures in_range { IfOk result (λ reading. Within MAX_TEXT_COORDINATE reading.units) }
     ensures rounded { IfOk result (λ reading. reading.rounded ≡ is_between) }
     ensures fault { IfErr result (λ fault. units_or_fault snap negative is_between units ≡ Err fault) }
 {

@@ -1,5 +1,5 @@
 ghost use Rattle.std.specs.Prelude.{◌≡◌, ◌+◌, ◌*◌, ◌/◌, ◌%◌, ◌==◌, ◌<◌, ◌≤◌, ◌^◌, IfSome};
-ghost use Rattle.mill_base.specs.Numbers.{greatest};
+ghost use Rattle.mill_base.specs.declared.limits.TheConstants.{MAX_TEXT_COORDINATE};
 ghost use Rattle.mill_decimal.specs.Decimals.{nearest as nearest_to, is_whole as is_whole_number, in_range as units_in_range};
 
 /// The greatest magnitude of a number of units.
@@ -11,7 +11,7 @@ const GREATEST: u128 = 131_071;
 pub fn nearest(mantissa: u128, power: i32) -> Option<u32>
     requires { mantissa < 10 ^ 24 }
     ensures value { result ≡ units_in_range (nearest_to mantissa power) }
-    ensures in_range { IfSome result (λ n. n ≤ greatest) }
+    ensures in_range { IfSome result (λ n. n ≤ MAX_TEXT_COORDINATE) }
 {
     let places = power.unsigned_abs();
     if power < 0 {
@@ -24,7 +24,7 @@ pub fn nearest(mantissa: u128, power: i32) -> Option<u32>
 fn multiplied(mantissa: u128, zeros: u32) -> Option<u32>
     requires { mantissa < 10 ^ 24 }
     ensures value { result ≡ units_in_range (mantissa * 10 ^ zeros) }
-    ensures in_range { IfSome result (λ n. n ≤ greatest) }
+    ensures in_range { IfSome result (λ n. n ≤ MAX_TEXT_COORDINATE) }
 {
     if mantissa == 0 {
         return Some(0);
@@ -40,7 +40,7 @@ fn multiplied(mantissa: u128, zeros: u32) -> Option<u32>
 fn divided(mantissa: u128, places: u32) -> Option<u32>
     requires { mantissa < 10 ^ 24 }
     ensures value { result ≡ units_in_range ((2 * mantissa + 10 ^ places) / (2 * 10 ^ places)) }
-    ensures in_range { IfSome result (λ n. n ≤ greatest) }
+    ensures in_range { IfSome result (λ n. n ≤ MAX_TEXT_COORDINATE) }
 {
     // A mantissa of 24 digits is then less than a half.
     if places > 26 {
@@ -96,7 +96,7 @@ pub fn short_power_of_ten(exponent: u32) -> u64
 /// The number of units, if it is in range.
 pub fn in_range(units: u128) -> Option<u32>
     ensures value { result ≡ units_in_range units }
-    ensures in_range { IfSome result (λ n. n ≤ greatest) }
+    ensures in_range { IfSome result (λ n. n ≤ MAX_TEXT_COORDINATE) }
 {
     if units > GREATEST {
         return None;

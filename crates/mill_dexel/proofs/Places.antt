@@ -7,7 +7,8 @@ use Rattle.std.proofs.lemmas.Nat.{pow_pos, and_mask}
 use lib.Signed.{shr_z}
 use Rattle.mill_base.proofs.Divisions.{half_low, half_high}
 use Rattle.mill_base.proofs.Machine.{Read, Lit, Diff, exact, stored}
-use Rattle.mill_base.specs.Numbers.{floor_div, round_half_up, divides, least_from, Within, greatest}
+use Rattle.mill_base.specs.Numbers.{floor_div, round_half_up, divides, least_from, Within}
+use Rattle.mill_base.specs.declared.limits.TheConstants.{MAX_TEXT_COORDINATE}
 use Rattle.mill_base.specs.Points.{point_at}
 use Rattle.mill_base.specs.Sizes.{IsCutter, HasRadius, inner, shift, radius_of, with_radius}
 use Rattle.mill_base.specs.declared.motion.Move.{Move}
@@ -89,8 +90,8 @@ up_is end d fits =
     opposite : (z : ℤ) → pos 0 -ℤ z ≡ neg_ℤ z
     opposite z = omega (arith, ints)
 
-pub up_within : (end : ℤ) (d : ℕ) → nat_abs end ≤ 2 ^ d * greatest → nat_abs (floor_div (neg_ℤ end) (2 ^ d)) ≤ greatest
-up_within end d within = quotient_within (neg_ℤ end) (2 ^ d) greatest (pow_pos d) (turned end within)
+pub up_within : (end : ℤ) (d : ℕ) → nat_abs end ≤ 2 ^ d * MAX_TEXT_COORDINATE → nat_abs (floor_div (neg_ℤ end) (2 ^ d)) ≤ MAX_TEXT_COORDINATE
+up_within end d within = quotient_within (neg_ℤ end) (2 ^ d) MAX_TEXT_COORDINATE (pow_pos d) (turned end within)
   where
     turned : (z : ℤ) {b : ℕ} → nat_abs z ≤ b → nat_abs (neg_ℤ z) ≤ b
     turned z h = omega (arith, ints)

@@ -13,7 +13,7 @@ use Rattle.mill_base.specs.declared.cutter.Cutter.{Cutter}
 use Rattle.mill_base.specs.declared.cutter.Cutter.TheVariants.{Flat, Ball, Cone}
 use Rattle.mill_base.proofs.Exit.{split_lt}
 use Rattle.mill_base.proofs.Machine.{Read, Lit, Sum, exact, sum_fits, stored}
-use Rattle.mill_base.specs.Ranges.{MoveInRange}
+use Rattle.mill_base.specs.Ranges.{MoveInTextRange}
 use Rattle.mill_base.proofs.Integers.{sq-ℤ}
 use Rattle.mill_shape.proofs.CutHeights.{cut_height_is_greatest, cutter_is_wide}
 use Rattle.mill_shape.proofs.Holding.{holds_over_tip}
@@ -131,11 +131,11 @@ free_keeps s floor x y top size low high =
     over h k = omega (arith, ints)
 
 -- a move passes each point of a column at least the radius and 2 under or over both its ends in x
-pub under_passes : (cutter : Cutter) (m : Move) (x y z : ℤ) → IsCutter cutter → MoveInRange m → IsUnderBy (radius_of cutter +ℤ pos 2) m.from.x m.to.x x → PassesPoint cutter m (point_at x y z)
+pub under_passes : (cutter : Cutter) (m : Move) (x y z : ℤ) → IsCutter cutter → MoveInTextRange m → IsUnderBy (radius_of cutter +ℤ pos 2) m.from.x m.to.x x → PassesPoint cutter m (point_at x y z)
 under_passes cutter m x y z size range h =
     far_passes cutter m (point_tri (point_at x y z)) size range (inr (inl (inr (record { a_e = h.first; b_e = h.first; c_e = h.first; a_f = h.second; b_f = h.second; c_f = h.second }))))
 
-pub over_passes : (cutter : Cutter) (m : Move) (x y z : ℤ) → IsCutter cutter → MoveInRange m → IsOverBy (radius_of cutter +ℤ pos 2) m.from.x m.to.x x → PassesPoint cutter m (point_at x y z)
+pub over_passes : (cutter : Cutter) (m : Move) (x y z : ℤ) → IsCutter cutter → MoveInTextRange m → IsOverBy (radius_of cutter +ℤ pos 2) m.from.x m.to.x x → PassesPoint cutter m (point_at x y z)
 over_passes cutter m x y z size range h =
     far_passes cutter m (point_tri (point_at x y z)) size range (inr (inl (inl (record { a_e = h.first; b_e = h.first; c_e = h.first; a_f = h.second; b_f = h.second; c_f = h.second }))))
 

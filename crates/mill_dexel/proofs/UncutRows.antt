@@ -5,8 +5,9 @@ use Rattle.std.proofs.lemmas.Int.{ints}
 use Rattle.std.proofs.lemmas.List.Elements.{All-get_or}
 use Rattle.std.proofs.Math.Nat.{div-mul-le_self, mul-le-mul_right}
 use Rattle.std.proofs.Math.IntN.{pos-*ℤ-pos}
-use Rattle.mill_base.specs.Numbers.{Within, greatest}
-use Rattle.mill_base.specs.Ranges.{IsInRange, TriInRange}
+use Rattle.mill_base.specs.Numbers.{Within}
+use Rattle.mill_base.specs.declared.limits.TheConstants.{MAX_TEXT_COORDINATE}
+use Rattle.mill_base.specs.Ranges.{IsInTextRange, TriInTextRange}
 use Rattle.mill_base.specs.declared.motion.Move.{Move}
 use Rattle.mill_job.specs.declared.job.Job.{Job}
 use Rattle.mill_job.specs.Columns.{row_count, column_count, column_x, column_y}
@@ -25,18 +26,18 @@ steps_within i x0 x1 (pos p) order least there =
     rw (pos-*ℤ-pos i p) (record { low = omega (arith, ints); high = omega (arith, ints) })
 
 -- what lies between two coordinates in range is in range
-between_within : (low high z : ℤ) → Within greatest low → Within greatest high → IsFrom low high z → Within greatest z
+between_within : (low high z : ℤ) → Within MAX_TEXT_COORDINATE low → Within MAX_TEXT_COORDINATE high → IsFrom low high z → Within MAX_TEXT_COORDINATE z
 between_within low high z low_ok high_ok from = record { within = small low high z low_ok.within high_ok.within from.low from.high }
   where
     small : (a b c : ℤ) → nat_abs a ≤ 131071 → nat_abs b ≤ 131071 → a ≤ℤ c → c ≤ℤ b → nat_abs c ≤ 131071
     small a b c h g l k = omega (arith, ints)
 
-row_within : (job : Job) (j : ℕ) → IsJob job → j < row_count job → Within greatest (column_y job j)
+row_within : (job : Job) (j : ℕ) → IsJob job → j < row_count job → Within MAX_TEXT_COORDINATE (column_y job j)
 row_within job j is_job there =
     between_within job.area.y0 job.area.y1 (column_y job j) is_job.y0_ok is_job.y1_ok (steps_within j job.area.y0 job.area.y1 job.pitch is_job.y_order is_job.pitch_ok.low there)
 
 -- the tops of a row, and the uncut row, are in range
-pub top_in_range : (job : Job) (r : RowState) (i : ℕ) → IsJob job → IsRowOf job r → i < column_count job → IsInRange (row_point job r i)
+pub top_in_range : (job : Job) (r : RowState) (i : ℕ) → IsJob job → IsRowOf job r → i < column_count job → IsInTextRange (row_point job r i)
 top_in_range job r i is_job is_row there = record {
   x_ok = between_within job.area.x0 job.area.x1 (column_x job i) is_job.x0_ok is_job.x1_ok (steps_within i job.area.x0 job.area.x1 job.pitch is_job.x_order is_job.pitch_ok.low there);
   y_ok = row_within job r.row is_job is_row.there;
@@ -46,7 +47,7 @@ top_in_range job r i is_job is_row there = record {
     in_row : i < length r.tops
     in_row = let e = is_row.columns in omega arith
 
-pub uncut_in_range : (job : Job) (j : ℕ) → IsJob job → j < row_count job → TriInRange (uncut_tri job j)
+pub uncut_in_range : (job : Job) (j : ℕ) → IsJob job → j < row_count job → TriInTextRange (uncut_tri job j)
 uncut_in_range job j is_job there = record {
   a_ok = record { x_ok = is_job.x0_ok; y_ok = row_within job j is_job there; z_ok = is_job.top_ok };
   b_ok = record { x_ok = is_job.x1_ok; y_ok = row_within job j is_job there; z_ok = is_job.top_ok };

@@ -1,6 +1,7 @@
 -- What one sample does to the tops of a row, and which columns and rows it leaves alone.
 use Rattle.std.specs.Prelude.{◌≡◌, ◌⊎◌, ℕ, ◌+◌, ◌<◌, ◌≤◌, neg_ℤ, ℤ, pos, ◌+ℤ◌, ◌≤ℤ◌, List, length, Option, None, Some, MatchOption}
-use Rattle.mill_base.specs.Numbers.{Within, greatest, square}
+use Rattle.mill_base.specs.Numbers.{Within, square}
+use Rattle.mill_base.specs.declared.limits.TheConstants.{MAX_TEXT_COORDINATE}
 use Rattle.mill_base.specs.Sizes.{IsCutter, radius_of, inner, shift}
 use Rattle.mill_base.specs.declared.points.Pt3.{Pt3}
 use Rattle.mill_base.specs.declared.cutter.Cutter.{Cutter}
@@ -51,8 +52,8 @@ pub record IsHalfChord (r distance chord : ℤ) : Type 0 where
 -- a sample of a job's moves: its cutter has a job's size, and its tip is in range but for a rise of up to 16
 pub record IsSample (s : Placed) : Type 0 where
   pub cutter_ok : IsCutter s.cutter
-  pub x_ok : Within greatest s.tip.x
-  pub y_ok : Within greatest s.tip.y
+  pub x_ok : Within MAX_TEXT_COORDINATE s.tip.x
+  pub y_ok : Within MAX_TEXT_COORDINATE s.tip.y
   pub z_least : neg_ℤ (pos 131071) ≤ℤ s.tip.z
   pub z_most : s.tip.z ≤ℤ pos (131071 + 16)
 

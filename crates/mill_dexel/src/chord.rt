@@ -1,5 +1,6 @@
 ghost use Rattle.std.specs.Prelude.{◌*◌, ◌+◌, ◌-ℤ◌, ◌<◌, ◌≤◌, MatchOption, pos};
-ghost use Rattle.mill_base.specs.Numbers.{Within, greatest};
+ghost use Rattle.mill_base.specs.Numbers.{Within};
+ghost use Rattle.mill_base.specs.declared.limits.TheConstants.{MAX_TEXT_COORDINATE};
 ghost use Rattle.mill_base.specs.Sizes.{HasRadius};
 ghost use Rattle.mill_dexel.specs.Cuts.{IsBeyond, IsHalfChord};
 
@@ -7,8 +8,8 @@ ghost use Rattle.mill_dexel.specs.Cuts.{IsBeyond, IsHalfChord};
 /// `middle`. There is none where the row stands at least the radius away.
 pub(crate) fn half_chord(radius: i32, y: i32, middle: i32) -> Option<i32>
     requires radius_ok { HasRadius radius (pos 10000) }
-    requires y_ok { Within greatest y }
-    requires middle_ok { Within greatest middle }
+    requires y_ok { Within MAX_TEXT_COORDINATE y }
+    requires middle_ok { Within MAX_TEXT_COORDINATE middle }
     ensures { MatchOption result (IsBeyond radius middle middle y) (IsHalfChord radius (y -ℤ middle)) }
 {
     let radius = radius.unsigned_abs();

@@ -1,6 +1,6 @@
 ghost use Rattle.std.specs.Prelude.{◌≡◌, ◌<◌, ◌≤◌, ◌^◌, All, length};
 ghost use Rattle.std.specs.List.{AllZip};
-ghost use Rattle.mill_base.specs.Ranges.{MovesInRange};
+ghost use Rattle.mill_base.specs.Ranges.{MovesInTextRange};
 ghost use Rattle.mill_job.specs.Jobs.{IsJob};
 ghost use Rattle.mill_dexel.specs.Rows.{IsRowOf};
 ghost use Rattle.mill_dexel.specs.Bands.{IsBand};
@@ -28,7 +28,7 @@ pub fn rows_static<R: Threads + Sync>(
 ) -> Vec<Row>
     requires job { IsJob job.now }
     requires rows_ok { All (IsRowOf job.now) rows.items }
-    requires moves_ok { MovesInRange moves.now }
+    requires moves_ok { MovesInTextRange moves.now }
     requires some { 1 ≤ workers }
     requires few { workers ≤ 64 }
     ensures turned { AllZip (IsTurned job.now moves.now) rows.items result.items }
@@ -42,7 +42,7 @@ pub fn rows_static<R: Threads + Sync>(
 fn spread<R: Threads + Sync>(rt: &R, job: &Job, moves: &[Move], workers: u32, rows: &mut [Row])
     requires job { IsJob job.now }
     requires rows_ok { All (IsRowOf job.now) rows.old }
-    requires moves_ok { MovesInRange moves.now }
+    requires moves_ok { MovesInTextRange moves.now }
     requires few { workers ≤ 64 }
     ensures { AllZip (IsTurned job.now moves.now) rows.old rows.new }
 {
@@ -60,7 +60,7 @@ fn spread<R: Threads + Sync>(rt: &R, job: &Job, moves: &[Move], workers: u32, ro
             requires sync { IsSync R.row }
             requires job { IsJob job.now }
             requires rows_ok { All (IsRowOf job.now) left.now }
-            requires moves_ok { MovesInRange moves.now }
+            requires moves_ok { MovesInTextRange moves.now }
             requires few { left_workers ≤ 64 }
             ensures { AllZip (IsTurned job.entry.now moves.entry.now) left.entry.now left.exit.now }
         { spread(rt, job, moves, left_workers, left) },
@@ -68,7 +68,7 @@ fn spread<R: Threads + Sync>(rt: &R, job: &Job, moves: &[Move], workers: u32, ro
             requires sync { IsSync R.row }
             requires job { IsJob job.now }
             requires rows_ok { All (IsRowOf job.now) right.now }
-            requires moves_ok { MovesInRange moves.now }
+            requires moves_ok { MovesInTextRange moves.now }
             requires few { right_workers ≤ 64 }
             ensures { AllZip (IsTurned job.entry.now moves.entry.now) right.entry.now right.exit.now }
         { spread(rt, job, moves, right_workers, right) },
@@ -96,7 +96,7 @@ const BLOCK: u64 = 512;
 fn run_all(job: &Job, moves: &[Move], rows: &mut [Row])
     requires job { IsJob job.now }
     requires rows_ok { All (IsRowOf job.now) rows.old }
-    requires moves_ok { MovesInRange moves.now }
+    requires moves_ok { MovesInTextRange moves.now }
     ensures { AllZip (IsTurned job.now moves.now) rows.old rows.new }
 {
     let count = moves.len() as u64;
@@ -121,7 +121,7 @@ fn block_end(first: u64, count: u64) -> u64
 fn run_block(job: &Job, moves: &[Move], band: &Band, rows: &mut [Row])
     requires job { IsJob job.now }
     requires rows_ok { All (IsRowOf job.now) rows.old }
-    requires moves_ok { MovesInRange moves.now }
+    requires moves_ok { MovesInTextRange moves.now }
     requires there { band.now.end ≤ length moves.now }
     requires band { IsBand moves.now band.now }
     ensures turned { AllZip (IsTurnedUpTo job.now moves.now band.now.end) rows.old rows.new }

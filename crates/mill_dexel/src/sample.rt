@@ -1,6 +1,7 @@
 ghost use Rattle.std.specs.Prelude.{◌≡◌, ◌+◌, ◌*◌, ◌^◌, ◌≤◌, ◌*ℤ◌, ◌+ℤ◌, ◌≤ℤ◌, ◌&&◌, pos, nat_abs, nat_le, IfSome};
-ghost use Rattle.mill_base.specs.Numbers.{round_half_up, ceil_div, divides, Within, greatest};
-ghost use Rattle.mill_base.specs.Ranges.{IsInRange, MoveInRange};
+ghost use Rattle.mill_base.specs.Numbers.{round_half_up, ceil_div, divides, Within};
+ghost use Rattle.mill_base.specs.declared.limits.TheConstants.{MAX_TEXT_COORDINATE};
+ghost use Rattle.mill_base.specs.Ranges.{IsInTextRange, MoveInTextRange};
 ghost use Rattle.mill_base.specs.Sizes.{IsCutter};
 ghost use Rattle.mill_sweep.specs.Leaves.{length_x, length_y, end_of};
 ghost use Rattle.mill_dexel.specs.Samples.{split_of, centre_of, is_whole as is_whole_at, sample_at as sample_of};
@@ -19,7 +20,7 @@ pub(crate) struct Placed {
 /// The least number of halvings after which the parts of the move are at most `sample` long, in x
 /// and y together.
 pub(crate) fn halvings(step: &Move, sample: u32) -> u32
-    requires step_ok { MoveInRange step.now }
+    requires step_ok { MoveInTextRange step.now }
     requires sample_least { 1 ≤ sample }
     requires sample_most { sample ≤ 10000 }
     ensures value { result ≡ split_of (pos sample) step.now }
@@ -36,7 +37,7 @@ pub(crate) fn halvings(step: &Move, sample: u32) -> u32
 
 /// How far the move goes in x and y together.
 fn length(step: &Move) -> u32
-    requires { MoveInRange step.now }
+    requires { MoveInTextRange step.now }
     ensures value { result ≡ length_x step.now + length_y step.now }
     ensures bound { result ≤ 2 ^ 19 }
 {
@@ -63,7 +64,7 @@ pub(crate) fn sample_at(
 ) -> Option<Placed>
     requires cutter_ok { IsCutter cutter }
     requires narrowed_ok { IsNarrowed cutter narrowed }
-    requires step_ok { MoveInRange step.now }
+    requires step_ok { MoveInTextRange step.now }
     requires d_ok { d ≤ 19 }
     requires k_ok { k ≤ 2 ^ d }
     ensures value { result ≡ sample_of cutter step.now d k }
@@ -81,7 +82,7 @@ pub(crate) fn sample_at(
 /// The cutter with its tip over the point by `rise`.
 fn raised(cutter: Cutter, point: Pt3, rise: i32) -> Placed
     requires cutter_ok { IsCutter cutter }
-    requires point_ok { IsInRange point }
+    requires point_ok { IsInTextRange point }
     requires rise_least { pos 0 ≤ℤ rise }
     requires rise_most { rise ≤ℤ pos 16 }
     ensures value { result ≡ record { cutter = cutter; tip = record { x = point.x; y = point.y; z = point.z +ℤ rise } } }
@@ -107,11 +108,11 @@ struct Centre {
 
 /// Where the sample at k/2^d stands.
 fn centre_at(step: &Move, d: u32, k: u64) -> Centre
-    requires step_ok { MoveInRange step.now }
+    requires step_ok { MoveInTextRange step.now }
     requires d_ok { d ≤ 19 }
     requires k_ok { k ≤ 2 ^ d }
     ensures tip { result.tip ≡ centre_of step.now d k }
-    ensures tip_ok { IsInRange result.tip }
+    ensures tip_ok { IsInTextRange result.tip }
     ensures whole { result.is_whole ≡ is_whole_at step.now d k }
 {
     let x = place_at(step.from.x, step.to.x, d, k);
@@ -144,12 +145,12 @@ struct Place {
 
 /// The place of the tip along one axis at k/2^d.
 fn place_at(from: i32, to: i32, d: u32, k: u64) -> Place
-    requires from_ok { Within greatest from }
-    requires to_ok { Within greatest to }
+    requires from_ok { Within MAX_TEXT_COORDINATE from }
+    requires to_ok { Within MAX_TEXT_COORDINATE to }
     requires d_ok { d ≤ 19 }
     requires k_ok { k ≤ 2 ^ d }
     ensures nearest { result.nearest ≡ round_half_up (end_of from to d k) (2 ^ d) }
-    ensures nearest_ok { Within greatest result.nearest }
+    ensures nearest_ok { Within MAX_TEXT_COORDINATE result.nearest }
     ensures whole { result.is_whole ≡ divides (2 ^ d) (end_of from to d k) }
 {
     let end = end_at(from, to, d, k);
@@ -161,12 +162,12 @@ fn place_at(from: i32, to: i32, d: u32, k: u64) -> Place
 
 /// The height of the tip at k/2^d, rounded up.
 fn height_at(from: i32, to: i32, d: u32, k: u64) -> i32
-    requires from_ok { Within greatest from }
-    requires to_ok { Within greatest to }
+    requires from_ok { Within MAX_TEXT_COORDINATE from }
+    requires to_ok { Within MAX_TEXT_COORDINATE to }
     requires d_ok { d ≤ 19 }
     requires k_ok { k ≤ 2 ^ d }
     ensures value { result ≡ ceil_div (end_of from to d k) (2 ^ d) }
-    ensures bound { Within greatest result }
+    ensures bound { Within MAX_TEXT_COORDINATE result }
 {
     rounded_up(end_at(from, to, d, k), d)
 }
@@ -174,10 +175,10 @@ fn height_at(from: i32, to: i32, d: u32, k: u64) -> i32
 /// An end over 2^d, rounded up.
 fn rounded_up(end: i64, d: u32) -> i32
     requires end_ok { Within (2 ^ 37) end }
-    requires end_within { nat_abs end ≤ 2 ^ d * greatest }
+    requires end_within { nat_abs end ≤ 2 ^ d * MAX_TEXT_COORDINATE }
     requires d_ok { d ≤ 19 }
     ensures value { result ≡ ceil_div end (2 ^ d) }
-    ensures bound { Within greatest result }
+    ensures bound { Within MAX_TEXT_COORDINATE result }
 {
     -(-end >> d) as i32
 }

@@ -1,7 +1,8 @@
 -- The drop heights over a lattice.
 use Rattle.std.specs.Prelude.{◌≡◌, ℕ, ◌<◌, ◌≤◌, ℤ, pos, ◌≤ℤ◌, List, map, length, slice_index_or}
 use Rattle.std.specs.List.{AllZip, flat_map}
-use Rattle.mill_base.specs.Numbers.{Within, greatest}
+use Rattle.mill_base.specs.Numbers.{Within}
+use Rattle.mill_base.specs.declared.limits.TheConstants.{MAX_TEXT_COORDINATE}
 use Rattle.mill_base.specs.Sizes.{IsCutter}
 use Rattle.mill_base.specs.Lattices.{lattice_xs, lattice_ys, node_count}
 use Rattle.mill_base.specs.declared.points.Tri.{Tri}
@@ -32,10 +33,10 @@ AreDropHeights cutter part floor lattice heights = AllZip (IsHeightAt cutter par
 
 -- its ends are in range and the right way round, its step is at least one unit, and it has at most 4,000,000 nodes
 pub record IsMapLattice (lattice : Lattice) : Type 0 where
-  pub x0_ok : Within greatest lattice.area.x0
-  pub x1_ok : Within greatest lattice.area.x1
-  pub y0_ok : Within greatest lattice.area.y0
-  pub y1_ok : Within greatest lattice.area.y1
+  pub x0_ok : Within MAX_TEXT_COORDINATE lattice.area.x0
+  pub x1_ok : Within MAX_TEXT_COORDINATE lattice.area.x1
+  pub y0_ok : Within MAX_TEXT_COORDINATE lattice.area.y0
+  pub y1_ok : Within MAX_TEXT_COORDINATE lattice.area.y1
   pub x_order : lattice.area.x0 ≤ℤ lattice.area.x1
   pub y_order : lattice.area.y0 ≤ℤ lattice.area.y1
   pub step_ok : (pos 1) ≤ℤ lattice.step
@@ -46,5 +47,5 @@ pub record IsNodeTask (part : List Tri) (cells : Sorted) (cutter : Cutter) (latt
   pub cells_ok : cells ≡ sorted_of part
   pub cutter_ok : IsCutter cutter
   pub lattice_ok : IsMapLattice lattice
-  pub floor_ok : Within greatest floor
+  pub floor_ok : Within MAX_TEXT_COORDINATE floor
   pub number_ok : number < length (nodes_of lattice)

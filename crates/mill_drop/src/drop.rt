@@ -1,5 +1,6 @@
 ghost use Rattle.std.specs.Prelude.{◌≡◌};
-ghost use Rattle.mill_base.specs.Numbers.{Within, greatest};
+ghost use Rattle.mill_base.specs.Numbers.{Within};
+ghost use Rattle.mill_base.specs.declared.limits.TheConstants.{MAX_TEXT_COORDINATE};
 ghost use Rattle.mill_base.specs.Sizes.{IsCutter};
 ghost use Rattle.mill_cells.specs.Sorted.{sorted_of};
 ghost use Rattle.mill_drop.specs.Drops.{IsDropHeight};
@@ -18,11 +19,11 @@ use mill_part::Part;
 pub fn drop_at(part: &Part, cells: &Cells, cutter: Cutter, x: i32, y: i32, floor: i32) -> i32
     requires cells_ok { cells.now ≡ sorted_of part.now }
     requires cutter_ok { IsCutter cutter }
-    requires x_ok { Within greatest x }
-    requires y_ok { Within greatest y }
-    requires floor_ok { Within greatest floor }
+    requires x_ok { Within MAX_TEXT_COORDINATE x }
+    requires y_ok { Within MAX_TEXT_COORDINATE y }
+    requires floor_ok { Within MAX_TEXT_COORDINATE floor }
     ensures drop { IsDropHeight cutter part.now x y floor result }
-    ensures bound { Within greatest result }
+    ensures bound { Within MAX_TEXT_COORDINATE result }
 {
     let spindle = Spindle { cutter, x, y };
     let start = start_height(part, cells, spindle, floor);

@@ -1,5 +1,6 @@
 ghost use Rattle.std.specs.Prelude.{◌≡◌, IfOk};
-ghost use Rattle.mill_base.specs.Numbers.{Within, greatest};
+ghost use Rattle.mill_base.specs.Numbers.{Within};
+ghost use Rattle.mill_base.specs.declared.limits.TheConstants.{MAX_TEXT_COORDINATE};
 ghost use Rattle.mill_base.specs.Sizes.{IsCutter};
 ghost use Rattle.mill_cells.specs.Sorted.{sorted_of};
 ghost use Rattle.mill_drop.specs.Maps.{AreDropHeights, IsHeightAt, IsMapLattice, IsNodeTask, node_at};
@@ -30,7 +31,7 @@ pub fn drop_map<R: Threads + Sync>(
     requires cells_ok { cells.now ≡ sorted_of part.now }
     requires cutter_ok { IsCutter cutter }
     requires lattice_ok { IsMapLattice lattice.now }
-    requires floor_ok { Within greatest floor }
+    requires floor_ok { Within MAX_TEXT_COORDINATE floor }
     ensures { IfOk result (λ heights. AreDropHeights cutter part.now floor lattice.now heights.items) }
 {
     Ok(heights(rt, alloc, part, cells, cutter, lattice, floor)?)
@@ -49,7 +50,7 @@ fn heights<R: Threads + Sync>(
     requires cells_ok { cells.now ≡ sorted_of part.now }
     requires cutter_ok { IsCutter cutter }
     requires lattice_ok { IsMapLattice lattice.now }
-    requires floor_ok { Within greatest floor }
+    requires floor_ok { Within MAX_TEXT_COORDINATE floor }
     ensures { IfOk result (λ heights. AreDropHeights cutter part.now floor lattice.now heights.items) }
 {
     let nodes = lattice.nodes() as u32;

@@ -1,7 +1,8 @@
 ghost use Rattle.std.specs.Prelude.{◌≡◌, ◌⊎◌, ◌+ℤ◌, ◌-ℤ◌, ◌≤ℤ◌, ◌<ℤ◌, pos, false, IsTrue};
-ghost use Rattle.mill_base.specs.Numbers.{Within, greatest};
+ghost use Rattle.mill_base.specs.Numbers.{Within};
+ghost use Rattle.mill_base.specs.declared.limits.TheConstants.{MAX_TEXT_COORDINATE};
 ghost use Rattle.mill_base.specs.Points.{highest as highest_of};
-ghost use Rattle.mill_base.specs.Ranges.{TriInRange};
+ghost use Rattle.mill_base.specs.Ranges.{TriInTextRange};
 ghost use Rattle.mill_drop.specs.Drops.{TouchesAt};
 ghost use Rattle.mill_drop.specs.Spindles.{IsSpindle};
 
@@ -20,8 +21,8 @@ impl Spindle {
     /// Whether some point of the triangle is strictly inside the cutter with its tip at height `z`.
     fn holds_some(self, tri: &Tri, z: i32) -> bool
         requires self_ok { IsSpindle self }
-        requires tri_ok { TriInRange tri.now }
-        requires z_ok { Within greatest z }
+        requires tri_ok { TriInTextRange tri.now }
+        requires z_ok { Within MAX_TEXT_COORDINATE z }
         ensures yes { IsTrue result → TouchesAt self.cutter tri.now self.x self.y z }
         ensures no { result ≡ false → ¬ TouchesAt self.cutter tri.now self.x self.y z }
     {
@@ -37,9 +38,9 @@ impl Spindle {
     /// at `low` and none at `high`.
     fn least_free(self, tri: &Tri, low: i32, high: i32) -> i32
         requires self_ok { IsSpindle self }
-        requires tri_ok { TriInRange tri.now }
-        requires low_ok { Within greatest low }
-        requires high_ok { Within greatest high }
+        requires tri_ok { TriInTextRange tri.now }
+        requires low_ok { Within MAX_TEXT_COORDINATE low }
+        requires high_ok { Within MAX_TEXT_COORDINATE high }
         requires order { low <ℤ high }
         requires held { TouchesAt self.cutter tri.now self.x self.y low }
         requires free { ¬ TouchesAt self.cutter tri.now self.x self.y high }
@@ -65,9 +66,9 @@ impl Spindle {
     /// under it: so one unit under `high` is tried first.
     fn least_free_flat(self, tri: &Tri, low: i32, high: i32) -> i32
         requires self_ok { IsSpindle self }
-        requires tri_ok { TriInRange tri.now }
-        requires low_ok { Within greatest low }
-        requires high_ok { Within greatest high }
+        requires tri_ok { TriInTextRange tri.now }
+        requires low_ok { Within MAX_TEXT_COORDINATE low }
+        requires high_ok { Within MAX_TEXT_COORDINATE high }
         requires order { low <ℤ high }
         requires held { TouchesAt self.cutter tri.now self.x self.y low }
         requires free { ¬ TouchesAt self.cutter tri.now self.x self.y high }
@@ -86,9 +87,9 @@ impl Spindle {
     /// The same for any cutter.
     fn least_free_under(self, tri: &Tri, low: i32, high: i32) -> i32
         requires self_ok { IsSpindle self }
-        requires tri_ok { TriInRange tri.now }
-        requires low_ok { Within greatest low }
-        requires high_ok { Within greatest high }
+        requires tri_ok { TriInTextRange tri.now }
+        requires low_ok { Within MAX_TEXT_COORDINATE low }
+        requires high_ok { Within MAX_TEXT_COORDINATE high }
         requires order { low <ℤ high }
         requires held { TouchesAt self.cutter tri.now self.x self.y low }
         requires free { ¬ TouchesAt self.cutter tri.now self.x self.y high }
@@ -110,10 +111,10 @@ impl Spindle {
     /// their heights, and of the others most by one test.
     pub fn raised(self, tri: &Tri, from: i32) -> i32
         requires self_ok { IsSpindle self }
-        requires tri_ok { TriInRange tri.now }
-        requires from_ok { Within greatest from }
+        requires tri_ok { TriInTextRange tri.now }
+        requires from_ok { Within MAX_TEXT_COORDINATE from }
         ensures kept { from ≤ℤ result }
-        ensures bound { Within greatest result }
+        ensures bound { Within MAX_TEXT_COORDINATE result }
         ensures free { ¬ TouchesAt self.cutter tri.now self.x self.y result }
         ensures least { (result ≡ from) ⊎ TouchesAt self.cutter tri.now self.x self.y (result -ℤ pos 1) }
     {
@@ -130,8 +131,8 @@ impl Spindle {
 
 /// A height between two others.
 fn middle(low: i32, high: i32) -> i32
-    requires low_ok { Within greatest low }
-    requires high_ok { Within greatest high }
+    requires low_ok { Within MAX_TEXT_COORDINATE low }
+    requires high_ok { Within MAX_TEXT_COORDINATE high }
     requires room { (low +ℤ pos 1) <ℤ high }
     ensures over { low <ℤ result }
     ensures under { result <ℤ high }

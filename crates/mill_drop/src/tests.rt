@@ -1,6 +1,7 @@
 ghost use Rattle.std.specs.Prelude.{◌≡◌};
-ghost use Rattle.mill_base.specs.Numbers.{Within, greatest};
-ghost use Rattle.mill_base.specs.Ranges.{IsInRange};
+ghost use Rattle.mill_base.specs.Numbers.{Within};
+ghost use Rattle.mill_base.specs.declared.limits.TheConstants.{MAX_TEXT_COORDINATE};
+ghost use Rattle.mill_base.specs.Ranges.{IsInTextRange};
 ghost use Rattle.mill_base.specs.Sizes.{IsCutter};
 ghost use Rattle.mill_cells.specs.Sorted.{sorted_of};
 
@@ -11,7 +12,7 @@ use mill_part::Part;
 use std::test::Fail;
 
 fn at(x: i16, y: i16, z: i16) -> Pt3
-    ensures { IsInRange result }
+    ensures { IsInTextRange result }
 {
     Pt3 {
         x: i32::from(x),
@@ -30,9 +31,9 @@ struct Shape {
 
 /// The part of one triangle.
 fn shape_of<R: AllocGlobal>(rt: &R, a: Pt3, b: Pt3, c: Pt3) -> Result<Shape, Fail>
-    requires a_ok { IsInRange a }
-    requires b_ok { IsInRange b }
-    requires c_ok { IsInRange c }
+    requires a_ok { IsInTextRange a }
+    requires b_ok { IsInTextRange b }
+    requires c_ok { IsInTextRange c }
 {
     let mut tris = Vec::new(rt.alloc());
     tris.push(Tri { a, b, c })?;
@@ -46,9 +47,9 @@ impl Shape {
     /// The drop height of the cutter at (x, y).
     fn drop_at(&self, cutter: Cutter, x: i32, y: i32, floor: i32) -> i32
         requires cutter_ok { IsCutter cutter }
-        requires x_ok { Within greatest x }
-        requires y_ok { Within greatest y }
-        requires floor_ok { Within greatest floor }
+        requires x_ok { Within MAX_TEXT_COORDINATE x }
+        requires y_ok { Within MAX_TEXT_COORDINATE y }
+        requires floor_ok { Within MAX_TEXT_COORDINATE floor }
     {
         drop_at(&self.part, &self.cells, cutter, x, y, floor)
     }

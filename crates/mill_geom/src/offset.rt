@@ -1,6 +1,6 @@
 ghost use Rattle.std.specs.Prelude.{◌≡◌, ◌-ℤ◌};
 ghost use Rattle.mill_base.specs.Numbers.{Within};
-ghost use Rattle.mill_base.specs.Ranges.{IsInRange};
+ghost use Rattle.mill_base.specs.Ranges.{IsInTextRange};
 ghost use Rattle.mill_geom.specs.Offsets.{OffsetInRange, IsOffset, IsCentre, farthest};
 
 use mill_base::Pt3;
@@ -25,7 +25,7 @@ fn difference(a: i32, b: i32) -> i64
 
 /// How far `point` is from `centre`.
 pub fn offset_from(point: Pt3, centre: Pt3) -> Offset
-    requires point_ok { IsInRange point }
+    requires point_ok { IsInTextRange point }
     requires centre_ok { IsCentre centre }
     ensures place { IsOffset result point centre }
     ensures range { OffsetInRange result }

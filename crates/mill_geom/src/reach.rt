@@ -1,6 +1,6 @@
 ghost use Rattle.std.specs.Prelude.{◌≡◌, ◌<ℤ◌, ◌≤ℤ◌, pos, false, IsTrue};
 ghost use Rattle.mill_base.specs.Numbers.{Within};
-ghost use Rattle.mill_base.specs.Ranges.{TriInRange};
+ghost use Rattle.mill_base.specs.Ranges.{TriInTextRange};
 ghost use Rattle.mill_base.specs.Sizes.{HasRadius};
 ghost use Rattle.mill_geom.specs.Contacts.{TouchesTriangle};
 ghost use Rattle.mill_geom.specs.Offsets.{OffsetInRange, IsCentre};
@@ -135,7 +135,7 @@ fn is_beside(a: Offset, b: Offset, c: Offset, radius: i64) -> bool
 ///
 /// Corners may be equal or collinear. The test of the boxes looks at no height.
 pub fn reaches_cylinder(tri: &Tri, radius: i32, centre: Pt3) -> bool
-    requires tri_ok { TriInRange tri.now }
+    requires tri_ok { TriInTextRange tri.now }
     requires radius_ok { HasRadius radius (pos 11024) }
     requires centre_ok { IsCentre centre }
     ensures yes { IsTrue result → Reaches radius centre tri.now }

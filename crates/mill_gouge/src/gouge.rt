@@ -1,5 +1,5 @@
 ghost use Rattle.std.specs.Prelude.{◌≡◌, MatchOption};
-ghost use Rattle.mill_base.specs.Ranges.{MoveInRange, TriInRange};
+ghost use Rattle.mill_base.specs.Ranges.{MoveInTextRange, TriInTextRange};
 ghost use Rattle.mill_base.specs.Sizes.{IsCutter};
 ghost use Rattle.mill_cells.specs.Sorted.{sorted_of};
 ghost use Rattle.mill_gouge.specs.Firsts.{IsEarlier};
@@ -31,7 +31,7 @@ pub struct Gouge {
 pub fn first_gouge(cutter: Cutter, part: &Part, cells: &Cells, step: &Move) -> Option<Gouge>
     requires cutter_ok { IsCutter cutter }
     requires cells_ok { cells.now ≡ sorted_of part.now }
-    requires move_ok { MoveInRange step.now }
+    requires move_ok { MoveInTextRange step.now }
     ensures { MatchOption
         result
         (PassesPart cutter step.now part.now)
@@ -56,7 +56,7 @@ pub fn first_gouge(cutter: Cutter, part: &Part, cells: &Cells, step: &Move) -> O
 ///
 /// The cells give the triangles in no order; one that comes after the first gouge isn't tried.
 fn earlier(first: Option<Gouge>, sweep: &Sweep, tri: &Tri, number: u32) -> Option<Gouge>
-    requires { TriInRange tri.now }
+    requires { TriInTextRange tri.now }
     ensures { IsEarlier sweep.now.cutter sweep.now.move tri.now number first result }
 {
     if let Some(gouge) = first {

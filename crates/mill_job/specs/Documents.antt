@@ -2,7 +2,7 @@
 use Rattle.std.specs.Prelude.{◌≡◌, ◌⊎◌, IsUtf8, ℕ, ◌*◌, nat_lt, codes, bytes_eq, Bool, ◌&&◌, if◌then◌else◌, ℤ, pos, ◌-ℤ◌, ◌*ℤ◌, int_lt, List, [], ◌∷◌, ◌++◌, Option, Some, None, option_and_then, option_map, Result, Err}
 use Rattle.toml.specs.Data.{Members, get_member, as_str}
 use Rattle.toml.specs.Parse.{parse_document}
-use Rattle.mill_base.specs.Numbers.{greatest}
+use Rattle.mill_base.specs.declared.limits.TheConstants.{MAX_TEXT_COORDINATE}
 use Rattle.mill_base.specs.Sizes.{radius_of}
 use Rattle.mill_decimal.specs.declared.snap.Snap.{Snap}
 use Rattle.mill_decimal.specs.declared.snap.Snap.TheVariants.{Nearest, Exact}
@@ -34,7 +34,7 @@ key_faults ms =
     ∷ number_fault_if_there key.Lift (pos 0) (pos 10000) ms
     ∷ number_fault_if_there key.Raster (pos 1) (pos 10000) ms
     ∷ number_fault_if_there key.RoughRaster (pos 1) (pos 10000) ms
-    ∷ number_fault_if_there key.Layer (pos 0) (pos greatest) ms
+    ∷ number_fault_if_there key.Layer (pos 0) (pos MAX_TEXT_COORDINATE) ms
     ∷ number_fault_if_there key.RoughStock (pos 0) (pos 10000) ms
     ∷ text_fault_if_there key.Snap (codes "nearest" ∷ codes "exact" ∷ []) ms
     ∷ []

@@ -1,6 +1,7 @@
 -- The ranges and relations that a job keeps.
 use Rattle.std.specs.Prelude.{◌*◌, ◌≤◌, ℤ, pos, ◌-ℤ◌, ◌*ℤ◌, ◌<ℤ◌, ◌≤ℤ◌}
-use Rattle.mill_base.specs.Numbers.{Within, greatest}
+use Rattle.mill_base.specs.Numbers.{Within}
+use Rattle.mill_base.specs.declared.limits.TheConstants.{MAX_TEXT_COORDINATE}
 use Rattle.mill_base.specs.Sizes.{IsCutter, radius_of}
 use Rattle.mill_job.specs.Columns.{row_count, column_count}
 use Rattle.mill_job.specs.declared.job.Job.{Job}
@@ -17,15 +18,15 @@ HasFewLayers job = (pos 0) <ℤ job.layer → (job.top -ℤ job.floor) ≤ℤ (p
 -- every number of the job is in its range, and the relations between them hold
 pub record IsJob (job : Job) : Type 0 where
   pub cutter_ok : IsCutter job.cutter
-  pub floor_ok : Within greatest job.floor
-  pub top_ok : Within greatest job.top
-  pub clear_ok : Within greatest job.clear
-  pub x0_ok : Within greatest job.area.x0
-  pub y0_ok : Within greatest job.area.y0
-  pub x1_ok : Within greatest job.area.x1
-  pub y1_ok : Within greatest job.area.y1
-  pub home_x_ok : Within greatest job.home_x
-  pub home_y_ok : Within greatest job.home_y
+  pub floor_ok : Within MAX_TEXT_COORDINATE job.floor
+  pub top_ok : Within MAX_TEXT_COORDINATE job.top
+  pub clear_ok : Within MAX_TEXT_COORDINATE job.clear
+  pub x0_ok : Within MAX_TEXT_COORDINATE job.area.x0
+  pub y0_ok : Within MAX_TEXT_COORDINATE job.area.y0
+  pub x1_ok : Within MAX_TEXT_COORDINATE job.area.x1
+  pub y1_ok : Within MAX_TEXT_COORDINATE job.area.y1
+  pub home_x_ok : Within MAX_TEXT_COORDINATE job.home_x
+  pub home_y_ok : Within MAX_TEXT_COORDINATE job.home_y
   pub pitch_ok : IsFrom (pos 1) (pos 10000) job.pitch
   pub sample_ok : IsFrom (pos 1) (pos 10000) job.sample
   pub allowance_ok : IsFrom (pos 0) (pos 10000) job.allowance
@@ -39,6 +40,6 @@ pub record IsJob (job : Job) : Type 0 where
   pub lift_ok : IsFrom (pos 0) (pos 10000) job.lift
   pub raster_ok : IsFrom (pos 1) (pos 10000) job.raster
   pub rough_raster_ok : IsFrom (pos 1) (pos 10000) job.rough_raster
-  pub layer_ok : IsFrom (pos 0) (pos greatest) job.layer
+  pub layer_ok : IsFrom (pos 0) (pos MAX_TEXT_COORDINATE) job.layer
   pub rough_stock_ok : IsFrom (pos 0) (pos 10000) job.rough_stock
   pub layers : HasFewLayers job

@@ -1,6 +1,7 @@
 -- What a document gives at a key, and what is wrong with it.
 use Rattle.std.specs.Prelude.{ℕ, Bool, true, false, ◌&&◌, if◌then◌else◌, ℤ, pos, neg_ℤ, ◌≤ℤ◌, int_le, List, [], ◌∷◌, Option, Some, None, option_and_then, option_map, unwrap_or, slice_index_or, Result, Ok, Err}
-use Rattle.mill_base.specs.Numbers.{Within, greatest}
+use Rattle.mill_base.specs.Numbers.{Within}
+use Rattle.mill_base.specs.declared.limits.TheConstants.{MAX_TEXT_COORDINATE}
 use Rattle.mill_base.specs.declared.points.Box2.{Box2}
 use Rattle.toml.specs.Data.{Data, Members, Items, no_items, item, get_member, as_integer, as_str, as_array}
 use Rattle.mill_job.specs.Keys.{name_of, is_one_of}
@@ -54,7 +55,7 @@ is_from lo hi z = int_le lo z && int_le z hi
 
 -- the magnitude is at most the greatest
 unfoldable pub is_coordinate : ℤ → Bool
-is_coordinate z = is_from (neg_ℤ (pos greatest)) (pos greatest) z
+is_coordinate z = is_from (neg_ℤ (pos MAX_TEXT_COORDINATE)) (pos MAX_TEXT_COORDINATE) z
 
 abbrev pub all_coordinates : List ℤ → Bool
 all_coordinates [] = true
@@ -88,7 +89,7 @@ number_fault_if_there key lo hi ms = may_be key as_integer (is_from lo hi) (get_
 
 -- what is wrong with the coordinate at a key
 abbrev pub coordinate_fault : Key → Members → Option JobFault
-coordinate_fault key ms = number_fault key (neg_ℤ (pos greatest)) (pos greatest) ms
+coordinate_fault key ms = number_fault key (neg_ℤ (pos MAX_TEXT_COORDINATE)) (pos MAX_TEXT_COORDINATE) ms
 
 -- what is wrong with the array at a key, whose whole numbers must pass a test
 unfoldable pub array_fault : Key → (List ℤ → Bool) → Members → Option JobFault
@@ -123,10 +124,10 @@ place_of zs = (entry zs 0, entry zs 1)
 
 -- the corners of an area are coordinates in their order
 pub record IsArea (area : Box2) : Type 0 where
-  pub x0_ok : Within greatest area.x0
-  pub y0_ok : Within greatest area.y0
-  pub x1_ok : Within greatest area.x1
-  pub y1_ok : Within greatest area.y1
+  pub x0_ok : Within MAX_TEXT_COORDINATE area.x0
+  pub y0_ok : Within MAX_TEXT_COORDINATE area.y0
+  pub x1_ok : Within MAX_TEXT_COORDINATE area.x1
+  pub y1_ok : Within MAX_TEXT_COORDINATE area.y1
   pub x_order : area.x0 ≤ℤ area.x1
   pub y_order : area.y0 ≤ℤ area.y1
 

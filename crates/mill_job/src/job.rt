@@ -1,6 +1,7 @@
 ghost use Rattle.std.specs.Prelude.{◌≡◌, ◌<◌, ◌≤◌, ◌*◌};
-ghost use Rattle.mill_base.specs.Numbers.{Within, greatest};
-ghost use Rattle.mill_base.specs.Ranges.{IsInRange};
+ghost use Rattle.mill_base.specs.Numbers.{Within};
+ghost use Rattle.mill_base.specs.declared.limits.TheConstants.{MAX_TEXT_COORDINATE};
+ghost use Rattle.mill_base.specs.Ranges.{IsInTextRange};
 
 use crate::positions::{count, position};
 use mill_base::{Box2, Cutter, Pt3};
@@ -81,7 +82,7 @@ impl Job {
         requires job { IsJob self.now }
         requires column { i < column_count self.now }
         ensures value { result ≡ x_of_column self.now i }
-        ensures in_range { Within greatest result }
+        ensures in_range { Within MAX_TEXT_COORDINATE result }
     {
         position(self.area.x0, self.area.x1, self.pitch, i)
     }
@@ -91,7 +92,7 @@ impl Job {
         requires job { IsJob self.now }
         requires row { j < row_count self.now }
         ensures value { result ≡ column_y self.now j }
-        ensures in_range { Within greatest result }
+        ensures in_range { Within MAX_TEXT_COORDINATE result }
     {
         position(self.area.y0, self.area.y1, self.pitch, j)
     }
@@ -100,7 +101,7 @@ impl Job {
     pub fn home(&self) -> Pt3
         requires { IsJob self.now }
         ensures value { result ≡ home_of self.now }
-        ensures in_range { IsInRange result }
+        ensures in_range { IsInTextRange result }
     {
         Pt3 {
             x: self.home_x,

@@ -1,5 +1,6 @@
 ghost use Rattle.std.specs.Prelude.{◌≡◌, ◌<◌, ◌≤◌, ◌/◌, ◌+◌, ◌*◌, pos, ◌≤ℤ◌, ◌+ℤ◌, ◌*ℤ◌, nat_abs};
-ghost use Rattle.mill_base.specs.Numbers.{Within, greatest};
+ghost use Rattle.mill_base.specs.Numbers.{Within};
+ghost use Rattle.mill_base.specs.declared.limits.TheConstants.{MAX_TEXT_COORDINATE};
 ghost use Rattle.mill_job.specs.Columns.{positions};
 ghost use Rattle.mill_job.specs.Jobs.{IsFrom};
 ghost use Rattle.mill_job.specs.Tables.{IsArea};
@@ -8,8 +9,8 @@ use mill_base::Box2;
 
 /// How many positions lie from `first` to `last` at steps of `pitch`.
 pub fn count(first: i32, last: i32, pitch: i32) -> u32
-    requires first_ok { Within greatest first }
-    requires last_ok { Within greatest last }
+    requires first_ok { Within MAX_TEXT_COORDINATE first }
+    requires last_ok { Within MAX_TEXT_COORDINATE last }
     requires order { first ≤ℤ last }
     requires pitch_ok { IsFrom (pos 1) (pos 10000) pitch }
     ensures value { result ≡ positions first last pitch }
@@ -32,13 +33,13 @@ pub fn column_total(area: Box2, pitch: i32) -> u64
 
 /// The position of number `index`, from 0.
 pub fn position(first: i32, last: i32, pitch: i32, index: u32) -> i32
-    requires first_ok { Within greatest first }
-    requires last_ok { Within greatest last }
+    requires first_ok { Within MAX_TEXT_COORDINATE first }
+    requires last_ok { Within MAX_TEXT_COORDINATE last }
     requires order { first ≤ℤ last }
     requires pitch_ok { IsFrom (pos 1) (pos 10000) pitch }
     requires there { index < positions first last pitch }
     ensures value { result ≡ first +ℤ pos index *ℤ pitch }
-    ensures in_range { Within greatest result }
+    ensures in_range { Within MAX_TEXT_COORDINATE result }
 {
     first + steps(last - first, pitch, index)
 }

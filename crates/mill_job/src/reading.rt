@@ -1,5 +1,6 @@
 ghost use Rattle.std.specs.Prelude.{◌≡◌, ◌≤◌, ◌*◌, ◌≤ℤ◌, ◌++◌, pos, false, IfOk, None};
-ghost use Rattle.mill_base.specs.Numbers.{Within, greatest};
+ghost use Rattle.mill_base.specs.Numbers.{Within};
+ghost use Rattle.mill_base.specs.declared.limits.TheConstants.{MAX_TEXT_COORDINATE};
 ghost use Rattle.mill_base.specs.Sizes.{radius_of};
 ghost use Rattle.toml.specs.View.{table_view};
 ghost use Rattle.mill_job.specs.Columns.{row_count, column_count};
@@ -26,9 +27,9 @@ const MOST_LAYERS: i32 = 1_000;
 
 /// Whether roughing takes off more layers than it may.
 fn has_many_layers(job: &Job) -> bool
-    requires floor_ok { Within greatest job.now.floor }
-    requires top_ok { Within greatest job.now.top }
-    requires layer_ok { IsFrom (pos 0) (pos greatest) job.now.layer }
+    requires floor_ok { Within MAX_TEXT_COORDINATE job.now.floor }
+    requires top_ok { Within MAX_TEXT_COORDINATE job.now.top }
+    requires layer_ok { IsFrom (pos 0) (pos MAX_TEXT_COORDINATE) job.now.layer }
     ensures value { result ≡ many_layers_in job.now }
     ensures no { result ≡ false → HasFewLayers job.now }
 {
@@ -37,9 +38,9 @@ fn has_many_layers(job: &Job) -> bool
 
 /// The first relation between the values of a job that fails.
 fn relation_fault(job: &Job) -> Option<JobFault>
-    requires floor_ok { Within greatest job.now.floor }
-    requires top_ok { Within greatest job.now.top }
-    requires layer_ok { IsFrom (pos 0) (pos greatest) job.now.layer }
+    requires floor_ok { Within MAX_TEXT_COORDINATE job.now.floor }
+    requires top_ok { Within MAX_TEXT_COORDINATE job.now.top }
+    requires layer_ok { IsFrom (pos 0) (pos MAX_TEXT_COORDINATE) job.now.layer }
     requires area_ok { IsArea job.now.area }
     requires pitch_ok { IsFrom (pos 1) (pos 10000) job.now.pitch }
     ensures value { result ≡ first (relation_faults job.now) }

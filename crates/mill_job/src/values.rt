@@ -1,5 +1,6 @@
 ghost use Rattle.std.specs.Prelude.{◌≡◌, codes, neg_ℤ, pos, true, false, IfOk, IfErr, None, Some, [], ◌∷◌, option_map};
-ghost use Rattle.mill_base.specs.Numbers.{Within, greatest};
+ghost use Rattle.mill_base.specs.Numbers.{Within};
+ghost use Rattle.mill_base.specs.declared.limits.TheConstants.{MAX_TEXT_COORDINATE};
 ghost use Rattle.toml.specs.Data.{as_integer, get_member};
 ghost use Rattle.toml.specs.View.{table_view, view};
 ghost use Rattle.mill_job.specs.Documents.{snap_of};
@@ -39,7 +40,7 @@ pub fn in_range(number: i64, key: Key, low: i32, high: i32) -> Result<i32, JobFa
 pub fn as_coordinate(number: i64, key: Key) -> Result<i32, JobFault>
     ensures ok { IfOk result (λ z. (is_coordinate number ≡ true) × (z ≡ number)) }
     ensures err { IfErr result (λ fault. (is_coordinate number ≡ false) × (fault ≡ JobFault.Range key)) }
-    ensures in_range { IfOk result (Within greatest) }
+    ensures in_range { IfOk result (Within MAX_TEXT_COORDINATE) }
 {
     in_range(number, key, -GREATEST, GREATEST)
 }
@@ -87,7 +88,7 @@ pub fn number_or(table: &Table, key: Key, low: i32, high: i32, other: i32) -> Re
 pub fn coordinate(table: &Table, key: Key) -> Result<i32, JobFault>
     ensures ok { IfOk result (λ n. (coordinate_fault key (table_view table.now) ≡ None) × (n ≡ number_at key (table_view table.now))) }
     ensures err { IfErr result (λ fault. coordinate_fault key (table_view table.now) ≡ Some fault) }
-    ensures in_range { IfOk result (Within greatest) }
+    ensures in_range { IfOk result (Within MAX_TEXT_COORDINATE) }
 {
     number(table, key, -GREATEST, GREATEST)
 }

@@ -3,8 +3,9 @@ use Rattle.std.proofs.Common.{◌≡◌, ℕ, ◌+◌, ◌*◌, ◌≤◌, ◌<�
 use Rattle.std.specs.Prelude.{ℤ, pos, negsuc, nat_abs, int_lt, nat_lt, nat_le, codes}
 use Rattle.std.proofs.lemmas.Bool.Decides.{nat_tests}
 use Rattle.std.proofs.lemmas.List.Elements.{Contains-append_right}
-use Rattle.mill_base.specs.Numbers.{Within, greatest}
-use Rattle.mill_base.specs.Ranges.{IsInRange, MoveInRange, MovesInRange}
+use Rattle.mill_base.specs.Numbers.{Within}
+use Rattle.mill_base.specs.declared.limits.TheConstants.{MAX_TEXT_COORDINATE}
+use Rattle.mill_base.specs.Ranges.{IsInTextRange, MoveInTextRange, MovesInTextRange}
 use Rattle.mill_base.specs.Motion.{Follow}
 use Rattle.mill_base.specs.declared.points.Pt3.{Pt3}
 use Rattle.mill_base.specs.declared.motion.Kind.{Kind}
@@ -82,7 +83,7 @@ abbrev going : Pt3 → Mode → Bool → ℕ → ℕ → Progress
 going here mode positioned moves line =
     record { here = here; mode = mode; millimetres = true; absolute = true; positioned = positioned; frame = Framed; ended = false; moves = moves; line = line }
 
-not_over : (n : ℕ) → n ≤ greatest → nat_lt greatest n ≡ false
+not_over : (n : ℕ) → n ≤ MAX_TEXT_COORDINATE → nat_lt MAX_TEXT_COORDINATE n ≡ false
 not_over n fits = grind (arith, nat_tests)
 
 times_one : (n : ℕ) → n * 1 ≡ n
@@ -91,7 +92,7 @@ times_one n = omega arith
 not_negative : (n : ℕ) → int_lt (pos n) (pos 0) ≡ false
 not_negative n = grind (arith, nat_tests)
 
-units_of-num : (line : ℕ) (z : ℤ) → Within greatest z → units_of line (units_num z) ≡ Ok z
+units_of-num : (line : ℕ) (z : ℤ) → Within MAX_TEXT_COORDINATE z → units_of line (units_num z) ≡ Ok z
 unfolding units_of
 units_of-num line (pos n) fits = rw (times_one n, not_over n fits.within, not_negative n) refl
 units_of-num line (negsuc n) fits = rw (times_one (suc n), not_over (suc n) fits.within) refl
@@ -99,7 +100,7 @@ units_of-num line (negsuc n) fits = rw (times_one (suc n), not_over (suc n) fits
 room : (moves : ℕ) → moves < 1000000 → nat_le 1000000 moves ≡ false
 room moves few = grind (arith, nat_tests)
 
-acted-move : (here : Pt3) (mode : Mode) (positioned : Bool) (moves line : ℕ) (kind : Kind) (to : Pt3) → IsInRange to → moves < 1000000
+acted-move : (here : Pt3) (mode : Mode) (positioned : Bool) (moves line : ℕ) (kind : Kind) (to : Pt3) → IsInTextRange to → moves < 1000000
     → acted (going here mode positioned moves line) (move_said kind to)
     ≡ Ok (going to (On kind) true (moves + 1) line, Some (record { kind = kind; from = here; to = to }))
 unfolding acted moved target
@@ -110,7 +111,7 @@ not_long : (n : ℕ) → n ≤ 256 → nat_lt 256 n ≡ false
 not_long n short = grind (arith, nat_tests)
 
 -- behind the header, the line of a move makes this move
-after_line-move : (m : Move) (mode : Mode) (positioned : Bool) (moves number : ℕ) (line : List ℕ) → IsInRange m.to → moves < 1000000 → IsMoveLine m line
+after_line-move : (m : Move) (mode : Mode) (positioned : Bool) (moves number : ℕ) (line : List ℕ) → IsInTextRange m.to → moves < 1000000 → IsMoveLine m line
     → after_line (going m.from mode positioned moves number) line ≡ Ok (going m.to (On m.kind) true (moves + 1) (number + 1), Some m)
 unfolding after_line after_words
 after_line-move m mode positioned moves number line fits few is_line =
@@ -129,20 +130,20 @@ read_from-end here mode true count number done = refl
 read_from-end here mode false count number done = refl
 
 read_from-move : (m : Move) (here : Pt3) (mode : Mode) (positioned : Bool) (count number : ℕ) (done : List Move) (line : List ℕ) (lines : List (List ℕ))
-    → m.from ≡ here → IsInRange m.to → count < 1000000 → IsMoveLine m line
+    → m.from ≡ here → IsInTextRange m.to → count < 1000000 → IsMoveLine m line
     → read_from (going here mode positioned count number) done (line ∷ lines) ≡ read_from (going m.to (On m.kind) true (count + 1) (number + 1)) (done ++ m ∷ []) lines
 unfolding read_from
 read_from-move m here mode positioned count number done line lines follow fits few is_line =
     rw (← follow, after_line-move m mode positioned count number line fits few is_line) refl
 
-read_from-moves : (line : Move → List ℕ) → ((m : Move) → MoveInRange m → IsMoveLine m (line m))
+read_from-moves : (line : Move → List ℕ) → ((m : Move) → MoveInTextRange m → IsMoveLine m (line m))
     → (moves : List Move) (here : Pt3) (mode : Mode) (positioned : Bool) (count number : ℕ) (done : List Move)
-    → Follow here moves → MovesInRange moves → count + length moves ≤ 1000000
+    → Follow here moves → MovesInTextRange moves → count + length moves ≤ 1000000
     → read_from (going here mode positioned count number) done (map line moves ++ end_lines) ≡ Ok (done ++ moves)
 read_from-moves line is_line [] here mode positioned count number done follow fits few = read_from-end here mode positioned count number done
 read_from-moves line is_line (m ∷ moves) here mode positioned count number done follow fits few =
-    let first : MoveInRange m = fits m (search rules) in
-    let others : MovesInRange moves = λ n member. fits n (Contains-append_right (m ∷ []) moves n member) in
+    let first : MoveInTextRange m = fits m (search rules) in
+    let others : MovesInTextRange moves = λ n member. fits n (Contains-append_right (m ∷ []) moves n member) in
     read_from-move m here mode positioned count number done (line m) (map line moves ++ end_lines) follow.0 first.to_ok (omega arith) (is_line m first)
     ∙ read_from-moves line is_line moves m.to (On m.kind) true (count + 1) (number + 1) (done ++ m ∷ []) follow.1 others (omega arith)
     ∙ ap (λ (ms : List Move). Ok ms) (append_assoc done (m ∷ []) moves)
@@ -152,8 +153,8 @@ unfolding read_from after_line after_words line_of read_marks marks_from grown_w
 read_from-header start lines = refl
 
 -- a program of these lines means the moves, which follow on each other from the start
-pub program_of-moves : (line : Move → List ℕ) → ((m : Move) → MoveInRange m → IsMoveLine m (line m))
-    → (start : Pt3) (moves : List Move) (text : List ℕ) → Follow start moves → MovesInRange moves → length moves ≤ 1000000
+pub program_of-moves : (line : Move → List ℕ) → ((m : Move) → MoveInTextRange m → IsMoveLine m (line m))
+    → (start : Pt3) (moves : List Move) (text : List ℕ) → Follow start moves → MovesInTextRange moves → length moves ≤ 1000000
     → lines_of text ≡ codes "%" ∷ codes "G17 G21 G90" ∷ (map line moves ++ end_lines) → program_of start text ≡ Ok moves
 unfolding program_of
 program_of-moves line is_line start moves text follow fits few lines =

@@ -4,7 +4,7 @@ use Rattle.std.proofs.lemmas.List.Elements.{Contains-push_cases}
 use Rattle.std.specs.Prelude.{Contains, ◌⊎◌, Vec}
 use Rattle.std.specs.declared.alloc.Global.{Global}
 use Rattle.mill_base.specs.Motion.{Follow}
-use Rattle.mill_base.specs.Ranges.{IsInRange, MoveInRange, MovesInRange}
+use Rattle.mill_base.specs.Ranges.{IsInTextRange, MoveInTextRange, MovesInTextRange}
 use Rattle.mill_base.specs.declared.points.Pt3.{Pt3}
 use Rattle.mill_base.specs.declared.motion.Move.{Move}
 use Rattle.mill_ngc.specs.declared.fault.NgcFault.{NgcFault}
@@ -59,8 +59,8 @@ end_of start (m ∷ moves) = end_of m.to moves
 
 -- what holds of the moves behind some lines
 pub record SoFar (start : Pt3) (p : Progress) (moves : List Move) : Type 0 where
-  pub here : IsInRange p.here
-  pub in_range : MovesInRange moves
+  pub here : IsInTextRange p.here
+  pub in_range : MovesInTextRange moves
   pub follow : Follow start moves
   pub end : end_of start moves ≡ p.here
   pub count : length moves ≡ p.moves
@@ -74,10 +74,10 @@ end_of-push : (at : Pt3) (moves : List Move) (m : Move) → end_of at (moves ++ 
 end_of-push at [] m = refl
 end_of-push at (n ∷ moves) m = end_of-push n.to moves m
 
-MovesInRange-push : (moves : List Move) (m : Move) → MovesInRange moves → MoveInRange m → MovesInRange (moves ++ m ∷ [])
-MovesInRange-push moves m ok made n member = which (Contains-push_cases moves m n member)
+MovesInTextRange-push : (moves : List Move) (m : Move) → MovesInTextRange moves → MoveInTextRange m → MovesInTextRange (moves ++ m ∷ [])
+MovesInTextRange-push moves m ok made n member = which (Contains-push_cases moves m n member)
   where
-    which : Contains moves n ⊎ (m ≡ n) → MoveInRange n
+    which : Contains moves n ⊎ (m ≡ n) → MoveInTextRange n
     which (inl there) = ok n there
     which (inr e) = rw (← e) made
 
@@ -96,7 +96,7 @@ so_far-none start p q moves s keeps =
 so_far-move : (start : Pt3) (p q : Progress) (moves : List Move) (m : Move) → SoFar start p moves → MakesMove p m q → SoFar start q (moves ++ m ∷ [])
 so_far-move start p q moves m s keeps = record {
   here = keeps.in_range;
-  in_range = MovesInRange-push moves m s.in_range (record { from_ok = rw keeps.from_here s.here; to_ok = rw keeps.to_here keeps.in_range });
+  in_range = MovesInTextRange-push moves m s.in_range (record { from_ok = rw keeps.from_here s.here; to_ok = rw keeps.to_here keeps.in_range });
   follow = Follow-push start moves m s.follow (keeps.from_here ∙ sym s.end);
   end = end_of-push start moves m ∙ keeps.to_here;
   count = omega (arith, length-append moves (m ∷ []), s.count, keeps.one_more);

@@ -1,6 +1,6 @@
 -- What stays true while a program is read.
 use Rattle.std.specs.Prelude.{◌≡◌, ◌+◌, ◌≤◌, Option, Some, None, IfSome}
-use Rattle.mill_base.specs.Ranges.{IsInRange}
+use Rattle.mill_base.specs.Ranges.{IsInTextRange}
 use Rattle.mill_base.specs.declared.motion.Move.{Move}
 use Rattle.mill_words.specs.Words.{FitsNum}
 use Rattle.mill_ngc.specs.declared.said.Said.{Said}
@@ -16,7 +16,7 @@ pub record FitsSaid (s : Said) : Type 0 where
 pub record MakesMove (old : Progress) (m : Move) (new : Progress) : Type 0 where
   pub from_here : m.from ≡ old.here
   pub to_here : m.to ≡ new.here
-  pub in_range : IsInRange new.here
+  pub in_range : IsInTextRange new.here
   pub one_more : new.moves ≡ old.moves + 1
   pub few : new.moves ≤ 1000000
 

@@ -1,6 +1,6 @@
 -- The values of a word's number.
 use Rattle.std.specs.Prelude.{ℕ, ℤ, pos, neg_ℤ, ◌-◌, ◌*◌, ◌/◌, ◌%◌, ◌^◌, Option, Some, None, Result, Ok, Err, Bool, true, ◌&&◌, ◌==◌, nat_lt, nat_le, not, if◌then◌else◌}
-use Rattle.mill_base.specs.Numbers.{greatest}
+use Rattle.mill_base.specs.declared.limits.TheConstants.{MAX_TEXT_COORDINATE}
 use Rattle.mill_words.specs.declared.word.Num.{Num}
 use Rattle.mill_ngc.specs.declared.fault.NgcFault.{NgcFault}
 use Rattle.mill_ngc.specs.declared.fault.NgcFault.TheVariants as fault
@@ -26,4 +26,4 @@ signed neg n = if neg then neg_ℤ (pos n) else pos n
 unfoldable pub units_of : ℕ → Num → Result ℤ NgcFault
 units_of line n =
     if not (is_on_grid n) then Err (fault.OffGrid line) else
-    (if nat_lt greatest (hundredths n) then Err (fault.OutOfRange line) else Ok (signed n.neg (hundredths n)))
+    (if nat_lt MAX_TEXT_COORDINATE (hundredths n) then Err (fault.OutOfRange line) else Ok (signed n.neg (hundredths n)))

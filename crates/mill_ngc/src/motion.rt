@@ -1,7 +1,8 @@
 //! What a line does that says this.
 ghost use Rattle.std.specs.Prelude.{◌≡◌, ◌<◌, ◌≤◌, ◌+◌, OnOk, IfOk, IfErr, Ok, Err, IfSome};
-ghost use Rattle.mill_base.specs.Numbers.{Within, greatest};
-ghost use Rattle.mill_base.specs.Ranges.{IsInRange};
+ghost use Rattle.mill_base.specs.Numbers.{Within};
+ghost use Rattle.mill_base.specs.declared.limits.TheConstants.{MAX_TEXT_COORDINATE};
+ghost use Rattle.mill_base.specs.Ranges.{IsInTextRange};
 ghost use Rattle.mill_words.specs.Words.{FitsNum};
 ghost use Rattle.mill_ngc.specs.Motion.{settled, coordinate as coordinate_of, target as target_of, moved_to, moved_by, moved, acted};
 ghost use Rattle.mill_ngc.specs.Bounds.{FitsSaid, Keeps};
@@ -22,7 +23,7 @@ impl Progress {
     #[tactic(auto, unfolding(crate::specs::Motion::acted))]
     pub fn act(&mut self, said: &Said) -> Result<Option<Move>, NgcFault>
         requires said { FitsSaid said.now }
-        requires here { IsInRange self.old.here }
+        requires here { IsInTextRange self.old.here }
         ensures ok { IfOk result (λ made. acted self.old said.now ≡ Ok (self.new, made)) }
         ensures fault { IfErr result (λ f. acted self.old said.now ≡ Err f) }
         ensures keeps { IfOk result (λ made. Keeps self.old made self.new) }
@@ -52,7 +53,7 @@ impl Progress {
     #[tactic(auto, unfolding(crate::specs::Motion::moved))]
     fn make_move(&mut self, said: &Said) -> Result<Option<Move>, NgcFault>
         requires said { FitsSaid said.now }
-        requires here { IsInRange self.old.here }
+        requires here { IsInTextRange self.old.here }
         ensures ok { IfOk result (λ made. moved self.old said.now ≡ Ok (self.new, made)) }
         ensures fault { IfErr result (λ f. moved self.old said.now ≡ Err f) }
         ensures keeps { IfOk result (λ made. Keeps self.old made self.new) }
@@ -76,9 +77,9 @@ impl Progress {
     #[tactic(auto, unfolding(crate::specs::Motion::target))]
     fn target(&self, said: &Said) -> Result<Pt3, NgcFault>
         requires said { FitsSaid said.now }
-        requires here { IsInRange self.now.here }
+        requires here { IsInTextRange self.now.here }
         ensures value { result ≡ target_of self.now said.now }
-        ensures in_range { IfOk result IsInRange }
+        ensures in_range { IfOk result IsInTextRange }
     {
         let x = coordinate(self.line, self.here.x, said.x)?;
         let y = coordinate(self.line, self.here.y, said.y)?;
@@ -87,8 +88,8 @@ impl Progress {
     }
 
     fn move_to(&mut self, kind: Kind, to: Pt3) -> Result<Option<Move>, NgcFault>
-        requires here { IsInRange self.old.here }
-        requires to { IsInRange to }
+        requires here { IsInTextRange self.old.here }
+        requires to { IsInTextRange to }
         ensures ok { IfOk result (λ made. moved_to self.old kind to ≡ Ok (self.new, made)) }
         ensures fault { IfErr result (λ f. moved_to self.old kind to ≡ Err f) }
         ensures keeps { IfOk result (λ made. Keeps self.old made self.new) }
@@ -111,9 +112,9 @@ impl Progress {
 // A coordinate of the move's end: the number of its axis, or that of the present point.
 fn coordinate(line: u64, here: i32, num: Option<Num>) -> Result<i32, NgcFault>
     requires num { IfSome num (FitsNum 18) }
-    requires here { Within greatest here }
+    requires here { Within MAX_TEXT_COORDINATE here }
     ensures value { result ≡ coordinate_of line here num }
-    ensures within { IfOk result (Within greatest) }
+    ensures within { IfOk result (Within MAX_TEXT_COORDINATE) }
 {
     match num {
         Some(num) => units_of(line, num),

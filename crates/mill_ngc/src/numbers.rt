@@ -1,7 +1,8 @@
 //! The values of numbers.
 ghost use Rattle.std.specs.Prelude.{◌≡◌, ◌^◌, ◌≤◌, ◌<◌, IfOk};
 ghost use Rattle.mill_words.specs.Words.{FitsNum};
-ghost use Rattle.mill_base.specs.Numbers.{Within, greatest};
+ghost use Rattle.mill_base.specs.Numbers.{Within};
+ghost use Rattle.mill_base.specs.declared.limits.TheConstants.{MAX_TEXT_COORDINATE};
 ghost use Rattle.mill_ngc.specs.Numbers.{whole_of as whole_number_of, hundredths as hundredths_of, is_on_grid as is_on_grid_number, units_of as units_by, signed as signed_by};
 
 use crate::fault::NgcFault;
@@ -31,7 +32,7 @@ pub(crate) fn whole_of(num: Num) -> Option<u64>
 pub(crate) fn units_of(line: u64, num: Num) -> Result<i32, NgcFault>
     requires { FitsNum 18 num }
     ensures value { result ≡ units_by line num }
-    ensures within { IfOk result (Within greatest) }
+    ensures within { IfOk result (Within MAX_TEXT_COORDINATE) }
 {
     if !is_on_grid(num) {
         return Err(NgcFault::OffGrid { line });
@@ -74,7 +75,7 @@ fn power(scale: u8) -> u64
 fn signed(neg: bool, units: u32) -> i32
     requires { units ≤ 131071 }
     ensures value { result ≡ signed_by neg units }
-    ensures within { Within greatest result }
+    ensures within { Within MAX_TEXT_COORDINATE result }
 {
     let number = units as i32;
     if neg { -number } else { number }

@@ -1,6 +1,6 @@
 ghost use Rattle.std.specs.Prelude.{◌≡◌, ◌++◌, ◌≤◌, length, IfOk, OnOk, IfErr};
 ghost use Rattle.mill_base.specs.Motion.{Follow};
-ghost use Rattle.mill_base.specs.Ranges.{IsInRange, MovesInRange};
+ghost use Rattle.mill_base.specs.Ranges.{IsInTextRange, MovesInTextRange};
 ghost use Rattle.mill_ngc.specs.Programs.{program_of, made_list};
 ghost use Rattle.mill_ngc.specs.Readings.{Reads};
 ghost use Rattle.mill_ngc.specs.declared.fault.NgcFault.TheVariants as faults;
@@ -25,9 +25,9 @@ use std::alloc::Global;
 /// The answer is exactly those moves, or the text's first fault, which [`NgcFault`] tells with its
 /// line. `WantOfMemory` comes where there is no memory for the moves.
 pub fn read_program(alloc: Global, text: &[u8], start: Pt3) -> Result<Vec<Move>, NgcFault>
-    requires { IsInRange start }
+    requires { IsInTextRange start }
     ensures reads { Reads (program_of start text.now) result }
-    ensures in_range { IfOk result (λ moves. MovesInRange moves.items) }
+    ensures in_range { IfOk result (λ moves. MovesInTextRange moves.items) }
     ensures follow { IfOk result (λ moves. Follow start moves.items) }
     ensures few { IfOk result (λ moves. length moves.items ≤ 1000000) }
 {

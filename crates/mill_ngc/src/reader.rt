@@ -1,7 +1,7 @@
 //! A reader that is fed a program line by line.
 ghost use Rattle.std.specs.Prelude.{◌≡◌, ◌<◌, ◌^◌, length, OnOk, IfOk, IfErr, Ok, Err};
 ghost use Rattle.std.specs.Str.{bytes_eq};
-ghost use Rattle.mill_base.specs.Ranges.{IsInRange};
+ghost use Rattle.mill_base.specs.Ranges.{IsInTextRange};
 ghost use Rattle.mill_words.specs.Lines.{line_of};
 ghost use Rattle.mill_words.specs.Words.{Line};
 ghost use Rattle.mill_words.specs.Marks.{is_blank as is_blank_byte};
@@ -77,7 +77,7 @@ impl Reader {
     /// After a fault the reader isn't to be fed again.
     #[tactic(auto, unfolding(crate::specs::Programs::after_line))]
     pub fn read_line(&mut self, line: &[u8]) -> Result<Option<Move>, NgcFault>
-        requires here { IsInRange self.old.here }
+        requires here { IsInTextRange self.old.here }
         requires number { self.old.line < 2 ^ 63 }
         ensures ok { IfOk result (λ made. after_line self.old line.now ≡ Ok (self.new, made)) }
         ensures fault { IfErr result (λ f. after_line self.old line.now ≡ Err f) }
@@ -102,7 +102,7 @@ impl Progress {
     // Does what the words of the line say.
     #[tactic(auto, unfolding(crate::specs::Programs::after_words))]
     fn act_words(&mut self, words: &LineWords, said: &mut Said) -> Result<Option<Move>, NgcFault>
-        requires here { IsInRange self.old.here }
+        requires here { IsInTextRange self.old.here }
         ensures ok { IfOk result (λ made. after_words self.old words.now ≡ Ok (self.new, made)) }
         ensures fault { IfErr result (λ f. after_words self.old words.now ≡ Err f) }
         ensures keeps { IfOk result (λ made. Keeps self.old made self.new) }

@@ -4,19 +4,20 @@ use Rattle.std.proofs.lemmas.Int.{ints, by_lt_z}
 use mir.Syntax.{w32, w64}
 use lib.IntN.{ℤ, pos, negsuc, nat_abs, ◌+ℤ◌, ◌-ℤ◌, ◌*ℤ◌}
 use lib.Signed.{◌<ℤ◌, ◌≤ℤ◌, lt_z}
-use Rattle.mill_base.specs.Numbers.{Within, greatest}
+use Rattle.mill_base.specs.Numbers.{Within}
+use Rattle.mill_base.specs.declared.limits.TheConstants.{MAX_TEXT_COORDINATE}
 use Rattle.mill_base.proofs.Machine.{X, Read, Lit, Sum, Diff, stored, roomy, exact, stays, sum_fits, diff_fits, kept}
 use Rattle.mill_part.specs.Columns.{weigh}
 
 -- a coordinate is stored as it is
-pub coordinate : (z : ℤ) → Within greatest z → stored w32 z ≡ z
+pub coordinate : (z : ℤ) → Within MAX_TEXT_COORDINATE z → stored w32 z ≡ z
 coordinate z h = kept w32 z 131071 h.within refl
 
-pub coordinate_bounds : (z : ℤ) → Within greatest z → (negsuc 131070 ≤ℤ z) × (z ≤ℤ pos 131071)
+pub coordinate_bounds : (z : ℤ) → Within MAX_TEXT_COORDINATE z → (negsuc 131070 ≤ℤ z) × (z ≤ℤ pos 131071)
 coordinate_bounds z h = let k = h.within in (omega (arith, ints), omega (arith, ints))
 
 -- and so is the next lower number
-pub next_lower : (z : ℤ) → Within greatest z → stored w32 (stored w32 z -ℤ pos 1) ≡ z -ℤ pos 1
+pub next_lower : (z : ℤ) → Within MAX_TEXT_COORDINATE z → stored w32 (stored w32 z -ℤ pos 1) ≡ z -ℤ pos 1
 next_lower z h = exact (z ∷ []) (131071 ∷ []) (Diff w32 (Read w32 0) (Lit (pos 1))) (h.within, tt) refl
 
 -- so is a band, and so are the ends of the stretch that it reaches about a coordinate
@@ -26,10 +27,10 @@ band_within b least most = omega (arith, ints)
 pub band_kept : (b : ℤ) → (pos 0) ≤ℤ b → b ≤ℤ pos 10000 → stored w32 b ≡ b
 band_kept b least most = kept w32 b 10000 (band_within b least most) refl
 
-pub less_band : (z b : ℤ) → Within greatest z → (pos 0) ≤ℤ b → b ≤ℤ pos 10000 → stored w32 (stored w32 z -ℤ stored w32 b) ≡ z -ℤ b
+pub less_band : (z b : ℤ) → Within MAX_TEXT_COORDINATE z → (pos 0) ≤ℤ b → b ≤ℤ pos 10000 → stored w32 (stored w32 z -ℤ stored w32 b) ≡ z -ℤ b
 less_band z b h least most = exact (z ∷ b ∷ []) (131071 ∷ 10000 ∷ []) (Diff w32 (Read w32 0) (Read w32 1)) (h.within, (band_within b least most, tt)) refl
 
-pub more_band : (z b : ℤ) → Within greatest z → (pos 0) ≤ℤ b → b ≤ℤ pos 10000 → stored w32 (stored w32 z +ℤ stored w32 b) ≡ z +ℤ b
+pub more_band : (z b : ℤ) → Within MAX_TEXT_COORDINATE z → (pos 0) ≤ℤ b → b ≤ℤ pos 10000 → stored w32 (stored w32 z +ℤ stored w32 b) ≡ z +ℤ b
 more_band z b h least most = exact (z ∷ b ∷ []) (131071 ∷ 10000 ∷ []) (Sum w32 (Read w32 0) (Read w32 1)) (h.within, (band_within b least most, tt)) refl
 
 -- three numbers, and one of them less another
@@ -66,7 +67,7 @@ pub minus_within : (a : ℤ) → Within (2 ^ 37) a → Within (2 ^ 37) (stored w
 minus_within a h = record { within = stays (a ∷ []) (2 ^ 37 ∷ []) (Diff w64 (Lit (pos 0)) (Read w64 0)) (2 ^ 37) (h.within, tt) refl }
 
 -- a weighted height, and the sum of three
-pub weighted_is : (u z p : ℤ) → Within (2 ^ 37) u → Within greatest z → p ≡ stored w64 u *ℤ stored w32 z → p ≡ u *ℤ z
+pub weighted_is : (u z p : ℤ) → Within (2 ^ 37) u → Within MAX_TEXT_COORDINATE z → p ≡ stored w64 u *ℤ stored w32 z → p ≡ u *ℤ z
 weighted_is u z p hu hz e = rw (kept w64 u (2 ^ 37) hu.within refl, coordinate z hz) at e
 
 pub heights_are : (u v w a b c p q r : ℤ) → Within (2 ^ 54) p → Within (2 ^ 54) q → Within (2 ^ 54) r → p ≡ u *ℤ a → q ≡ v *ℤ b → r ≡ w *ℤ c
@@ -138,7 +139,7 @@ pub not_under_0 : (a : ℤ) → Within (2 ^ 18) a → lt_z (stored w64 a) (pos 0
 not_under_0 a h test = let k = rw (place a h) at test in omega (arith, ints, k)
 
 -- the heights of two ends, each weighted by the other's place
-pub between_are : (a b y z p q : ℤ) → Within (2 ^ 18) a → Within (2 ^ 18) b → Within greatest y → Within greatest z → Within (2 ^ 54) p → Within (2 ^ 54) q
+pub between_are : (a b y z p q : ℤ) → Within (2 ^ 18) a → Within (2 ^ 18) b → Within MAX_TEXT_COORDINATE y → Within MAX_TEXT_COORDINATE z → Within (2 ^ 54) p → Within (2 ^ 54) q
     → p ≡ stored w64 b *ℤ stored w32 y → q ≡ stored w64 a *ℤ stored w32 z → stored w64 (stored w64 p -ℤ stored w64 q) ≡ b *ℤ y -ℤ a *ℤ z
 between_are a b y z p q ha hb hy hz hp hq ep eq =
     less2_is (2 ^ 54) p q hp hq refl ∙ rw (weighted_is b y p (wider b hb) hy ep, weighted_is a z q (wider a ha) hz eq) refl

@@ -1,7 +1,8 @@
 ghost use Rattle.std.specs.Prelude.{◌≡◌, ◌↔◌, ◌<◌, ◌^◌, ℤ, pos, false, ◌≤ℤ◌, length, IfSome, IsNone, IsTrue};
 ghost use Rattle.mill_base.specs.Covers.{Covered, HasPointOver};
-ghost use Rattle.mill_base.specs.Numbers.{Within, greatest};
-ghost use Rattle.mill_base.specs.Ranges.{TrisInRange};
+ghost use Rattle.mill_base.specs.Numbers.{Within};
+ghost use Rattle.mill_base.specs.declared.limits.TheConstants.{MAX_TEXT_COORDINATE};
+ghost use Rattle.mill_base.specs.Ranges.{TrisInTextRange};
 ghost use Rattle.mill_cells.specs.Sorted.{sorted_of};
 ghost use Rattle.mill_part.specs.Parts.{top_of};
 
@@ -34,12 +35,12 @@ impl Model for Part {
 }
 
 impl Part {
-    ghost use Rattle.mill_base.specs.Ranges.{TrisInRange};
+    ghost use Rattle.mill_base.specs.Ranges.{TrisInTextRange};
     ghost use Rattle.mill_part.specs.Tops.{IsTop};
 
     /// The part of these triangles.
     pub fn new(tris: Vec<Tri>) -> Part
-        requires in_range { TrisInRange tris.items }
+        requires in_range { TrisInTextRange tris.items }
         requires count { length tris.items < 2 ^ 32 }
         ensures { result ≡ tris.items }
     {
@@ -53,7 +54,7 @@ impl Part {
     /// The triangles.
     pub fn tris(&self) -> &[Tri]
         ensures list { result.now ≡ self.now }
-        ensures in_range { TrisInRange self.now }
+        ensures in_range { TrisInTextRange self.now }
         ensures count { length self.now < 2 ^ 32 }
     {
         &self.triangles
@@ -64,7 +65,7 @@ impl Part {
     /// It looks at no triangle: `new` has found it.
     pub fn top(&self) -> Option<i32>
         ensures none { IsNone result ↔ (length self.now ≡ 0) }
-        ensures greatest { IfSome result (λ top. IsTop self.now top) }
+        ensures MAX_TEXT_COORDINATE { IfSome result (λ top. IsTop self.now top) }
     {
         self.top
     }
@@ -75,9 +76,9 @@ impl Part {
     /// `height` is any; the magnitudes of `floor`, `x` and `y` are at most 131,071, and `band` is from
     /// 0 to 10,000, all in units of 0.01 mm.
     pub fn covered(&self, floor: i32, x: i32, y: i32, height: i32, band: i32) -> bool
-        requires floor_ok { Within greatest floor }
-        requires x_ok { Within greatest x }
-        requires y_ok { Within greatest y }
+        requires floor_ok { Within MAX_TEXT_COORDINATE floor }
+        requires x_ok { Within MAX_TEXT_COORDINATE x }
+        requires y_ok { Within MAX_TEXT_COORDINATE y }
         requires band_least { pos 0 ≤ℤ band }
         requires band_most { band ≤ℤ pos 10000 }
         ensures { IsTrue result ↔ Covered self.now floor band x y height }
@@ -108,9 +109,9 @@ impl Part {
         band: i32,
     ) -> bool
         requires cells_ok { cells.now ≡ sorted_of self.now }
-        requires floor_ok { Within greatest floor }
-        requires x_ok { Within greatest x }
-        requires y_ok { Within greatest y }
+        requires floor_ok { Within MAX_TEXT_COORDINATE floor }
+        requires x_ok { Within MAX_TEXT_COORDINATE x }
+        requires y_ok { Within MAX_TEXT_COORDINATE y }
         requires band_least { pos 0 ≤ℤ band }
         requires band_most { band ≤ℤ pos 10000 }
         ensures { IsTrue result ↔ Covered self.now floor band x y height }
@@ -131,13 +132,13 @@ impl Part {
     /// It is the floor where no point of the part does. The magnitudes of `floor`, `x` and `y` are at
     /// most 131,071, and `band` is from 0 to 10,000.
     pub fn covered_height(&self, floor: i32, x: i32, y: i32, band: i32) -> i32
-        requires floor_ok { Within greatest floor }
-        requires x_ok { Within greatest x }
-        requires y_ok { Within greatest y }
+        requires floor_ok { Within MAX_TEXT_COORDINATE floor }
+        requires x_ok { Within MAX_TEXT_COORDINATE x }
+        requires y_ok { Within MAX_TEXT_COORDINATE y }
         requires band_least { pos 0 ≤ℤ band }
         requires band_most { band ≤ℤ pos 10000 }
         ensures exact { (h : ℤ) → Covered self.now floor band x y h ↔ (h ≤ℤ result) }
-        ensures bound { Within greatest result }
+        ensures bound { Within MAX_TEXT_COORDINATE result }
     {
         let column = Column { x, y, band };
         let mut height = floor;
@@ -154,13 +155,13 @@ impl Part {
     /// save.
     pub fn covered_height_near(&self, cells: &Cells, floor: i32, x: i32, y: i32, band: i32) -> i32
         requires cells_ok { cells.now ≡ sorted_of self.now }
-        requires floor_ok { Within greatest floor }
-        requires x_ok { Within greatest x }
-        requires y_ok { Within greatest y }
+        requires floor_ok { Within MAX_TEXT_COORDINATE floor }
+        requires x_ok { Within MAX_TEXT_COORDINATE x }
+        requires y_ok { Within MAX_TEXT_COORDINATE y }
         requires band_least { pos 0 ≤ℤ band }
         requires band_most { band ≤ℤ pos 10000 }
         ensures exact { (h : ℤ) → Covered self.now floor band x y h ↔ (h ≤ℤ result) }
-        ensures bound { Within greatest result }
+        ensures bound { Within MAX_TEXT_COORDINATE result }
     {
         let tris = self.tris();
         let column = Column { x, y, band };
@@ -186,8 +187,8 @@ fn greatest_height(tris: &[Tri]) -> Option<i32>
 
 /// Whether a point of the triangles at least as high as `height` covers the column.
 fn has_point_over(tris: &[Tri], column: Column, height: i32) -> bool
-    requires in_range { TrisInRange tris.now }
-    requires height_ok { Within greatest height }
+    requires in_range { TrisInTextRange tris.now }
+    requires height_ok { Within MAX_TEXT_COORDINATE height }
     ensures yes { IsTrue result → HasPointOver tris.now column.band column.x column.y height }
     ensures no { result ≡ false
         → ¬ HasPointOver tris.now column.band column.x column.y height }
@@ -204,9 +205,9 @@ fn has_point_over(tris: &[Tri], column: Column, height: i32) -> bool
 ///
 /// A triangle comes up to a height if its top is over the next lower one.
 fn has_near_point_over(tris: &[Tri], cells: &Cells, column: Column, height: i32) -> bool
-    requires in_range { TrisInRange tris.now }
+    requires in_range { TrisInTextRange tris.now }
     requires cells_ok { cells.now ≡ sorted_of tris.now }
-    requires height_ok { Within greatest height }
+    requires height_ok { Within MAX_TEXT_COORDINATE height }
     ensures yes { IsTrue result → HasPointOver tris.now column.band column.x column.y height }
     ensures no { result ≡ false
         → ¬ HasPointOver tris.now column.band column.x column.y height }

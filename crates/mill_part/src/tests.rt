@@ -1,6 +1,7 @@
 ghost use Rattle.std.specs.Prelude.{IsTrue, ◌<◌, ◌^◌, ◌≤ℤ◌, pos, length};
-ghost use Rattle.mill_base.specs.Numbers.{Within, greatest};
-ghost use Rattle.mill_base.specs.Ranges.{IsInRange, TriInRange};
+ghost use Rattle.mill_base.specs.Numbers.{Within};
+ghost use Rattle.mill_base.specs.declared.limits.TheConstants.{MAX_TEXT_COORDINATE};
+ghost use Rattle.mill_base.specs.Ranges.{IsInTextRange, TriInTextRange};
 
 use super::{Part, covered_below};
 use mill_base::{Pt3, Tri};
@@ -29,7 +30,7 @@ fn tri(a: (i32, i32, i32), b: (i32, i32, i32), c: (i32, i32, i32)) -> Tri {
 }
 
 fn fits(number: i32) -> bool
-    ensures { IsTrue result → Within greatest number }
+    ensures { IsTrue result → Within MAX_TEXT_COORDINATE number }
 {
     if number < -131_071 {
         return false;
@@ -38,7 +39,7 @@ fn fits(number: i32) -> bool
 }
 
 fn point_fits(point: &Pt3) -> bool
-    ensures { IsTrue result → IsInRange point.now }
+    ensures { IsTrue result → IsInTextRange point.now }
 {
     if !fits(point.x) {
         return false;
@@ -50,7 +51,7 @@ fn point_fits(point: &Pt3) -> bool
 }
 
 fn tri_fits(tri: &Tri) -> bool
-    ensures { IsTrue result → TriInRange tri.now }
+    ensures { IsTrue result → TriInTextRange tri.now }
 {
     if !point_fits(&tri.a) {
         return false;

@@ -4,7 +4,8 @@ use Rattle.std.specs.Prelude.{ℤ, pos, negsuc, ◌<ℤ◌, ◌≤ℤ◌, Result
 use Rattle.std.proofs.lemmas.Int.{ints}
 use mir.Val.{of_z, to_z}
 use Rattle.mill_base.specs.Lattices.{node_count}
-use Rattle.mill_base.specs.Numbers.{Within, greatest}
+use Rattle.mill_base.specs.Numbers.{Within}
+use Rattle.mill_base.specs.declared.limits.TheConstants.{MAX_TEXT_COORDINATE}
 use Rattle.mill_base.specs.declared.lattice.Lattice.{Lattice}
 use Rattle.mill_drop.specs.Maps.{IsMapLattice}
 use Rattle.mill_part.proofs.Stored.{coordinate}
@@ -88,7 +89,7 @@ pub list_without_layer : {T : Type 0} (v : T) (lattice : Lattice) (layer : ℤ) 
 list_without_layer v lattice layer none n = (λ e. absurd (ok_apart v (TooManyNodes n) e), λ many. absurd (no_layer layer none many.0))
 
 -- a layer whose stored form is 0 is 0, and another is over 0
-pub layer_none : (layer : ℤ) → Within greatest layer → of_z w32 layer ≡ 0 → layer ≡ pos 0
+pub layer_none : (layer : ℤ) → Within MAX_TEXT_COORDINATE layer → of_z w32 layer ≡ 0 → layer ≡ pos 0
 layer_none layer within e = sym (coordinate layer within) ∙ ap (λ (n : ℕ). to_z w32 n) e
 
 pub layer_some : (layer : ℤ) → (pos 0) ≤ℤ layer → (of_z w32 layer ≡ 0 → ⊥) → (pos 0) <ℤ layer

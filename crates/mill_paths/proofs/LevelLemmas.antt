@@ -5,7 +5,8 @@ use Rattle.std.specs.List.{range_with_len}
 use Rattle.std.proofs.Math.Nat.{mul-le-mul_right, div-mul-le_self}
 use Rattle.std.proofs.lemmas.Int.{ints, fits_signed_from_abs}
 use Rattle.std.proofs.lemmas.List.FromFn.{length-map-range_with_len, get_or-map-range_with_len}
-use Rattle.mill_base.specs.Numbers.{Within, greatest}
+use Rattle.mill_base.specs.Numbers.{Within}
+use Rattle.mill_base.specs.declared.limits.TheConstants.{MAX_TEXT_COORDINATE}
 use Rattle.mill_job.specs.Jobs.{IsJob}
 use Rattle.mill_job.specs.declared.job.Job.{Job}
 use Rattle.mill_paths.specs.Visits.{level_count, rough_levels}
@@ -73,7 +74,7 @@ is_lowered job k ok some inside =
     least : (l : ℤ) → (pos 0) <ℤ l → 0 < nat_abs l
     least l h = omega (arith, ints)
 
-    height : (a b : ℤ) → Within greatest a → Within greatest b → nat_abs (b -ℤ a) ≤ 262142
+    height : (a b : ℤ) → Within MAX_TEXT_COORDINATE a → Within MAX_TEXT_COORDINATE b → nat_abs (b -ℤ a) ≤ 262142
     height a b h e = let low = h.within in let high = e.within in omega (arith, ints)
 
 -- a product with the layer
@@ -90,13 +91,13 @@ level_is job k some inside = get_or-rough_levels job k some inside ∙ ap (λ z.
 pub level_fits : (job : Job) (k : ℕ) → IsJob job → IsLowered job k → FitsSigned w32 (job.top -ℤ pos (lowering job k))
 level_fits job k ok h = fits_signed_from_abs w32 (job.top -ℤ pos (lowering job k)) (small job.top (lowering job k) ok.top_ok h.small)
   where
-    small : (t : ℤ) (n : ℕ) → Within greatest t → n ≤ 262142 → nat_abs (t -ℤ pos n) < 2147483648
+    small : (t : ℤ) (n : ℕ) → Within MAX_TEXT_COORDINATE t → n ≤ 262142 → nat_abs (t -ℤ pos n) < 2147483648
     small t n top h = let high = top.within in omega (arith, ints)
 
-pub layer_within : (job : Job) → IsJob job → Within greatest job.layer
+pub layer_within : (job : Job) → IsJob job → Within MAX_TEXT_COORDINATE job.layer
 layer_within job ok = within job.layer ok.layer_ok.low ok.layer_ok.high
   where
-    within : (l : ℤ) → (pos 0) ≤ℤ l → l ≤ℤ pos greatest → Within greatest l
+    within : (l : ℤ) → (pos 0) ≤ℤ l → l ≤ℤ pos MAX_TEXT_COORDINATE → Within MAX_TEXT_COORDINATE l
     within l low high = record { within = omega (arith, ints) }
 
 -- each level is over the floor and under the top

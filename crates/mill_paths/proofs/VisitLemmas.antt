@@ -6,7 +6,8 @@ use Rattle.std.specs.Int.{div_ceil}
 use Rattle.std.proofs.lemmas.Int.{ints}
 use Rattle.std.proofs.lemmas.List.Elements.{All-append, All-cons, All-nil}
 use Rattle.std.proofs.lemmas.List.FromFn.{length-range_with_len, get_or-range_with_len}
-use Rattle.mill_base.specs.Numbers.{Within, greatest}
+use Rattle.mill_base.specs.Numbers.{Within}
+use Rattle.mill_base.specs.declared.limits.TheConstants.{MAX_TEXT_COORDINATE}
 use Rattle.mill_base.specs.Lattices.{lattice_positions, lattice_xs, lattice_ys}
 use Rattle.mill_base.specs.declared.lattice.Lattice.{Lattice}
 use Rattle.mill_base.specs.declared.points.Tri.{Tri}
@@ -43,15 +44,15 @@ some_positions lo hi step =
     more : (n : ℕ) → 0 < n + 1
     more n = omega arith
 
-positions_within : (lo hi step : ℤ) (k : ℕ) → Within greatest lo → Within greatest hi → lo ≤ℤ hi → (pos 1) ≤ℤ step → k < length (lattice_positions lo hi step)
-    → Within greatest (get_or (lattice_positions lo hi step) k (pos 0))
+positions_within : (lo hi step : ℤ) (k : ℕ) → Within MAX_TEXT_COORDINATE lo → Within MAX_TEXT_COORDINATE hi → lo ≤ℤ hi → (pos 1) ≤ℤ step → k < length (lattice_positions lo hi step)
+    → Within MAX_TEXT_COORDINATE (get_or (lattice_positions lo hi step) k (pos 0))
 positions_within lo hi step k low high order some inside =
-    subst (λ z. Within greatest z) (sym (get_or-positions lo hi step k order some inside)) (position_within lo hi (k * nat_abs step) low high order)
+    subst (λ z. Within MAX_TEXT_COORDINATE z) (sym (get_or-positions lo hi step k order some inside)) (position_within lo hi (k * nat_abs step) low high order)
 
 -- the node of each number is in range
 record IsPlace (node : ℤ × ℤ) : Type 0 where
-  pub x_ok : Within greatest node.0
-  pub y_ok : Within greatest node.1
+  pub x_ok : Within MAX_TEXT_COORDINATE node.0
+  pub y_ok : Within MAX_TEXT_COORDINATE node.1
 
 node_within : (lattice : Lattice) (number : ℕ) → IsMapLattice lattice → number < length (nodes_of lattice) → IsPlace (node_at lattice number)
 node_within lattice number ok inside =
@@ -86,7 +87,7 @@ visit_ok job part lattice heights number z ok map_ok step are inside free under 
     upto : (a b c : ℤ) → a ≤ℤ b → b ≤ℤ c → a ≤ℤ c
     upto a b c h e = omega (arith, ints)
 
-    between : (a b c : ℤ) → Within greatest a → Within greatest c → a ≤ℤ b → b <ℤ c → Within greatest b
+    between : (a b c : ℤ) → Within MAX_TEXT_COORDINATE a → Within MAX_TEXT_COORDINATE c → a ≤ℤ b → b <ℤ c → Within MAX_TEXT_COORDINATE b
     between a b c h e low high = let low_ok = h.within in let high_ok = e.within in record { within = omega (arith, ints) }
 
 -- what holds of the one visit where there is one holds of all of it

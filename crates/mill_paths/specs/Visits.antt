@@ -2,7 +2,7 @@
 use Rattle.std.specs.Prelude.{◌≡◌, ℕ, ◌-◌, ◌/◌, ◌<◌, nat_abs, Bool, if◌then◌else◌, ℤ, pos, ◌+ℤ◌, ◌-ℤ◌, ◌*ℤ◌, ◌<ℤ◌, ◌≤ℤ◌, int_lt, int_le, List, [], ◌∷◌, map, slice_index_or}
 use Rattle.std.specs.List.{flat_map, range_with_len}
 use Rattle.mill_base.specs.Points.{point_at}
-use Rattle.mill_base.specs.Ranges.{IsInRange}
+use Rattle.mill_base.specs.Ranges.{IsInTextRange}
 use Rattle.mill_base.specs.declared.lattice.Lattice.{Lattice}
 use Rattle.mill_base.specs.declared.points.Tri.{Tri}
 use Rattle.mill_drop.specs.Drops.{GougesAt}
@@ -79,7 +79,7 @@ pub record HaveManyFinishVisits (job : Job) (part : List Tri) : Type 0 where
 
 -- a place that a plan may come to: in range, from the floor on and under the top, with the step of a job's path; there and at every greater height the cutter doesn't gouge
 pub record IsVisit (job : Job) (part : List Tri) (visit : Visit) : Type 0 where
-  pub in_range : IsInRange visit.at
+  pub in_range : IsInTextRange visit.at
   pub kept : job.floor ≤ℤ visit.at.z
   pub under_top : visit.at.z <ℤ job.top
   pub free : (higher : ℤ) → visit.at.z ≤ℤ higher → ¬ GougesAt job.cutter part visit.at.x visit.at.y higher

@@ -1,4 +1,4 @@
-ghost use Rattle.mill_base.specs.Ranges.{IsInRange, TriInRange};
+ghost use Rattle.mill_base.specs.Ranges.{IsInTextRange, TriInTextRange};
 ghost use Rattle.mill_job.specs.Jobs.{IsJob};
 
 use crate::test_shape::{Shape, at, shape_of};
@@ -40,7 +40,7 @@ fn job() -> Job
 
 /// A visit at the height 200.
 fn visit(x: i16, y: i16, step: i16) -> Visit
-    ensures { IsInRange result.at }
+    ensures { IsInTextRange result.at }
 {
     Visit {
         at: at(x, y, 200),
@@ -50,7 +50,7 @@ fn visit(x: i16, y: i16, step: i16) -> Visit
 
 /// A post of no width at the origin, 300 high.
 fn post() -> Tri
-    ensures { TriInRange result }
+    ensures { TriInTextRange result }
 {
     let top = at(0, 0, 300);
     Tri {

@@ -1,5 +1,5 @@
 ghost use Rattle.std.specs.Prelude.{◌≤ℤ◌, pos};
-ghost use Rattle.mill_base.specs.Ranges.{IsInRange};
+ghost use Rattle.mill_base.specs.Ranges.{IsInTextRange};
 ghost use Rattle.mill_job.specs.Jobs.{IsJob};
 
 use crate::test_shape::{Shape, at, shape_of};
@@ -111,10 +111,10 @@ fn fine_job(raster: i32, rough_raster: i32, layer: i32) -> Job
 
 /// The part of two triangles, from `a` over `b` to `c`, and from `a` over `c` to `d`.
 fn two_triangles<R: AllocGlobal>(rt: &R, a: Pt3, b: Pt3, c: Pt3, d: Pt3) -> Result<Shape, Fail>
-    requires a_ok { IsInRange a }
-    requires b_ok { IsInRange b }
-    requires c_ok { IsInRange c }
-    requires d_ok { IsInRange d }
+    requires a_ok { IsInTextRange a }
+    requires b_ok { IsInTextRange b }
+    requires c_ok { IsInTextRange c }
+    requires d_ok { IsInTextRange d }
 {
     let mut tris = Vec::new(rt.alloc());
     tris.push(Tri { a, b, c })?;

@@ -4,7 +4,7 @@ use Rattle.mill_base.specs.Contact.{Holds}
 use Rattle.mill_base.specs.Covers.{IsHighestCovered}
 use Rattle.mill_base.specs.Lattices.{node_count}
 use Rattle.mill_base.specs.Points.{point_at}
-use Rattle.mill_base.specs.Ranges.{MovesInRange}
+use Rattle.mill_base.specs.Ranges.{MovesInTextRange}
 use Rattle.mill_base.specs.declared.points.Tri.{Tri}
 use Rattle.mill_base.specs.declared.motion.Move.{Move}
 use Rattle.mill_job.specs.Columns.{home, column_x, column_y}
@@ -72,7 +72,7 @@ pub record IsDone (job : Job) (part : List Tri) (text : List ℕ) (count columns
   pub plan : HasPlan job part moves
   pub written : text ≡ program_text moves
   pub reads : program_of (home job) text ≡ Ok moves
-  pub in_range : MovesInRange moves
+  pub in_range : MovesInTextRange moves
   pub accepted : IsVerdict job part moves (Accept count columns left)
   pub safe : CutsSafely job part moves
 

@@ -1,6 +1,6 @@
 ghost use Rattle.std.specs.Prelude.{◌≡◌, ◌<◌, ◌≤◌, [], ◌++◌, length, All, IfErr, IfOk, OnErr, OnOk};
 ghost use Rattle.mill_base.specs.Covers.{IsUnder};
-ghost use Rattle.mill_base.specs.Ranges.{IsInRange};
+ghost use Rattle.mill_base.specs.Ranges.{IsInTextRange};
 ghost use Rattle.mill_cells.specs.Sorted.{sorted_of};
 ghost use Rattle.mill_job.specs.Columns.{home as home_of};
 ghost use Rattle.mill_job.specs.Jobs.{IsJob};
@@ -119,11 +119,11 @@ fn add_tour(
 ) -> Result<Pt3, PlanFault>
     requires job_ok { IsJob job.now }
     requires cells_ok { cells.now ≡ sorted_of part.now }
-    requires from_ok { IsInRange from }
+    requires from_ok { IsInTextRange from }
     requires visits_ok { All (IsVisit job.now part.now) visits.now }
     requires few { length moves.old.items ≤ most_moves }
     ensures place { IfOk result (λ place. place ≡ last_place from visits.now) }
-    ensures place_ok { IfOk result IsInRange }
+    ensures place_ok { IfOk result IsInTextRange }
     ensures tour { OnOk
         result
         (AddsTour job.now part.now from visits.now moves.old.items moves.new.items) }

@@ -1,6 +1,7 @@
 ghost use Rattle.std.specs.Prelude.{◌≡◌, ◌≤ℤ◌, pos, IfOk};
 ghost use Rattle.mill_base.specs.Covers.{IsUnder};
-ghost use Rattle.mill_base.specs.Numbers.{Within, greatest};
+ghost use Rattle.mill_base.specs.Numbers.{Within};
+ghost use Rattle.mill_base.specs.declared.limits.TheConstants.{MAX_TEXT_COORDINATE};
 ghost use Rattle.mill_base.specs.Points.{point_at};
 ghost use Rattle.mill_job.specs.Jobs.{IsJob};
 
@@ -85,8 +86,8 @@ fn fine_job(raster: i32, rough_raster: i32, layer: i32) -> Job
 }
 
 fn corner(x: i32, y: i32) -> Pt3
-    requires x_ok { Within greatest x }
-    requires y_ok { Within greatest y }
+    requires x_ok { Within MAX_TEXT_COORDINATE x }
+    requires y_ok { Within MAX_TEXT_COORDINATE y }
     ensures { result ≡ point_at x y (pos 200) }
 {
     Pt3 { x, y, z: 200 }
@@ -95,8 +96,8 @@ fn corner(x: i32, y: i32) -> Pt3
 /// A plate at the height 200: the triangle from the x of `east` to (300, 0) and (300, 300), and that
 /// from (0, 0) to the x of `west` at y = 300 and to (0, 300).
 fn plate(alloc: Global, east: i32, west: i32) -> Result<Part, WantOfMemory>
-    requires east_ok { Within greatest east }
-    requires west_ok { Within greatest west }
+    requires east_ok { Within MAX_TEXT_COORDINATE east }
+    requires west_ok { Within MAX_TEXT_COORDINATE west }
     ensures { IfOk result (λ part. IsUnder part (pos 300)) }
 {
     let mut tris = Vec::new(alloc);

@@ -3,7 +3,7 @@ use Rattle.std.proofs.Common.{◌≡◌, ℕ, ◌≤◌, List, [], ◌∷◌, �
 use Rattle.std.specs.Prelude.{ℤ, codes, None}
 use Rattle.std.specs.List.{flat_map}
 use Rattle.std.proofs.lemmas.List.Elements.{Contains-append_right}
-use Rattle.mill_base.specs.Ranges.{IsInRange, MoveInRange, MovesInRange}
+use Rattle.mill_base.specs.Ranges.{IsInTextRange, MoveInTextRange, MovesInTextRange}
 use Rattle.mill_base.specs.declared.motion.Kind.{Kind}
 use Rattle.mill_base.specs.declared.motion.Kind.TheVariants.{Rapid, Feed}
 use Rattle.mill_base.specs.declared.motion.Move.{Move}
@@ -50,7 +50,7 @@ move_line-spelled : (m : Move) → spelling (motion_spelled m.kind) ++ more_text
 unfolding move_line
 move_line-spelled m = spelled-line m.kind m.to.x m.to.y m.to.z
 
-words-move : (m : Move) → IsInRange m.to → line_of (move_line m) ≡ Ok (record { slash = false; numbered = false; words = move_words m })
+words-move : (m : Move) → IsInTextRange m.to → line_of (move_line m) ≡ Ok (record { slash = false; numbered = false; words = move_words m })
 words-move m fits =
     rw (← move_line-spelled m, ← word_of-motion m.kind, ← word_of-axis 88 m.to.x fits.x_ok, ← word_of-axis 89 m.to.y fits.y_ok, ← word_of-axis 90 m.to.z fits.z_ok)
     (line_of-spelled (motion_spelled m.kind) (axes_spelled m) (IsSpelled-motion m.kind) (
@@ -64,7 +64,7 @@ length-motion : (kind : Kind) → length (motion_word kind) ≤ 2
 length-motion Rapid = omega arith
 length-motion Feed = omega arith
 
-length-move : (m : Move) → IsInRange m.to → length (move_line m) ≤ 256
+length-move : (m : Move) → IsInTextRange m.to → length (move_line m) ≤ 256
 unfolding move_line
 length-move m fits =
     simp length-append (omega (arith, length-motion m.kind, length-canonical m.to.x fits.x_ok, length-canonical m.to.y fits.y_ok, length-canonical m.to.z fits.z_ok))
@@ -83,7 +83,7 @@ NoFeed-motion : (kind : Kind) → NoFeed (motion_word kind)
 NoFeed-motion Rapid = (refl, (refl, tt))
 NoFeed-motion Feed = (refl, (refl, tt))
 
-NoFeed-move : (m : Move) → IsInRange m.to → NoFeed (move_line m)
+NoFeed-move : (m : Move) → IsInTextRange m.to → NoFeed (move_line m)
 unfolding move_line
 NoFeed-move m fits =
     NoFeed-append (motion_word m.kind ++ axis_word 88 m.to.x ++ axis_word 89 m.to.y) (axis_word 90 m.to.z)
@@ -92,21 +92,21 @@ NoFeed-move m fits =
     (refl, (refl, NoFeed-canonical m.to.y fits.y_ok)))
     (refl, (refl, NoFeed-canonical m.to.z fits.z_ok))
 
-move_line-is : (m : Move) → MoveInRange m → IsMoveLine m (move_line m)
+move_line-is : (m : Move) → MoveInTextRange m → IsMoveLine m (move_line m)
 move_line-is m fits = record { words = words-move m fits.to_ok; short = length-move m fits.to_ok; other = is_percent-move m }
 
 -- ---- the text
 
-NoFeeds-moves : (moves : List Move) → MovesInRange moves → NoFeeds (map move_line moves)
+NoFeeds-moves : (moves : List Move) → MovesInTextRange moves → NoFeeds (map move_line moves)
 NoFeeds-moves [] fits = tt
 NoFeeds-moves (m ∷ moves) fits =
-    let first : MoveInRange m = fits m (search rules) in
+    let first : MoveInTextRange m = fits m (search rules) in
     (NoFeed-move m first.to_ok, NoFeeds-moves moves (λ n member. fits n (Contains-append_right (m ∷ []) moves n member)))
 
 NoFeed-header : NoFeed (codes "G17 G21 G90")
 NoFeed-header = search rules
 
-NoFeeds-program : (moves : List Move) → MovesInRange moves → NoFeeds (program_lines moves)
+NoFeeds-program : (moves : List Move) → MovesInTextRange moves → NoFeeds (program_lines moves)
 NoFeeds-program moves fits =
     ((refl, tt), (NoFeed-header, NoFeeds-append (map move_line moves) (codes "M2" ∷ codes "%" ∷ []) (NoFeeds-moves moves fits) ((refl, (refl, tt)), ((refl, tt), tt))))
 

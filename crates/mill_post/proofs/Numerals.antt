@@ -6,7 +6,8 @@ use Rattle.std.specs.Str.Parse.{AllDigits, digits_value}
 use Rattle.std.proofs.lemmas.Bool.Decides.{nat_tests}
 use Rattle.std.proofs.lemmas.Fmt.{digits_decimal, digits_value-decimal, length-decimal-le}
 use Rattle.std.proofs.lemmas.Str.Parse.{IsNumeralModel, numerals_by_value, tells_digits}
-use Rattle.mill_base.specs.Numbers.{Within, greatest}
+use Rattle.mill_base.specs.Numbers.{Within}
+use Rattle.mill_base.specs.declared.limits.TheConstants.{MAX_TEXT_COORDINATE}
 use Rattle.mill_decimal.specs.Decimals.{canonical}
 use Rattle.mill_decimal.proofs.DigitRuns.{digits_value-append}
 use Rattle.mill_words.proofs.Spelled.{Spelled, IsSpelled, word_of}
@@ -32,13 +33,13 @@ not_feed-digit a = grind (arith, nat_tests)
 abbrev pub unsigned : ℕ → List ℕ
 unsigned n = decimal (n / 100) ++ 46 ∷ (48 + n / 10 % 10) ∷ (48 + n % 10) ∷ []
 
-NoFeed-unsigned : (n : ℕ) → n ≤ greatest → NoFeed (unsigned n)
+NoFeed-unsigned : (n : ℕ) → n ≤ MAX_TEXT_COORDINATE → NoFeed (unsigned n)
 NoFeed-unsigned n fits =
     NoFeed-append (decimal (n / 100)) (46 ∷ (48 + n / 10 % 10) ∷ (48 + n % 10) ∷ [])
     (NoFeed-digits (decimal (n / 100)) (digits_decimal model (n / 100) (omega arith)))
     (refl, (not_feed-digit (n / 10 % 10), (not_feed-digit (n % 10), tt)))
 
-length-unsigned : (n : ℕ) → n ≤ greatest → length (unsigned n) ≤ 7
+length-unsigned : (n : ℕ) → n ≤ MAX_TEXT_COORDINATE → length (unsigned n) ≤ 7
 length-unsigned n fits =
     omega (arith, length-append (decimal (n / 100)) (46 ∷ (48 + n / 10 % 10) ∷ (48 + n % 10) ∷ []), length-decimal-le 4 (n / 100) (omega arith) (omega arith) (omega arith))
 
@@ -53,11 +54,11 @@ pub canonical-negsuc : (n : ℕ) → canonical (negsuc n) ≡ 45 ∷ unsigned (s
 unfolding canonical
 canonical-negsuc n = refl
 
-pub NoFeed-canonical : (z : ℤ) → Within greatest z → NoFeed (canonical z)
+pub NoFeed-canonical : (z : ℤ) → Within MAX_TEXT_COORDINATE z → NoFeed (canonical z)
 NoFeed-canonical (pos n) fits = rw (canonical-pos n) (NoFeed-unsigned n fits.within)
 NoFeed-canonical (negsuc n) fits = rw (canonical-negsuc n) (refl, NoFeed-unsigned (suc n) fits.within)
 
-pub length-canonical : (z : ℤ) → Within greatest z → length (canonical z) ≤ 8
+pub length-canonical : (z : ℤ) → Within MAX_TEXT_COORDINATE z → length (canonical z) ≤ 8
 length-canonical (pos n) fits = rw (canonical-pos n) (omega (arith, length-unsigned n fits.within))
 length-canonical (negsuc n) fits = rw (canonical-negsuc n) (omega (arith, length-unsigned (suc n) fits.within))
 
@@ -76,7 +77,7 @@ digit_of : (a : ℕ) → a < 10 → digit_value (48 + a) ≡ a
 digit_of a small = grind (arith, nat_tests)
 
 -- the digits stand for all the units
-digits_value-units : (n : ℕ) → n ≤ greatest → digits_value 10 (decimal (n / 100) ++ (48 + n / 10 % 10) ∷ (48 + n % 10) ∷ []) ≡ n
+digits_value-units : (n : ℕ) → n ≤ MAX_TEXT_COORDINATE → digits_value 10 (decimal (n / 100) ++ (48 + n / 10 % 10) ∷ (48 + n % 10) ∷ []) ≡ n
 digits_value-units n fits =
     rw (
       digits_value-append (decimal (n / 100)) ((48 + n / 10 % 10) ∷ (48 + n % 10) ∷ []),
@@ -85,15 +86,15 @@ digits_value-units n fits =
       digit_of (n % 10) (omega arith),
     ) (omega arith)
 
-pub word_of-axis : (letter : ℕ) (z : ℤ) → Within greatest z → word_of (axis_spelled letter z) ≡ record { letter = letter; num = units_num z }
+pub word_of-axis : (letter : ℕ) (z : ℤ) → Within MAX_TEXT_COORDINATE z → word_of (axis_spelled letter z) ≡ record { letter = letter; num = units_num z }
 word_of-axis letter z fits = rw (digits_value-units (nat_abs z) fits.within) refl
 
 is_digit : (a : ℕ) → a < 10 → digit_value (48 + a) < 10
 is_digit a small = rw (digit_of a small) small
 
-pub IsSpelled-axis : (letter : ℕ) (z : ℤ) → 65 ≤ letter → letter ≤ 90 → (letter == 78) ≡ false → Within greatest z → IsSpelled (axis_spelled letter z)
+pub IsSpelled-axis : (letter : ℕ) (z : ℤ) → 65 ≤ letter → letter ≤ 90 → (letter == 78) ≡ false → Within MAX_TEXT_COORDINATE z → IsSpelled (axis_spelled letter z)
 IsSpelled-axis letter z least most other fits =
-    let in_range : nat_abs z ≤ greatest = fits.within in record {
+    let in_range : nat_abs z ≤ MAX_TEXT_COORDINATE = fits.within in record {
       least = least;
       most = most;
       no_line_number = other;

@@ -1,5 +1,6 @@
 ghost use Rattle.std.specs.Prelude.{◌≡◌, ◌+◌, ◌-◌, ◌*◌, ◌^◌, ◌<◌, ◌≤◌, ◌/◌, ◌+ℤ◌, ◌-ℤ◌, ◌≤ℤ◌, pos, neg_ℤ, nat_abs, IfSome, IfNone, MatchOption};
-ghost use Rattle.mill_base.specs.Numbers.{square as square_of, Within, greatest};
+ghost use Rattle.mill_base.specs.Numbers.{square as square_of, Within};
+ghost use Rattle.mill_base.specs.declared.limits.TheConstants.{MAX_TEXT_COORDINATE};
 ghost use Rattle.mill_base.specs.Sizes.{radius_of, surface as surface_of, IsWideCutter, IsCutHeight, cut_height_of};
 ghost use Rattle.mill_shape.specs.Roots.{IsFloorRoot, IsCeilRoot};
 
@@ -12,14 +13,14 @@ use mill_base::{Cutter, Pt3, ceil_root, floor_root};
 /// All lengths are in units of 0.01 mm.
 pub fn cut_height(cutter: Cutter, tip: Pt3, x: i32, y: i32) -> Option<i32>
     requires cutter_ok { IsWideCutter cutter }
-    requires tip_x_ok { Within greatest tip.x }
-    requires tip_y_ok { Within greatest tip.y }
+    requires tip_x_ok { Within MAX_TEXT_COORDINATE tip.x }
+    requires tip_y_ok { Within MAX_TEXT_COORDINATE tip.y }
     requires tip_z_least { neg_ℤ (pos 160000) ≤ℤ tip.z }
     requires tip_z_most { tip.z ≤ℤ pos (131071 + 16) }
-    requires x_ok { Within greatest x }
-    requires y_ok { Within greatest y }
+    requires x_ok { Within MAX_TEXT_COORDINATE x }
+    requires y_ok { Within MAX_TEXT_COORDINATE y }
     ensures value { result ≡ cut_height_of cutter tip x y }
-    ensures greatest { IfSome result (IsCutHeight cutter tip x y) }
+    ensures MAX_TEXT_COORDINATE { IfSome result (IsCutHeight cutter tip x y) }
     ensures none { IfNone result (square_of (radius_of cutter) ≤ℤ (square_of (x -ℤ tip.x) +ℤ square_of (y -ℤ tip.y))) }
 {
     let distance = square_within(

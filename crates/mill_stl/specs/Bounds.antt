@@ -1,8 +1,9 @@
 -- What stays true from word to word while a part is read.
 use Rattle.std.specs.Prelude.{◌≡◌, ℕ, ◌+◌, ◌*◌, ◌≤◌, ◌<◌, ℤ, List, [], length, drop, Option, Some, None, IfSome, Result, Ok, Err, false, slice_index}
 use Rattle.std.specs.List.{All}
-use Rattle.mill_base.specs.Numbers.{Within, greatest}
-use Rattle.mill_base.specs.Ranges.{TriInRange}
+use Rattle.mill_base.specs.Numbers.{Within}
+use Rattle.mill_base.specs.declared.limits.TheConstants.{MAX_TEXT_COORDINATE}
+use Rattle.mill_base.specs.Ranges.{TriInTextRange}
 use Rattle.mill_base.specs.declared.points.Tri.{Tri}
 use Rattle.mill_decimal.specs.declared.snap.Snap.{Snap}
 use Rattle.mill_stl.specs.declared.fault.StlFault.{StlFault}
@@ -38,7 +39,7 @@ pub record FitsStage (s : Stage) (facets rounded : ℕ) : Type 0 where
 
 -- the coordinates are in range
 abbrev pub CoordsInRange : List ℤ → Type 0
-CoordsInRange coords = All (λ z. Within greatest z) coords
+CoordsInRange coords = All (λ z. Within MAX_TEXT_COORDINATE z) coords
 
 -- the stage and the coordinates fit
 pub record Fits (p : Progress) : Type 0 where
@@ -54,13 +55,13 @@ count_after facets (Some tri) = facets + 1
 pub record IsStep (p : Progress) (s : Step) : Type 0 where
   pub fits : Fits s.progress
   pub count : s.progress.facets ≡ count_after p.facets s.tri
-  pub tri_ok : IfSome s.tri TriInRange
+  pub tri_ok : IfSome s.tri TriInTextRange
 
 -- the progress fits, and the triangles so far are as many as the facets and in range
 pub record IsSound (p : Progress) (tris : List Tri) : Type 0 where
   pub fits : Fits p
   pub count : length tris ≡ p.facets
-  pub tris_ok : All TriInRange tris
+  pub tris_ok : All TriInTextRange tris
 
 -- the progress and the triangle that a word has ended, as a step
 abbrev pub stepped : Progress → Option Tri → Step

@@ -1,8 +1,9 @@
 //! What a word does.
 
 ghost use Rattle.std.specs.Prelude.{◌≡◌, ◌+◌, ◌*◌, ◌^◌, ◌≤◌, ◌<◌, IfOk, IsTrue, ℕ};
-ghost use Rattle.mill_base.specs.Numbers.{Within, greatest};
-ghost use Rattle.mill_base.specs.Ranges.{TriInRange};
+ghost use Rattle.mill_base.specs.Numbers.{Within};
+ghost use Rattle.mill_base.specs.declared.limits.TheConstants.{MAX_TEXT_COORDINATE};
+ghost use Rattle.mill_base.specs.Ranges.{TriInTextRange};
 ghost use Rattle.mill_stl.specs.Facets.{is_keyword as is_keyword_of, moved_to, with_name, after_keyword, after_solid, begun_facet, after_facet_or_end, stage_after_ignored as stage_after_ignored_of, stage_after_coord as stage_after_coord_of, rounded_after as rounded_after_of, with_coord, after_coord, tri_of as tri_of_coords, after_end_facet, at_stage as at_stage_of, after_word};
 ghost use Rattle.mill_stl.specs.Bounds.{FitsStage, CoordsInRange, Fits, IsStep, stepped, Does};
 
@@ -170,7 +171,7 @@ fn rounded_after(count: u64, rounded: bool) -> u64
 fn put_coord(progress: &mut Progress, number: u8, units: i32, rounded: bool)
     requires fits { Fits progress.old }
     requires stage { progress.old.stage ≡ Stage.Coord number }
-    requires in_range { Within greatest units }
+    requires in_range { Within MAX_TEXT_COORDINATE units }
     ensures value { stepped progress.new None ≡ with_coord progress.old number units rounded }
     ensures step { IsStep progress.old (stepped progress.new None) }
 {
@@ -203,7 +204,7 @@ fn take_coord(
 fn tri_of(coords: [i32; 9]) -> Tri
     requires { CoordsInRange coords }
     ensures value { result ≡ tri_of_coords coords }
-    ensures in_range { TriInRange result }
+    ensures in_range { TriInTextRange result }
 {
     let [ax, ay, az, bx, by, bz, cx, cy, cz] = coords;
     Tri {

@@ -4,7 +4,7 @@ use Rattle.std.proofs.Common.{◌≡◌, inl, inr, arith}
 use Rattle.std.proofs.Math.Nat.{mul-le-mul}
 use Rattle.std.proofs.lemmas.Bool.{cases_lt}
 use Rattle.std.proofs.lemmas.Int.{ints}
-use Rattle.mill_base.specs.Ranges.{MoveInRange}
+use Rattle.mill_base.specs.Ranges.{MoveInTextRange}
 use Rattle.mill_base.specs.Sizes.{IsCutter, radius_of}
 use Rattle.mill_base.specs.declared.points.Tri.{Tri}
 use Rattle.mill_base.specs.declared.motion.Move.{Move}
@@ -94,7 +94,7 @@ reached f t d k =
     }
 
 -- a leaf passes, where the triangle is at least the radius and 2 away from both its ends along one axis
-module _ (cutter : Cutter) (move : Move) (tri : Tri) (more d k : ℕ) (cutter_ok : IsCutter cutter) (range : MoveInRange move) (deep : d + more ≡ depth_of move) where
+module _ (cutter : Cutter) (move : Move) (tri : Tri) (more d k : ℕ) (cutter_ok : IsCutter cutter) (range : MoveInTextRange move) (deep : d + more ≡ depth_of move) where
   pub beside_x_passes : LieApart ((radius_of cutter +ℤ pos 2) +ℤ pos (farther_of move.from.x move.to.x d k)) (middle_of move.from.x move.to.x d k) (middle_of move.from.x move.to.x d k) tri.a.x tri.b.x tri.c.x
       → LeafPasses cutter move tri more d k
   beside_x_passes h =

@@ -8,7 +8,7 @@ use Rattle.mill_base.proofs.Exit.{split_lt}
 use Rattle.mill_base.specs.Numbers.{lesser, greater}
 use Rattle.mill_base.specs.Points.{highest, plus, times}
 use Rattle.mill_base.specs.Contact.{Holds, Touches}
-use Rattle.mill_base.specs.Ranges.{MoveInRange}
+use Rattle.mill_base.specs.Ranges.{MoveInTextRange}
 use Rattle.mill_base.specs.Sizes.{IsCutter, radius_of, outer}
 use Rattle.mill_base.specs.declared.points.Tri.{Tri}
 use Rattle.mill_base.specs.declared.motion.Move.{Move}
@@ -172,7 +172,7 @@ far_is_clear cutter move tri d k cutter_ok narrow far touches =
 
 -- so a leaf passes if what is so of it is so of its halves, and puts the triangle beside each
 module _ (cutter : Cutter) (move : Move) (tri : Tri) (P : ℕ → ℕ → Type 0) (left : (d k : ℕ) → P d k → P (d + 1) (2 * k)) (right : (d k : ℕ) → P d k → P (d + 1) (2 * k + 1))
-    (beside : (d k : ℕ) → P d k → IsBeside (radius_of cutter +ℤ pos 2) move tri d k) (cutter_ok : IsCutter cutter) (range : MoveInRange move) where
+    (beside : (d k : ℕ) → P d k → IsBeside (radius_of cutter +ℤ pos 2) move tri d k) (cutter_ok : IsCutter cutter) (range : MoveInTextRange move) where
   pub far_leaf : (more d k : ℕ) → d + more ≡ depth_of move → P d k → LeafPasses cutter move tri more d k
   far_leaf zero d k deep p =
       let bottom : d ≡ depth_of move = omega arith in
@@ -204,7 +204,7 @@ under_passes cutter move tri under =
     top_passes cutter move tri (least_top _ _ _ _ under.from.a under.from.b under.from.c) (least_top _ _ _ _ under.to.a under.to.b under.to.c)
 
 -- the move passes a triangle at least the radius and 2 beside it
-pub beside_passes : (cutter : Cutter) (move : Move) (tri : Tri) → IsCutter cutter → MoveInRange move → LiesBeside (radius_of cutter +ℤ pos 2) move.from move.to tri → Passes cutter move tri
+pub beside_passes : (cutter : Cutter) (move : Move) (tri : Tri) → IsCutter cutter → MoveInTextRange move → LiesBeside (radius_of cutter +ℤ pos 2) move.from move.to tri → Passes cutter move tri
 beside_passes cutter move tri cutter_ok range (inl x) =
     far_leaf cutter move tri (λ d k. k < 2 ^ d) left_place right_place (λ d k inside. inl (apart_from_middle (radius_of cutter +ℤ pos 2) move.from.x move.to.x tri.a.x tri.b.x tri.c.x d k inside x)) cutter_ok range (depth_of move) 0 0 (omega arith) (omega arith)
 beside_passes cutter move tri cutter_ok range (inr y) =

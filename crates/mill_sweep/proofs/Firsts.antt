@@ -2,7 +2,7 @@
 use Rattle.std.specs.Prelude.{◌≡◌, ℕ, zero, suc, ◌+◌, ◌*◌, ◌≤◌, pos, ◌≤ℤ◌, Option, None, Some, MatchOption}
 use Rattle.std.proofs.Common.{inl, inr, refl, subst, sym, arith}
 use Rattle.std.proofs.lemmas.Int.{ints}
-use Rattle.mill_base.specs.Ranges.{MoveInRange}
+use Rattle.mill_base.specs.Ranges.{MoveInTextRange}
 use Rattle.mill_base.specs.declared.points.Tri.{Tri}
 use Rattle.mill_base.specs.declared.motion.Move.{Move}
 use Rattle.mill_base.specs.declared.cutter.Cutter.{Cutter}
@@ -43,7 +43,7 @@ module _ (cutter : Cutter) (move : Move) (tri : Tri) where
       by (suc rest) free = inl free
 
   -- one at the bottom that isn't free is blocked
-  pub fails_at_bottom : (more : ℕ) (leaf : Leaf) (s : Span) → MoveInRange move → s ≡ span_of move leaf.d leaf.k → more ≡ 0 → leaf.d + more ≡ depth_of move
+  pub fails_at_bottom : (more : ℕ) (leaf : Leaf) (s : Span) → MoveInTextRange move → s ≡ span_of move leaf.d leaf.k → more ≡ 0 → leaf.d + more ≡ depth_of move
       → ¬ IsFreeSpan cutter s tri → (s.reach ≤ℤ pos 1024 → Blocks cutter s tri) → FailsUnder cutter move tri more leaf.d leaf.k leaf
   fails_at_bottom more leaf s range e zero_more deep held blocked =
       let bottom : leaf.d ≡ depth_of move = omega arith in

@@ -4,7 +4,7 @@ use Rattle.std.proofs.Common.{inl, inr, refl, subst, sym, arith}
 use Rattle.std.proofs.lemmas.Int.{ints}
 use Rattle.std.proofs.lemmas.Nat.{pow_pos}
 use Rattle.mill_base.proofs.Divisions.{half_low, half_high}
-use Rattle.mill_base.specs.Ranges.{MoveInRange}
+use Rattle.mill_base.specs.Ranges.{MoveInTextRange}
 use Rattle.mill_base.specs.declared.points.Tri.{Tri}
 use Rattle.mill_base.specs.declared.motion.Move.{Move}
 use Rattle.mill_base.specs.declared.cutter.Cutter.{Cutter}
@@ -74,7 +74,7 @@ diagonal_most (suc (suc x)) y h k = absurd (omega arith)
 diagonal_most x (suc (suc y)) h k = absurd (omega arith)
 
 -- at the depth a leaf's reach is at most 2
-pub reach_at_depth : (move : Move) (k : ℕ) → MoveInRange move → reach_of move (depth_of move) k ≤ 2
+pub reach_at_depth : (move : Move) (k : ℕ) → MoveInTextRange move → reach_of move (depth_of move) k ≤ 2
 reach_at_depth move k range =
     let lengths = lengths_at_depth move range in
     diagonal_most _ _ (farther_most move.from.x move.to.x (depth_of move) k lengths.0) (farther_most move.from.y move.to.y (depth_of move) k lengths.1)

@@ -11,7 +11,7 @@ use Rattle.mill_base.specs.Numbers.{square, ceil_div}
 use Rattle.mill_base.specs.Points.{minus, times}
 use Rattle.mill_base.specs.Motion.{tip_at}
 use Rattle.mill_base.specs.Cutters.{InFlat, InBall, InCone}
-use Rattle.mill_base.specs.Ranges.{MoveInRange}
+use Rattle.mill_base.specs.Ranges.{MoveInTextRange}
 use Rattle.mill_base.specs.declared.points.Pt3.{Pt3}
 use Rattle.mill_base.specs.declared.motion.Move.{Move}
 use Rattle.mill_base.specs.declared.cutter.Cutter.TheVariants.{Flat, Ball, Cone}
@@ -63,7 +63,7 @@ reach_covers ex ey hx hy =
     by a r h = omega (arith, ints)
 
 -- so at each moment the tip is at most reach from the middle, here in the denominator of a point
-pub shift_square : (move : Move) (d j : ℕ) (k m n : ℤ) → MoveInRange move → j < 2 ^ d → IsMomentOf d j k m
+pub shift_square : (move : Move) (d j : ℕ) (k m n : ℤ) → MoveInTextRange move → j < 2 ^ d → IsMomentOf d j k m
     → (square (n *ℤ (tip_of move.from.x move.to.x k m -ℤ m *ℤ middle_of move.from.x move.to.x d j)) +ℤ square (n *ℤ (tip_of move.from.y move.to.y k m -ℤ m *ℤ middle_of move.from.y move.to.y d j)))
     ≤ℤ square (n *ℤ (m *ℤ pos (reach_of move d j)))
 shift_square move d j k m n range less l =

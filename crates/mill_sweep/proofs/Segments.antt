@@ -3,7 +3,7 @@ use Rattle.std.specs.Prelude.{◌≡◌, ℕ, ◌^◌, ◌<◌, ℤ, pos, ◌+�
 use Rattle.std.proofs.Common.{inr, refl, ap, sym, subst, ◌∙◌, arith}
 use Rattle.std.proofs.lemmas.Int.{ints}
 use Rattle.mill_base.specs.Points.{highest}
-use Rattle.mill_base.specs.Ranges.{MoveInRange}
+use Rattle.mill_base.specs.Ranges.{MoveInTextRange}
 use Rattle.mill_base.specs.Sizes.{IsCutter, radius_of}
 use Rattle.mill_base.specs.declared.points.Tri.{Tri}
 use Rattle.mill_base.specs.declared.motion.Move.{Move}
@@ -44,7 +44,7 @@ module _ (cutter : Cutter) (move : Move) (tri : Tri) (d k : ℕ) where
   under_down z e under = λ more deep. free_passes cutter move tri more d k (span_of move d k) refl (inr (subst (λ (l : ℤ). highest tri ≤ℤ l) e under))
 
   -- and one that the triangle lies far beside
-  module _ (cutter_ok : IsCutter cutter) (range : MoveInRange move) where
+  module _ (cutter_ok : IsCutter cutter) (range : MoveInTextRange move) where
     pub beside_x_down : (s : Stretch) → IsStretchOf move.from.x move.to.x d k s → LieApart ((radius_of cutter +ℤ pos 2) +ℤ pos s.farther) s.middle s.middle tri.a.x tri.b.x tri.c.x → PassesDown cutter move tri d k
     beside_x_down s e far = λ more deep. beside_x_passes cutter move tri more d k cutter_ok range deep
         (subst (λ (m : ℤ). LieApart ((radius_of cutter +ℤ pos 2) +ℤ pos (farther_of move.from.x move.to.x d k)) m m tri.a.x tri.b.x tri.c.x) e.middle (subst (λ (q : ℕ). LieApart ((radius_of cutter +ℤ pos 2) +ℤ pos q) s.middle s.middle tri.a.x tri.b.x tri.c.x) e.farther far))
@@ -54,7 +54,7 @@ module _ (cutter : Cutter) (move : Move) (tri : Tri) (d k : ℕ) where
         (subst (λ (m : ℤ). LieApart ((radius_of cutter +ℤ pos 2) +ℤ pos (farther_of move.from.y move.to.y d k)) m m tri.a.y tri.b.y tri.c.y) e.middle (subst (λ (q : ℕ). LieApart ((radius_of cutter +ℤ pos 2) +ℤ pos q) s.middle s.middle tri.a.y tri.b.y tri.c.y) e.farther far))
 
 -- the span of a leaf of a move in range is in range
-pub span_in_range : (move : Move) (d k : ℕ) → MoveInRange move → k < 2 ^ d → IsSpan (span_of move d k)
+pub span_in_range : (move : Move) (d k : ℕ) → MoveInTextRange move → k < 2 ^ d → IsSpan (span_of move d k)
 span_in_range move d k range inside = record {
   x_ok = record { within = middle_within move.from.x move.to.x d k range.from_ok.x_ok.within range.to_ok.x_ok.within inside };
   y_ok = record { within = middle_within move.from.y move.to.y d k range.from_ok.y_ok.within range.to_ok.y_ok.within inside };

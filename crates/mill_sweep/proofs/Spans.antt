@@ -8,7 +8,8 @@ use Rattle.std.proofs.lemmas.Grind.{div_ceil_times, pow_more}
 use Rattle.std.proofs.lemmas.Int.{ints, to_z_pos}
 use Rattle.std.proofs.lemmas.Nat.{pow_pos}
 use Rattle.mill_base.proofs.Divisions.{floor_div_low, half_within}
-use Rattle.mill_base.specs.Numbers.{floor_div, lesser, greatest}
+use Rattle.mill_base.specs.Numbers.{floor_div, lesser}
+use Rattle.mill_base.specs.declared.limits.TheConstants.{MAX_TEXT_COORDINATE}
 use Rattle.mill_shape.proofs.RootLemmas.{ceil_root_agrees, ceil_root_is}
 use Rattle.mill_sweep.specs.Leaves.{end_of, middle_of, farther_of, lower_of, diagonal_of}
 use Rattle.mill_sweep.proofs.LeafCerts.{end_high, end_low}
@@ -25,32 +26,32 @@ pub parts_most : (d : ℕ) → d ≤ 19 → 2 ^ d ≤ 524288
 parts_most d h = pow-le-pow_right {n = 2} (omega arith) {i = d} {j = 19} h
 
 -- so what is within as many times the bound is small
-pub end_small : (a d : ℕ) → d ≤ 19 → a ≤ 2 ^ d * greatest → a ≤ 68719476736
-end_small a d h within = let most : 2 ^ d * greatest ≤ 524288 * greatest = mul-le-mul (parts_most d h) (same greatest) in omega arith
+pub end_small : (a d : ℕ) → d ≤ 19 → a ≤ 2 ^ d * MAX_TEXT_COORDINATE → a ≤ 68719476736
+end_small a d h within = let most : 2 ^ d * MAX_TEXT_COORDINATE ≤ 524288 * MAX_TEXT_COORDINATE = mul-le-mul (parts_most d h) (same MAX_TEXT_COORDINATE) in omega arith
   where
     same : (x : ℕ) → x ≤ x
     same x = omega arith
 
 -- an end is within as many times the bound as there are parts
-pub end_within : (f t : ℤ) (d k : ℕ) → nat_abs f ≤ greatest → nat_abs t ≤ greatest → k ≤ 2 ^ d → nat_abs (end_of f t d k) ≤ 2 ^ d * greatest
+pub end_within : (f t : ℤ) (d k : ℕ) → nat_abs f ≤ MAX_TEXT_COORDINATE → nat_abs t ≤ MAX_TEXT_COORDINATE → k ≤ 2 ^ d → nat_abs (end_of f t d k) ≤ 2 ^ d * MAX_TEXT_COORDINATE
 end_within f t d k hf ht hk =
     by (end_of f t d k) (2 ^ d)
-    (end_high (pos (2 ^ d)) (pos k) f t (pos greatest) (omega (arith, ints)) (omega (arith, ints)) (omega (arith, ints)) (omega (arith, ints)))
-    (end_low (pos (2 ^ d)) (pos k) f t (pos greatest) (omega (arith, ints)) (omega (arith, ints)) (omega (arith, ints)) (omega (arith, ints)))
+    (end_high (pos (2 ^ d)) (pos k) f t (pos MAX_TEXT_COORDINATE) (omega (arith, ints)) (omega (arith, ints)) (omega (arith, ints)) (omega (arith, ints)))
+    (end_low (pos (2 ^ d)) (pos k) f t (pos MAX_TEXT_COORDINATE) (omega (arith, ints)) (omega (arith, ints)) (omega (arith, ints)) (omega (arith, ints)))
   where
-    by : (e : ℤ) (n : ℕ) → e ≤ℤ (pos n *ℤ pos greatest) → (pos 0 -ℤ e) ≤ℤ (pos n *ℤ pos greatest) → nat_abs e ≤ n * greatest
+    by : (e : ℤ) (n : ℕ) → e ≤ℤ (pos n *ℤ pos MAX_TEXT_COORDINATE) → (pos 0 -ℤ e) ≤ℤ (pos n *ℤ pos MAX_TEXT_COORDINATE) → nat_abs e ≤ n * MAX_TEXT_COORDINATE
     by e n p q = omega (arith, ints)
 
 -- and so is the sum of two, so the middle is within the bound
-pub sum_within : (a b : ℤ) (d : ℕ) → nat_abs a ≤ 2 ^ d * greatest → nat_abs b ≤ 2 ^ d * greatest → nat_abs (a +ℤ b) ≤ 2 ^ (d + 1) * greatest
-sum_within a b d p q = subst (λ n. nat_abs (a +ℤ b) ≤ n * greatest) (sym (parts_twice d)) (by (2 ^ d) p q)
+pub sum_within : (a b : ℤ) (d : ℕ) → nat_abs a ≤ 2 ^ d * MAX_TEXT_COORDINATE → nat_abs b ≤ 2 ^ d * MAX_TEXT_COORDINATE → nat_abs (a +ℤ b) ≤ 2 ^ (d + 1) * MAX_TEXT_COORDINATE
+sum_within a b d p q = subst (λ n. nat_abs (a +ℤ b) ≤ n * MAX_TEXT_COORDINATE) (sym (parts_twice d)) (by (2 ^ d) p q)
   where
-    by : (n : ℕ) → nat_abs a ≤ n * greatest → nat_abs b ≤ n * greatest → nat_abs (a +ℤ b) ≤ 2 * n * greatest
+    by : (n : ℕ) → nat_abs a ≤ n * MAX_TEXT_COORDINATE → nat_abs b ≤ n * MAX_TEXT_COORDINATE → nat_abs (a +ℤ b) ≤ 2 * n * MAX_TEXT_COORDINATE
     by n p q = omega (arith, ints)
 
-pub middle_within : (f t : ℤ) (d k : ℕ) → nat_abs f ≤ greatest → nat_abs t ≤ greatest → k < 2 ^ d → nat_abs (middle_of f t d k) ≤ greatest
+pub middle_within : (f t : ℤ) (d k : ℕ) → nat_abs f ≤ MAX_TEXT_COORDINATE → nat_abs t ≤ MAX_TEXT_COORDINATE → k < 2 ^ d → nat_abs (middle_of f t d k) ≤ MAX_TEXT_COORDINATE
 middle_within f t d k hf ht hk =
-    half_within (end_of f t d k +ℤ end_of f t d (k + 1)) (2 ^ (d + 1)) greatest (pow_pos (d + 1))
+    half_within (end_of f t d k +ℤ end_of f t d (k + 1)) (2 ^ (d + 1)) MAX_TEXT_COORDINATE (pow_pos (d + 1))
     (sum_within (end_of f t d k) (end_of f t d (k + 1)) d (end_within f t d k hf ht (omega arith)) (end_within f t d (k + 1) hf ht (omega arith)))
 
 -- a quotient rounded up of a number that is at most g times the divisor is at most g
@@ -67,26 +68,26 @@ div_ceil_most a n g h l = by (div_ceil a n) (div_ceil_times a n h)
     ]
 
 -- how far a bounded end is from a bounded place
-pub far_within : (e c : ℤ) (n : ℕ) → nat_abs e ≤ n * greatest → nat_abs c ≤ greatest → nat_abs (e -ℤ pos n *ℤ c) ≤ 262142 * n
+pub far_within : (e c : ℤ) (n : ℕ) → nat_abs e ≤ n * MAX_TEXT_COORDINATE → nat_abs c ≤ MAX_TEXT_COORDINATE → nat_abs (e -ℤ pos n *ℤ c) ≤ 262142 * n
 far_within e c n p q = by (pos n *ℤ c) (times c q)
   where
-    times : (c : ℤ) → nat_abs c ≤ greatest → nat_abs (pos n *ℤ c) ≤ greatest * n
-    times (pos a) h = let m : n * a ≤ n * greatest = mul-le-mul (omega arith) h in omega (arith, ints)
-    times (negsuc a) h = let m : n * (a + 1) ≤ n * greatest = mul-le-mul (omega arith) (omega arith) in omega (arith, ints)
+    times : (c : ℤ) → nat_abs c ≤ MAX_TEXT_COORDINATE → nat_abs (pos n *ℤ c) ≤ MAX_TEXT_COORDINATE * n
+    times (pos a) h = let m : n * a ≤ n * MAX_TEXT_COORDINATE = mul-le-mul (omega arith) h in omega (arith, ints)
+    times (negsuc a) h = let m : n * (a + 1) ≤ n * MAX_TEXT_COORDINATE = mul-le-mul (omega arith) (omega arith) in omega (arith, ints)
 
-    by : (x : ℤ) → nat_abs x ≤ greatest * n → nat_abs (e -ℤ x) ≤ 262142 * n
+    by : (x : ℤ) → nat_abs x ≤ MAX_TEXT_COORDINATE * n → nat_abs (e -ℤ x) ≤ 262142 * n
     by x h = omega (arith, ints)
 
 pub max_most : (a b m : ℕ) → a ≤ m → b ≤ m → max a b ≤ m
 max_most a b m p q = omega arith
 
 -- so the farther of two bounded ends is at most 262,142 from a bounded place
-pub farther_most : (first last middle : ℤ) (d : ℕ) → nat_abs first ≤ 2 ^ d * greatest → nat_abs last ≤ 2 ^ d * greatest → nat_abs middle ≤ greatest
+pub farther_most : (first last middle : ℤ) (d : ℕ) → nat_abs first ≤ 2 ^ d * MAX_TEXT_COORDINATE → nat_abs last ≤ 2 ^ d * MAX_TEXT_COORDINATE → nat_abs middle ≤ MAX_TEXT_COORDINATE
     → div_ceil (max (nat_abs (first -ℤ pos (2 ^ d) *ℤ middle)) (nat_abs (last -ℤ pos (2 ^ d) *ℤ middle))) (2 ^ d) ≤ 262142
 farther_most first last middle d hf hl hm =
     div_ceil_most _ (2 ^ d) 262142 (pow_pos d) (max_most _ _ (262142 * 2 ^ d) (far_within first middle (2 ^ d) hf hm) (far_within last middle (2 ^ d) hl hm))
 
-pub farther_within : (f t : ℤ) (d k : ℕ) → nat_abs f ≤ greatest → nat_abs t ≤ greatest → k < 2 ^ d → farther_of f t d k ≤ 262142
+pub farther_within : (f t : ℤ) (d k : ℕ) → nat_abs f ≤ MAX_TEXT_COORDINATE → nat_abs t ≤ MAX_TEXT_COORDINATE → k < 2 ^ d → farther_of f t d k ≤ 262142
 farther_within f t d k hf ht hk =
     farther_most (end_of f t d k) (end_of f t d (k + 1)) (middle_of f t d k) d
     (end_within f t d k hf ht (omega arith)) (end_within f t d (k + 1) hf ht (omega arith)) (middle_within f t d k hf ht hk)
@@ -106,10 +107,10 @@ lesser_within a b m p q = by (int_lt b a)
     by true = q
     by false = p
 
-pub lower_within : (f t : ℤ) (d k : ℕ) → nat_abs f ≤ greatest → nat_abs t ≤ greatest → k < 2 ^ d → nat_abs (lower_of f t d k) ≤ greatest
+pub lower_within : (f t : ℤ) (d k : ℕ) → nat_abs f ≤ MAX_TEXT_COORDINATE → nat_abs t ≤ MAX_TEXT_COORDINATE → k < 2 ^ d → nat_abs (lower_of f t d k) ≤ MAX_TEXT_COORDINATE
 lower_within f t d k hf ht hk =
-    quotient_within (lesser (end_of f t d k) (end_of f t d (k + 1))) (2 ^ d) greatest (pow_pos d)
-    (lesser_within (end_of f t d k) (end_of f t d (k + 1)) (2 ^ d * greatest) (end_within f t d k hf ht (omega arith)) (end_within f t d (k + 1) hf ht (omega arith)))
+    quotient_within (lesser (end_of f t d k) (end_of f t d (k + 1))) (2 ^ d) MAX_TEXT_COORDINATE (pow_pos d)
+    (lesser_within (end_of f t d k) (end_of f t d (k + 1)) (2 ^ d * MAX_TEXT_COORDINATE) (end_within f t d k hf ht (omega arith)) (end_within f t d (k + 1) hf ht (omega arith)))
 
 -- both ends are at most farther from the middle, over the parts
 pub record AreNear (n e a b : ℤ) : Type 0 where

@@ -1,6 +1,7 @@
 -- Which moves pass a triangle at every moment, by halving.
 use Rattle.std.specs.Prelude.{◌≡◌, ◌⊎◌, ℕ, zero, suc, ◌+◌, ◌*◌, ◌≤◌, ℤ, pos, ◌<ℤ◌, ◌≤ℤ◌}
-use Rattle.mill_base.specs.Numbers.{Within, greatest}
+use Rattle.mill_base.specs.Numbers.{Within}
+use Rattle.mill_base.specs.declared.limits.TheConstants.{MAX_TEXT_COORDINATE}
 use Rattle.mill_base.specs.Points.{highest, point_at, point_tri}
 use Rattle.mill_base.specs.Contact.{Touches}
 use Rattle.mill_base.specs.Sizes.{outer}
@@ -55,9 +56,9 @@ pub record FailsUnder (cutter : Cutter) (m : Move) (tri : Tri) (more d k : ℕ) 
 
 -- a span of a leaf of a move in range: its numbers are in range
 pub record IsSpan (s : Span) : Type 0 where
-  pub x_ok : Within greatest s.x
-  pub y_ok : Within greatest s.y
-  pub low_ok : Within greatest s.zlow
+  pub x_ok : Within MAX_TEXT_COORDINATE s.x
+  pub y_ok : Within MAX_TEXT_COORDINATE s.y
+  pub low_ok : Within MAX_TEXT_COORDINATE s.zlow
   pub reach_least : (pos 0) ≤ℤ s.reach
 
 -- a leaf of this span passes by itself

@@ -1,7 +1,8 @@
 -- A cutter and a move of it, with what is worked out once for all triangles that are tried against them, and a leaf along one axis.
 use Rattle.std.specs.Prelude.{◌≡◌, ℕ, ◌+◌, ◌≤◌, ℤ, pos}
-use Rattle.mill_base.specs.Numbers.{Within, greatest}
-use Rattle.mill_base.specs.Ranges.{MoveInRange}
+use Rattle.mill_base.specs.Numbers.{Within}
+use Rattle.mill_base.specs.declared.limits.TheConstants.{MAX_TEXT_COORDINATE}
+use Rattle.mill_base.specs.Ranges.{MoveInTextRange}
 use Rattle.mill_base.specs.Sizes.{IsCutter}
 use Rattle.mill_base.specs.declared.points.Tri.{Tri}
 use Rattle.mill_base.specs.declared.motion.Move.{Move}
@@ -20,13 +21,13 @@ pub record Swept : Type 0 where
 -- a job's cutter and a move in range, with the move's depth and where the whole of it lies
 pub record IsPrepared (p : Prepared) : Type 0 where
   pub cutter_ok : IsCutter p.cutter
-  pub move_ok : MoveInRange p.step
+  pub move_ok : MoveInTextRange p.step
   pub depth_is : p.depth ≡ depth_of p.step
   pub whole_is : p.whole ≡ span_of p.step 0 0
 
 -- a stretch is in range
 pub record IsStretch (s : Stretch) : Type 0 where
-  pub middle_ok : Within greatest s.middle
+  pub middle_ok : Within MAX_TEXT_COORDINATE s.middle
   pub farther_ok : s.farther ≤ 262144
 
 -- it is that of the leaf (d, k) along an axis on which the move goes from here to there

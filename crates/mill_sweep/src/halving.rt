@@ -1,6 +1,6 @@
 ghost use Rattle.std.specs.Prelude.{◌≡◌, ◌+◌, ◌*◌, ◌^◌, ◌<◌, ◌≤◌, ◌≤ℤ◌, pos, false, IsTrue, MatchOption};
 ghost use Rattle.mill_base.specs.Points.{point_tri};
-ghost use Rattle.mill_base.specs.Ranges.{IsInRange, MoveInRange, TriInRange};
+ghost use Rattle.mill_base.specs.Ranges.{IsInTextRange, MoveInTextRange, TriInTextRange};
 ghost use Rattle.mill_base.specs.Sizes.{IsCutter};
 ghost use Rattle.mill_sweep.specs.Halving.{Blocks, FailsAt, FailsUnder, IsFreeSpan, LeafPasses, Passes, PassesPoint};
 ghost use Rattle.mill_sweep.specs.Leaves.{depth_of, span_of};
@@ -21,8 +21,8 @@ use mill_base::{Cutter, Move, Pt3, Tri};
 /// a point of the triangle. Lengths are in units of 0.01 mm; coordinates go from -131,071 to 131,071.
 pub fn passes_tri(cutter: Cutter, step: &Move, tri: &Tri) -> bool
     requires cutter_ok { IsCutter cutter }
-    requires move_ok { MoveInRange step.now }
-    requires tri_ok { TriInRange tri.now }
+    requires move_ok { MoveInTextRange step.now }
+    requires tri_ok { TriInTextRange tri.now }
     ensures yes { IsTrue result → Passes cutter step.now tri.now }
     ensures no { result ≡ false → ¬ Passes cutter step.now tri.now }
 {
@@ -32,8 +32,8 @@ pub fn passes_tri(cutter: Cutter, step: &Move, tri: &Tri) -> bool
 /// Whether the move passes the point, which is a triangle of three equal corners.
 pub fn passes_point(cutter: Cutter, step: &Move, point: Pt3) -> bool
     requires cutter_ok { IsCutter cutter }
-    requires move_ok { MoveInRange step.now }
-    requires point_ok { IsInRange point }
+    requires move_ok { MoveInTextRange step.now }
+    requires point_ok { IsInTextRange point }
     ensures yes { IsTrue result → PassesPoint cutter step.now point }
     ensures no { result ≡ false → ¬ PassesPoint cutter step.now point }
 {
@@ -47,8 +47,8 @@ pub fn passes_point(cutter: Cutter, step: &Move, point: Pt3) -> bool
 /// the same with less work for each.
 pub fn first_block(cutter: Cutter, step: &Move, tri: &Tri) -> Option<Leaf>
     requires cutter_ok { IsCutter cutter }
-    requires move_ok { MoveInRange step.now }
-    requires tri_ok { TriInRange tri.now }
+    requires move_ok { MoveInTextRange step.now }
+    requires tri_ok { TriInTextRange tri.now }
     ensures { MatchOption result (Passes cutter step.now tri.now) (λ leaf. FailsAt cutter step.now tri.now leaf × Blocks cutter (span_of step.now leaf.d leaf.k) tri.now) }
 {
     if is_far(cutter, step, tri) {
@@ -60,8 +60,8 @@ pub fn first_block(cutter: Cutter, step: &Move, tri: &Tri) -> Option<Leaf>
 /// The leaf at which the move fails to pass the point, none exactly where the move passes.
 pub fn first_block_point(cutter: Cutter, step: &Move, point: Pt3) -> Option<Leaf>
     requires cutter_ok { IsCutter cutter }
-    requires move_ok { MoveInRange step.now }
-    requires point_ok { IsInRange point }
+    requires move_ok { MoveInTextRange step.now }
+    requires point_ok { IsInTextRange point }
     ensures { MatchOption result (PassesPoint cutter step.now point) (λ leaf. FailsAt cutter step.now (point_tri point) leaf × Blocks cutter (span_of step.now leaf.d leaf.k) (point_tri point)) }
 {
     first_block(cutter, step, &triangle_at(point))
@@ -70,7 +70,7 @@ pub fn first_block_point(cutter: Cutter, step: &Move, point: Pt3) -> Option<Leaf
 /// The same of a move that is ready.
 pub(crate) fn first_on(prepared: &Prepared, tri: &Tri) -> Option<Leaf>
     requires prepared_ok { IsPrepared prepared.now }
-    requires tri_ok { TriInRange tri.now }
+    requires tri_ok { TriInTextRange tri.now }
     ensures { MatchOption result (Passes prepared.now.cutter prepared.now.step tri.now) (λ leaf. FailsAt prepared.now.cutter prepared.now.step tri.now leaf × Blocks prepared.now.cutter (span_of prepared.now.step leaf.d leaf.k) tri.now) }
 {
     if is_far(prepared.cutter, &prepared.step, tri) {
@@ -83,7 +83,7 @@ pub(crate) fn first_on(prepared: &Prepared, tri: &Tri) -> Option<Leaf>
 /// then the move passes it.
 fn is_far(cutter: Cutter, step: &Move, tri: &Tri) -> bool
     requires cutter_ok { IsCutter cutter }
-    requires move_ok { MoveInRange step.now }
+    requires move_ok { MoveInTextRange step.now }
     ensures { IsTrue result → Passes cutter step.now tri.now }
 {
     if is_no_higher(tri, step.from.z.min(step.to.z)) {
@@ -95,7 +95,7 @@ fn is_far(cutter: Cutter, step: &Move, tri: &Tri) -> bool
 /// The leaf at which the move fails, found by halving from the whole move on, none where it passes.
 fn first_halved(prepared: &Prepared, tri: &Tri) -> Option<Leaf>
     requires prepared_ok { IsPrepared prepared.now }
-    requires tri_ok { TriInRange tri.now }
+    requires tri_ok { TriInTextRange tri.now }
     ensures { MatchOption result (Passes prepared.now.cutter prepared.now.step tri.now) (λ leaf. FailsAt prepared.now.cutter prepared.now.step tri.now leaf × Blocks prepared.now.cutter (span_of prepared.now.step leaf.d leaf.k) tri.now) }
 {
     first_under(prepared, tri, Leaf { d: 0, k: 0 }, prepared.depth)
@@ -106,7 +106,7 @@ fn first_halved(prepared: &Prepared, tri: &Tri) -> Option<Leaf>
 /// Halving ends early at each leaf that is free, or that lies far beside the triangle.
 fn first_under(prepared: &Prepared, tri: &Tri, leaf: Leaf, more: u32) -> Option<Leaf>
     requires prepared_ok { IsPrepared prepared.now }
-    requires tri_ok { TriInRange tri.now }
+    requires tri_ok { TriInTextRange tri.now }
     requires deep { leaf.d + more ≡ depth_of prepared.now.step }
     requires place { leaf.k < 2 ^ leaf.d }
     ensures { MatchOption result (LeafPasses prepared.now.cutter prepared.now.step tri.now more leaf.d leaf.k) (λ at. FailsUnder prepared.now.cutter prepared.now.step tri.now more leaf.d leaf.k at) }
@@ -126,7 +126,7 @@ fn first_under(prepared: &Prepared, tri: &Tri, leaf: Leaf, more: u32) -> Option<
 /// Whether a leaf is free, or lies so far beside the triangle that each leaf under it passes.
 fn is_passed(prepared: &Prepared, tri: &Tri, leaf: Leaf) -> bool
     requires prepared_ok { IsPrepared prepared.now }
-    requires tri_ok { TriInRange tri.now }
+    requires tri_ok { TriInTextRange tri.now }
     requires d_ok { leaf.d ≤ depth_of prepared.now.step }
     requires k_ok { leaf.k < 2 ^ leaf.d }
     ensures yes { IsTrue result → PassesDown prepared.now.cutter prepared.now.step tri.now leaf.d leaf.k }
@@ -144,8 +144,8 @@ fn is_passed(prepared: &Prepared, tri: &Tri, leaf: Leaf) -> bool
 /// What takes the least is tried first: its lower end, then where it lies in x, and then in y.
 fn is_segment_passed(cutter: Cutter, step: &Move, tri: &Tri, leaf: Leaf) -> bool
     requires cutter_ok { IsCutter cutter }
-    requires move_ok { MoveInRange step.now }
-    requires tri_ok { TriInRange tri.now }
+    requires move_ok { MoveInTextRange step.now }
+    requires tri_ok { TriInTextRange tri.now }
     requires d_ok { leaf.d ≤ depth_of step.now }
     requires k_ok { leaf.k < 2 ^ leaf.d }
     ensures yes { IsTrue result → PassesDown cutter step.now tri.now leaf.d leaf.k }

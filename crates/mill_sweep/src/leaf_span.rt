@@ -1,7 +1,8 @@
 ghost use Rattle.std.specs.Int.{div_ceil};
 ghost use Rattle.std.specs.Prelude.{◌≡◌, ◌+◌, ◌*◌, ◌^◌, ◌<◌, ◌≤◌, ◌+ℤ◌, ◌-ℤ◌, ◌*ℤ◌, ◌≤ℤ◌, pos, nat_abs, max};
-ghost use Rattle.mill_base.specs.Numbers.{floor_div, round_half_up, lesser, Within, greatest};
-ghost use Rattle.mill_base.specs.Ranges.{MoveInRange};
+ghost use Rattle.mill_base.specs.Numbers.{floor_div, round_half_up, lesser, Within};
+ghost use Rattle.mill_base.specs.declared.limits.TheConstants.{MAX_TEXT_COORDINATE};
+ghost use Rattle.mill_base.specs.Ranges.{MoveInTextRange};
 ghost use Rattle.mill_sweep.specs.Halving.{IsSpan};
 ghost use Rattle.mill_sweep.specs.Leaves.{depth_of, span_of, lower_of};
 ghost use Rattle.mill_sweep.specs.Sweeps.{IsStretch, IsStretchOf, span_at};
@@ -13,15 +14,15 @@ use mill_base::{Move, power_of_two};
 
 /// Where the leaf of the move lies.
 pub fn span(step: &Move, leaf: Leaf) -> Span
-    requires move_ok { MoveInRange step.now }
+    requires move_ok { MoveInTextRange step.now }
     requires d_ok { leaf.d ≤ depth_of step.now }
     requires k_ok { leaf.k < 2 ^ leaf.d }
     ensures value { result ≡ span_of step.now leaf.d leaf.k }
-    ensures x_ok { Within greatest result.x }
-    ensures y_ok { Within greatest result.y }
+    ensures x_ok { Within MAX_TEXT_COORDINATE result.x }
+    ensures y_ok { Within MAX_TEXT_COORDINATE result.y }
     ensures reach_ok { pos 0 ≤ℤ result.reach }
     ensures reach_most { result.reach ≤ℤ pos (2 ^ 19) }
-    ensures zlow_ok { Within greatest result.zlow }
+    ensures zlow_ok { Within MAX_TEXT_COORDINATE result.zlow }
 {
     span_by(
         stretch_of(step.from.x, step.to.x, leaf),
@@ -34,7 +35,7 @@ pub fn span(step: &Move, leaf: Leaf) -> Span
 pub(crate) fn span_by(x: Stretch, y: Stretch, zlow: i32) -> Span
     requires x_ok { IsStretch x }
     requires y_ok { IsStretch y }
-    requires zlow_ok { Within greatest zlow }
+    requires zlow_ok { Within MAX_TEXT_COORDINATE zlow }
     ensures value { result ≡ span_at x y zlow }
     ensures span { IsSpan result }
     ensures reach_most { result.reach ≤ℤ pos (2 ^ 19) }
@@ -58,8 +59,8 @@ pub(crate) struct Stretch {
 ///
 /// Most moves of a raster are at rest along an axis or two.
 pub(crate) fn stretch_of(from: i32, to: i32, leaf: Leaf) -> Stretch
-    requires from_ok { Within greatest from }
-    requires to_ok { Within greatest to }
+    requires from_ok { Within MAX_TEXT_COORDINATE from }
+    requires to_ok { Within MAX_TEXT_COORDINATE to }
     requires d_ok { leaf.d ≤ 18 }
     requires k_ok { leaf.k < 2 ^ leaf.d }
     ensures value { IsStretchOf from to leaf.d leaf.k result }
@@ -76,8 +77,8 @@ pub(crate) fn stretch_of(from: i32, to: i32, leaf: Leaf) -> Stretch
 
 /// The stretch between two ends, which are given times 2^d.
 fn stretch_between(ends: Ends, d: u32) -> Stretch
-    requires first_ok { nat_abs ends.first ≤ 2 ^ d * greatest }
-    requires last_ok { nat_abs ends.last ≤ 2 ^ d * greatest }
+    requires first_ok { nat_abs ends.first ≤ 2 ^ d * MAX_TEXT_COORDINATE }
+    requires last_ok { nat_abs ends.last ≤ 2 ^ d * MAX_TEXT_COORDINATE }
     requires d_ok { d ≤ 18 }
     ensures middle { result.middle ≡ round_half_up (ends.first +ℤ ends.last) (2 ^ (d + 1)) }
     ensures farther { result.farther ≡ div_ceil (max (nat_abs (ends.first -ℤ pos (2 ^ d) *ℤ result.middle)) (nat_abs (ends.last -ℤ pos (2 ^ d) *ℤ result.middle))) (2 ^ d) }
@@ -92,20 +93,20 @@ fn stretch_between(ends: Ends, d: u32) -> Stretch
 
 /// The mean of two ends, which are given times 2^d.
 fn mean(ends: Ends, d: u32) -> i32
-    requires first_ok { nat_abs ends.first ≤ 2 ^ d * greatest }
-    requires last_ok { nat_abs ends.last ≤ 2 ^ d * greatest }
+    requires first_ok { nat_abs ends.first ≤ 2 ^ d * MAX_TEXT_COORDINATE }
+    requires last_ok { nat_abs ends.last ≤ 2 ^ d * MAX_TEXT_COORDINATE }
     requires d_ok { d ≤ 18 }
     ensures value { result ≡ round_half_up (ends.first +ℤ ends.last) (2 ^ (d + 1)) }
-    ensures bound { Within greatest result }
+    ensures bound { Within MAX_TEXT_COORDINATE result }
 {
     nearest(ends.first + ends.last, d + 1)
 }
 
 /// How far, rounded up, the farther of two ends, which are given times 2^d, is from the middle.
 fn farther_from(ends: Ends, middle: i32, d: u32) -> u32
-    requires first_ok { nat_abs ends.first ≤ 2 ^ d * greatest }
-    requires last_ok { nat_abs ends.last ≤ 2 ^ d * greatest }
-    requires middle_ok { Within greatest middle }
+    requires first_ok { nat_abs ends.first ≤ 2 ^ d * MAX_TEXT_COORDINATE }
+    requires last_ok { nat_abs ends.last ≤ 2 ^ d * MAX_TEXT_COORDINATE }
+    requires middle_ok { Within MAX_TEXT_COORDINATE middle }
     requires d_ok { d ≤ 18 }
     ensures value { result ≡ div_ceil (max (nat_abs (ends.first -ℤ pos (2 ^ d) *ℤ middle)) (nat_abs (ends.last -ℤ pos (2 ^ d) *ℤ middle))) (2 ^ d) }
     ensures bound { result ≤ 2 ^ 18 }
@@ -126,12 +127,12 @@ fn parts_up(length: u64, d: u32) -> u64
 
 /// The lower end of the leaf along one axis, rounded down.
 pub(crate) fn lower_end(from: i32, to: i32, leaf: Leaf) -> i32
-    requires from_ok { Within greatest from }
-    requires to_ok { Within greatest to }
+    requires from_ok { Within MAX_TEXT_COORDINATE from }
+    requires to_ok { Within MAX_TEXT_COORDINATE to }
     requires d_ok { leaf.d ≤ 18 }
     requires k_ok { leaf.k < 2 ^ leaf.d }
     ensures value { result ≡ lower_of from to leaf.d leaf.k }
-    ensures bound { Within greatest result }
+    ensures bound { Within MAX_TEXT_COORDINATE result }
 {
     if from == to {
         return from;
@@ -141,11 +142,11 @@ pub(crate) fn lower_end(from: i32, to: i32, leaf: Leaf) -> i32
 
 /// The lower of two ends, which are given times 2^d, rounded down.
 fn lower_of_ends(ends: Ends, d: u32) -> i32
-    requires first_ok { nat_abs ends.first ≤ 2 ^ d * greatest }
-    requires last_ok { nat_abs ends.last ≤ 2 ^ d * greatest }
+    requires first_ok { nat_abs ends.first ≤ 2 ^ d * MAX_TEXT_COORDINATE }
+    requires last_ok { nat_abs ends.last ≤ 2 ^ d * MAX_TEXT_COORDINATE }
     requires d_ok { d ≤ 18 }
     ensures value { result ≡ floor_div (lesser ends.first ends.last) (2 ^ d) }
-    ensures bound { Within greatest result }
+    ensures bound { Within MAX_TEXT_COORDINATE result }
 {
     (ends.first.min(ends.last) >> d) as i32
 }

@@ -1,8 +1,9 @@
 ghost use Rattle.std.specs.Prelude.{◌≡◌, ◌≤ℤ◌, ◌<ℤ◌, pos, false, IsTrue};
 ghost use Rattle.mill_base.specs.Contact.{Touches};
-ghost use Rattle.mill_base.specs.Numbers.{Within, greatest};
+ghost use Rattle.mill_base.specs.Numbers.{Within};
+ghost use Rattle.mill_base.specs.declared.limits.TheConstants.{MAX_TEXT_COORDINATE};
 ghost use Rattle.mill_base.specs.Points.{highest as highest_of};
-ghost use Rattle.mill_base.specs.Ranges.{TriInRange};
+ghost use Rattle.mill_base.specs.Ranges.{TriInTextRange};
 ghost use Rattle.mill_base.specs.Sizes.{IsCutter, outer};
 ghost use Rattle.mill_sweep.specs.Halving.{Blocks, IsFreeSpan, IsSpan};
 ghost use Rattle.mill_sweep.specs.Leaves.{outer_tip};
@@ -33,7 +34,7 @@ pub(crate) fn is_no_higher(tri: &Tri, height: i32) -> bool
 pub(crate) fn is_free(cutter: Cutter, span: Span, tri: &Tri) -> bool
     requires cutter_ok { IsCutter cutter }
     requires span_ok { IsSpan span }
-    requires tri_ok { TriInRange tri.now }
+    requires tri_ok { TriInTextRange tri.now }
     ensures yes { IsTrue result → IsFreeSpan cutter span tri.now }
     ensures no { result ≡ false → ¬ IsFreeSpan cutter span tri.now }
     ensures blocked { result ≡ false → span.reach ≤ℤ pos 1024 → Blocks cutter span tri.now }
@@ -54,8 +55,8 @@ pub(crate) fn is_free_by(cutter: Cutter, x: Stretch, y: Stretch, zlow: i32, tri:
     requires cutter_ok { IsCutter cutter }
     requires x_ok { IsStretch x }
     requires y_ok { IsStretch y }
-    requires zlow_ok { Within greatest zlow }
-    requires tri_ok { TriInRange tri.now }
+    requires zlow_ok { Within MAX_TEXT_COORDINATE zlow }
+    requires tri_ok { TriInTextRange tri.now }
     requires higher { zlow <ℤ highest_of tri.now }
     ensures yes { IsTrue result → IsFreeSpan cutter (span_at x y zlow) tri.now }
     ensures no { result ≡ false → ¬ IsFreeSpan cutter (span_at x y zlow) tri.now }
@@ -72,7 +73,7 @@ fn outer_holds_some(cutter: Cutter, span: Span, tri: &Tri) -> bool
     requires cutter_ok { IsCutter cutter }
     requires span_ok { IsSpan span }
     requires reach_most { span.reach ≤ℤ pos 1024 }
-    requires tri_ok { TriInRange tri.now }
+    requires tri_ok { TriInTextRange tri.now }
     ensures yes { IsTrue result → Touches (outer cutter span.reach) (pos 1) (outer_tip cutter span) tri.now }
     ensures no { result ≡ false → ¬ Touches (outer cutter span.reach) (pos 1) (outer_tip cutter span) tri.now }
 {

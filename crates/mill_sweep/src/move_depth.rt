@@ -1,5 +1,5 @@
 ghost use Rattle.std.specs.Prelude.{◌≡◌, ◌*◌, ◌^◌, ◌<◌, ◌≤◌, max};
-ghost use Rattle.mill_base.specs.Ranges.{MoveInRange};
+ghost use Rattle.mill_base.specs.Ranges.{MoveInTextRange};
 ghost use Rattle.mill_sweep.specs.Leaves.{depth_of, length_x, length_y, length_z};
 
 use mill_base::Move;
@@ -8,7 +8,7 @@ use mill_base::Move;
 /// at most 2 to the power `d`.
 pub fn depth(step: &Move) -> u32
     ensures value { result ≡ depth_of step.now }
-    ensures most { MoveInRange step.now → result ≤ 18 }
+    ensures most { MoveInTextRange step.now → result ≤ 18 }
 {
     halvings(longest(step))
 }

@@ -1,11 +1,11 @@
-ghost use Rattle.mill_base.specs.Ranges.{IsInRange, MoveInRange, TriInRange};
+ghost use Rattle.mill_base.specs.Ranges.{IsInTextRange, MoveInTextRange, TriInTextRange};
 
 use crate::halving::{first_block, first_block_point, passes_point, passes_tri, triangle_at};
 use crate::leaf::Leaf;
 use mill_base::{Cutter, Kind, Move, Pt3, Tri};
 
 fn at(x: i16, y: i16, z: i16) -> Pt3
-    ensures { IsInRange result }
+    ensures { IsInTextRange result }
 {
     Pt3 {
         x: i32::from(x),
@@ -16,7 +16,7 @@ fn at(x: i16, y: i16, z: i16) -> Pt3
 
 /// A feed along the straight line between two points.
 fn feed(from: (i16, i16, i16), to: (i16, i16, i16)) -> Move
-    ensures { MoveInRange result }
+    ensures { MoveInTextRange result }
 {
     Move {
         kind: Kind::Feed,
@@ -27,7 +27,7 @@ fn feed(from: (i16, i16, i16), to: (i16, i16, i16)) -> Move
 
 /// A level triangle at height 200 whose nearest corner to the left is (x, 100).
 fn plate_at(x: i16) -> Tri
-    ensures { TriInRange result }
+    ensures { TriInTextRange result }
 {
     Tri {
         a: at(x, 100, 200),

@@ -1,5 +1,5 @@
 ghost use Rattle.std.specs.Prelude.{◌≡◌, ◌≤◌, ◌<◌, false, length, IsTrue};
-ghost use Rattle.mill_base.specs.Ranges.{MovesInRange};
+ghost use Rattle.mill_base.specs.Ranges.{MovesInTextRange};
 ghost use Rattle.mill_cells.specs.Sorted.{sorted_of};
 ghost use Rattle.mill_job.specs.Jobs.{IsJob};
 ghost use Rattle.mill_verify.specs.Firsts.{IsFloorEnd, IsLimit};
@@ -33,7 +33,7 @@ pub fn part_limit<R: Threads + Sync>(
 ) -> Limit
     requires job_ok { IsJob job.now }
     requires cells_ok { cells.now ≡ sorted_of part.now }
-    requires moves_ok { MovesInRange moves.now }
+    requires moves_ok { MovesInTextRange moves.now }
     requires few { length moves.now ≤ 1000000 }
     requires few_workers { workers ≤ 64 }
     ensures { IsLimit job.now part.now moves.now result }

@@ -1,5 +1,5 @@
 ghost use Rattle.std.specs.Prelude.{◌≡◌, ◌+◌, ◌≤◌, ◌<◌, length, MatchOption};
-ghost use Rattle.mill_base.specs.Ranges.{MovesInRange};
+ghost use Rattle.mill_base.specs.Ranges.{MovesInTextRange};
 ghost use Rattle.mill_cells.specs.Sorted.{sorted_of};
 ghost use Rattle.mill_job.specs.Jobs.{IsJob};
 ghost use Rattle.mill_verify.specs.Firsts.{AreStripes, ClearsBetween, ClearsStripes, IsEarlierFail, IsFirstPartFail, IsFirstStripesFail};
@@ -51,7 +51,7 @@ pub fn first_part_fail<R: Threads + Sync>(
 ) -> Option<PartFail>
     requires job_ok { IsJob job.now }
     requires cells_ok { cells.now ≡ sorted_of part.now }
-    requires moves_ok { MovesInRange moves.now }
+    requires moves_ok { MovesInTextRange moves.now }
     requires order { start ≤ end }
     requires there { end ≤ length moves.now }
     requires few { length moves.now ≤ 1000000 }
@@ -95,7 +95,7 @@ fn first_in_stripes<R: Threads + Sync>(
 ) -> Option<PartFail>
     requires job_ok { IsJob job.now }
     requires cells_ok { cells.now ≡ sorted_of part.now }
-    requires moves_ok { MovesInRange moves.now }
+    requires moves_ok { MovesInTextRange moves.now }
     requires few { length moves.now ≤ 1000000 }
     requires stripes_ok { AreStripes moves.now stripes }
     ensures { MatchOption
@@ -122,7 +122,7 @@ fn first_in_stripes<R: Threads + Sync>(
             requires sync { IsSync R.row }
             requires job_ok { IsJob job.now }
             requires cells_ok { cells.now ≡ sorted_of part.now }
-            requires moves_ok { MovesInRange moves.now }
+            requires moves_ok { MovesInTextRange moves.now }
             requires few { length moves.now ≤ 1000000 }
             requires stripes_ok { AreStripes moves.now left }
             ensures { MatchOption
@@ -134,7 +134,7 @@ fn first_in_stripes<R: Threads + Sync>(
             requires sync { IsSync R.row }
             requires job_ok { IsJob job.now }
             requires cells_ok { cells.now ≡ sorted_of part.now }
-            requires moves_ok { MovesInRange moves.now }
+            requires moves_ok { MovesInTextRange moves.now }
             requires few { length moves.now ≤ 1000000 }
             requires stripes_ok { AreStripes moves.now right }
             ensures { MatchOption
@@ -172,7 +172,7 @@ fn scan_stripe(
 ) -> Option<PartFail>
     requires job_ok { IsJob job.now }
     requires cells_ok { cells.now ≡ sorted_of part.now }
-    requires moves_ok { MovesInRange moves.now }
+    requires moves_ok { MovesInTextRange moves.now }
     requires few { length moves.now ≤ 1000000 }
     requires stripe_ok { AreStripes moves.now stripe }
     requires one { stripe.last ≤ stripe.first + 1 }
@@ -204,7 +204,7 @@ fn scan(
 ) -> Option<PartFail>
     requires job_ok { IsJob job.now }
     requires cells_ok { cells.now ≡ sorted_of part.now }
-    requires moves_ok { MovesInRange moves.now }
+    requires moves_ok { MovesInTextRange moves.now }
     requires order { start ≤ end }
     requires there { end ≤ length moves.now }
     ensures { MatchOption

@@ -1,7 +1,7 @@
 ghost use Rattle.std.specs.Prelude.{◌≡◌, ℕ, ◌≤◌, ℤ, length, take, Ok, IfOk};
 ghost use Rattle.mill_base.specs.Covers.{IsUnder};
 ghost use Rattle.mill_base.specs.Motion.{Follow};
-ghost use Rattle.mill_base.specs.Ranges.{MovesInRange};
+ghost use Rattle.mill_base.specs.Ranges.{MovesInTextRange};
 ghost use Rattle.mill_cells.specs.Sorted.{sorted_of};
 ghost use Rattle.mill_job.specs.Columns.{home};
 ghost use Rattle.mill_job.specs.Jobs.{IsJob};
@@ -52,7 +52,7 @@ pub fn verify<R: Threads + Sync>(
     workers: u32,
 ) -> Result<Verdict, WantOfMemory>
     requires job_ok { IsJob job.now }
-    requires moves_ok { MovesInRange moves.now }
+    requires moves_ok { MovesInTextRange moves.now }
     requires under { IsUnder part.now job.now.top }
     requires follow { Follow (home job.now) moves.now }
     requires few { length moves.now ≤ 1000000 }

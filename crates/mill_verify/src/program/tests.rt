@@ -1,9 +1,10 @@
 ghost use Rattle.std.specs.Prelude.{◌≡◌, ◌≤◌, ◌≤ℤ◌, pos, length, IfOk};
-ghost use Rattle.mill_base.specs.Numbers.{Within, greatest};
+ghost use Rattle.mill_base.specs.Numbers.{Within};
+ghost use Rattle.mill_base.specs.declared.limits.TheConstants.{MAX_TEXT_COORDINATE};
 ghost use Rattle.mill_base.specs.Points.{point_at};
 ghost use Rattle.mill_base.specs.Covers.{IsUnder};
 ghost use Rattle.mill_base.specs.Motion.{Follow};
-ghost use Rattle.mill_base.specs.Ranges.{IsInRange, MovesInRange};
+ghost use Rattle.mill_base.specs.Ranges.{IsInTextRange, MovesInTextRange};
 ghost use Rattle.mill_job.specs.Columns.{home};
 ghost use Rattle.mill_job.specs.Jobs.{IsJob};
 
@@ -79,8 +80,8 @@ fn ball_job() -> Job
 }
 
 fn corner(x: i32, y: i32) -> Pt3
-    requires x_ok { Within greatest x }
-    requires y_ok { Within greatest y }
+    requires x_ok { Within MAX_TEXT_COORDINATE x }
+    requires y_ok { Within MAX_TEXT_COORDINATE y }
     ensures { result ≡ point_at x y (pos 200) }
 {
     Pt3 { x, y, z: 200 }
@@ -88,7 +89,7 @@ fn corner(x: i32, y: i32) -> Pt3
 
 /// A plate at the height 200 over the square, as far as this x.
 fn plate(alloc: Global, x: i32) -> Result<Part, WantOfMemory>
-    requires { Within greatest x }
+    requires { Within MAX_TEXT_COORDINATE x }
     ensures { IfOk result (λ part. IsUnder part (pos 300)) }
 {
     let mut tris = Vec::new(alloc);
@@ -107,8 +108,8 @@ fn plate(alloc: Global, x: i32) -> Result<Part, WantOfMemory>
 
 /// Down in the middle to this height, and up again as a rapid.
 fn down_and_up(kind: Kind, height: i32) -> [Move; 2]
-    requires { Within greatest height }
-    ensures range { MovesInRange result }
+    requires { Within MAX_TEXT_COORDINATE height }
+    ensures range { MovesInTextRange result }
     ensures follow { Follow (point_at (pos 100) (pos 100) (pos 400)) result }
 {
     let home = Pt3 {
@@ -137,8 +138,8 @@ fn down_and_up(kind: Kind, height: i32) -> [Move; 2]
 
 /// Over the plate's edge and on to (500, 100) at this height, and back along the same line.
 fn out_and_back(height: i32) -> [Move; 2]
-    requires { Within greatest height }
-    ensures range { MovesInRange result }
+    requires { Within MAX_TEXT_COORDINATE height }
+    ensures range { MovesInTextRange result }
     ensures follow { Follow (point_at (pos 100) (pos 100) (pos 400)) result }
 {
     let home = Pt3 {
@@ -358,7 +359,7 @@ fn names_the_leaf_of_a_rapid(rt: HostRuntime) {
 
 /// In the middle at 200, and at 199 under the plate in these two turns.
 fn bottom(turn: u32, first: u32, second: u32) -> Pt3
-    ensures { IsInRange result }
+    ensures { IsInTextRange result }
 {
     let z = if turn == first || turn == second {
         199
@@ -371,7 +372,7 @@ fn bottom(turn: u32, first: u32, second: u32) -> Pt3
 /// Down in the middle and up again, 150 times: 300 moves, of which those in two turns scrape the
 /// plate.
 fn downs_and_ups(alloc: Global, first: u32, second: u32) -> Result<Vec<Move>, WantOfMemory>
-    ensures range { IfOk result (λ moves. MovesInRange moves.items) }
+    ensures range { IfOk result (λ moves. MovesInTextRange moves.items) }
     ensures follow { IfOk
         result
         (λ moves. Follow (point_at (pos 100) (pos 100) (pos 400)) moves.items) }

@@ -1,6 +1,7 @@
 use Rattle.std.proofs.Common.{◌∙◌, ◌^◌, ◌≤◌, [], ◌∷◌, refl, sym, ap, subst, w32, w64, nat_abs, pos, neg_ℤ, ◌-ℤ◌, FitsSigned}
 use Rattle.mill_base.proofs.Machine.{Read, Lit, Diff, Cast, exact, cast_fits, stays, stored}
-use Rattle.mill_base.specs.Numbers.{floor_div, greatest}
+use Rattle.mill_base.specs.Numbers.{floor_div}
+use Rattle.mill_base.specs.declared.limits.TheConstants.{MAX_TEXT_COORDINATE}
 use Rattle.mill_dexel.proofs.Places.{up_is, up_within, turned_is}
 use Rattle.mill_dexel.proofs.sample.rounded_up.Goals as goal
 
@@ -17,6 +18,6 @@ returns-clause-value c =
 
 pub returns-clause-bound : goal.returns-clause-bound
 returns-clause-bound c = record {
-  within = subst (λ t. nat_abs (stored w32 (stored w64 (pos 0 -ℤ stored w64 t))) ≤ greatest) (sym (up_is c.args.end c.args.d c.requires.end_ok))
+  within = subst (λ t. nat_abs (stored w32 (stored w64 (pos 0 -ℤ stored w64 t))) ≤ MAX_TEXT_COORDINATE) (sym (up_is c.args.end c.args.d c.requires.end_ok))
       (stays (floor_div (neg_ℤ c.args.end) (2 ^ c.args.d) ∷ []) (131071 ∷ []) (Cast w32 (Diff w64 (Lit (pos 0)) (Read w64 0))) 131071 (up_within c.args.end c.args.d c.requires.end_within, tt) refl);
 }

@@ -1,6 +1,7 @@
 use Rattle.std.proofs.Common.{◌∙◌, ◌^◌, ◌≤◌, [], ◌∷◌, refl, sym, ap, subst, w32, w64, nat_abs, FitsSigned}
 use Rattle.mill_base.proofs.Machine.{Read, Cast, exact, cast_fits, stored}
-use Rattle.mill_base.specs.Numbers.{round_half_up, greatest}
+use Rattle.mill_base.specs.Numbers.{round_half_up}
+use Rattle.mill_base.specs.declared.limits.TheConstants.{MAX_TEXT_COORDINATE}
 use Rattle.mill_sweep.proofs.Computed.{nearest_is, nearest_within}
 use Rattle.mill_sweep.proofs.ends.nearest.Goals as goal
 
@@ -17,4 +18,4 @@ returns-clause-value c =
     ap (λ t. stored w32 (stored w64 t)) is ∙ exact (round_half_up c.args.end (2 ^ c.args.d) ∷ []) (131071 ∷ []) (Cast w32 (Read w64 0)) (within, tt) refl
 
 pub returns-clause-bound : goal.returns-clause-bound
-returns-clause-bound c = record { within = subst (λ t. nat_abs t ≤ greatest) (sym (returns-clause-value c)) (nearest_within c.args.end c.args.d c.requires.end_ok) }
+returns-clause-bound c = record { within = subst (λ t. nat_abs t ≤ MAX_TEXT_COORDINATE) (sym (returns-clause-value c)) (nearest_within c.args.end c.args.d c.requires.end_ok) }

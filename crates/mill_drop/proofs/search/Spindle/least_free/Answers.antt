@@ -3,7 +3,8 @@ use mir.Syntax.{w32}
 use lib.IntN.{ℤ, pos, ◌+ℤ◌, ◌-ℤ◌, nat_abs}
 use lib.Signed.{◌<ℤ◌, ◌≤ℤ◌, lt_z}
 use Rattle.std.proofs.lemmas.Int.{ints, to_z-of_z, fits_signed_from_abs}
-use Rattle.mill_base.specs.Numbers.{Within, greatest}
+use Rattle.mill_base.specs.Numbers.{Within}
+use Rattle.mill_base.specs.declared.limits.TheConstants.{MAX_TEXT_COORDINATE}
 use Rattle.mill_drop.specs.Drops.{TouchesAt}
 use Rattle.mill_drop.proofs.search.Spindle.least_free.Goals as goal
 
@@ -13,7 +14,7 @@ from_over a b c h k = omega (arith, ints)
 next : (low high : ℤ) → low <ℤ high → lt_z (low +ℤ pos 1) high ≡ false → low ≡ high -ℤ pos 1
 next low high h test = omega (arith, ints)
 
-next_fits : (start low high end : ℤ) → Within greatest start → Within greatest end → start ≤ℤ low → low <ℤ high → high ≤ℤ end → FitsSigned w32 (low +ℤ pos 1)
+next_fits : (start low high end : ℤ) → Within MAX_TEXT_COORDINATE start → Within MAX_TEXT_COORDINATE end → start ≤ℤ low → low <ℤ high → high ≤ℤ end → FitsSigned w32 (low +ℤ pos 1)
 next_fits start low high end hs he from order to = fits_signed_from_abs w32 (low +ℤ pos 1) small
   where
     small : nat_abs (low +ℤ pos 1) < 2147483648

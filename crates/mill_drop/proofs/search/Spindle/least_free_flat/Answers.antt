@@ -3,14 +3,15 @@ use mir.Syntax.{w32}
 use lib.IntN.{ℤ, pos, ◌-ℤ◌, nat_abs}
 use lib.Signed.{◌<ℤ◌}
 use Rattle.std.proofs.lemmas.Int.{ints, by_lt_z, to_z-of_z, fits_signed_from_abs}
-use Rattle.mill_base.specs.Numbers.{Within, greatest}
+use Rattle.mill_base.specs.Numbers.{Within}
+use Rattle.mill_base.specs.declared.limits.TheConstants.{MAX_TEXT_COORDINATE}
 use Rattle.mill_base.specs.declared.points.Tri.{Tri}
 use Rattle.mill_base.specs.declared.cutter.Cutter.{Cutter}
 use Rattle.mill_drop.specs.Drops.{TouchesAt}
 use Rattle.mill_drop.proofs.Heights.{lowered}
 use Rattle.mill_drop.proofs.search.Spindle.least_free_flat.Goals as goal
 
-below_fits : (high : ℤ) → Within greatest high → FitsSigned w32 (high -ℤ pos 1)
+below_fits : (high : ℤ) → Within MAX_TEXT_COORDINATE high → FitsSigned w32 (high -ℤ pos 1)
 below_fits high h = fits_signed_from_abs w32 (high -ℤ pos 1) small
   where
     small : nat_abs (high -ℤ pos 1) < 2147483648

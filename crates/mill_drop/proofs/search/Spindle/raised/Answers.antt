@@ -3,7 +3,8 @@ use mir.Syntax.{w32}
 use lib.IntN.{ℤ}
 use lib.Signed.{◌<ℤ◌, ◌≤ℤ◌, le_z}
 use Rattle.std.proofs.lemmas.Int.{ints, to_z-of_z}
-use Rattle.mill_base.specs.Numbers.{Within, greatest}
+use Rattle.mill_base.specs.Numbers.{Within}
+use Rattle.mill_base.specs.declared.limits.TheConstants.{MAX_TEXT_COORDINATE}
 use Rattle.mill_drop.proofs.Heights.{highest_within, over_top_free}
 use Rattle.mill_drop.proofs.search.Spindle.raised.Goals as goal
 
@@ -31,7 +32,7 @@ least_free_under-requires-clause-free c =
     same : (z h : ℤ) → z ≡ h → h ≤ℤ z
     same z h e = omega (arith, ints)
 
-between : (low z high : ℤ) → Within greatest low → Within greatest high → low <ℤ z → z ≤ℤ high → Within greatest z
+between : (low z high : ℤ) → Within MAX_TEXT_COORDINATE low → Within MAX_TEXT_COORDINATE high → low <ℤ z → z ≤ℤ high → Within MAX_TEXT_COORDINATE z
 between low z high hl hh h k = let l = hl.within in let m = hh.within in record { within = omega (arith, ints) }
 
 pub returns-clause-bound : goal.returns-clause-bound
