@@ -65,7 +65,7 @@ impl Part {
     /// It looks at no triangle: `new` has found it.
     pub fn top(&self) -> Option<i32>
         ensures none { IsNone result ↔ (length self.now ≡ 0) }
-        ensures MAX_TEXT_COORDINATE { IfSome result (λ top. IsTop self.now top) }
+        ensures greatest { IfSome result (λ top. IsTop self.now top) }
     {
         self.top
     }

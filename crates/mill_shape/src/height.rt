@@ -20,7 +20,7 @@ pub fn cut_height(cutter: Cutter, tip: Pt3, x: i32, y: i32) -> Option<i32>
     requires x_ok { Within MAX_TEXT_COORDINATE x }
     requires y_ok { Within MAX_TEXT_COORDINATE y }
     ensures value { result ≡ cut_height_of cutter tip x y }
-    ensures MAX_TEXT_COORDINATE { IfSome result (IsCutHeight cutter tip x y) }
+    ensures greatest { IfSome result (IsCutHeight cutter tip x y) }
     ensures none { IfNone result (square_of (radius_of cutter) ≤ℤ (square_of (x -ℤ tip.x) +ℤ square_of (y -ℤ tip.y))) }
 {
     let distance = square_within(
