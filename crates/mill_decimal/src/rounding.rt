@@ -2,8 +2,7 @@ ghost use Rattle.std.specs.Prelude.{◌≡◌, ◌+◌, ◌*◌, ◌/◌, ◌%�
 ghost use Rattle.mill_base.specs.declared.limits.TheConstants.{MAX_TEXT_COORDINATE};
 ghost use Rattle.mill_decimal.specs.Decimals.{nearest as nearest_to, is_whole as is_whole_number, in_range as units_in_range};
 
-/// The greatest magnitude of a number of units.
-const GREATEST: u128 = 131_071;
+use mill_base::MAX_TEXT_COORDINATE;
 
 /// The mantissa times ten to the power, rounded to the nearest whole number, halves up, if that is
 /// in range.
@@ -98,7 +97,7 @@ pub fn in_range(units: u128) -> Option<u32>
     ensures value { result ≡ units_in_range units }
     ensures in_range { IfSome result (λ n. n ≤ MAX_TEXT_COORDINATE) }
 {
-    if units > GREATEST {
+    if units > u128::from(MAX_TEXT_COORDINATE) {
         return None;
     }
     Some(units as u32)

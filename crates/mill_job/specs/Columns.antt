@@ -31,4 +31,4 @@ IsBefore a b j i = (a < j) ⊎ ((a ≡ j) × (b < i))
 
 -- where a program starts
 abbrev pub home : Job → Pt3
-home job = record { x = job.home_x; y = job.home_y; z = job.clear }
+home job = record { x = job.home.x; y = job.home.y; z = job.clear }

@@ -2,7 +2,7 @@
 use Rattle.std.specs.Prelude.{◌≡◌, ◌⊎◌, IsUtf8, ℕ, ◌*◌, nat_lt, codes, bytes_eq, Bool, ◌&&◌, if◌then◌else◌, ℤ, pos, ◌-ℤ◌, ◌*ℤ◌, int_lt, List, [], ◌∷◌, ◌++◌, Option, Some, None, option_and_then, option_map, Result, Err}
 use Rattle.toml.specs.Data.{Members, get_member, as_str}
 use Rattle.toml.specs.Parse.{parse_document}
-use Rattle.mill_base.specs.declared.limits.TheConstants.{MAX_TEXT_COORDINATE}
+use Rattle.mill_base.specs.declared.limits.TheConstants.{MAX_COLUMNS, MAX_RADIUS, MAX_TEXT_COORDINATE}
 use Rattle.mill_base.specs.Sizes.{radius_of}
 use Rattle.mill_decimal.specs.declared.snap.Snap.{Snap}
 use Rattle.mill_decimal.specs.declared.snap.Snap.TheVariants.{Nearest, Exact}
@@ -11,6 +11,7 @@ use Rattle.mill_job.specs.Cutters.{shape_of, shape_fault, slope_fault, slope_fau
 use Rattle.mill_job.specs.Keys.{name_of, unknown_in}
 use Rattle.mill_job.specs.Tables.{text_fault_if_there, number_fault, number_fault_if_there, coordinate_fault, array_fault, is_area, is_place, number_given, number_at, number_or, numbers_at, area_of, place_of, fault_if, first, checked}
 use Rattle.mill_job.specs.declared.job.Job.{Job}
+use Rattle.mill_job.specs.declared.limits.TheConstants.{MAX_DISTANCE, MAX_LAYERS}
 use Rattle.mill_job.specs.declared.key.Key.TheVariants as key
 use Rattle.mill_job.specs.declared.fault.JobFault.{JobFault}
 use Rattle.mill_job.specs.declared.fault.JobFault.TheVariants.{Syntax, Unknown, Relation, WantOfMemory}
@@ -19,7 +20,7 @@ use Rattle.mill_job.specs.declared.fault.JobFault.TheVariants.{Syntax, Unknown, 
 abbrev pub key_faults : Members → List (Option JobFault)
 key_faults ms =
     shape_fault ms
-    ∷ number_fault key.Radius (pos 1) (pos 10000) ms
+    ∷ number_fault key.Radius (pos 1) MAX_RADIUS ms
     ∷ slope_fault key.Rise ms
     ∷ slope_fault key.Run ms
     ∷ coordinate_fault key.Floor ms
@@ -27,15 +28,15 @@ key_faults ms =
     ∷ coordinate_fault key.Clear ms
     ∷ array_fault key.Area is_area ms
     ∷ array_fault key.Home is_place ms
-    ∷ number_fault key.Pitch (pos 1) (pos 10000) ms
-    ∷ number_fault key.Sample (pos 1) (pos 10000) ms
-    ∷ number_fault key.Allowance (pos 0) (pos 10000) ms
-    ∷ number_fault key.Band (pos 0) (pos 10000) ms
-    ∷ number_fault_if_there key.Lift (pos 0) (pos 10000) ms
-    ∷ number_fault_if_there key.Raster (pos 1) (pos 10000) ms
-    ∷ number_fault_if_there key.RoughRaster (pos 1) (pos 10000) ms
+    ∷ number_fault key.Pitch (pos 1) MAX_DISTANCE ms
+    ∷ number_fault key.Sample (pos 1) MAX_DISTANCE ms
+    ∷ number_fault key.Allowance (pos 0) MAX_DISTANCE ms
+    ∷ number_fault key.Band (pos 0) MAX_DISTANCE ms
+    ∷ number_fault_if_there key.Lift (pos 0) MAX_DISTANCE ms
+    ∷ number_fault_if_there key.Raster (pos 1) MAX_DISTANCE ms
+    ∷ number_fault_if_there key.RoughRaster (pos 1) MAX_DISTANCE ms
     ∷ number_fault_if_there key.Layer (pos 0) (pos MAX_TEXT_COORDINATE) ms
-    ∷ number_fault_if_there key.RoughStock (pos 0) (pos 10000) ms
+    ∷ number_fault_if_there key.RoughStock (pos 0) MAX_DISTANCE ms
     ∷ text_fault_if_there key.Snap (codes "nearest" ∷ codes "exact" ∷ []) ms
     ∷ []
 
@@ -63,8 +64,7 @@ job_from ms = record {
   top = number_at key.Top ms;
   clear = number_at key.Clear ms;
   area = area_of (numbers_at key.Area ms);
-  home_x = (place_of (numbers_at key.Home ms)).0;
-  home_y = (place_of (numbers_at key.Home ms)).1;
+  home = place_of (numbers_at key.Home ms);
   pitch = number_at key.Pitch ms;
   sample = number_at key.Sample ms;
   allowance = number_at key.Allowance ms;
@@ -83,14 +83,14 @@ cutter_faults ms = slope_faults (shape_of ms) (number_given key.Rise ms) (number
 
 -- roughing takes off layers, and more than 1,000 of them
 abbrev pub has_many_layers : Job → Bool
-has_many_layers job = int_lt (pos 0) job.layer && int_lt (pos 1000 *ℤ job.layer) (job.top -ℤ job.floor)
+has_many_layers job = int_lt (pos 0) job.layer && int_lt (MAX_LAYERS *ℤ job.layer) (job.top -ℤ job.floor)
 
 -- what is wrong between a job's numbers, in order
 abbrev pub relation_faults : Job → List (Option JobFault)
 relation_faults job =
     fault_if (int_lt job.top job.floor) (Relation key.Floor key.Top)
     ∷ fault_if (int_lt job.clear job.top) (Relation key.Top key.Clear)
-    ∷ fault_if (nat_lt 4000000 (row_count job * column_count job)) (Relation key.Area key.Pitch)
+    ∷ fault_if (nat_lt MAX_COLUMNS (row_count job * column_count job)) (Relation key.Area key.Pitch)
     ∷ fault_if (int_lt (radius_of job.cutter) job.band) (Relation key.Band key.Radius)
     ∷ fault_if (has_many_layers job) (Relation key.Layer key.Top)
     ∷ []

@@ -1,10 +1,12 @@
 -- The ranges and relations that a job keeps.
 use Rattle.std.specs.Prelude.{◌*◌, ◌≤◌, ℤ, pos, ◌-ℤ◌, ◌*ℤ◌, ◌<ℤ◌, ◌≤ℤ◌}
 use Rattle.mill_base.specs.Numbers.{Within}
-use Rattle.mill_base.specs.declared.limits.TheConstants.{MAX_TEXT_COORDINATE}
+use Rattle.mill_base.specs.declared.limits.TheConstants.{MAX_COLUMNS, MAX_TEXT_COORDINATE}
 use Rattle.mill_base.specs.Sizes.{IsCutter, radius_of}
 use Rattle.mill_job.specs.Columns.{row_count, column_count}
+use Rattle.mill_job.specs.Tables.{IsPlace}
 use Rattle.mill_job.specs.declared.job.Job.{Job}
+use Rattle.mill_job.specs.declared.limits.TheConstants.{MAX_DISTANCE, MAX_LAYERS}
 
 -- z is from lo to hi
 pub record IsFrom (lo hi z : ℤ) : Type 0 where
@@ -13,7 +15,7 @@ pub record IsFrom (lo hi z : ℤ) : Type 0 where
 
 -- roughing takes off at most 1,000 layers, if any
 abbrev pub HasFewLayers : Job → Type 0
-HasFewLayers job = (pos 0) <ℤ job.layer → (job.top -ℤ job.floor) ≤ℤ (pos 1000 *ℤ job.layer)
+HasFewLayers job = (pos 0) <ℤ job.layer → (job.top -ℤ job.floor) ≤ℤ (MAX_LAYERS *ℤ job.layer)
 
 -- every number of the job is in its range, and the relations between them hold
 pub record IsJob (job : Job) : Type 0 where
@@ -25,21 +27,20 @@ pub record IsJob (job : Job) : Type 0 where
   pub y0_ok : Within MAX_TEXT_COORDINATE job.area.y0
   pub x1_ok : Within MAX_TEXT_COORDINATE job.area.x1
   pub y1_ok : Within MAX_TEXT_COORDINATE job.area.y1
-  pub home_x_ok : Within MAX_TEXT_COORDINATE job.home_x
-  pub home_y_ok : Within MAX_TEXT_COORDINATE job.home_y
-  pub pitch_ok : IsFrom (pos 1) (pos 10000) job.pitch
-  pub sample_ok : IsFrom (pos 1) (pos 10000) job.sample
-  pub allowance_ok : IsFrom (pos 0) (pos 10000) job.allowance
-  pub band_ok : IsFrom (pos 0) (pos 10000) job.band
+  pub home_ok : IsPlace job.home
+  pub pitch_ok : IsFrom (pos 1) MAX_DISTANCE job.pitch
+  pub sample_ok : IsFrom (pos 1) MAX_DISTANCE job.sample
+  pub allowance_ok : IsFrom (pos 0) MAX_DISTANCE job.allowance
+  pub band_ok : IsFrom (pos 0) MAX_DISTANCE job.band
   pub x_order : job.area.x0 ≤ℤ job.area.x1
   pub y_order : job.area.y0 ≤ℤ job.area.y1
   pub stock : job.floor ≤ℤ job.top
   pub over_stock : job.top ≤ℤ job.clear
-  pub few : (row_count job * column_count job) ≤ 4000000
+  pub few : (row_count job * column_count job) ≤ MAX_COLUMNS
   pub narrow : job.band ≤ℤ radius_of job.cutter
-  pub lift_ok : IsFrom (pos 0) (pos 10000) job.lift
-  pub raster_ok : IsFrom (pos 1) (pos 10000) job.raster
-  pub rough_raster_ok : IsFrom (pos 1) (pos 10000) job.rough_raster
+  pub lift_ok : IsFrom (pos 0) MAX_DISTANCE job.lift
+  pub raster_ok : IsFrom (pos 1) MAX_DISTANCE job.raster
+  pub rough_raster_ok : IsFrom (pos 1) MAX_DISTANCE job.rough_raster
   pub layer_ok : IsFrom (pos 0) (pos MAX_TEXT_COORDINATE) job.layer
-  pub rough_stock_ok : IsFrom (pos 0) (pos 10000) job.rough_stock
+  pub rough_stock_ok : IsFrom (pos 0) MAX_DISTANCE job.rough_stock
   pub layers : HasFewLayers job

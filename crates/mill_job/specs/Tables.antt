@@ -6,6 +6,7 @@ use Rattle.mill_base.specs.declared.points.Box2.{Box2}
 use Rattle.toml.specs.Data.{Data, Members, Items, no_items, item, get_member, as_integer, as_str, as_array}
 use Rattle.mill_job.specs.Keys.{name_of, is_one_of}
 use Rattle.mill_job.specs.declared.key.Key.{Key}
+use Rattle.mill_job.specs.declared.job.Place.{Place}
 use Rattle.mill_job.specs.declared.fault.JobFault.{JobFault}
 use Rattle.mill_job.specs.declared.fault.JobFault.TheVariants.{Missing, WrongKind, Range}
 
@@ -119,8 +120,8 @@ entry zs i = slice_index_or (unwrap_or zs []) i (pos 0)
 abbrev pub area_of : Option (List ℤ) → Box2
 area_of zs = record { x0 = entry zs 0; y0 = entry zs 1; x1 = entry zs 2; y1 = entry zs 3 }
 
-abbrev pub place_of : Option (List ℤ) → ℤ × ℤ
-place_of zs = (entry zs 0, entry zs 1)
+abbrev pub place_of : Option (List ℤ) → Place
+place_of zs = record { x = entry zs 0; y = entry zs 1 }
 
 -- the corners of an area are coordinates in their order
 pub record IsArea (area : Box2) : Type 0 where
@@ -130,6 +131,11 @@ pub record IsArea (area : Box2) : Type 0 where
   pub y1_ok : Within MAX_TEXT_COORDINATE area.y1
   pub x_order : area.x0 ≤ℤ area.x1
   pub y_order : area.y0 ≤ℤ area.y1
+
+-- both coordinates of a place are in range
+pub record IsPlace (place : Place) : Type 0 where
+  pub x_ok : Within MAX_TEXT_COORDINATE place.x
+  pub y_ok : Within MAX_TEXT_COORDINATE place.y
 
 -- what is wrong with an array of another length: its kind where a member is no whole number, else its range
 abbrev pub misfit_of : Key → Option (List ℤ) → JobFault

@@ -2,9 +2,10 @@ ghost use Rattle.std.specs.Prelude.{◌≡◌, ◌&&◌, ◌≤ℤ◌, IsTrue, i
 ghost use Rattle.mill_base.specs.Numbers.{Within};
 ghost use Rattle.mill_base.specs.declared.limits.TheConstants.{MAX_TEXT_COORDINATE};
 ghost use Rattle.toml.specs.View.{table_view, view, items_view};
-ghost use Rattle.mill_job.specs.Tables.{IsArea, area_of, array_fault, checked, integers, is_area, is_place, kind_fault, misfit_of, numbers_at, place_of};
+ghost use Rattle.mill_job.specs.Tables.{IsArea, IsPlace, area_of, array_fault, checked, integers, is_area, is_place, kind_fault, misfit_of, numbers_at, place_of};
 
 use crate::fault::JobFault;
+use crate::job::Place;
 use crate::key::Key;
 use crate::values::{as_coordinate, find};
 use mill_base::Box2;
@@ -102,11 +103,13 @@ pub fn area(table: &Table) -> Result<Box2, JobFault>
 }
 
 /// The place with these coordinates.
-fn place(x: i64, y: i64) -> Result<(i32, i32), JobFault>
-    ensures value { result ≡ checked (kind_fault Key.Home is_place (Some (x ∷ y ∷ []))) (x, y) }
-    ensures in_range { IfOk result (λ at. Within MAX_TEXT_COORDINATE at.0 × Within MAX_TEXT_COORDINATE at.1) }
+fn place(x: i64, y: i64) -> Result<Place, JobFault>
+    ensures value { result ≡ checked (kind_fault Key.Home is_place (Some (x ∷ y ∷ []))) (record { x = x; y = y }) }
+    ensures in_range { IfOk result IsPlace }
 {
-    Ok((as_coordinate(x, Key::Home)?, as_coordinate(y, Key::Home)?))
+    let x = as_coordinate(x, Key::Home)?;
+    let y = as_coordinate(y, Key::Home)?;
+    Ok(Place { x, y })
 }
 
 /// The two whole numbers that the values are.
@@ -117,9 +120,9 @@ fn two(a: &Value, b: &Value) -> Option<(i64, i64)>
 }
 
 /// The place whose coordinates the values are.
-fn place_in(values: &[Value]) -> Result<(i32, i32), JobFault>
+fn place_in(values: &[Value]) -> Result<Place, JobFault>
     ensures value { result ≡ checked (kind_fault Key.Home is_place (integers (items_view values.now))) (place_of (integers (items_view values.now))) }
-    ensures in_range { IfOk result (λ at. Within MAX_TEXT_COORDINATE at.0 × Within MAX_TEXT_COORDINATE at.1) }
+    ensures in_range { IfOk result IsPlace }
 {
     if values.len() != 2 {
         return Err(misfit(values, Key::Home));
@@ -132,10 +135,10 @@ fn place_in(values: &[Value]) -> Result<(i32, i32), JobFault>
 
 /// The place at `home`.
 #[tactic(auto, unfolding(crate::specs::Tables::array_fault, crate::specs::Tables::numbers_at))]
-pub fn home(table: &Table) -> Result<(i32, i32), JobFault>
+pub fn home(table: &Table) -> Result<Place, JobFault>
     ensures ok { IfOk result (λ at. (array_fault Key.Home is_place (table_view table.now) ≡ None) × (at ≡ place_of (numbers_at Key.Home (table_view table.now)))) }
     ensures err { IfErr result (λ fault. array_fault Key.Home is_place (table_view table.now) ≡ Some fault) }
-    ensures in_range { IfOk result (λ at. Within MAX_TEXT_COORDINATE at.0 × Within MAX_TEXT_COORDINATE at.1) }
+    ensures in_range { IfOk result IsPlace }
 {
     let Some(value) = find(table, Key::Home) else {
         return Err(JobFault::Missing(Key::Home));

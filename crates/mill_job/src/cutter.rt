@@ -1,5 +1,6 @@
 ghost use Rattle.std.specs.Prelude.{◌≡◌, pos, IfOk, IfErr, IfSome, IsSome, None, Some};
 ghost use Rattle.mill_base.specs.Sizes.{IsCutter};
+ghost use Rattle.mill_base.specs.declared.limits.TheConstants.{MAX_RADIUS};
 ghost use Rattle.toml.specs.View.{table_view};
 ghost use Rattle.mill_job.specs.Cutters.{cutter_with, shape_fault, shape_of, slope_fault, slope_faults};
 ghost use Rattle.mill_job.specs.Jobs.{IsFrom};
@@ -68,7 +69,7 @@ pub fn cutter(
     rise: Option<i32>,
     run: Option<i32>,
 ) -> Result<Cutter, JobFault>
-    requires radius_ok { IsFrom (pos 1) (pos 10000) radius }
+    requires radius_ok { IsFrom (pos 1) MAX_RADIUS radius }
     requires rise_ok { IfSome rise (IsFrom (pos 1) (pos 100)) }
     requires run_ok { IfSome run (IsFrom (pos 1) (pos 100)) }
     requires has_rise { shape ≡ Shape.Cone → IsSome rise }

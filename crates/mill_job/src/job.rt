@@ -1,11 +1,18 @@
 ghost use Rattle.std.specs.Prelude.{◌≡◌, ◌<◌, ◌≤◌, ◌*◌};
 ghost use Rattle.mill_base.specs.Numbers.{Within};
-ghost use Rattle.mill_base.specs.declared.limits.TheConstants.{MAX_TEXT_COORDINATE};
+ghost use Rattle.mill_base.specs.declared.limits.TheConstants.{MAX_COLUMNS, MAX_TEXT_COORDINATE};
 ghost use Rattle.mill_base.specs.Ranges.{IsInTextRange};
 
 use crate::positions::{count, position};
 use mill_base::{Box2, Cutter, Pt3};
 use mill_decimal::Snap;
+
+/// A place in x and y, in units of 0.01 mm.
+#[derive(Clone, Copy, Debug, PartialEq, Eq)]
+pub struct Place {
+    pub x: i32,
+    pub y: i32,
+}
 
 /// What is cut, with which cutter, and how exactly. Lengths and places are in units of 0.01 mm.
 #[derive(Clone, Copy, Debug, PartialEq, Eq)]
@@ -19,8 +26,8 @@ pub struct Job {
     pub clear: i32,
     /// The rectangle over which the columns of the stock stand.
     pub area: Box2,
-    pub home_x: i32,
-    pub home_y: i32,
+    /// The place over which a program starts and ends.
+    pub home: Place,
     /// The distance of neighbouring columns.
     pub pitch: i32,
     /// The greatest distance of neighbouring samples of a move, from 1 to 10,000.
@@ -33,7 +40,7 @@ pub struct Job {
     pub lift: i32,
     /// The distance of neighbouring rows and places of a plan's finishing path, from 1 to 10,000.
     pub raster: i32,
-    /// The same of a plan's roughing paths.
+    /// The distance of neighbouring rows and places of a plan's roughing paths, from 1 to 10,000.
     pub rough_raster: i32,
     /// How much a plan's roughing takes off at a time, from 0 to 131,071; 0 means no roughing.
     pub layer: i32,
@@ -72,7 +79,7 @@ impl Job {
         requires { IsJob self.now }
         ensures value { result ≡ row_count self.now * column_count self.now }
         ensures some { 1 ≤ result }
-        ensures bound { result ≤ 4000000 }
+        ensures bound { result ≤ MAX_COLUMNS }
     {
         u64::from(self.rows()) * u64::from(self.columns())
     }
@@ -104,8 +111,8 @@ impl Job {
         ensures in_range { IsInTextRange result }
     {
         Pt3 {
-            x: self.home_x,
-            y: self.home_y,
+            x: self.home.x,
+            y: self.home.y,
             z: self.clear,
         }
     }

@@ -13,6 +13,7 @@ mod document;
 mod fault;
 mod job;
 mod key;
+mod limits;
 mod name;
 mod positions;
 mod reading;
@@ -21,7 +22,7 @@ mod tests;
 mod values;
 
 pub use fault::JobFault;
-pub use job::Job;
+pub use job::{Job, Place};
 pub use key::Key;
 pub use name::Name;
 pub use reading::read_job;

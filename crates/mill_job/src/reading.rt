@@ -14,16 +14,12 @@ use crate::document::{document, first_unknown, unknown};
 use crate::fault::JobFault;
 use crate::job::Job;
 use crate::key::Key;
+use crate::limits::{MAX_DISTANCE, MAX_LAYERS};
 use crate::positions::column_total;
 use crate::values::{GREATEST, coordinate, number, number_or, snap};
+use mill_base::{MAX_COLUMNS, MAX_RADIUS};
 use std::alloc::Global;
 use toml::Table;
-
-/// The most columns that a job may have.
-const MOST_COLUMNS: u64 = 4_000_000;
-
-/// The most layers that roughing may take off.
-const MOST_LAYERS: i32 = 1_000;
 
 /// Whether roughing takes off more layers than it may.
 fn has_many_layers(job: &Job) -> bool
@@ -33,7 +29,7 @@ fn has_many_layers(job: &Job) -> bool
     ensures value { result ≡ many_layers_in job.now }
     ensures no { result ≡ false → HasFewLayers job.now }
 {
-    0 < job.layer && MOST_LAYERS * job.layer < job.top - job.floor
+    0 < job.layer && MAX_LAYERS * job.layer < job.top - job.floor
 }
 
 /// The first relation between the values of a job that fails.
@@ -42,11 +38,11 @@ fn relation_fault(job: &Job) -> Option<JobFault>
     requires top_ok { Within MAX_TEXT_COORDINATE job.now.top }
     requires layer_ok { IsFrom (pos 0) (pos MAX_TEXT_COORDINATE) job.now.layer }
     requires area_ok { IsArea job.now.area }
-    requires pitch_ok { IsFrom (pos 1) (pos 10000) job.now.pitch }
+    requires pitch_ok { IsFrom (pos 1) MAX_DISTANCE job.now.pitch }
     ensures value { result ≡ first (relation_faults job.now) }
     ensures stock { result ≡ None → job.now.floor ≤ℤ job.now.top }
     ensures over_stock { result ≡ None → job.now.top ≤ℤ job.now.clear }
-    ensures few { result ≡ None → row_count job.now * column_count job.now ≤ 4000000 }
+    ensures few { result ≡ None → row_count job.now * column_count job.now ≤ MAX_COLUMNS }
     ensures narrow { result ≡ None → job.now.band ≤ℤ radius_of job.now.cutter }
     ensures layers { result ≡ None → HasFewLayers job.now }
 {
@@ -56,7 +52,7 @@ fn relation_fault(job: &Job) -> Option<JobFault>
     if job.clear < job.top {
         return Some(JobFault::Relation(Key::Top, Key::Clear));
     }
-    if MOST_COLUMNS < column_total(job.area, job.pitch) {
+    if MAX_COLUMNS < column_total(job.area, job.pitch) {
         return Some(JobFault::Relation(Key::Area, Key::Pitch));
     }
     if job.cutter.radius() < job.band {
@@ -84,23 +80,23 @@ fn job(table: &Table) -> Result<Job, JobFault>
     ensures in_range { IfOk result IsJob }
 {
     let shape = named_shape(table)?;
-    let radius = number(table, Key::Radius, 1, 10_000)?;
+    let radius = number(table, Key::Radius, 1, MAX_RADIUS)?;
     let rise = slope(table, Key::Rise, shape)?;
     let run = slope(table, Key::Run, shape)?;
     let floor = coordinate(table, Key::Floor)?;
     let top = coordinate(table, Key::Top)?;
     let clear = coordinate(table, Key::Clear)?;
     let area = area(table)?;
-    let (home_x, home_y) = home(table)?;
-    let pitch = number(table, Key::Pitch, 1, 10_000)?;
-    let sample = number(table, Key::Sample, 1, 10_000)?;
-    let allowance = number(table, Key::Allowance, 0, 10_000)?;
-    let band = number(table, Key::Band, 0, 10_000)?;
-    let lift = number_or(table, Key::Lift, 0, 10_000, 0)?;
-    let raster = number_or(table, Key::Raster, 1, 10_000, pitch)?;
-    let rough_raster = number_or(table, Key::RoughRaster, 1, 10_000, raster)?;
+    let home = home(table)?;
+    let pitch = number(table, Key::Pitch, 1, MAX_DISTANCE)?;
+    let sample = number(table, Key::Sample, 1, MAX_DISTANCE)?;
+    let allowance = number(table, Key::Allowance, 0, MAX_DISTANCE)?;
+    let band = number(table, Key::Band, 0, MAX_DISTANCE)?;
+    let lift = number_or(table, Key::Lift, 0, MAX_DISTANCE, 0)?;
+    let raster = number_or(table, Key::Raster, 1, MAX_DISTANCE, pitch)?;
+    let rough_raster = number_or(table, Key::RoughRaster, 1, MAX_DISTANCE, raster)?;
     let layer = number_or(table, Key::Layer, 0, GREATEST, 0)?;
-    let rough_stock = number_or(table, Key::RoughStock, 0, 10_000, 0)?;
+    let rough_stock = number_or(table, Key::RoughStock, 0, MAX_DISTANCE, 0)?;
     let snap = snap(table)?;
     let cutter = cutter(shape, radius, rise, run)?;
     let job = Job {
@@ -109,8 +105,7 @@ fn job(table: &Table) -> Result<Job, JobFault>
         top,
         clear,
         area,
-        home_x,
-        home_y,
+        home,
         pitch,
         sample,
         allowance,

@@ -1,4 +1,4 @@
-use crate::{Job, Key, Name, read_job};
+use crate::{Job, Key, Name, Place, read_job};
 use mill_base::{Box2, Cutter, Pt3};
 use mill_decimal::Snap;
 use std::alloc::Global;
@@ -46,8 +46,7 @@ const JOB: Job = Job {
         x1: 200,
         y1: 200,
     },
-    home_x: 100,
-    home_y: 90,
+    home: Place { x: 100, y: 90 },
     pitch: 100,
     sample: 50,
     allowance: 0,

@@ -10,11 +10,12 @@ ghost use Rattle.mill_job.specs.Tables.{coordinate_fault, is_coordinate, is_from
 
 use crate::fault::JobFault;
 use crate::key::Key;
+use mill_base::MAX_TEXT_COORDINATE;
 use mill_decimal::Snap;
 use toml::{Table, Value};
 
-/// The greatest magnitude of a coordinate, in units of 0.01 mm.
-pub const GREATEST: i32 = 131_071;
+/// The greatest coordinate, in units of 0.01 mm.
+pub const GREATEST: i32 = MAX_TEXT_COORDINATE as i32;
 
 /// The value at a key.
 pub fn find<'a>(table: &'a Table, key: Key) -> Option<&'a Value>

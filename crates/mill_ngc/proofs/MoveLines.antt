@@ -4,7 +4,7 @@ use Rattle.std.specs.Prelude.{ℤ, pos, negsuc, nat_abs, int_lt, nat_lt, nat_le,
 use Rattle.std.proofs.lemmas.Bool.Decides.{nat_tests}
 use Rattle.std.proofs.lemmas.List.Elements.{Contains-append_right}
 use Rattle.mill_base.specs.Numbers.{Within}
-use Rattle.mill_base.specs.declared.limits.TheConstants.{MAX_TEXT_COORDINATE}
+use Rattle.mill_base.specs.declared.limits.TheConstants.{MAX_MOVES, MAX_TEXT_COORDINATE}
 use Rattle.mill_base.specs.Ranges.{IsInTextRange, MoveInTextRange, MovesInTextRange}
 use Rattle.mill_base.specs.Motion.{Follow}
 use Rattle.mill_base.specs.declared.points.Pt3.{Pt3}
@@ -97,10 +97,10 @@ unfolding units_of
 units_of-num line (pos n) fits = rw (times_one n, not_over n fits.within, not_negative n) refl
 units_of-num line (negsuc n) fits = rw (times_one (suc n), not_over (suc n) fits.within) refl
 
-room : (moves : ℕ) → moves < 1000000 → nat_le 1000000 moves ≡ false
+room : (moves : ℕ) → moves < MAX_MOVES → nat_le MAX_MOVES moves ≡ false
 room moves few = grind (arith, nat_tests)
 
-acted-move : (here : Pt3) (mode : Mode) (positioned : Bool) (moves line : ℕ) (kind : Kind) (to : Pt3) → IsInTextRange to → moves < 1000000
+acted-move : (here : Pt3) (mode : Mode) (positioned : Bool) (moves line : ℕ) (kind : Kind) (to : Pt3) → IsInTextRange to → moves < MAX_MOVES
     → acted (going here mode positioned moves line) (move_said kind to)
     ≡ Ok (going to (On kind) true (moves + 1) line, Some (record { kind = kind; from = here; to = to }))
 unfolding acted moved target
@@ -111,7 +111,7 @@ not_long : (n : ℕ) → n ≤ 256 → nat_lt 256 n ≡ false
 not_long n short = grind (arith, nat_tests)
 
 -- behind the header, the line of a move makes this move
-after_line-move : (m : Move) (mode : Mode) (positioned : Bool) (moves number : ℕ) (line : List ℕ) → IsInTextRange m.to → moves < 1000000 → IsMoveLine m line
+after_line-move : (m : Move) (mode : Mode) (positioned : Bool) (moves number : ℕ) (line : List ℕ) → IsInTextRange m.to → moves < MAX_MOVES → IsMoveLine m line
     → after_line (going m.from mode positioned moves number) line ≡ Ok (going m.to (On m.kind) true (moves + 1) (number + 1), Some m)
 unfolding after_line after_words
 after_line-move m mode positioned moves number line fits few is_line =
@@ -130,7 +130,7 @@ read_from-end here mode true count number done = refl
 read_from-end here mode false count number done = refl
 
 read_from-move : (m : Move) (here : Pt3) (mode : Mode) (positioned : Bool) (count number : ℕ) (done : List Move) (line : List ℕ) (lines : List (List ℕ))
-    → m.from ≡ here → IsInTextRange m.to → count < 1000000 → IsMoveLine m line
+    → m.from ≡ here → IsInTextRange m.to → count < MAX_MOVES → IsMoveLine m line
     → read_from (going here mode positioned count number) done (line ∷ lines) ≡ read_from (going m.to (On m.kind) true (count + 1) (number + 1)) (done ++ m ∷ []) lines
 unfolding read_from
 read_from-move m here mode positioned count number done line lines follow fits few is_line =
@@ -138,7 +138,7 @@ read_from-move m here mode positioned count number done line lines follow fits f
 
 read_from-moves : (line : Move → List ℕ) → ((m : Move) → MoveInTextRange m → IsMoveLine m (line m))
     → (moves : List Move) (here : Pt3) (mode : Mode) (positioned : Bool) (count number : ℕ) (done : List Move)
-    → Follow here moves → MovesInTextRange moves → count + length moves ≤ 1000000
+    → Follow here moves → MovesInTextRange moves → count + length moves ≤ MAX_MOVES
     → read_from (going here mode positioned count number) done (map line moves ++ end_lines) ≡ Ok (done ++ moves)
 read_from-moves line is_line [] here mode positioned count number done follow fits few = read_from-end here mode positioned count number done
 read_from-moves line is_line (m ∷ moves) here mode positioned count number done follow fits few =
@@ -154,7 +154,7 @@ read_from-header start lines = refl
 
 -- a program of these lines means the moves, which follow on each other from the start
 pub program_of-moves : (line : Move → List ℕ) → ((m : Move) → MoveInTextRange m → IsMoveLine m (line m))
-    → (start : Pt3) (moves : List Move) (text : List ℕ) → Follow start moves → MovesInTextRange moves → length moves ≤ 1000000
+    → (start : Pt3) (moves : List Move) (text : List ℕ) → Follow start moves → MovesInTextRange moves → length moves ≤ MAX_MOVES
     → lines_of text ≡ codes "%" ∷ codes "G17 G21 G90" ∷ (map line moves ++ end_lines) → program_of start text ≡ Ok moves
 unfolding program_of
 program_of-moves line is_line start moves text follow fits few lines =

@@ -2,6 +2,7 @@
 use Rattle.std.proofs.Common.{◌≡◌, ℕ, ◌≤◌, List, [], ◌∷◌, ◌++◌, length, Option, Some, None, Result, Ok, Err, true, false, refl, sym, ap, ◌∙◌, arith, rules, length-append, inl, inr}
 use Rattle.std.proofs.lemmas.List.Elements.{Contains-push_cases}
 use Rattle.std.specs.Prelude.{Contains, ◌⊎◌, Vec}
+use Rattle.mill_base.specs.declared.limits.TheConstants.{MAX_MOVES}
 use Rattle.std.specs.declared.alloc.Global.{Global}
 use Rattle.mill_base.specs.Motion.{Follow}
 use Rattle.mill_base.specs.Ranges.{IsInTextRange, MoveInTextRange, MovesInTextRange}
@@ -64,7 +65,7 @@ pub record SoFar (start : Pt3) (p : Progress) (moves : List Move) : Type 0 where
   pub follow : Follow start moves
   pub end : end_of start moves ≡ p.here
   pub count : length moves ≡ p.moves
-  pub few : p.moves ≤ 1000000
+  pub few : p.moves ≤ MAX_MOVES
 
 Follow-push : (at : Pt3) (moves : List Move) (m : Move) → Follow at moves → m.from ≡ end_of at moves → Follow at (moves ++ m ∷ [])
 Follow-push at [] m follow e = (e, tt)

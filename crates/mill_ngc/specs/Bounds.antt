@@ -1,5 +1,6 @@
 -- What stays true while a program is read.
 use Rattle.std.specs.Prelude.{◌≡◌, ◌+◌, ◌≤◌, Option, Some, None, IfSome}
+use Rattle.mill_base.specs.declared.limits.TheConstants.{MAX_MOVES}
 use Rattle.mill_base.specs.Ranges.{IsInTextRange}
 use Rattle.mill_base.specs.declared.motion.Move.{Move}
 use Rattle.mill_words.specs.Words.{FitsNum}
@@ -18,7 +19,7 @@ pub record MakesMove (old : Progress) (m : Move) (new : Progress) : Type 0 where
   pub to_here : m.to ≡ new.here
   pub in_range : IsInTextRange new.here
   pub one_more : new.moves ≡ old.moves + 1
-  pub few : new.moves ≤ 1000000
+  pub few : new.moves ≤ MAX_MOVES
 
 -- without a move the tool stays
 pub record MakesNone (old new : Progress) : Type 0 where

@@ -1,5 +1,6 @@
 -- What a line does that says this: its settings, and its move.
 use Rattle.std.specs.Prelude.{ℕ, ◌+◌, ℤ, Option, Some, None, unwrap_or, Result, Ok, Err, true, not, ◌||◌, nat_le, if◌then◌else◌}
+use Rattle.mill_base.specs.declared.limits.TheConstants.{MAX_MOVES}
 use Rattle.mill_base.specs.declared.points.Pt3.{Pt3}
 use Rattle.mill_base.specs.declared.motion.Kind.{Kind}
 use Rattle.mill_base.specs.declared.motion.Move.{Move}
@@ -33,7 +34,7 @@ target p s =
 -- a move to this point, unless there are 1,000,000 already
 abbrev pub moved_to : Progress → Kind → Pt3 → Result (Progress × Option Move) NgcFault
 moved_to p kind to =
-    if nat_le 1000000 p.moves then Err (fault.TooManyMoves p.line) else
+    if nat_le MAX_MOVES p.moves then Err (fault.TooManyMoves p.line) else
     Ok (record p { here = to; positioned = true; moves = p.moves + 1 }, Some (record { kind = kind; from = p.here; to = to }))
 
 abbrev pub moved_by : Mode → Progress → Said → Result (Progress × Option Move) NgcFault

@@ -12,11 +12,8 @@ use crate::numbers::units_of;
 use crate::profile::Mode;
 use crate::progress::Progress;
 use crate::said::Said;
-use mill_base::{Kind, Move, Pt3};
+use mill_base::{Kind, MAX_MOVES, Move, Pt3};
 use mill_words::Num;
-
-/// The most moves that a program has.
-pub(crate) const MOST_MOVES: u64 = 1_000_000;
 
 impl Progress {
     /// Does what the line says. The answer is its move, if it makes one.
@@ -94,7 +91,7 @@ impl Progress {
         ensures fault { IfErr result (λ f. moved_to self.old kind to ≡ Err f) }
         ensures keeps { IfOk result (λ made. Keeps self.old made self.new) }
     {
-        if self.moves >= MOST_MOVES {
+        if self.moves >= MAX_MOVES as u64 {
             return Err(NgcFault::TooManyMoves { line: self.line });
         }
         let made = Move {

@@ -6,10 +6,8 @@ ghost use Rattle.mill_base.specs.declared.limits.TheConstants.{MAX_TEXT_COORDINA
 ghost use Rattle.mill_ngc.specs.Numbers.{whole_of as whole_number_of, hundredths as hundredths_of, is_on_grid as is_on_grid_number, units_of as units_by, signed as signed_by};
 
 use crate::fault::NgcFault;
+use mill_base::MAX_TEXT_COORDINATE;
 use mill_words::Num;
-
-/// The greatest magnitude of a coordinate, in 0.01 mm.
-const GREATEST: u128 = 131_071;
 
 /// The whole number that a number is, if it is one and isn't less than 0.
 #[tactic(auto, unfolding(crate::specs::Numbers::whole_of))]
@@ -38,7 +36,7 @@ pub(crate) fn units_of(line: u64, num: Num) -> Result<i32, NgcFault>
         return Err(NgcFault::OffGrid { line });
     }
     let units = hundredths(num);
-    if units > GREATEST {
+    if units > u128::from(MAX_TEXT_COORDINATE) {
         return Err(NgcFault::OutOfRange { line });
     }
     Ok(signed(num.neg, units as u32))
@@ -73,7 +71,7 @@ fn power(scale: u8) -> u64
 }
 
 fn signed(neg: bool, units: u32) -> i32
-    requires { units ≤ 131071 }
+    requires { units ≤ MAX_TEXT_COORDINATE }
     ensures value { result ≡ signed_by neg units }
     ensures within { Within MAX_TEXT_COORDINATE result }
 {

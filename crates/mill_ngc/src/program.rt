@@ -1,4 +1,5 @@
 ghost use Rattle.std.specs.Prelude.{◌≡◌, ◌++◌, ◌≤◌, length, IfOk, OnOk, IfErr};
+ghost use Rattle.mill_base.specs.declared.limits.TheConstants.{MAX_MOVES};
 ghost use Rattle.mill_base.specs.Motion.{Follow};
 ghost use Rattle.mill_base.specs.Ranges.{IsInTextRange, MovesInTextRange};
 ghost use Rattle.mill_ngc.specs.Programs.{program_of, made_list};
@@ -8,7 +9,7 @@ ghost use Rattle.mill_ngc.specs.declared.fault.NgcFault.TheVariants as faults;
 use crate::fault::NgcFault;
 use crate::lines::split_line;
 use crate::reader::Reader;
-use mill_base::{Move, Pt3};
+use mill_base::{MAX_MOVES, Move, Pt3};
 use std::alloc::Global;
 
 /// Reads a program text as moves, the first of which begins at `start`.
@@ -29,7 +30,7 @@ pub fn read_program(alloc: Global, text: &[u8], start: Pt3) -> Result<Vec<Move>,
     ensures reads { Reads (program_of start text.now) result }
     ensures in_range { IfOk result (λ moves. MovesInTextRange moves.items) }
     ensures follow { IfOk result (λ moves. Follow start moves.items) }
-    ensures few { IfOk result (λ moves. length moves.items ≤ 1000000) }
+    ensures few { IfOk result (λ moves. length moves.items ≤ MAX_MOVES) }
 {
     let mut moves = Vec::with_capacity(alloc, room_for(text))?;
     let mut reader = Reader::new(start);
@@ -63,12 +64,9 @@ fn add(moves: &mut Vec<Move>, made: Option<Move>) -> Result<(), NgcFault>
     Ok(())
 }
 
-/// The most moves that memory is taken for beforehand.
-const MOST_MOVES: usize = 1_000_000;
-
 // How many moves to take memory for: nearly each ends with a line feed.
 fn room_for(text: &[u8]) -> usize
-    ensures { result ≤ 1000000 }
+    ensures { result ≤ MAX_MOVES }
 {
-    text.iter().filter(|b| **b == b'\n').count().min(MOST_MOVES)
+    text.iter().filter(|b| **b == b'\n').count().min(MAX_MOVES)
 }

@@ -2,7 +2,7 @@
 use Rattle.std.specs.Prelude.{◌≡◌, ℕ, ◌+◌, ◌*◌, ◌≤◌, ◌<◌, ℤ, List, [], length, drop, Option, Some, None, IfSome, Result, Ok, Err, false, slice_index}
 use Rattle.std.specs.List.{All}
 use Rattle.mill_base.specs.Numbers.{Within}
-use Rattle.mill_base.specs.declared.limits.TheConstants.{MAX_TEXT_COORDINATE}
+use Rattle.mill_base.specs.declared.limits.TheConstants.{MAX_TEXT_COORDINATE, MAX_TRIANGLES}
 use Rattle.mill_base.specs.Ranges.{TriInTextRange}
 use Rattle.mill_base.specs.declared.points.Tri.{Tri}
 use Rattle.mill_decimal.specs.declared.snap.Snap.{Snap}
@@ -24,13 +24,13 @@ coords_before _ = 0
 
 -- the stage's number is one of its few, and within a facet there is room for it
 abbrev pub HasRoom : Stage → ℕ → Type 0
-HasRoom stage.Solid facets = facets ≤ 200000
-HasRoom stage.SolidOrEnd facets = facets ≤ 200000
-HasRoom stage.FacetOrEnd facets = facets ≤ 200000
-HasRoom (stage.Ignored n) facets = (facets < 200000) × (n ≤ 2)
-HasRoom (stage.Vertex n) facets = (facets < 200000) × (n ≤ 6)
-HasRoom (stage.Coord n) facets = (facets < 200000) × (n ≤ 8)
-HasRoom _ facets = facets < 200000
+HasRoom stage.Solid facets = facets ≤ MAX_TRIANGLES
+HasRoom stage.SolidOrEnd facets = facets ≤ MAX_TRIANGLES
+HasRoom stage.FacetOrEnd facets = facets ≤ MAX_TRIANGLES
+HasRoom (stage.Ignored n) facets = (facets < MAX_TRIANGLES) × (n ≤ 2)
+HasRoom (stage.Vertex n) facets = (facets < MAX_TRIANGLES) × (n ≤ 6)
+HasRoom (stage.Coord n) facets = (facets < MAX_TRIANGLES) × (n ≤ 8)
+HasRoom _ facets = facets < MAX_TRIANGLES
 
 -- and no more coordinates were rounded than there were
 pub record FitsStage (s : Stage) (facets rounded : ℕ) : Type 0 where

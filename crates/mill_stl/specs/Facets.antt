@@ -1,5 +1,6 @@
 -- The words of a part text: what each has to be, and what it does.
 use Rattle.std.specs.Prelude.{ℕ, ◌+◌, ℤ, pos, List, Option, Some, None, Result, Ok, Err, Bool, ◌==◌, nat_lt, nat_le, if◌then◌else◌, slice_index_or, set, codes}
+use Rattle.mill_base.specs.declared.limits.TheConstants.{MAX_TRIANGLES}
 use Rattle.std.specs.Str.{str_eq_ignore_ascii_case}
 use Rattle.mill_base.specs.declared.points.Pt3.{Pt3}
 use Rattle.mill_base.specs.declared.points.Tri.{Tri}
@@ -43,7 +44,7 @@ after_solid p line word expected =
 
 -- a facet begins; the 200,001st is one too many
 abbrev pub begun_facet : Progress → ℕ → Result Step StlFault
-begun_facet p line = if nat_le 200000 p.facets then Err (TooManyTriangles line) else Ok (moved_to p stage.Normal)
+begun_facet p line = if nat_le MAX_TRIANGLES p.facets then Err (TooManyTriangles line) else Ok (moved_to p stage.Normal)
 
 -- the solid has one more facet or ends
 abbrev pub after_facet_or_end : Progress → ℕ → List ℕ → Result Step StlFault

@@ -2,18 +2,15 @@
 
 ghost use Rattle.std.specs.Prelude.{◌≡◌, ◌+◌, ◌*◌, ◌^◌, ◌≤◌, ◌<◌, IfOk, IsTrue, ℕ};
 ghost use Rattle.mill_base.specs.Numbers.{Within};
-ghost use Rattle.mill_base.specs.declared.limits.TheConstants.{MAX_TEXT_COORDINATE};
+ghost use Rattle.mill_base.specs.declared.limits.TheConstants.{MAX_TEXT_COORDINATE, MAX_TRIANGLES};
 ghost use Rattle.mill_base.specs.Ranges.{TriInTextRange};
 ghost use Rattle.mill_stl.specs.Facets.{is_keyword as is_keyword_of, moved_to, with_name, after_keyword, after_solid, begun_facet, after_facet_or_end, stage_after_ignored as stage_after_ignored_of, stage_after_coord as stage_after_coord_of, rounded_after as rounded_after_of, with_coord, after_coord, tri_of as tri_of_coords, after_end_facet, at_stage as at_stage_of, after_word};
 ghost use Rattle.mill_stl.specs.Bounds.{FitsStage, CoordsInRange, Fits, IsStep, stepped, Does};
 
 use crate::fault::{StlFault, What};
 use crate::state::{Progress, Stage};
-use mill_base::{Pt3, Tri};
+use mill_base::{MAX_TRIANGLES, Pt3, Tri};
 use mill_decimal::{Reading, Snap, read_with_rounding};
-
-/// The most triangles of a part.
-const MOST_TRIANGLES: u64 = 200_000;
 
 // Most files spell a keyword as the form does, so that comparison is tried first.
 fn is_keyword(word: &[u8], keyword: &[u8]) -> bool
@@ -104,7 +101,7 @@ fn begin_facet(progress: &mut Progress, line: u64) -> Result<Option<Tri>, StlFau
     ensures value { Does progress.new result (begun_facet progress.old line) }
     ensures step { IfOk result (λ tri. IsStep progress.old (stepped progress.new tri)) }
 {
-    if progress.facets >= MOST_TRIANGLES {
+    if progress.facets >= MAX_TRIANGLES as u64 {
         return Err(StlFault::TooManyTriangles { line });
     }
     move_to(progress, Stage::Normal);
@@ -133,7 +130,7 @@ fn facet_or_end(progress: &mut Progress, line: u64, word: &[u8]) -> Result<Optio
 fn stage_after_ignored(number: u8) -> Stage
     requires { number ≤ 2 }
     ensures value { result ≡ stage_after_ignored_of number }
-    ensures fits { (facets rounded : ℕ) → facets < 200000 → rounded ≤ 9 * facets
+    ensures fits { (facets rounded : ℕ) → facets < MAX_TRIANGLES → rounded ≤ 9 * facets
         → FitsStage result facets rounded }
 {
     if number < 2 {
@@ -145,7 +142,7 @@ fn stage_after_ignored(number: u8) -> Stage
 fn stage_after_coord(number: u8) -> Stage
     requires { number ≤ 8 }
     ensures value { result ≡ stage_after_coord_of number }
-    ensures fits { (facets rounded : ℕ) → facets < 200000 → rounded ≤ 9 * facets + number + 1
+    ensures fits { (facets rounded : ℕ) → facets < MAX_TRIANGLES → rounded ≤ 9 * facets + number + 1
         → FitsStage result facets rounded }
 {
     if number == 2 {

@@ -1,6 +1,7 @@
 //! Reads a whole part text.
 
 ghost use Rattle.std.specs.Prelude.{◌≡◌, ◌≤◌, ◌<◌, ◌*◌, [], length, IfOk, OnOk, IfErr, Ok};
+ghost use Rattle.mill_base.specs.declared.limits.TheConstants.{MAX_TRIANGLES};
 ghost use Rattle.mill_base.specs.Ranges.{TrisInTextRange};
 ghost use Rattle.mill_stl.specs.Parts.{is_end as is_end_stage, start, reached_at, with_tri, with_word, whole_part, part_of, Fails, Gives};
 ghost use Rattle.mill_stl.specs.Bounds.{IsSound, IsBeforeWord, meaning_from};
@@ -106,7 +107,7 @@ fn end_text(line: u64, progress: Progress, tris: Vec<Tri>) -> Result<StlRead, St
     requires { IsSound progress tris.items }
     ensures gives { Gives result (whole_part line (reached_at progress tris.items)) }
     ensures in_range { IfOk result (λ read. TrisInTextRange read.tris.items) }
-    ensures few { IfOk result (λ read. length read.tris.items ≤ 200000) }
+    ensures few { IfOk result (λ read. length read.tris.items ≤ MAX_TRIANGLES) }
     ensures few_rounded { IfOk result (λ read. read.rounded ≤ 9 * length read.tris.items) }
 {
     if !is_end(progress.stage) {
@@ -131,7 +132,7 @@ fn end_text(line: u64, progress: Progress, tris: Vec<Tri>) -> Result<StlRead, St
 pub fn read_stl(alloc: Global, text: &[u8], snap: Snap) -> Result<StlRead, StlFault>
     ensures gives { Gives result (part_of snap text.now) }
     ensures in_range { IfOk result (λ read. TrisInTextRange read.tris.items) }
-    ensures few { IfOk result (λ read. length read.tris.items ≤ 200000) }
+    ensures few { IfOk result (λ read. length read.tris.items ≤ MAX_TRIANGLES) }
     ensures few_rounded { IfOk result (λ read. read.rounded ≤ 9 * length read.tris.items) }
 {
     let mut tris = Vec::new(alloc);

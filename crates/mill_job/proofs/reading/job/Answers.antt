@@ -42,8 +42,7 @@ returns-clause-value c =
     let top : to_z w32 (of_z w32 c.in_ok-top.top) ≡ number_at key.Top ms = stored_coordinate c.in_ok-top.ensures.in_range ∙ c.in_ok-top.ensures.ok.1 in
     let clear : to_z w32 (of_z w32 c.in_ok-clear.clear) ≡ number_at key.Clear ms = stored_coordinate c.in_ok-clear.ensures.in_range ∙ c.in_ok-clear.ensures.ok.1 in
     let area : c.in_ok-area.area ≡ area_of (numbers_at key.Area ms) = c.in_ok-area.ensures.ok.1 in
-    let home_x : to_z w32 (of_z w32 c.in_ok-home_x.home_x) ≡ (place_of (numbers_at key.Home ms)).0 = stored_coordinate c.in_ok-home_x.ensures.in_range.0 ∙ ap (λ (at : ℤ × ℤ). at.0) c.in_ok-home_x.ensures.ok.1 in
-    let home_y : to_z w32 (of_z w32 c.in_ok-home_x.home_y) ≡ (place_of (numbers_at key.Home ms)).1 = stored_coordinate c.in_ok-home_x.ensures.in_range.1 ∙ ap (λ (at : ℤ × ℤ). at.1) c.in_ok-home_x.ensures.ok.1 in
+    let home : c.in_ok-home.home ≡ place_of (numbers_at key.Home ms) = c.in_ok-home.ensures.ok.1 in
     let pitch : to_z w32 (of_z w32 c.in_ok-pitch.pitch) ≡ number_at key.Pitch ms = stored_number c.in_ok-pitch.ensures.in_range (record { le = tt }) (record { le = tt }) ∙ c.in_ok-pitch.ensures.ok.1 in
     let sample : to_z w32 (of_z w32 c.in_ok-sample.sample) ≡ number_at key.Sample ms = stored_number c.in_ok-sample.ensures.in_range (record { le = tt }) (record { le = tt }) ∙ c.in_ok-sample.ensures.ok.1 in
     let allowance : to_z w32 (of_z w32 c.in_ok-allowance.allowance) ≡ number_at key.Allowance ms = stored_number c.in_ok-allowance.ensures.in_range (record { le = tt }) (record { le = tt }) ∙ c.in_ok-allowance.ensures.ok.1 in
@@ -59,7 +58,7 @@ returns-clause-value c =
     let keys : first (key_faults ms) ≡ None = search rules in
     let rest : first (key_faults ms ++ cutter_faults ms ++ relation_faults (job_from ms)) ≡ first (relation_faults (job_from ms)) = first-append (key_faults ms) (cutter_faults ms ++ relation_faults (job_from ms)) keys ∙ first-append (cutter_faults ms) (relation_faults (job_from ms)) slope in
     let same = ap (λ (fault : Option JobFault). checked fault (job_from ms)) (sym rest) in
-    c.unless.ensures ∙ rw (c.relation_fault.ensures.value, cutter, floor, top, clear, area, home_x, home_y, pitch, sample, allowance, band, lift, raster, rough_raster, layer, rough_stock, snap) same
+    c.unless.ensures ∙ rw (c.relation_fault.ensures.value, cutter, floor, top, clear, area, home, pitch, sample, allowance, band, lift, raster, rough_raster, layer, rough_stock, snap) same
 
 pub returns-clause-in_range : goal.returns-clause-in_range
 returns-clause-in_range c = rw c.unless.ensures (if_ok c.relation_fault.result _ IsJob (λ none. record {
@@ -71,8 +70,7 @@ returns-clause-in_range c = rw c.unless.ensures (if_ok c.relation_fault.result _
   y0_ok = c.in_ok-area.ensures.in_range.y0_ok;
   x1_ok = c.in_ok-area.ensures.in_range.x1_ok;
   y1_ok = c.in_ok-area.ensures.in_range.y1_ok;
-  home_x_ok = record { within = omega (arith, ints, c.in_ok-home_x.ensures.in_range) };
-  home_y_ok = record { within = omega (arith, ints, c.in_ok-home_x.ensures.in_range) };
+  home_ok = c.in_ok-home.ensures.in_range;
   pitch_ok = record { low = omega (arith, ints, c.in_ok-pitch.ensures.in_range); high = omega (arith, ints, c.in_ok-pitch.ensures.in_range) };
   sample_ok = record { low = omega (arith, ints, c.in_ok-sample.ensures.in_range); high = omega (arith, ints, c.in_ok-sample.ensures.in_range) };
   allowance_ok = record { low = omega (arith, ints, c.in_ok-allowance.ensures.in_range); high = omega (arith, ints, c.in_ok-allowance.ensures.in_range) };
