@@ -2,6 +2,7 @@ ghost use Rattle.std.specs.Prelude.{◌≡◌, pos, false, IsTrue};
 ghost use Rattle.mill_base.specs.Ranges.{TriInTextRange};
 ghost use Rattle.mill_base.specs.Contact.{Touches};
 ghost use Rattle.mill_base.specs.Sizes.{HasRadius, IsSlope, IsWideCutter};
+ghost use Rattle.mill_base.specs.declared.limits.TheConstants.{MAX_WIDE_RADIUS};
 ghost use Rattle.mill_base.specs.declared.cutter.Cutter.TheVariants.{Cone as ConeCutter};
 ghost use Rattle.mill_geom.specs.Offsets.{IsCentre};
 ghost use Rattle.mill_geom.specs.Sides.{IsTouch, along};
@@ -115,7 +116,7 @@ fn touch_cone(tri: &Tri, cone: Cone, tip: Pt3, axis: Axis) -> Touch
 
 /// The numbers of a cone cutter.
 fn cone_of(radius: i32, rise: i32, run: i32) -> Cone
-    requires radius_ok { HasRadius radius (pos 11024) }
+    requires radius_ok { HasRadius radius MAX_WIDE_RADIUS }
     requires slope_ok { IsSlope rise run }
     ensures radius { result.radius ≡ radius }
     ensures rise { result.rise ≡ rise }

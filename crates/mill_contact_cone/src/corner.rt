@@ -1,7 +1,8 @@
-ghost use Rattle.std.specs.Prelude.{◌≡◌, ◌^◌, ◌-ℤ◌};
+ghost use Rattle.std.specs.Prelude.{◌≡◌, ◌-ℤ◌};
 ghost use Rattle.mill_base.specs.Numbers.{Within};
 ghost use Rattle.mill_base.specs.Ranges.{IsInTextRange};
-ghost use Rattle.mill_geom.specs.Offsets.{OffsetInRange, IsCentre, farthest};
+ghost use Rattle.mill_geom.specs.Offsets.{OffsetInRange, IsCentre};
+ghost use Rattle.mill_contact_cone.specs.Widths.{farthest, most_over};
 ghost use Rattle.mill_contact_cone.specs.Cones.{IsCone, over_of, IsCornerOf, plain, CornerInRange};
 ghost use Rattle.mill_contact_cone.specs.Positions.{IsAlong};
 
@@ -31,7 +32,7 @@ fn over(z: i64, cone: Cone) -> i64
     requires z_ok { Within farthest z }
     requires cone_ok { IsCone cone }
     ensures value { result ≡ over_of cone z }
-    ensures bound { Within (2 ^ 26) result }
+    ensures bound { Within most_over result }
 {
     cone.run * z - cone.rise * cone.radius
 }
