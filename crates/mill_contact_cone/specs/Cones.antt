@@ -8,7 +8,8 @@ use Rattle.mill_base.specs.declared.cutter.Cutter.{Cutter}
 use Rattle.mill_base.specs.declared.cutter.Cutter.TheVariants.{Flat, Ball, Cone as ConeCutter}
 use Rattle.mill_geom.specs.declared.offset.Offset.{Offset}
 use Rattle.mill_geom.specs.Offsets.{mean2, mean3}
-use Rattle.mill_contact_cone.specs.Widths.{farthest, most_over}
+use Rattle.mill_geom.specs.Widths.{farthest}
+use Rattle.mill_contact_cone.specs.Widths.{most_over}
 use Rattle.mill_contact_cone.specs.declared.corner.Cone.{Cone}
 use Rattle.mill_contact_cone.specs.declared.corner.Corner.{Corner}
 

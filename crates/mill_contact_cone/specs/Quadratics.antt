@@ -1,7 +1,7 @@
 -- The forms that decide whether a segment comes into the cone cutter, and the part of the segment on which each decides.
 use Rattle.std.specs.Prelude.{◌≡◌, ◌⊎◌, ℤ, pos, ◌+ℤ◌, ◌-ℤ◌, ◌*ℤ◌, ◌<ℤ◌, ◌≤ℤ◌}
 use Rattle.mill_base.specs.Numbers.{Within}
-use Rattle.mill_contact_cone.specs.Widths.{most_over, most_form}
+use Rattle.mill_contact_cone.specs.Widths.{most_over, most_cone_form}
 use Rattle.mill_contact_cone.specs.declared.corner.Cone.{Cone}
 use Rattle.mill_contact_cone.specs.declared.corner.Corner.{Corner}
 use Rattle.mill_contact_cone.specs.declared.quadratic.Form.{Form}
@@ -9,9 +9,9 @@ use Rattle.mill_contact_cone.specs.declared.quadratic.Blend.{Blend}
 
 -- the three numbers of a form are small
 pub record FormInRange (f : Form) : Type 0 where
-  pub a_ok : Within most_form f.a
-  pub h_ok : Within most_form f.h
-  pub b_ok : Within most_form f.b
+  pub a_ok : Within most_cone_form f.a
+  pub h_ok : Within most_cone_form f.h
+  pub b_ok : Within most_cone_form f.b
 
 -- the weights of a blend are small, and not negative
 pub record BlendInRange (p : Blend) : Type 0 where

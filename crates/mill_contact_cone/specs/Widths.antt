@@ -1,18 +1,6 @@
 -- The greatest magnitudes of the numbers that the tests compute with, each from those that it is made of.
-use Rattle.std.specs.Prelude.{ℕ, ◌+◌, ◌*◌, nat_abs}
-use Rattle.mill_base.specs.declared.limits.TheConstants.{MAX_COORDINATE, LOWEST_TIP, MAX_WIDE_RADIUS}
-
-abbrev pub farthest : ℕ
-farthest = MAX_COORDINATE + nat_abs LOWEST_TIP
-
-abbrev pub widest : ℕ
-widest = nat_abs MAX_WIDE_RADIUS
-
-abbrev pub most_area : ℕ
-most_area = 2 * (farthest * farthest)
-
-abbrev pub most_fall : ℕ
-most_fall = 2 * farthest
+use Rattle.std.specs.Prelude.{ℕ, ◌+◌, ◌*◌}
+use Rattle.mill_geom.specs.Widths.{farthest, widest, most_area, most_fall}
 
 -- of a cone's rise and of its run
 abbrev pub steepest : ℕ
@@ -31,17 +19,17 @@ abbrev pub most_steep : ℕ
 most_steep = steepest * steepest * most_area
 
 -- of a form of two corners: less than 2^55
-abbrev pub most_form : ℕ
-most_form = most_steep + steepest * steepest * (farthest * farthest)
+abbrev pub most_cone_form : ℕ
+most_cone_form = most_steep + steepest * steepest * (farthest * farthest)
 
 -- of a form of two points of edges: a sum of four products of a form and two weights, each at most a corner's number: less than 2^111
-abbrev pub most_mixed_form : ℕ
-most_mixed_form = 4 * (most_over * most_over * most_form)
+abbrev pub most_cone_mixed_form : ℕ
+most_cone_mixed_form = 4 * (most_over * most_over * most_cone_form)
 
 -- of how steep a plane is: a sum of three products of a corner's number and a fall: less than 2^50
-abbrev pub most_slope : ℕ
-most_slope = 3 * (most_over * most_fall)
+abbrev pub most_lifted_slope : ℕ
+most_lifted_slope = 3 * (most_over * most_fall)
 
 -- of six times a volume: a sum of three products of an area and a corner's number: less than 2^70
-abbrev pub most_volume : ℕ
-most_volume = 3 * (most_area * most_over)
+abbrev pub most_lifted_volume : ℕ
+most_lifted_volume = 3 * (most_area * most_over)

@@ -1,6 +1,7 @@
 ghost use Rattle.std.specs.Prelude.{◌≡◌, ◌*◌, ◌*ℤ◌, false, IsTrue};
 ghost use Rattle.mill_base.specs.Numbers.{Within};
-ghost use Rattle.mill_contact_cone.specs.Widths.{farthest, widest, most_area, most_steep};
+ghost use Rattle.mill_geom.specs.Widths.{farthest, widest, most_area};
+ghost use Rattle.mill_contact_cone.specs.Widths.{most_steep};
 ghost use Rattle.mill_contact_cone.specs.Cones.{IsCone, CornerInRange, TouchesCone};
 ghost use Rattle.mill_contact_cone.specs.Clears.{apart_of, across_of, upward_of, HoldsCorner};
 

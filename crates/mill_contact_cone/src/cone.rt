@@ -1,5 +1,5 @@
 ghost use Rattle.std.specs.Prelude.{◌≡◌, pos, false, IsTrue};
-ghost use Rattle.mill_base.specs.Ranges.{TriInTextRange};
+ghost use Rattle.mill_base.specs.Ranges.{TriInRange};
 ghost use Rattle.mill_base.specs.Contact.{Touches};
 ghost use Rattle.mill_base.specs.Sizes.{HasRadius, IsSlope, IsWideCutter};
 ghost use Rattle.mill_base.specs.declared.limits.TheConstants.{MAX_WIDE_RADIUS};
@@ -103,7 +103,7 @@ fn touch_along_x(a: Corner, b: Corner, c: Corner, cone: Cone) -> Touch
 
 /// How the triangle lies to the cone cutter with its tip at `tip`, for positions along `axis`.
 fn touch_cone(tri: &Tri, cone: Cone, tip: Pt3, axis: Axis) -> Touch
-    requires tri_ok { TriInTextRange tri.now }
+    requires tri_ok { TriInRange tri.now }
     requires cone_ok { IsCone cone }
     requires tip_ok { IsCentre tip }
     ensures { IsTouch result (λ t. Touches (ConeCutter cone.radius cone.rise cone.run) (pos 1) (along axis tip t) tri.now) }
@@ -132,7 +132,7 @@ fn cone_of(radius: i32, rise: i32, run: i32) -> Cone
 
 /// Whether some point of the triangle is strictly inside the cone cutter with its tip at `tip`.
 fn is_inside_cone(tri: &Tri, cone: Cone, tip: Pt3) -> bool
-    requires tri_ok { TriInTextRange tri.now }
+    requires tri_ok { TriInRange tri.now }
     requires cone_ok { IsCone cone }
     requires tip_ok { IsCentre tip }
     ensures yes { IsTrue result → Touches (ConeCutter cone.radius cone.rise cone.run) (pos 1) tip tri.now }
@@ -150,7 +150,7 @@ fn is_inside_cone(tri: &Tri, cone: Cone, tip: Pt3) -> bool
 /// 64-bit operations answer for a triangle whose box is clear of the cutter, and for one of which a
 /// corner is inside.
 pub fn is_inside(tri: &Tri, cutter: Cutter, tip: Pt3) -> bool
-    requires tri_ok { TriInTextRange tri.now }
+    requires tri_ok { TriInRange tri.now }
     requires cutter_ok { IsWideCutter cutter }
     requires shape_ok { IsConical cutter }
     requires tip_ok { IsCentre tip }
@@ -171,7 +171,7 @@ pub fn is_inside(tri: &Tri, cutter: Cutter, tip: Pt3) -> bool
 ///
 /// The cutter is a cone. Lengths are in units of 0.01 mm. Corners may be equal or collinear.
 pub fn touch(tri: &Tri, cutter: Cutter, tip: Pt3, axis: Axis) -> Touch
-    requires tri_ok { TriInTextRange tri.now }
+    requires tri_ok { TriInRange tri.now }
     requires cutter_ok { IsWideCutter cutter }
     requires shape_ok { IsConical cutter }
     requires tip_ok { IsCentre tip }

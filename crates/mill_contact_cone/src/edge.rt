@@ -1,6 +1,6 @@
 ghost use Rattle.std.specs.Prelude.{◌≡◌, ◌⊎◌, ◌<ℤ◌, ◌≤ℤ◌, pos, false, IsTrue};
 ghost use Rattle.mill_base.specs.Numbers.{Within};
-ghost use Rattle.mill_contact_cone.specs.Widths.{most_over, most_form};
+ghost use Rattle.mill_contact_cone.specs.Widths.{most_over, most_cone_form};
 ghost use Rattle.mill_contact_cone.specs.Cones.{IsCone, IsCornerOf, CornerInRange, TouchesEdge, HitsUpper, HitsLower};
 ghost use Rattle.mill_contact_cone.specs.Quadratics.{FormInRange, BlendInRange, IsUpperForm, IsLowerForm, upper_of, lower_of, IsStart};
 
@@ -13,7 +13,7 @@ pub fn upper_product(p: Corner, q: Corner, cone: Cone) -> i64
     requires q_ok { CornerInRange q }
     requires cone_ok { IsCone cone }
     ensures value { result ≡ upper_of cone p q }
-    ensures bound { Within most_form result }
+    ensures bound { Within most_cone_form result }
 {
     p.x * q.x + p.y * q.y - cone.radius * cone.radius
 }
@@ -25,7 +25,7 @@ fn lower_product(p: Corner, q: Corner, cone: Cone) -> i64
     requires q_ok { CornerInRange q }
     requires cone_ok { IsCone cone }
     ensures value { result ≡ lower_of cone p q }
-    ensures bound { Within most_form result }
+    ensures bound { Within most_cone_form result }
 {
     let across = p.x * q.x + p.y * q.y;
     cone.rise * cone.rise * across - cone.run * cone.run * (p.z * q.z)

@@ -2,7 +2,7 @@ ghost use Rattle.std.specs.Prelude.{◌≡◌, ◌<ℤ◌, pos, false, IsTrue};
 ghost use Rattle.mill_base.specs.Numbers.{Within};
 ghost use Rattle.mill_geom.specs.Forms.{level_form_of, mixed_form_of, IsAlone, IsOver};
 ghost use Rattle.mill_geom.specs.Contacts.{TouchesTriangle, OnLevel, EdgesClear};
-ghost use Rattle.mill_contact_cone.specs.Widths.{most_over, most_form, most_mixed_form};
+ghost use Rattle.mill_contact_cone.specs.Widths.{most_over, most_cone_form, most_cone_mixed_form};
 ghost use Rattle.mill_contact_cone.specs.Cones.{IsCone, CornerInRange, lifted};
 
 use crate::corner::{Cone, Corner};
@@ -36,15 +36,15 @@ fn is_alone(p: Corner, q: Corner, s: Corner) -> bool
 /// The form of the two points in which the edges from `p` come to that height, from the forms and
 /// heights of the corners.
 fn mixed_form(pp: i64, pq: i64, ps: i64, qs: i64, p: i64, q: i64, s: i64) -> i128
-    requires pp_ok { Within most_form pp }
-    requires pq_ok { Within most_form pq }
-    requires ps_ok { Within most_form ps }
-    requires qs_ok { Within most_form qs }
+    requires pp_ok { Within most_cone_form pp }
+    requires pq_ok { Within most_cone_form pq }
+    requires ps_ok { Within most_cone_form ps }
+    requires qs_ok { Within most_cone_form qs }
     requires p_ok { Within most_over p }
     requires q_ok { Within most_over q }
     requires s_ok { Within most_over s }
     ensures value { result ≡ mixed_form_of pp pq ps qs p q s }
-    ensures bound { Within most_mixed_form result }
+    ensures bound { Within most_cone_mixed_form result }
 {
     let first = (p * p) as i128 * qs as i128;
     let second = (p * s) as i128 * pq as i128;
@@ -60,7 +60,7 @@ fn level_form(p: Corner, q: Corner, s: Corner, cone: Cone) -> i128
     requires s_ok { CornerInRange s }
     requires cone_ok { IsCone cone }
     ensures value { result ≡ level_form_of cone.radius (lifted p) (lifted q) (lifted s) }
-    ensures bound { Within most_mixed_form result }
+    ensures bound { Within most_cone_mixed_form result }
 {
     let pp = upper_product(p, p, cone);
     let pq = upper_product(p, q, cone);

@@ -2,7 +2,8 @@ ghost use Rattle.std.specs.Prelude.{◌≡◌, ◌↔◌, ◌+ℤ◌, ◌-ℤ◌
 ghost use Rattle.mill_base.specs.Numbers.{Within};
 ghost use Rattle.mill_geom.specs.Forms.{cross_of, AllUp, AllDown, IsPierced, IsLineNear};
 ghost use Rattle.mill_contact_cone.specs.declared.plane.TheConstants.{FAR_VOLUME};
-ghost use Rattle.mill_contact_cone.specs.Widths.{farthest, widest, most_area, most_over, most_slope, most_volume};
+ghost use Rattle.mill_geom.specs.Widths.{farthest, widest, most_area};
+ghost use Rattle.mill_contact_cone.specs.Widths.{most_over, most_lifted_slope, most_lifted_volume};
 ghost use Rattle.mill_contact_cone.specs.Cones.{CornerInRange, plain, lifted};
 
 use crate::corner::Corner;
@@ -26,7 +27,7 @@ fn weighted(i: i64, j: i64, k: i64, x: i64, y: i64, z: i64) -> i128
     requires y_ok { Within most_over y }
     requires z_ok { Within most_over z }
     ensures value { result ≡ (i *ℤ x +ℤ j *ℤ y) +ℤ k *ℤ z }
-    ensures bound { Within most_volume result }
+    ensures bound { Within most_lifted_volume result }
 {
     i as i128 * x as i128 + j as i128 * y as i128 + k as i128 * z as i128
 }
@@ -41,7 +42,7 @@ fn slope(p: i64, q: i64, s: i64, x: i64, y: i64, z: i64) -> i64
     requires y_ok { Within farthest y }
     requires z_ok { Within farthest z }
     ensures value { result ≡ (p *ℤ (z -ℤ y) +ℤ q *ℤ (x -ℤ z)) +ℤ s *ℤ (y -ℤ x) }
-    ensures bound { Within most_slope result }
+    ensures bound { Within most_lifted_slope result }
 {
     p * (z - y) + q * (x - z) + s * (y - x)
 }
@@ -53,8 +54,8 @@ const FAR_VOLUME: u128 = 12_000_000_000_000_000_000;
 /// slopes.
 fn is_less(volume: i128, x: i64, y: i64, radius: i64) -> bool
     requires volume_ok { Within FAR_VOLUME volume }
-    requires x_ok { Within most_slope x }
-    requires y_ok { Within most_slope y }
+    requires x_ok { Within most_lifted_slope x }
+    requires y_ok { Within most_lifted_slope y }
     requires r_ok { Within widest radius }
     ensures { IsTrue result ↔ ((volume *ℤ volume) <ℤ ((radius *ℤ radius) *ℤ (x *ℤ x +ℤ y *ℤ y))) }
 {
@@ -67,9 +68,9 @@ fn is_less(volume: i128, x: i64, y: i64, radius: i64) -> bool
 /// Whether a line whose plane has these slopes and this volume is nearer to the axis than the
 /// radius. Volumes whose square may not fit are far too great.
 fn is_near(volume: i128, x: i64, y: i64, radius: i64) -> bool
-    requires volume_ok { Within most_volume volume }
-    requires x_ok { Within most_slope x }
-    requires y_ok { Within most_slope y }
+    requires volume_ok { Within most_lifted_volume volume }
+    requires x_ok { Within most_lifted_slope x }
+    requires y_ok { Within most_lifted_slope y }
     requires r_ok { Within widest radius }
     ensures { IsTrue result ↔ ((volume *ℤ volume) <ℤ ((radius *ℤ radius) *ℤ (x *ℤ x +ℤ y *ℤ y))) }
 {
@@ -102,7 +103,7 @@ fn all_up(i: i64, j: i64, k: i64, volume: i128) -> bool
     requires i_ok { Within most_area i }
     requires j_ok { Within most_area j }
     requires k_ok { Within most_area k }
-    requires volume_ok { Within most_volume volume }
+    requires volume_ok { Within most_lifted_volume volume }
     ensures yes { IsTrue result → AllUp i j k volume }
     ensures no { result ≡ false → ¬ AllUp i j k volume }
 {
@@ -123,7 +124,7 @@ fn all_down(i: i64, j: i64, k: i64, volume: i128) -> bool
     requires i_ok { Within most_area i }
     requires j_ok { Within most_area j }
     requires k_ok { Within most_area k }
-    requires volume_ok { Within most_volume volume }
+    requires volume_ok { Within most_lifted_volume volume }
     ensures yes { IsTrue result → AllDown i j k volume }
     ensures no { result ≡ false → ¬ AllDown i j k volume }
 {

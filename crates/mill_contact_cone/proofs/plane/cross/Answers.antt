@@ -1,6 +1,6 @@
 use Rattle.std.proofs.Common.{ℕ, List, [], ◌∷◌, refl, w64}
 use Rattle.mill_base.proofs.Machine.{Read, Diff, Prod, exact, stays, diff_fits, prod_fits}
-use Rattle.mill_contact_cone.specs.Widths.{farthest, most_area}
+use Rattle.mill_geom.specs.Widths.{farthest, most_area}
 use Rattle.mill_contact_cone.proofs.plane.cross.Goals as goal
 
 -- how far each number is from 0

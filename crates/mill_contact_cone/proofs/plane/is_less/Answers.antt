@@ -2,12 +2,13 @@ use Rattle.std.proofs.Common.{ℕ, List, [], ◌∷◌, refl, w64}
 use mir.Syntax.{w128}
 use Rattle.mill_base.proofs.Machine.{Read, Cast, Sum, Prod, less, sum_fits, prod_fits}
 use Rattle.mill_contact_cone.specs.declared.plane.TheConstants.{FAR_VOLUME}
-use Rattle.mill_contact_cone.specs.Widths.{widest, most_slope}
+use Rattle.mill_geom.specs.Widths.{widest}
+use Rattle.mill_contact_cone.specs.Widths.{most_lifted_slope}
 use Rattle.mill_contact_cone.proofs.plane.is_less.Goals as goal
 
 -- how far each number is from 0
 bounds : List ℕ
-bounds = FAR_VOLUME ∷ most_slope ∷ most_slope ∷ widest ∷ []
+bounds = FAR_VOLUME ∷ most_lifted_slope ∷ most_lifted_slope ∷ widest ∷ []
 
 pub overflow_mul-result : goal.overflow_mul-result
 unfolding bounds
