@@ -4,6 +4,7 @@ use Rattle.std.proofs.lemmas.List.{length-take-le, take_all}
 use Rattle.std.specs.Prelude.{Option, Some, None, IfSome}
 use Rattle.std.proofs.Math.Seq.{take-add}
 use Rattle.mill_io.specs.Contents.{GivesFrom}
+use Rattle.mill_io.specs.Views.{StoreView, ReadsOnly}
 
 -- a piece of n bytes makes what was read longer by n
 pub length_more : (all buf next : List ℕ) (n : ℕ) → n ≤ length buf → next ≡ all ++ take n buf → length next ≡ length all + n
@@ -28,3 +29,11 @@ read_all (Some bytes) all buf so_far gives room = so_far ∙ take_all (length al
 -- each read but the last gave a byte at least
 pub reads_more : (before now next : ℕ) (all all' n limit : ℕ) → next ≤ now + 1 → all' ≡ all + n → 0 < n → all ≤ limit → now ≤ before + all → (next ≤ before + all') × (next ≤ before + limit + 1)
 reads_more before now next all all' n limit more e some within so_far = (omega arith, omega arith)
+
+-- reads after reads are reads
+pub reads_on : (a b c : StoreView) → ReadsOnly a b → ReadsOnly b c → ReadsOnly a c
+reads_on a b c first next = record {
+  contents = λ name. next.contents name ∙ first.contents name;
+  tells = next.tells ∙ first.tells;
+  write_faults = next.write_faults ∙ first.write_faults;
+}

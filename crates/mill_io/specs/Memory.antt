@@ -1,8 +1,9 @@
 -- What the shelf and the sink in memory hold, and which of their calls fail.
-use Rattle.std.specs.Prelude.{◌≡◌, ℕ, ◌&&◌, ◌-◌, ◌==◌, nat_lt, List, [], ◌∷◌, length, Option, Some, None, ◌||◌, if◌then◌else◌, Bool, not, is_none}
+use Rattle.std.specs.Prelude.{◌≡◌, ℕ, ◌&&◌, ◌-◌, ◌==◌, nat_lt, List, [], ◌∷◌, length, Option, Some, None, ◌||◌, if◌then◌else◌, Bool, true, not, is_none, IsTrue}
 use Rattle.std.specs.List.{list_any}
 use Rattle.std.specs.Str.{bytes_eq}
 use Rattle.mill_io.specs.Causes.{counted}
+use Rattle.mill_io.specs.Views.{StoreView, SinkView}
 use Rattle.mill_io.specs.declared.script.Script.{Script}
 use Rattle.mill_io.specs.declared.room.Room.{Room}
 use Rattle.mill_io.specs.declared.mem_shelf.MemFile.{MemFile}
@@ -60,6 +61,21 @@ find_file name (f ∷ fs) = if bytes_eq f.name.items name then Some f.bytes.item
 -- the contents under a name: those of the written file, once told, and else of the first file of the name
 abbrev pub contents_of : MemShelf → List ℕ → Option (List ℕ)
 contents_of s name = if bytes_eq name s.out_name.items then (if s.is_told then Some s.out.bytes.items else None) else find_file name s.files.items
+
+-- what the shelf shows: it tells all its contents
+abbrev pub shelf_view : MemShelf → StoreView
+shelf_view s = record { tells = true; contents = contents_of s; read_faults = s.read_faults; write_faults = s.write_faults }
+
+-- a shelf that tells its contents, which are those of these files, and of which no call has failed
+pub record Holds (files : List MemFile) (view : StoreView) : Type 0 where
+  pub tells : IsTrue view.tells
+  pub contents : (name : List ℕ) → view.contents name ≡ find_file name files
+  pub read_faults : view.read_faults ≡ 0
+  pub write_faults : view.write_faults ≡ 0
+
+-- what the sink shows: it tells all that was written
+abbrev pub sink_view : MemSink → SinkView
+sink_view s = record { written = Some s.out.bytes.items; faults = s.faults }
 
 -- a read fails: its number is listed, or its name isn't there
 abbrev pub read_fails : MemShelf → List ℕ → Bool

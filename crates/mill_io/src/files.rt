@@ -1,4 +1,5 @@
-ghost use Rattle.std.specs.Prelude.{◌≡◌, ◌≤◌, None, false, length, IfOk};
+ghost use Rattle.std.specs.Prelude.{◌≡◌, ◌≤◌, length, IfOk};
+ghost use Rattle.mill_io.specs.Views.{untold, unwritten};
 
 use crate::{Failed, Shelf, Sink};
 use std::io::{Read, Seek, SeekFrom, Write};
@@ -21,8 +22,8 @@ pub struct FileShelf<'a, R: Files> {
 impl<'a, R: Files> FileShelf<'a, R> {
     /// The files of the system behind this runtime.
     pub fn new(rt: &'a R) -> Self
-        ensures read_faults { ⟦<FileShelf<'a, R> as Shelf>⟧.read_faults result ≡ 0 }
-        ensures write_faults { ⟦<FileShelf<'a, R> as Shelf>⟧.write_faults result ≡ 0 }
+        ensures read_faults { (⟦<FileShelf<'a, R> as Shelf>⟧.shows result).read_faults ≡ 0 }
+        ensures write_faults { (⟦<FileShelf<'a, R> as Shelf>⟧.shows result).write_faults ≡ 0 }
         ensures reads { ⟦<FileShelf<'a, R> as Shelf>⟧.reads result ≡ 0 }
     {
         FileShelf {
@@ -50,13 +51,7 @@ impl<'a, R: Files> FileShelf<'a, R> {
 }
 
 impl<'a, R: Files> Shelf for FileShelf<'a, R> {
-    ghost tells = { λ _. false };
-
-    ghost contents = { λ _ _. None };
-
-    ghost read_faults = { λ s. s.read_faults };
-
-    ghost write_faults = { λ s. s.write_faults };
+    ghost shows = { λ s. untold s.read_faults s.write_faults };
 
     ghost reads = { λ s. s.reads };
 
@@ -105,16 +100,14 @@ pub struct StdSink<'a, R: Print> {
 impl<'a, R: Print> StdSink<'a, R> {
     /// The standard output of the process behind this runtime.
     pub fn new(rt: &'a R) -> Self
-        ensures { ⟦<StdSink<'a, R> as Sink>⟧.faults result ≡ 0 }
+        ensures { (⟦<StdSink<'a, R> as Sink>⟧.shows result).faults ≡ 0 }
     {
         StdSink { rt, faults: 0 }
     }
 }
 
 impl<'a, R: Print> Sink for StdSink<'a, R> {
-    ghost written = { λ _. None };
-
-    ghost faults = { λ s. s.faults };
+    ghost shows = { λ s. unwritten s.faults };
 
     fn write(&mut self, bytes: &[u8]) -> Result<usize, Failed> {
         match io::writer(self.rt).write(bytes) {

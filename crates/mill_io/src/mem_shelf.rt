@@ -1,8 +1,9 @@
-ghost use Rattle.std.specs.Prelude.{◌≡◌, ◌+◌, ◌<◌, ◌≤◌, ℕ, List, [], Some, true, length, take, is_err, IsTrue, IfOk, IfSome, OnErr};
+ghost use Rattle.std.specs.Prelude.{◌≡◌, ◌+◌, ◌<◌, ◌≤◌, [], Some, length, take, is_err, IfOk, IfSome, OnErr};
 ghost use Rattle.std.specs.Option.{option_copied};
 ghost use Rattle.mill_io.specs.Causes.{HasCause};
-ghost use Rattle.mill_io.specs.Contents.{GivesFrom, Stay, OthersStay, Appended, AppendedPart, Emptied};
-ghost use Rattle.mill_io.specs.Memory.{IsFresh, CountsCall, contents_of, find_file, out_name_of, shelf_capacity, shelf_script, read_fails, create_fails, append_fails};
+ghost use Rattle.mill_io.specs.Contents.{GivesFrom, Appended, AppendedPart, Emptied};
+ghost use Rattle.mill_io.specs.Memory.{Holds, IsFresh, CountsCall, contents_of, find_file, out_name_of, shelf_capacity, shelf_script, shelf_view, read_fails, create_fails, append_fails};
+ghost use Rattle.mill_io.specs.Views.{ReadsOnly, WritesOnly};
 
 use crate::room::Room;
 use crate::script::Script;
@@ -46,10 +47,7 @@ impl MemShelf {
         capacity: usize,
         fails: &[u64],
     ) -> Result<MemShelf, WantOfMemory>
-        ensures tells { IfOk result (λ s. IsTrue (⟦<MemShelf as Shelf>⟧.tells s)) }
-        ensures contents { IfOk result (λ s. (name : List ℕ) → ⟦<MemShelf as Shelf>⟧.contents s name ≡ find_file name files.items) }
-        ensures read_faults { IfOk result (λ s. ⟦<MemShelf as Shelf>⟧.read_faults s ≡ 0) }
-        ensures write_faults { IfOk result (λ s. ⟦<MemShelf as Shelf>⟧.write_faults s ≡ 0) }
+        ensures shows { IfOk result (λ s. Holds files.items (⟦<MemShelf as Shelf>⟧.shows s)) }
         ensures reads { IfOk result (λ s. ⟦<MemShelf as Shelf>⟧.reads s ≡ 0) }
         ensures out { IfOk result (λ s. out_name_of s ≡ out_name.now) }
         ensures capacity { IfOk result (λ s. shelf_capacity s ≡ capacity) }
@@ -111,22 +109,16 @@ fn copy_from(bytes: &[u8], from: u64, buf: &mut [u8]) -> usize
 }
 
 impl Shelf for MemShelf {
-    ghost tells = { λ _. true };
-
-    ghost contents = { contents_of };
-
-    ghost read_faults = { λ s. s.read_faults };
-
-    ghost write_faults = { λ s. s.write_faults };
+    ghost shows = { shelf_view };
 
     ghost reads = { λ s. s.reads };
 
     fn read(&mut self, name: &str, from: u64, buf: &mut [u8]) -> Result<usize, Failed>
         ensures within { IfOk result (λ n. n ≤ length buf.new) }
-        ensures bytes { IfOk result (λ n. IfSome (contents_of self.old name.now) (λ bytes. GivesFrom bytes from n buf.new)) }
-        ensures stay { Stay (contents_of self.old) (contents_of self.new) }
+        ensures bytes { IfOk result (λ n.
+            IfSome (contents_of self.old name.now) (λ bytes. GivesFrom bytes from n buf.new)) }
+        ensures only { ReadsOnly (shelf_view self.old) (shelf_view self.new) }
         ensures cause { HasCause self.old.read_faults self.new.read_faults result }
-        ensures other_count { self.new.write_faults ≡ self.old.write_faults }
         ensures counted { self.new.reads ≤ self.old.reads + 1 }
 
         // Which reads fail, and that each call is counted.
@@ -145,9 +137,8 @@ impl Shelf for MemShelf {
 
     fn create(&mut self, name: &str) -> Result<(), Failed>
         ensures emptied { Emptied (contents_of self.old name.now) (contents_of self.new name.now) result }
-        ensures others { OthersStay name.now (contents_of self.old) (contents_of self.new) }
+        ensures only { WritesOnly name.now (shelf_view self.old) (shelf_view self.new) }
         ensures cause { HasCause self.old.write_faults self.new.write_faults result }
-        ensures other_count { self.new.read_faults ≡ self.old.read_faults }
 
         // Which creates fail, that an Ok tells the contents, and that each call is counted.
         ensures fails { is_err result ≡ create_fails self.old name.now }
@@ -166,11 +157,12 @@ impl Shelf for MemShelf {
     fn append(&mut self, name: &str, bytes: &[u8]) -> Result<usize, Failed>
         ensures within { IfOk result (λ n. n ≤ length bytes.now) }
         ensures some { 0 < length bytes.now → IfOk result (λ n. 0 < n) }
-        ensures appended { IfOk result (λ n. Appended (take n bytes.now) (contents_of self.old name.now) (contents_of self.new name.now)) }
-        ensures part { OnErr result (AppendedPart bytes.now (contents_of self.old name.now) (contents_of self.new name.now)) }
-        ensures others { OthersStay name.now (contents_of self.old) (contents_of self.new) }
+        ensures appended { IfOk result (λ n. Appended (take n bytes.now)
+            (contents_of self.old name.now) (contents_of self.new name.now)) }
+        ensures part { OnErr result (AppendedPart bytes.now
+            (contents_of self.old name.now) (contents_of self.new name.now)) }
+        ensures only { WritesOnly name.now (shelf_view self.old) (shelf_view self.new) }
         ensures cause { HasCause self.old.write_faults self.new.write_faults result }
-        ensures other_count { self.new.read_faults ≡ self.old.read_faults }
 
         // Which appends fail, and that each call is counted.
         ensures fails { is_err result ≡ append_fails self.old name.now bytes.now }

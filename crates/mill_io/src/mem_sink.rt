@@ -1,7 +1,6 @@
 ghost use Rattle.std.specs.Prelude.{◌≡◌, ◌<◌, ◌≤◌, [], Some, length, take, is_err, IfOk, OnErr};
-ghost use Rattle.mill_io.specs.Causes.{HasCause};
-ghost use Rattle.mill_io.specs.Contents.{Appended, AppendedPart};
-ghost use Rattle.mill_io.specs.Memory.{IsFresh, CountsCall, sink_capacity, sink_script, write_fails};
+ghost use Rattle.mill_io.specs.Memory.{IsFresh, CountsCall, sink_capacity, sink_script, sink_view, write_fails};
+ghost use Rattle.mill_io.specs.Views.{IsWritten, IsPartWritten};
 
 use crate::room::Room;
 use crate::script::Script;
@@ -23,8 +22,8 @@ impl MemSink {
     /// The writes whose numbers are listed fail, counted from 0, and so does one of a piece that
     /// isn't empty and finds no room left. The only error is that there is no memory.
     pub fn new(alloc: Global, capacity: usize, fails: &[u64]) -> Result<MemSink, WantOfMemory>
-        ensures written { IfOk result (λ s. ⟦<MemSink as Sink>⟧.written s ≡ Some []) }
-        ensures faults { IfOk result (λ s. ⟦<MemSink as Sink>⟧.faults s ≡ 0) }
+        ensures written { IfOk result (λ s. (⟦<MemSink as Sink>⟧.shows s).written ≡ Some []) }
+        ensures faults { IfOk result (λ s. (⟦<MemSink as Sink>⟧.shows s).faults ≡ 0) }
         ensures capacity { IfOk result (λ s. sink_capacity s ≡ capacity) }
         ensures script { IfOk result (λ s. IsFresh fails.now (sink_script s)) }
     {
@@ -37,23 +36,22 @@ impl MemSink {
 
     /// All bytes that were written.
     pub fn written(&self) -> &[u8]
-        ensures { ⟦<MemSink as Sink>⟧.written self.now ≡ Some result.now }
+        ensures { (⟦<MemSink as Sink>⟧.shows self.now).written ≡ Some result.now }
     {
         self.out.bytes()
     }
 }
 
 impl Sink for MemSink {
-    ghost written = { λ s. Some s.out.bytes.items };
-
-    ghost faults = { λ s. s.faults };
+    ghost shows = { sink_view };
 
     fn write(&mut self, bytes: &[u8]) -> Result<usize, Failed>
         ensures within { IfOk result (λ n. n ≤ length bytes.now) }
         ensures some { 0 < length bytes.now → IfOk result (λ n. 0 < n) }
-        ensures appended { IfOk result (λ n. Appended (take n bytes.now) (Some self.old.out.bytes.items) (Some self.new.out.bytes.items)) }
-        ensures part { OnErr result (AppendedPart bytes.now (Some self.old.out.bytes.items) (Some self.new.out.bytes.items)) }
-        ensures cause { HasCause self.old.faults self.new.faults result }
+        ensures written { IfOk result (λ n.
+            IsWritten (take n bytes.now) (sink_view self.old) (sink_view self.new)) }
+        ensures part { OnErr result (
+            IsPartWritten bytes.now (sink_view self.old) (sink_view self.new)) }
 
         // Which writes fail, and that each is counted.
         ensures fails { is_err result ≡ write_fails self.old bytes.now }

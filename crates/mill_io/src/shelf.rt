@@ -1,6 +1,7 @@
-ghost use Rattle.std.specs.Prelude.{◌≡◌, ◌+◌, ◌<◌, ◌≤◌, [], Bool, List, ℕ, Option, Some, length, take, IsTrue, IfOk, IfSome, OnOk, OnErr};
+ghost use Rattle.std.specs.Prelude.{◌≡◌, ◌+◌, ◌<◌, ◌≤◌, [], ℕ, Some, length, take, IsTrue, IfOk, IfSome, OnOk, OnErr};
 ghost use Rattle.mill_io.specs.Causes.{HasCause};
-ghost use Rattle.mill_io.specs.Contents.{GivesFrom, Stay, OthersStay, Appended, AppendedPart, Emptied};
+ghost use Rattle.mill_io.specs.Contents.{GivesFrom, Appended, AppendedPart, Emptied};
+ghost use Rattle.mill_io.specs.Views.{StoreView, SinkView, ReadsOnly, WritesOnly, IsWritten, IsPartWritten};
 
 use thiserror::Error;
 
@@ -15,17 +16,10 @@ pub struct Failed;
 /// `u64`, which stops at its greatest value: from there on each failed call counts as one that
 /// raised it.
 pub trait Shelf {
-    /// Whether the shelf tells its contents. If so, it tells those of each name that was created.
-    ghost tells: { Self → Bool };
-
-    /// The contents under a name, where the shelf tells them.
-    ghost contents: { Self → List ℕ → Option (List ℕ) };
-
-    /// How often a read failed.
-    ghost read_faults: { Self → ℕ };
-
-    /// How often a create or an append failed.
-    ghost write_faults: { Self → ℕ };
+    /// What the store shows: whether it tells its contents, and if so those of each name that was
+    /// created; what it tells of each name; and how often a read, and how often a create or an
+    /// append, failed.
+    ghost shows: { Self → StoreView };
 
     /// A count that a read raises by at most one.
     ///
@@ -39,23 +33,22 @@ pub trait Shelf {
     /// changes.
     fn read(&mut self, name: &str, from: u64, buf: &mut [u8]) -> Result<usize, Failed>
         ensures within { IfOk result (λ n. n ≤ length buf.new) }
-        ensures bytes { IfOk result (λ n. IfSome (contents self.old name.now) (λ bytes. GivesFrom bytes from n buf.new)) }
-        ensures stay { Stay (contents self.old) (contents self.new) }
-        ensures telling { tells self.new ≡ tells self.old }
-        ensures cause { HasCause (read_faults self.old) (read_faults self.new) result }
-        ensures other_count { write_faults self.new ≡ write_faults self.old }
+        ensures bytes { IfOk result (λ n.
+            IfSome ((shows self.old).contents name.now) (λ bytes. GivesFrom bytes from n buf.new)) }
+        ensures only { ReadsOnly (shows self.old) (shows self.new) }
+        ensures cause { HasCause (shows self.old).read_faults (shows self.new).read_faults result }
         ensures counted { reads self.new ≤ reads self.old + 1 };
 
     /// Makes the contents under a name empty, also where the name was absent.
     ///
     /// After a failure they are as before, or empty.
     fn create(&mut self, name: &str) -> Result<(), Failed>
-        ensures emptied { Emptied (contents self.old name.now) (contents self.new name.now) result }
-        ensures told { IsTrue (tells self.old) → OnOk result (contents self.new name.now ≡ Some []) }
-        ensures others { OthersStay name.now (contents self.old) (contents self.new) }
-        ensures telling { tells self.new ≡ tells self.old }
-        ensures cause { HasCause (write_faults self.old) (write_faults self.new) result }
-        ensures other_count { read_faults self.new ≡ read_faults self.old };
+        ensures emptied {
+            Emptied ((shows self.old).contents name.now) ((shows self.new).contents name.now) result }
+        ensures told { IsTrue (shows self.old).tells →
+            OnOk result ((shows self.new).contents name.now ≡ Some []) }
+        ensures only { WritesOnly name.now (shows self.old) (shows self.new) }
+        ensures cause { HasCause (shows self.old).write_faults (shows self.new).write_faults result };
 
     /// Adds bytes to the contents under a name, and answers how many of them.
     ///
@@ -64,21 +57,18 @@ pub trait Shelf {
     fn append(&mut self, name: &str, bytes: &[u8]) -> Result<usize, Failed>
         ensures within { IfOk result (λ n. n ≤ length bytes.now) }
         ensures some { 0 < length bytes.now → IfOk result (λ n. 0 < n) }
-        ensures appended { IfOk result (λ n. Appended (take n bytes.now) (contents self.old name.now) (contents self.new name.now)) }
-        ensures part { OnErr result (AppendedPart bytes.now (contents self.old name.now) (contents self.new name.now)) }
-        ensures others { OthersStay name.now (contents self.old) (contents self.new) }
-        ensures telling { tells self.new ≡ tells self.old }
-        ensures cause { HasCause (write_faults self.old) (write_faults self.new) result }
-        ensures other_count { read_faults self.new ≡ read_faults self.old };
+        ensures appended { IfOk result (λ n. Appended (take n bytes.now)
+            ((shows self.old).contents name.now) ((shows self.new).contents name.now)) }
+        ensures part { OnErr result (AppendedPart bytes.now
+            ((shows self.old).contents name.now) ((shows self.new).contents name.now)) }
+        ensures only { WritesOnly name.now (shows self.old) (shows self.new) }
+        ensures cause { HasCause (shows self.old).write_faults (shows self.new).write_faults result };
 }
 
 /// Where bytes are written, one after another.
 pub trait Sink {
-    /// What was written, where the sink tells it.
-    ghost written: { Self → Option (List ℕ) };
-
-    /// How often a write failed.
-    ghost faults: { Self → ℕ };
+    /// What the sink shows: what was written, where it tells it, and how often a write failed.
+    ghost shows: { Self → SinkView };
 
     /// Writes bytes, and answers how many.
     ///
@@ -87,7 +77,7 @@ pub trait Sink {
     fn write(&mut self, bytes: &[u8]) -> Result<usize, Failed>
         ensures within { IfOk result (λ n. n ≤ length bytes.now) }
         ensures some { 0 < length bytes.now → IfOk result (λ n. 0 < n) }
-        ensures appended { IfOk result (λ n. Appended (take n bytes.now) (written self.old) (written self.new)) }
-        ensures part { OnErr result (AppendedPart bytes.now (written self.old) (written self.new)) }
-        ensures cause { HasCause (faults self.old) (faults self.new) result };
+        ensures written { IfOk result (λ n.
+            IsWritten (take n bytes.now) (shows self.old) (shows self.new)) }
+        ensures part { OnErr result (IsPartWritten bytes.now (shows self.old) (shows self.new)) };
 }

@@ -1,6 +1,7 @@
-ghost use Rattle.std.specs.Prelude.{◌≡◌, Some, IsTrue, OnOk, OnErr};
+ghost use Rattle.std.specs.Prelude.{OnOk, OnErr};
 ghost use Rattle.mill_io.specs.Causes.{HasCause};
-ghost use Rattle.mill_io.specs.Contents.{OthersStay, Appended, AppendedPart, Stored, SameOrPart};
+ghost use Rattle.mill_io.specs.Contents.{Appended, AppendedPart};
+ghost use Rattle.mill_io.specs.Views.{WritesOnly, IsStored, IsPartStored};
 
 use crate::{Failed, Shelf};
 
@@ -11,13 +12,10 @@ use crate::{Failed, Shelf};
 /// `Failed` only where the create or an append failed. The contents are then as before, or a prefix
 /// of the bytes, which may be empty.
 pub fn store<S: Shelf>(shelf: &mut S, name: &str, bytes: &[u8]) -> Result<(), Failed>
-    ensures whole { OnOk result (Stored bytes.now (S.contents shelf.old name.now) (S.contents shelf.new name.now)) }
-    ensures told { IsTrue (S.tells shelf.old) → OnOk result (S.contents shelf.new name.now ≡ Some bytes.now) }
-    ensures part { OnErr result (SameOrPart bytes.now (S.contents shelf.old name.now) (S.contents shelf.new name.now)) }
-    ensures others { OthersStay name.now (S.contents shelf.old) (S.contents shelf.new) }
-    ensures telling { S.tells shelf.new ≡ S.tells shelf.old }
-    ensures cause { HasCause (S.write_faults shelf.old) (S.write_faults shelf.new) result }
-    ensures other_count { S.read_faults shelf.new ≡ S.read_faults shelf.old }
+    ensures whole { OnOk result (
+        IsStored name.now bytes.now (S.shows shelf.old) (S.shows shelf.new)) }
+    ensures part { OnErr result (
+        IsPartStored name.now bytes.now (S.shows shelf.old) (S.shows shelf.new)) }
 {
     shelf.create(name)?;
     append_whole(shelf, name, bytes)
@@ -25,12 +23,13 @@ pub fn store<S: Shelf>(shelf: &mut S, name: &str, bytes: &[u8]) -> Result<(), Fa
 
 // Appends all the bytes. After a failure a prefix of them was appended, which may be empty.
 fn append_whole<S: Shelf>(shelf: &mut S, name: &str, bytes: &[u8]) -> Result<(), Failed>
-    ensures whole { OnOk result (Appended bytes.now (S.contents shelf.old name.now) (S.contents shelf.new name.now)) }
-    ensures part { OnErr result (AppendedPart bytes.now (S.contents shelf.old name.now) (S.contents shelf.new name.now)) }
-    ensures others { OthersStay name.now (S.contents shelf.old) (S.contents shelf.new) }
-    ensures telling { S.tells shelf.new ≡ S.tells shelf.old }
-    ensures cause { HasCause (S.write_faults shelf.old) (S.write_faults shelf.new) result }
-    ensures other_count { S.read_faults shelf.new ≡ S.read_faults shelf.old }
+    ensures whole { OnOk result (Appended bytes.now
+        ((S.shows shelf.old).contents name.now) ((S.shows shelf.new).contents name.now)) }
+    ensures part { OnErr result (AppendedPart bytes.now
+        ((S.shows shelf.old).contents name.now) ((S.shows shelf.new).contents name.now)) }
+    ensures only { WritesOnly name.now (S.shows shelf.old) (S.shows shelf.new) }
+    ensures cause {
+        HasCause (S.shows shelf.old).write_faults (S.shows shelf.new).write_faults result }
 {
     let mut done = 0;
     while done < bytes.len() {

@@ -1,6 +1,5 @@
-ghost use Rattle.std.specs.Prelude.{◌≡◌, ◌+◌, ◌<◌, ◌≤◌, ◌++◌, length, take, IfSome, IsOk, OnOk, OnErr};
-ghost use Rattle.mill_io.specs.Causes.{HasCause};
-ghost use Rattle.mill_io.specs.Contents.{Stay, Appended, AppendedPart};
+ghost use Rattle.std.specs.Prelude.{◌≡◌, ◌+◌, ◌<◌, ◌≤◌, length, OnOk, OnErr};
+ghost use Rattle.mill_io.specs.Views.{ReadsOnly, IsWritten, IsPartWritten};
 ghost use Rattle.mill_io.specs.Whole.{IsWhole, EndsBy};
 ghost use Rattle.mill_io.specs.declared.whole.ReadEnd.TheVariants.{WantOfMemory};
 
@@ -44,18 +43,16 @@ pub fn read_whole<S: Shelf>(
     name: &str,
     limit: u64,
 ) -> Result<Vec<u8>, ReadEnd>
-    ensures whole { IsWhole (S.contents shelf.old name.now) limit result }
-    ensures cause { EndsBy (S.read_faults shelf.old) (S.read_faults shelf.new) result }
-    ensures stay { Stay (S.contents shelf.old) (S.contents shelf.new) }
-    ensures telling { S.tells shelf.new ≡ S.tells shelf.old }
-    ensures other_count { S.write_faults shelf.new ≡ S.write_faults shelf.old }
+    ensures whole { IsWhole ((S.shows shelf.old).contents name.now) limit result }
+    ensures cause { EndsBy (S.shows shelf.old).read_faults (S.shows shelf.new).read_faults result }
+    ensures only { ReadsOnly (S.shows shelf.old) (S.shows shelf.new) }
     ensures few { S.reads shelf.new ≤ S.reads shelf.old + limit + 2 }
 {
     let mut piece = vec![in alloc; 0u8; PIECE]?;
     read_pieces(alloc, shelf, name, limit, &mut piece)
 }
 
-// The same, piece by piece through a buffer.
+// All the bytes under a name, if they are at most `limit`, read piece by piece through a buffer.
 fn read_pieces<S: Shelf>(
     alloc: Global,
     shelf: &mut S,
@@ -64,11 +61,9 @@ fn read_pieces<S: Shelf>(
     buf: &mut [u8],
 ) -> Result<Vec<u8>, ReadEnd>
     requires { 0 < length buf.old }
-    ensures whole { IsWhole (S.contents shelf.old name.now) limit result }
-    ensures cause { EndsBy (S.read_faults shelf.old) (S.read_faults shelf.new) result }
-    ensures stay { Stay (S.contents shelf.old) (S.contents shelf.new) }
-    ensures telling { S.tells shelf.new ≡ S.tells shelf.old }
-    ensures other_count { S.write_faults shelf.new ≡ S.write_faults shelf.old }
+    ensures whole { IsWhole ((S.shows shelf.old).contents name.now) limit result }
+    ensures cause { EndsBy (S.shows shelf.old).read_faults (S.shows shelf.new).read_faults result }
+    ensures only { ReadsOnly (S.shows shelf.old) (S.shows shelf.new) }
     ensures few { S.reads shelf.new ≤ S.reads shelf.old + limit + 2 }
 {
     let mut all = Vec::new(alloc);
@@ -89,9 +84,8 @@ fn read_pieces<S: Shelf>(
 ///
 /// After a failure a prefix of them was written, which may be empty.
 pub fn write_whole<O: Sink>(sink: &mut O, bytes: &[u8]) -> Result<(), Failed>
-    ensures whole { OnOk result (Appended bytes.now (O.written sink.old) (O.written sink.new)) }
-    ensures part { OnErr result (AppendedPart bytes.now (O.written sink.old) (O.written sink.new)) }
-    ensures cause { HasCause (O.faults sink.old) (O.faults sink.new) result }
+    ensures whole { OnOk result (IsWritten bytes.now (O.shows sink.old) (O.shows sink.new)) }
+    ensures part { OnErr result (IsPartWritten bytes.now (O.shows sink.old) (O.shows sink.new)) }
 {
     let mut done = 0;
     while done < bytes.len() {
