@@ -273,7 +273,7 @@ module _ (job : Job) (part : List Tri) (ok : IsJob job) (under : IsUnder part jo
   home_goes : (done : List Move) (from : Pt3) → IsReached job part done from → GoSafely job part done from (way_home job from) (home job)
   home_goes done from reached =
       go_on job part done from (at_height from job.clear) (home job) (climb job from) (cross job from (home job))
-      (climb_goes done from reached) (cross_goes _ from (home job) reached.ranged (record { x_ok = ok.home_x_ok; y_ok = ok.home_y_ok; z_ok = ok.clear_ok }))
+      (climb_goes done from reached) (cross_goes _ from (home job) reached.ranged (record { x_ok = ok.home_ok.x_ok; y_ok = ok.home_ok.y_ok; z_ok = ok.clear_ok }))
 
 pub link_is_safe : LinkIsSafe
 link_is_safe job part done from visit moves ok under reached free link = link_goes job part ok under done from visit moves reached free link

@@ -33,7 +33,7 @@ free_place job part visit is = record {
 -- before the first move it is at home
 pub at_home : (job : Job) (part : List Tri) → IsJob job → IsReached job part [] (home job)
 at_home job part ok = record {
-  ranged = record { x_ok = ok.home_x_ok; y_ok = ok.home_y_ok; z_ok = ok.clear_ok };
+  ranged = record { x_ok = ok.home_ok.x_ok; y_ok = ok.home_ok.y_ok; z_ok = ok.clear_ok };
   floor = through job.floor job.top job.clear ok.stock ok.over_stock;
   low = level job.clear;
   place = inl (level job.clear);

@@ -5,7 +5,7 @@ use crate::test_shape::{Shape, at, shape_of};
 use crate::{Visit, home, link};
 use mill_base::{Box2, Cutter, Kind, Move, Pt3, Tri};
 use mill_decimal::Snap;
-use mill_job::Job;
+use mill_job::{Job, Place};
 use std::test::Fail;
 
 /// The stock is 400 high, and the cutter starts over (-300, 0) at 500.
@@ -23,8 +23,7 @@ fn job() -> Job
             x1: 300,
             y1: 300,
         },
-        home_x: -300,
-        home_y: 0,
+        home: Place { x: -300, y: 0 },
         pitch: 100,
         sample: 100,
         allowance: 0,

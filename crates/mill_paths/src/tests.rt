@@ -6,7 +6,7 @@ use crate::test_shape::{Shape, at, shape_of};
 use crate::{PathFault, Visit, finish_visits, rough_visits};
 use mill_base::{Box2, Cutter, Pt3, Tri};
 use mill_decimal::Snap;
-use mill_job::Job;
+use mill_job::{Job, Place};
 use std::test::Fail;
 
 /// A block from 0 to 300 over a square of 200, and nine nodes.
@@ -28,8 +28,7 @@ fn block_job(layer: i32, lift: i32) -> Job
             x1: 200,
             y1: 200,
         },
-        home_x: 100,
-        home_y: 100,
+        home: Place { x: 100, y: 100 },
         pitch: 100,
         sample: 50,
         allowance: 0,
@@ -58,8 +57,7 @@ fn wide_job() -> Job
             x1: 1000,
             y1: 1000,
         },
-        home_x: 0,
-        home_y: 0,
+        home: Place { x: 0, y: 0 },
         pitch: 100,
         sample: 50,
         allowance: 50,
@@ -94,8 +92,7 @@ fn fine_job(raster: i32, rough_raster: i32, layer: i32) -> Job
             x1: 2000,
             y1: 2000,
         },
-        home_x: 0,
-        home_y: 0,
+        home: Place { x: 0, y: 0 },
         pitch: 100,
         sample: 50,
         allowance: 50,

@@ -8,7 +8,7 @@ ghost use Rattle.mill_job.specs.Jobs.{IsJob};
 use crate::{PlanFault, plan};
 use mill_base::{Box2, Cutter, Pt3, Tri, WantOfMemory};
 use mill_decimal::Snap;
-use mill_job::Job;
+use mill_job::{Job, Place};
 use mill_part::Part;
 use std::alloc::Global;
 use std::test::Fail;
@@ -33,8 +33,7 @@ fn block_job(layer: i32, lift: i32) -> Job
             x1: 300,
             y1: 300,
         },
-        home_x: 0,
-        home_y: 0,
+        home: Place { x: 0, y: 0 },
         pitch: 100,
         sample: 50,
         allowance: 0,
@@ -70,8 +69,7 @@ fn fine_job(raster: i32, rough_raster: i32, layer: i32) -> Job
             x1: 4000,
             y1: 4000,
         },
-        home_x: 0,
-        home_y: 0,
+        home: Place { x: 0, y: 0 },
         pitch: 100,
         sample: 50,
         allowance: 0,

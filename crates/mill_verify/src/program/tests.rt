@@ -10,6 +10,7 @@ ghost use Rattle.mill_job.specs.Jobs.{IsJob};
 
 use super::*;
 use mill_base::{Box2, Cutter, Kind, Pt3, Tri};
+use mill_job::Place;
 use mill_decimal::Snap;
 use mill_sweep::Leaf;
 
@@ -32,8 +33,7 @@ fn block_job(band: i32) -> Job
             x1: 200,
             y1: 200,
         },
-        home_x: 100,
-        home_y: 100,
+        home: Place { x: 100, y: 100 },
         pitch: 100,
         sample: 50,
         allowance: 0,
@@ -64,8 +64,7 @@ fn ball_job() -> Job
             x1: 200,
             y1: 200,
         },
-        home_x: 100,
-        home_y: 100,
+        home: Place { x: 100, y: 100 },
         pitch: 100,
         sample: 50,
         allowance: 100,
