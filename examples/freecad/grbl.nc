@@ -1,0 +1,42 @@
+(Exported by FreeCAD)
+(Post Processor: PathScripts.post.grbl_post)
+(Output Time:2026-11-27 16:48:23.165709)
+(Begin preamble)
+G17 G21 G90 G40 G49 G54 G61 G80(Begin operation: TC: Default Tool)
+(Path: TC: Default Tool)
+(TC: Default Tool)
+(Begin toolchange)
+( M6 T1 )
+M3 S6000
+(Finish operation: TC: Default Tool)
+(Begin operation: Pocket)
+(Path: Pocket)
+(Pocket)
+G0 Z13.00
+G0 X11.00 Y16.40
+G0 Z11.00
+G1 X11.00 Y16.40 Z6.00 F200.00
+G1 X11.00 Y19.00 Z6.00 F600.00
+G1 X29.00 Y19.00 Z6.00 F600.00
+G1 X29.00 Y16.40 Z6.00 F600.00
+G1 X11.00 Y16.40 Z6.00 F600.00
+G1 X11.00 Y13.70 Z6.00 F600.00
+G1 X29.00 Y13.70 Z6.00 F600.00
+G1 X29.00 Y11.00 Z6.00 F600.00
+G1 X11.00 Y11.00 Z6.00 F600.00
+G1 X11.00 Y11.00 Z4.00 F200.00
+G1 X29.00 Y11.00 Z4.00 F600.00
+G1 X29.00 Y13.70 Z4.00 F600.00
+G1 X11.00 Y13.70 Z4.00 F600.00
+G1 X11.00 Y16.40 Z4.00 F600.00
+G1 X29.00 Y16.40 Z4.00 F600.00
+G1 X29.00 Y19.00 Z4.00 F600.00
+G1 X11.00 Y19.00 Z4.00 F600.00
+G1 X11.00 Y16.40 Z4.00 F600.00
+G0 Z13.00
+G0 Z13.00
+(Finish operation: Pocket)
+(Begin postamble)
+M5
+G17 G90
+M2
