@@ -5,7 +5,7 @@ use Rattle.mill_base.specs.declared.points.Tri.{Tri}
 use Rattle.mill_base.specs.declared.motion.Move.{Move}
 use Rattle.mill_job.specs.declared.job.Job.{Job}
 use Rattle.mill_verify.specs.Firsts.{ClearsBetween, IsFirstPartFail, IsFloorEnd, IsLimit}
-use Rattle.mill_verify.specs.declared.part_fail.PartFail.{PartFail}
+use Rattle.mill_verify.specs.declared.gouge.PartFail.{PartFail}
 use Rattle.mill_verify.specs.declared.verdict.Reason.TheVariants.{Floor, Gouge}
 
 -- the first move that doesn't clear the part, of those that pass test (i)

@@ -6,7 +6,7 @@ use Rattle.std.proofs.lemmas.List.{append_assoc, length_push, append-nil}
 use Rattle.std.proofs.lemmas.List.Elements.{Contains-push_cases}
 use Rattle.mill_base.specs.Points.{point_at}
 use Rattle.mill_base.specs.Motion.{Follow}
-use Rattle.mill_base.specs.Ranges.{IsInTextRange, MoveInTextRange, MovesInTextRange}
+use Rattle.mill_base.specs.Ranges.{IsInTextRange, MoveInRange, MovesInRange}
 use Rattle.mill_base.specs.declared.points.Pt3.{Pt3}
 use Rattle.mill_base.specs.declared.motion.Move.{Move}
 use Rattle.mill_base.specs.declared.motion.Kind.TheVariants.{Feed}
@@ -17,7 +17,7 @@ start = point_at (pos 100) (pos 100) (pos 400)
 -- moves of n turns, which begin and end at the start
 pub record AreTurns (n : ℕ) (moves : List Move) : Type 0 where
   pub count : length moves ≡ 2 * n
-  pub range : MovesInTextRange moves
+  pub range : MovesInRange moves
   pub follow : (rest : List Move) → Follow start rest → Follow start (moves ++ rest)
 
 pub turns_none : {moves : List Move} → moves ≡ [] → AreTurns 0 moves
@@ -26,8 +26,8 @@ turns_none e = subst (AreTurns 0) (sym e) (record { count = refl; range = λ m m
     nothing : (k : ℕ) → k < 0 → ⊥
     nothing k h = omega (h, arith)
 
-in_range_push : (moves : List Move) (m : Move) → MovesInTextRange moves → MoveInTextRange m → MovesInTextRange (moves ++ m ∷ [])
-in_range_push moves m before here x member = elim (Contains-push_cases moves m x member) [ inl old ↦ before x old | inr new ↦ subst MoveInTextRange new here ]
+in_range_push : (moves : List Move) (m : Move) → MovesInRange moves → MoveInRange m → MovesInRange (moves ++ m ∷ [])
+in_range_push moves m before here x member = elim (Contains-push_cases moves m x member) [ inl old ↦ before x old | inr new ↦ subst MoveInRange new here ]
 
 start_ok : IsInTextRange start
 start_ok = record { x_ok = record { within = omega (arith, ints) }; y_ok = record { within = omega (arith, ints) }; z_ok = record { within = omega (arith, ints) } }

@@ -12,7 +12,7 @@ use Rattle.mill_base.specs.Numbers.{square}
 use Rattle.mill_base.specs.Motion.{tip_at}
 use Rattle.mill_base.specs.Contact.{Holds, HoldsOver}
 use Rattle.mill_base.specs.Covers.{CoveredBelow}
-use Rattle.mill_base.specs.Ranges.{IsInTextRange, MovesInTextRange}
+use Rattle.mill_base.specs.Ranges.{IsInTextRange, MovesInRange}
 use Rattle.mill_sweep.specs.Halving.{Passes}
 use Rattle.mill_sweep.specs.Moments.{PassingIsClear, PassingKeepsPoint}
 use Rattle.mill_job.specs.declared.job.Job.{Job}
@@ -63,8 +63,8 @@ no_distance a b n h = no_less (square a) (square b) (square (n *ℤ pos 0)) (sq 
     no_less : (a b c : ℤ) → (pos 0) ≤ℤ a → (pos 0) ≤ℤ b → c ≤ℤ pos 0 → (a +ℤ b) <ℤ c → ⊥
     no_less a b c p q r h = omega (p, q, r, h, arith, ints)
 
-module _ (job : Job) (part : List Tri) (moves : List Move) (ok : IsJob job) (all_ok : MovesInTextRange moves) where
-  moves_ok : (k : ℕ) → MovesInTextRange (take k moves)
+module _ (job : Job) (part : List Tri) (moves : List Move) (ok : IsJob job) (all_ok : MovesInRange moves) where
+  moves_ok : (k : ℕ) → MovesInRange (take k moves)
   moves_ok k m member = all_ok m (subst (λ (v : List Move). Contains v m) (take-append-drop k moves) (Contains-append_left (take k moves) (drop k moves) m member))
 
   -- the point at a column's top is in range
@@ -82,7 +82,7 @@ module _ (job : Job) (part : List Tri) (moves : List Move) (ok : IsJob job) (all
       clear job.cutter m g.gouges.tri g.k g.m ok.cutter_ok (all_ok m member)
       (passes member.0 g.gouges.member.0 m g.gouges.tri good member.1 member.2 g.gouges.member.1 g.gouges.member.2) g.moment g.gouges.touches
 
-  under_top : OverTopIsRemoved → (ms : List Move) → MovesInTextRange ms → (j i : ℕ) (h : ℤ) → IsColumnPoint job j i h → LeavesPoint job ms j i h → h ≤ℤ top_after job (column_x job i) (column_y job j) ms
+  under_top : OverTopIsRemoved → (ms : List Move) → MovesInRange ms → (j i : ℕ) (h : ℤ) → IsColumnPoint job j i h → LeavesPoint job ms j i h → h ≤ℤ top_after job (column_x job i) (column_y job j) ms
   under_top removed ms ms_ok j i h point leaves = not_over _ h (λ over. leaves (removed job ms (column_x job i) (column_y job j) h ok.cutter_ok ms_ok (column_within ok point.column ok.top_ok) ok.sample_ok.low over point.top))
 
   rapids_miss : PassingKeepsPoint → OverTopIsRemoved → GoodBefore job part moves (length moves) → RapidsMissStock job moves

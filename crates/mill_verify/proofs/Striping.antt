@@ -8,8 +8,8 @@ use Rattle.mill_base.specs.declared.motion.Move.{Move}
 use Rattle.mill_job.specs.declared.job.Job.{Job}
 use Rattle.mill_verify.specs.Tests.{ClearsPart}
 use Rattle.mill_verify.specs.Firsts.{ClearsBetween, IsFirstPartFail, stripe_of, IsInStripes, AreStripes, ClearsStripesTo, ClearsStripes, IsFirstStripesFail, IsEarlierFail}
-use Rattle.mill_verify.specs.declared.part_fail.PartFail.{PartFail}
-use Rattle.mill_verify.specs.declared.part_fail.Stripes.{Stripes}
+use Rattle.mill_verify.specs.declared.gouge.PartFail.{PartFail}
+use Rattle.mill_verify.specs.declared.gouge.Stripes.{Stripes}
 
 -- a number that is less than w after n and of the same remainder is n
 same_turn : (w n q : ℕ) → n ≤ q → q < n + w → q % w ≡ n % w → q ≡ n

@@ -16,10 +16,10 @@ use Rattle.mill_gouge.specs.Gouges.{IsFirstGouge}
 use Rattle.mill_verify.specs.Tests.{move_at, ClearsPart, PassesColumn, ClearsStock, IsOverFloor, IsCut, GoodBefore}
 use Rattle.mill_verify.specs.Verdicts.{IsLeftOver, IsMostLeft, IsRejection, IsStopped, ShowsBlock}
 use Rattle.mill_verify.specs.declared.limit.Limit.{Limit}
-use Rattle.mill_verify.specs.declared.part_fail.PartFail.{PartFail}
-use Rattle.mill_verify.specs.declared.part_fail.Stripes.{Stripes}
-use Rattle.mill_verify.specs.declared.remains.Uncut.{Uncut}
-use Rattle.mill_verify.specs.declared.stop.Stop.{Stop}
+use Rattle.mill_verify.specs.declared.gouge.PartFail.{PartFail}
+use Rattle.mill_verify.specs.declared.gouge.Stripes.{Stripes}
+use Rattle.mill_verify.specs.declared.left.Uncut.{Uncut}
+use Rattle.mill_verify.specs.declared.rapid.Stop.{Stop}
 
 -- the moves from number s to before e clear the part
 abbrev pub ClearsBetween : Job → List Tri → List Move → ℕ → ℕ → Type 0

@@ -1,8 +1,8 @@
 ghost use Rattle.std.specs.Prelude.{◌≡◌, ℕ, ◌≤◌, ℤ, length, take, Ok, IfOk};
+ghost use Rattle.mill_base.specs.declared.limits.TheConstants.{MAX_MOVES, MAX_WORKERS};
 ghost use Rattle.mill_base.specs.Covers.{IsUnder};
 ghost use Rattle.mill_base.specs.Motion.{Follow};
-ghost use Rattle.mill_base.specs.Ranges.{MovesInTextRange};
-ghost use Rattle.mill_cells.specs.Sorted.{sorted_of};
+ghost use Rattle.mill_base.specs.Ranges.{MovesInRange};
 ghost use Rattle.mill_job.specs.Columns.{home};
 ghost use Rattle.mill_job.specs.Jobs.{IsJob};
 ghost use Rattle.mill_sweep.specs.declared.leaf.Leaf.{Leaf};
@@ -12,16 +12,15 @@ ghost use Rattle.mill_verify.specs.Stock.{AreTurned, IsStock};
 ghost use Rattle.mill_verify.specs.Tests.{GoodBefore};
 ghost use Rattle.mill_verify.specs.Verdicts.{IsBlocked, IsStopped, IsVerdict, ShowsBlocks};
 
+use crate::left::stock_left;
 use crate::limit::{Limit, part_limit};
-use crate::remains::stock_left;
+use crate::rapid::first_stop;
 use crate::stock::turned_rows;
-use crate::stop::first_stop;
 use crate::verdict::{Reason, Verdict};
 use mill_base::{Move, WantOfMemory};
-use mill_cells::Cells;
 use mill_dexel::Row;
 use mill_job::Job;
-use mill_part::Part;
+use mill_part::{Part, SortedPart};
 use std::alloc::Global;
 use std::thread::Threads;
 
@@ -52,12 +51,12 @@ pub fn verify<R: Threads + Sync>(
     workers: u32,
 ) -> Result<Verdict, WantOfMemory>
     requires job_ok { IsJob job.now }
-    requires moves_ok { MovesInTextRange moves.now }
+    requires moves_ok { MovesInRange moves.now }
     requires under { IsUnder part.now job.now.top }
     requires follow { Follow (home job.now) moves.now }
-    requires few { length moves.now ≤ 1000000 }
+    requires few { length moves.now ≤ MAX_MOVES }
     requires some_workers { 1 ≤ workers }
-    requires few_workers { workers ≤ 64 }
+    requires few_workers { workers ≤ MAX_WORKERS }
     ensures verdict { IfOk result (IsVerdict job.now part.now moves.now) }
     ensures safe { (count columns : ℕ) (left : ℤ)
         → result ≡ Ok (Verdict.Accept count columns left)
@@ -69,36 +68,26 @@ pub fn verify<R: Threads + Sync>(
         → result ≡ Ok (Verdict.Reject (Reason.Rapid number row col leaf))
         → IsStopped job.now moves.now number row col leaf }
 {
-    let cells = cells_of(alloc, part)?;
-    let limit = part_limit(rt, job, part, &cells, moves, workers);
+    let part = SortedPart::new(alloc, part)?;
+    let limit = part_limit(rt, job, &part, moves, workers);
     let rows = turned_rows(rt, alloc, job, &moves[..limit.passed], workers)?;
-    Ok(verdict_of(rt, job, part, &cells, moves, limit, &rows, workers))
-}
-
-/// The part's triangles in cells of the size that suits them.
-fn cells_of(alloc: Global, part: &Part) -> Result<Cells, WantOfMemory>
-    ensures { IfOk result (λ cells. cells ≡ sorted_of part.now) }
-{
-    let tris = part.tris();
-    Cells::new(alloc, tris, Cells::size_for(tris))
+    Ok(verdict_of(rt, job, &part, moves, limit, &rows, workers))
 }
 
 /// The verdict, from how far the moves pass tests (i) and (ii), and the rows after those that do.
 fn verdict_of<R: Threads + Sync>(
     rt: &R,
     job: &Job,
-    part: &Part,
-    cells: &Cells,
+    part: &SortedPart,
     moves: &[Move],
     limit: Limit,
     rows: &[Row],
     workers: u32,
 ) -> Verdict
     requires job_ok { IsJob job.now }
-    requires cells_ok { cells.now ≡ sorted_of part.now }
     requires limit_ok { IsLimit job.now part.now moves.now limit }
     requires rows_ok { AreTurned job.now (take limit.passed moves.now) rows.now }
-    requires few_workers { workers ≤ 64 }
+    requires few_workers { workers ≤ MAX_WORKERS }
     ensures verdict { IsVerdict job.now part.now moves.now result }
     ensures shown { ShowsBlocks job.now part.now moves.now result }
 {
@@ -113,28 +102,26 @@ fn verdict_of<R: Threads + Sync>(
     if let Some(reason) = limit.fails {
         return Verdict::Reject(reason);
     }
-    last_verdict(rt, job, part, cells, moves, rows, workers)
+    last_verdict(rt, job, part, moves, rows, workers)
 }
 
 /// The verdict after the last move, all moves being good.
 fn last_verdict<R: Threads + Sync>(
     rt: &R,
     job: &Job,
-    part: &Part,
-    cells: &Cells,
+    part: &SortedPart,
     moves: &[Move],
     rows: &[Row],
     workers: u32,
 ) -> Verdict
     requires job_ok { IsJob job.now }
-    requires cells_ok { cells.now ≡ sorted_of part.now }
     requires good { GoodBefore job.now part.now moves.now (length moves.now) }
     requires rows_ok { IsStock job.now moves.now rows.now }
-    requires few_workers { workers ≤ 64 }
+    requires few_workers { workers ≤ MAX_WORKERS }
     ensures verdict { IsVerdict job.now part.now moves.now result }
     ensures shown { ShowsBlocks job.now part.now moves.now result }
 {
-    match stock_left(rt, job, part, cells, moves, rows, workers) {
+    match stock_left(rt, job, part, moves, rows, workers) {
         Ok(most_left) => Verdict::Accept {
             moves: moves.len() as u64,
             columns: job.column_total(),

@@ -1,5 +1,6 @@
 ghost use Rattle.std.specs.Prelude.{◌≤◌, All, IfOk};
-ghost use Rattle.mill_base.specs.Ranges.{MovesInTextRange};
+ghost use Rattle.mill_base.specs.declared.limits.TheConstants.{MAX_WORKERS};
+ghost use Rattle.mill_base.specs.Ranges.{MovesInRange};
 ghost use Rattle.mill_dexel.specs.Rows.{IsRowOf};
 ghost use Rattle.mill_job.specs.Jobs.{IsJob};
 ghost use Rattle.mill_verify.specs.Stock.{AreTurned, AreUncut};
@@ -20,9 +21,9 @@ pub fn turned_rows<R: Threads + Sync>(
     workers: u32,
 ) -> Result<Vec<Row>, WantOfMemory>
     requires job_ok { IsJob job.now }
-    requires moves_ok { MovesInTextRange moves.now }
+    requires moves_ok { MovesInRange moves.now }
     requires some { 1 ≤ workers }
-    requires few { workers ≤ 64 }
+    requires few { workers ≤ MAX_WORKERS }
     ensures { IfOk result (λ rows. AreTurned job.now moves.now rows.items) }
 {
     let rows = make_rows(alloc, job)?;

@@ -4,14 +4,14 @@ ghost use Rattle.mill_base.specs.declared.limits.TheConstants.{MAX_TEXT_COORDINA
 ghost use Rattle.mill_base.specs.Points.{point_at};
 ghost use Rattle.mill_base.specs.Covers.{IsUnder};
 ghost use Rattle.mill_base.specs.Motion.{Follow};
-ghost use Rattle.mill_base.specs.Ranges.{IsInTextRange, MovesInTextRange};
+ghost use Rattle.mill_base.specs.Ranges.{IsInTextRange, MovesInRange};
 ghost use Rattle.mill_job.specs.Columns.{home};
 ghost use Rattle.mill_job.specs.Jobs.{IsJob};
 
 use super::*;
 use mill_base::{Box2, Cutter, Kind, Pt3, Tri};
-use mill_job::Place;
 use mill_decimal::Snap;
+use mill_job::Place;
 use mill_sweep::Leaf;
 
 /// A block from 0 to 300 over a square of 200, and nine columns in it.
@@ -108,7 +108,7 @@ fn plate(alloc: Global, x: i32) -> Result<Part, WantOfMemory>
 /// Down in the middle to this height, and up again as a rapid.
 fn down_and_up(kind: Kind, height: i32) -> [Move; 2]
     requires { Within MAX_TEXT_COORDINATE height }
-    ensures range { MovesInTextRange result }
+    ensures range { MovesInRange result }
     ensures follow { Follow (point_at (pos 100) (pos 100) (pos 400)) result }
 {
     let home = Pt3 {
@@ -138,7 +138,7 @@ fn down_and_up(kind: Kind, height: i32) -> [Move; 2]
 /// Over the plate's edge and on to (500, 100) at this height, and back along the same line.
 fn out_and_back(height: i32) -> [Move; 2]
     requires { Within MAX_TEXT_COORDINATE height }
-    ensures range { MovesInTextRange result }
+    ensures range { MovesInRange result }
     ensures follow { Follow (point_at (pos 100) (pos 100) (pos 400)) result }
 {
     let home = Pt3 {
@@ -371,7 +371,7 @@ fn bottom(turn: u32, first: u32, second: u32) -> Pt3
 /// Down in the middle and up again, 150 times: 300 moves, of which those in two turns scrape the
 /// plate.
 fn downs_and_ups(alloc: Global, first: u32, second: u32) -> Result<Vec<Move>, WantOfMemory>
-    ensures range { IfOk result (λ moves. MovesInTextRange moves.items) }
+    ensures range { IfOk result (λ moves. MovesInRange moves.items) }
     ensures follow { IfOk
         result
         (λ moves. Follow (point_at (pos 100) (pos 100) (pos 400)) moves.items) }

@@ -1,0 +1,5 @@
+use Rattle.mill_verify.specs.Firsts.{ClearsBetween}
+use Rattle.mill_verify.proofs.gouge.scan.Given as goal
+
+abbrev pub invariant-loop-at : goal.invariant-loop-at
+invariant-loop-at l = ClearsBetween l.job l.part l.moves l.start l.at

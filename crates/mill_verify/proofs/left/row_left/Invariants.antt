@@ -1,0 +1,5 @@
+use Rattle.mill_verify.proofs.Left.{IsRowLeftTo}
+use Rattle.mill_verify.proofs.left.row_left.Given as goal
+
+abbrev pub invariant-loop-index : goal.invariant-loop-index
+invariant-loop-index l = IsRowLeftTo l.job l.part l.moves l.number l.index l.most

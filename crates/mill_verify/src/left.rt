@@ -1,0 +1,257 @@
+ghost use Rattle.std.specs.Prelude.{◌≡◌, ◌<◌, ◌≤◌, pos, ◌-ℤ◌, ◌≤ℤ◌, length, MatchOption, MatchResult};
+ghost use Rattle.mill_base.specs.Numbers.{Within};
+ghost use Rattle.mill_base.specs.declared.limits.TheConstants.{MAX_TEXT_COORDINATE, MAX_WORKERS};
+ghost use Rattle.mill_base.specs.Covers.{Covered};
+ghost use Rattle.mill_job.specs.Jobs.{IsJob, IsFrom};
+ghost use Rattle.mill_job.specs.Columns.{row_count};
+ghost use Rattle.mill_verify.specs.Stock.{IsRow, IsStock};
+ghost use Rattle.mill_verify.specs.Firsts.{AreRowsLeft, IsBoth, IsCutTo, IsFirstUncut, IsFirstUncutOf, IsMostWith, IsRowLeft, IsRowUncut, IsStockLeft};
+ghost use denote.Param.Send.{IsSync};
+
+use mill_base::Move;
+use mill_dexel::{Row, share};
+use mill_job::Job;
+use mill_part::SortedPart;
+use std::thread::{Threads, join};
+
+/// A column that isn't cut, and its top.
+#[derive(Clone, Copy)]
+pub struct Uncut {
+    pub row: u32,
+    pub col: u32,
+    pub top: i32,
+}
+
+/// Test (iv): how much is left over the part at most, or the first column that isn't cut, by row
+/// first, by `workers` threads. `moves` are those that made the rows.
+pub fn stock_left<R: Threads + Sync>(
+    rt: &R,
+    job: &Job,
+    part: &SortedPart,
+    moves: &[Move],
+    rows: &[Row],
+    workers: u32,
+) -> Result<i32, Uncut>
+    requires job_ok { IsJob job.now }
+    requires rows_ok { IsStock job.now moves.now rows.now }
+    requires few_workers { workers ≤ MAX_WORKERS }
+    ensures { MatchResult
+        result
+        (IsStockLeft job.now part.now moves.now)
+        (λ uncut. IsFirstUncut job.now part.now moves.now uncut.row uncut.col uncut.top) }
+{
+    let end = rows.len();
+    rows_left(rt, job, part, moves, rows, 0, end, workers)
+}
+
+/// Test (iv) on the rows from number `start` to before `end`; 0 is left where there is none.
+///
+/// The rows are halved among `workers` threads, at most 64, until each has its own, and the first
+/// column of the left half comes before that of the right.
+fn rows_left<R: Threads + Sync>(
+    rt: &R,
+    job: &Job,
+    part: &SortedPart,
+    moves: &[Move],
+    rows: &[Row],
+    start: usize,
+    end: usize,
+    workers: u32,
+) -> Result<i32, Uncut>
+    requires job_ok { IsJob job.now }
+    requires rows_ok { IsStock job.now moves.now rows.now }
+    requires order { start ≤ end }
+    requires there { end ≤ length rows.now }
+    requires few_workers { workers ≤ MAX_WORKERS }
+    ensures { MatchResult
+        result
+        (AreRowsLeft job.now part.now moves.now start end)
+        (λ uncut. IsFirstUncutOf
+        job.now
+        part.now
+        moves.now
+        start
+        end
+        uncut.row
+        uncut.col
+        uncut.top) }
+{
+    if workers <= 1 || end - start <= 1 {
+        return scan_rows(job, part, moves, rows, start, end);
+    }
+    let left_workers = workers / 2;
+    let right_workers = workers - left_workers;
+    let middle = start + share(end - start, left_workers, workers);
+    let (left, right) = join(
+        rt,
+        || -> Result<i32, Uncut>
+            requires sync { IsSync R.row }
+            requires job_ok { IsJob job.now }
+            requires rows_ok { IsStock job.now moves.now rows.now }
+            requires order { start ≤ middle }
+            requires there { middle ≤ length rows.now }
+            requires few_workers { left_workers ≤ MAX_WORKERS }
+            ensures { MatchResult
+                result
+                (AreRowsLeft job.entry.now part.entry.now moves.entry.now start middle)
+                (λ uncut. IsFirstUncutOf
+                job.entry.now
+                part.entry.now
+                moves.entry.now
+                start
+                middle
+                uncut.row
+                uncut.col
+                uncut.top) }
+        { rows_left(rt, job, part, moves, rows, start, middle, left_workers) },
+        || -> Result<i32, Uncut>
+            requires sync { IsSync R.row }
+            requires job_ok { IsJob job.now }
+            requires rows_ok { IsStock job.now moves.now rows.now }
+            requires order { middle ≤ end }
+            requires there { end ≤ length rows.now }
+            requires few_workers { right_workers ≤ MAX_WORKERS }
+            ensures { MatchResult
+                result
+                (AreRowsLeft job.entry.now part.entry.now moves.entry.now middle end)
+                (λ uncut. IsFirstUncutOf
+                job.entry.now
+                part.entry.now
+                moves.entry.now
+                middle
+                end
+                uncut.row
+                uncut.col
+                uncut.top) }
+        { rows_left(rt, job, part, moves, rows, middle, end, right_workers) },
+    );
+    both(left, right)
+}
+
+/// What the rows of two ranges say together, of which the left one comes first.
+fn both(left: Result<i32, Uncut>, right: Result<i32, Uncut>) -> Result<i32, Uncut>
+    ensures { IsBoth left right result }
+{
+    let most = left?;
+    let other = right?;
+    Ok(most.max(other))
+}
+
+/// One worker's rows, one by one.
+fn scan_rows(
+    job: &Job,
+    part: &SortedPart,
+    moves: &[Move],
+    rows: &[Row],
+    start: usize,
+    end: usize,
+) -> Result<i32, Uncut>
+    requires job_ok { IsJob job.now }
+    requires rows_ok { IsStock job.now moves.now rows.now }
+    requires order { start ≤ end }
+    requires there { end ≤ length rows.now }
+    ensures { MatchResult
+        result
+        (AreRowsLeft job.now part.now moves.now start end)
+        (λ uncut. IsFirstUncutOf
+        job.now
+        part.now
+        moves.now
+        start
+        end
+        uncut.row
+        uncut.col
+        uncut.top) }
+{
+    let mut most = 0;
+    for index in start..end {
+        match row_left(job, part, moves, index as u32, &rows[index]) {
+            Ok(left) => most = most.max(left),
+            Err(uncut) => return Err(uncut),
+        }
+    }
+    Ok(most)
+}
+
+/// Test (iv) on the columns of row `number`.
+fn row_left(
+    job: &Job,
+    part: &SortedPart,
+    moves: &[Move],
+    number: u32,
+    row: &Row,
+) -> Result<i32, Uncut>
+    requires job_ok { IsJob job.now }
+    requires there { number < row_count job.now }
+    requires row_ok { IsRow job.now moves.now number row.now }
+    ensures { MatchResult
+        result
+        (IsRowLeft job.now part.now moves.now number)
+        (λ uncut. (uncut.row ≡ number) × IsRowUncut job.now part.now moves.now number uncut.col uncut.top) }
+{
+    let y = job.row_y(number);
+    let tops = row.tops();
+    let mut most = 0;
+    for (index, top) in tops.iter().enumerate() {
+        let col = index as u32;
+        match most_with(job, part, job.column_x(col), y, *top, most) {
+            Some(greater) => most = greater,
+            None => {
+                return Err(Uncut {
+                    row: number,
+                    col,
+                    top: *top,
+                });
+            }
+        }
+    }
+    Ok(most)
+}
+
+/// The greater of `most` and how much a column with this top is left over its greatest covered
+/// height; none where the top is more than the allowance over it.
+///
+/// Where no more than `most` and the allowance is left, one look whether the column is covered so
+/// high says so, and the greatest height isn't worked out.
+fn most_with(job: &Job, part: &SortedPart, x: i32, y: i32, top: i32, most: i32) -> Option<i32>
+    requires job_ok { IsJob job.now }
+    requires x_ok { Within MAX_TEXT_COORDINATE x }
+    requires y_ok { Within MAX_TEXT_COORDINATE y }
+    requires top_ok { Within MAX_TEXT_COORDINATE top }
+    requires most_ok { pos 0 ≤ℤ most }
+    ensures { MatchOption
+        result
+        (¬ Covered part.now job.now.floor job.now.band x y (top -ℤ job.now.allowance))
+        (IsMostWith job.now part.now x y top most) }
+{
+    let enough = top - most.min(job.allowance);
+    if part
+        .part()
+        .covered_near(part.cells(), job.floor, x, y, enough, job.band)
+    {
+        return Some(most);
+    }
+    let left = left_over(job, part, x, y, top)?;
+    Some(most.max(left))
+}
+
+/// How much a column with this top is left over its greatest covered height; none where the top
+/// is more than the allowance over it.
+fn left_over(job: &Job, part: &SortedPart, x: i32, y: i32, top: i32) -> Option<i32>
+    requires job_ok { IsJob job.now }
+    requires x_ok { Within MAX_TEXT_COORDINATE x }
+    requires y_ok { Within MAX_TEXT_COORDINATE y }
+    requires top_ok { Within MAX_TEXT_COORDINATE top }
+    ensures { MatchOption
+        result
+        (¬ Covered part.now job.now.floor job.now.band x y (top -ℤ job.now.allowance))
+        (IsCutTo job.now part.now x y top) }
+{
+    let covered = part
+        .part()
+        .covered_height_near(part.cells(), job.floor, x, y, job.band);
+    if top - job.allowance > covered {
+        return None;
+    }
+    Some(top - top.min(covered))
+}
