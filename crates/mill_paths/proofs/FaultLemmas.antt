@@ -9,7 +9,8 @@ use Rattle.mill_base.specs.declared.limits.TheConstants.{MAX_TEXT_COORDINATE}
 use Rattle.mill_base.specs.declared.lattice.Lattice.{Lattice}
 use Rattle.mill_drop.specs.Maps.{IsMapLattice}
 use Rattle.mill_part.proofs.Stored.{coordinate}
-use Rattle.mill_paths.specs.Limits.{change_count, most_changes, most_nodes, HasManyNodes, IsHeightsFault, IsListFault}
+use Rattle.mill_paths.specs.Limits.{change_count, most_changes, HasManyNodes, IsHeightsFault, IsListFault}
+use Rattle.mill_base.specs.declared.limits.TheConstants.{MAX_NODES}
 use Rattle.mill_paths.specs.declared.fault.PathFault.{PathFault}
 use Rattle.mill_paths.specs.declared.fault.PathFault.TheVariants.{TooManyNodes, TooManyVisits, WantOfMemory}
 use Rattle.mill_paths.specs.declared.visit.Visit.{Visit}
@@ -36,7 +37,7 @@ ok_apart : {T : Type 0} (v : T) (fault : PathFault) → Ok v ≡ Err fault → �
 ok_apart v fault e = cc
 
 -- a lattice with few nodes hasn't too many
-few_nodes : (lattice : Lattice) (n : ℕ) → node_count lattice ≤ most_nodes → HasManyNodes lattice n → ⊥
+few_nodes : (lattice : Lattice) (n : ℕ) → node_count lattice ≤ MAX_NODES → HasManyNodes lattice n → ⊥
 few_nodes lattice n few many = let all = many.all in let over = many.many in absurd (over_few n (node_count lattice) all over few)
   where
     over_few : (n m : ℕ) → n ≡ m → 4000000 < n → m ≤ 4000000 → ⊥

@@ -2,19 +2,16 @@
 use Rattle.std.specs.Prelude.{◌≡◌, ℕ, ◌+◌, ◌<◌, ◌≤◌, Bool, ◌&&◌, if◌then◌else◌, List, [], ◌∷◌, ⊤}
 use Rattle.std.specs.Ordering.{int_eq}
 use Rattle.mill_base.specs.Lattices.{node_count}
+use Rattle.mill_base.specs.declared.limits.TheConstants.{MAX_MOVES, MAX_NODES}
 use Rattle.mill_base.specs.declared.lattice.Lattice.{Lattice}
 use Rattle.mill_base.specs.declared.points.Pt3.{Pt3}
 use Rattle.mill_paths.specs.declared.fault.PathFault.{PathFault}
 use Rattle.mill_paths.specs.declared.fault.PathFault.TheVariants.{TooManyNodes, TooManyVisits, WantOfMemory}
 use Rattle.mill_paths.specs.declared.visit.Visit.{Visit}
 
--- the most nodes of a lattice that paths go over
-abbrev pub most_nodes : ℕ
-most_nodes = 4000000
-
 -- the most visits of a list that differ from the one before them
 abbrev pub most_changes : ℕ
-most_changes = 1000000
+most_changes = MAX_MOVES
 
 -- two places are one
 abbrev pub is_same_point : Pt3 → Pt3 → Bool
@@ -43,10 +40,10 @@ IsListFault visits WantOfMemory = ⊤
 -- the lattice has so many nodes, and that is too many
 pub record HasManyNodes (lattice : Lattice) (nodes : ℕ) : Type 0 where
   pub all : nodes ≡ node_count lattice
-  pub many : most_nodes < nodes
+  pub many : MAX_NODES < nodes
 
 -- what a fault tells of the drop heights over a lattice: it has too many nodes, or hasn't
 abbrev pub IsHeightsFault : Lattice → PathFault → Type 0
 IsHeightsFault lattice (TooManyNodes nodes) = HasManyNodes lattice nodes
 IsHeightsFault lattice TooManyVisits = ⊥
-IsHeightsFault lattice WantOfMemory = node_count lattice ≤ most_nodes
+IsHeightsFault lattice WantOfMemory = node_count lattice ≤ MAX_NODES

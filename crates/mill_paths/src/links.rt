@@ -1,5 +1,5 @@
 ghost use Rattle.std.specs.Prelude.{◌≡◌, [], ◌∷◌, ◌++◌, ◌*ℤ◌, ◌≤ℤ◌, pos, false, OnOk, OnErr, IsTrue};
-ghost use Rattle.mill_base.specs.Ranges.{IsInTextRange};
+ghost use Rattle.mill_base.specs.Ranges.{IsInRange};
 ghost use Rattle.mill_cells.specs.Sorted.{sorted_of};
 ghost use Rattle.mill_job.specs.Jobs.{IsJob};
 ghost use Rattle.mill_paths.specs.Links.{AddsFirst, AddsLink, BeginsLink, IsNearBy, MayFeed, at_height as at_height_of, climb as climb_of, cross as cross_of, descend as descend_of, detour as detour_of, distance, feed_to as feed_of, rapid_to as rapid_of, way_home};
@@ -18,7 +18,7 @@ use mill_part::Part;
 /// other the cutter goes round: up to the clear height, across, down to the top of the stock, and
 /// then by a feed down to the visit. The cells are those of the part's triangles.
 ///
-/// Coordinates are in units of 0.01 mm, of at most 131,071 in magnitude.
+/// Coordinates are in units of 0.01 mm, of at most 524,287 in magnitude.
 ///
 /// # Errors
 ///
@@ -33,8 +33,8 @@ pub fn link(
 ) -> Result<(), WantOfMemory>
     requires job_ok { IsJob job.now }
     requires cells_ok { cells.now ≡ sorted_of part.now }
-    requires from_ok { IsInTextRange from }
-    requires to_ok { IsInTextRange to.at }
+    requires from_ok { IsInRange from }
+    requires to_ok { IsInRange to.at }
     ensures ok { OnOk
         result
         (AddsLink job.now part.now from to out.old.items out.new.items) }
@@ -71,8 +71,8 @@ pub fn home(job: &Job, from: Pt3, out: &mut Vec<Move>) -> Result<(), WantOfMemor
 fn may_feed(job: &Job, part: &Part, cells: &Cells, from: Pt3, to: Visit) -> bool
     requires job_ok { IsJob job.now }
     requires cells_ok { cells.now ≡ sorted_of part.now }
-    requires from_ok { IsInTextRange from }
-    requires to_ok { IsInTextRange to.at }
+    requires from_ok { IsInRange from }
+    requires to_ok { IsInRange to.at }
     ensures yes { IsTrue result → MayFeed job.now part.now from to }
     ensures no { result ≡ false → ¬ MayFeed job.now part.now from to }
 {

@@ -12,16 +12,13 @@ use crate::path::Path;
 use crate::visit::Visit;
 use crate::visit_list::VisitList;
 use crate::zigzag::add_path;
-use mill_base::Lattice;
+use mill_base::{Lattice, MAX_NODES};
 use mill_cells::Cells;
 use mill_drop::drop_map;
 use mill_job::Job;
 use mill_part::Part;
 use std::alloc::Global;
 use std::thread::Threads;
-
-/// The most nodes of a lattice that paths go over.
-const MOST_NODES: u64 = 4_000_000;
 
 /// The visits of a plan's roughing, level by level from the top, and on each in zigzag order: over
 /// each node of the rough lattice at which the level is at least the rough stock over the drop
@@ -113,7 +110,7 @@ fn drop_heights<R: Threads + Sync>(
         step,
     };
     let nodes = lattice.nodes();
-    if nodes > MOST_NODES {
+    if nodes > MAX_NODES {
         return Err(PathFault::TooManyNodes { nodes });
     }
     Ok(drop_map(rt, alloc, part, cells, job.cutter, &lattice, job.floor)?)

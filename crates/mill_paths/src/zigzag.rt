@@ -4,7 +4,8 @@ ghost use Rattle.mill_base.specs.Lattices.{lattice_xs, lattice_ys};
 ghost use Rattle.mill_drop.specs.Maps.{IsMapLattice, nodes_of};
 ghost use Rattle.mill_job.specs.Jobs.{IsJob};
 ghost use Rattle.mill_paths.specs.Lattices.{zigzag_row};
-ghost use Rattle.mill_paths.specs.Limits.{IsListFault, most_nodes};
+ghost use Rattle.mill_paths.specs.Limits.{IsListFault};
+ghost use Rattle.mill_base.specs.declared.limits.TheConstants.{MAX_NODES};
 ghost use Rattle.mill_paths.specs.Paths.{path_lattice, path_visit, path_visits};
 
 use crate::fault::PathFault;
@@ -92,7 +93,7 @@ fn add_node(
 /// the rows 0, 2, 4 and so on, and from the greatest in the others.
 fn node_number(columns: u32, row: u32, place: u32) -> u32
     requires place_ok { place < columns }
-    requires row_ok { row * columns + columns ≤ most_nodes }
+    requires row_ok { row * columns + columns ≤ MAX_NODES }
     ensures { result ≡ slice_index (zigzag_row columns row) place }
 {
     let first = row * columns;

@@ -5,14 +5,15 @@ use Rattle.mill_base.specs.Lattices.{node_count}
 use Rattle.mill_base.specs.declared.lattice.Lattice.{Lattice}
 use Rattle.mill_job.specs.declared.job.Job.{Job}
 use Rattle.mill_paths.specs.Lattices.{finish_lattice, rough_lattice}
-use Rattle.mill_paths.specs.Limits.{most_nodes, HasManyNodes}
+use Rattle.mill_paths.specs.Limits.{HasManyNodes}
+use Rattle.mill_base.specs.declared.limits.TheConstants.{MAX_NODES}
 use Rattle.mill_plan.specs.Plans.{HasFewNodes, IsOverNodes}
 
 not_both : (n m : ℕ) → n ≡ m → 4000000 < n → m ≤ 4000000 → ⊥
 not_both n m e many few = omega (e, many, few, arith)
 
 -- a lattice within its limit isn't over it
-few_not_many : (lattice : Lattice) (nodes : ℕ) → node_count lattice ≤ most_nodes → HasManyNodes lattice nodes → ⊥
+few_not_many : (lattice : Lattice) (nodes : ℕ) → node_count lattice ≤ MAX_NODES → HasManyNodes lattice nodes → ⊥
 few_not_many lattice nodes few many = not_both nodes (node_count lattice) many.all many.many few
 
 pub few_not_over : (job : Job) (nodes : ℕ) → HasFewNodes job → IsOverNodes job nodes → ⊥

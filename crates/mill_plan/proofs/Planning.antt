@@ -20,7 +20,8 @@ use Rattle.mill_paths.proofs.Lengths.{many_finish, many_rough, plan_is_longer}
 use Rattle.mill_paths.proofs.Rounds.{round_is_safe}
 use Rattle.mill_paths.proofs.Uniqueness.{one_plan}
 use Rattle.mill_plan.specs.Faults.{plan_fault_of}
-use Rattle.mill_plan.specs.Plans.{HasFewNodes, HasPlan, IsPlanFault, most_moves}
+use Rattle.mill_plan.specs.Plans.{HasFewNodes, HasPlan, IsPlanFault}
+use Rattle.mill_base.specs.declared.limits.TheConstants.{MAX_MOVES}
 use Rattle.mill_plan.specs.Steps.{IsRound, IsRoundFault}
 use Rattle.mill_plan.specs.declared.fault.PlanFault.{PlanFault}
 use Rattle.mill_plan.specs.declared.fault.PlanFault.TheVariants.{TooManyNodes, TooManyMoves, Uncut, WantOfMemory}
@@ -36,7 +37,7 @@ module _ (job : Job) (part : List Tri) where
       record { rough = rough; finish = finish; are_rough = are_rough; are_finish = are_finish; toured = round.toured; tour = round.tour; joined = round.joined }
 
   pub plan_made : (rough finish : List Visit) (moves : List Move) → HasFewNodes job → AreRoughVisits job part rough → AreFinishVisits job part finish
-      → IsRound job part (rough ++ finish) moves → length moves ≤ most_moves → HasPlan job part moves
+      → IsRound job part (rough ++ finish) moves → length moves ≤ MAX_MOVES → HasPlan job part moves
   plan_made rough finish moves nodes are_rough are_finish round few =
       record { nodes = nodes; is = plan_of rough finish moves are_rough are_finish round; few = few }
 
@@ -53,11 +54,11 @@ module _ (job : Job) (part : List Tri) where
   round_told rough finish (TooManyNodes n) nodes are_rough are_finish h = absurd h
   round_told rough finish TooManyMoves nodes are_rough are_finish (inl begun) = record {
     nodes = nodes;
-    many = λ moves plan. over most_moves (length begun.begun) (length moves) begun.many (plan_is_longer job part rough finish begun.begun moves are_rough are_finish begun.begins plan);
+    many = λ moves plan. over MAX_MOVES (length begun.begun) (length moves) begun.many (plan_is_longer job part rough finish begun.begun moves are_rough are_finish begun.begins plan);
   }
   round_told rough finish TooManyMoves nodes are_rough are_finish (inr long) = record {
     nodes = nodes;
-    many = λ moves plan. subst (λ (ms : List Move). most_moves < length ms)
+    many = λ moves plan. subst (λ (ms : List Move). MAX_MOVES < length ms)
         (one_plan job part long.moves moves (plan_of rough finish long.moves are_rough are_finish long.round) plan) long.many;
   }
   round_told rough finish (Uncut row col top) nodes are_rough are_finish h = absurd h

@@ -11,7 +11,7 @@ use Rattle.mill_paths.specs.Links.{AddsLink, IsLink, way_home}
 use Rattle.mill_paths.specs.Tours.{last_place}
 use Rattle.mill_paths.specs.declared.visit.Visit.{Visit}
 use Rattle.mill_paths.proofs.Steps.{last_join, last_snoc, tour_join, tour_nil, tour_snoc}
-use Rattle.mill_plan.specs.Plans.{most_moves}
+use Rattle.mill_base.specs.declared.limits.TheConstants.{MAX_MOVES}
 use Rattle.mill_plan.specs.Steps.{AddsTour, IsLongRound, IsRound, IsRoundFault, IsTourFault, IsTourOver}
 use Rattle.mill_plan.specs.declared.fault.PlanFault.{PlanFault}
 use Rattle.mill_plan.specs.declared.fault.PlanFault.TheVariants.{TooManyNodes, TooManyMoves, Uncut, WantOfMemory}
@@ -44,12 +44,12 @@ module _ (job : Job) (part : List Tri) where
   adds_all from visits k old new past so_far = subst (λ (vs : List Visit). AddsTour job part from vs old new) (take_all k visits past) so_far
 
   -- with the link to the visit of number k the list is too long
-  pub over_at : (from : Pt3) (visits : List Visit) (k : ℕ) (old new : List Move) → AddsTour job part from (take (k + 1) visits) old new → most_moves < length new
+  pub over_at : (from : Pt3) (visits : List Visit) (k : ℕ) (old new : List Move) → AddsTour job part from (take (k + 1) visits) old new → MAX_MOVES < length new
       → IsTourOver job part from visits old
   over_at from visits k old new so_far many = record {
     begun = so_far.added;
     begins = record { first = take (k + 1) visits; rest = drop (k + 1) visits; all = sym (take-append-drop (k + 1) visits); tour = so_far.tour };
-    many = subst (λ (ms : List Move). most_moves < length ms) so_far.joined many;
+    many = subst (λ (ms : List Move). MAX_MOVES < length ms) so_far.joined many;
   }
 
   -- ---- the round
@@ -77,7 +77,7 @@ module _ (job : Job) (part : List Tri) where
       all = ap (λ (us : List Visit). vs ++ us) over.begins.all ∙ sym (append_assoc vs over.begins.first over.begins.rest);
       tour = tour_join job part from vs over.begins.first first.added over.begun first.tour over.begins.tour;
     };
-    many = subst (λ (ms : List Move). most_moves < length (ms ++ over.begun)) first.joined over.many;
+    many = subst (λ (ms : List Move). MAX_MOVES < length (ms ++ over.begun)) first.joined over.many;
   }
 
   -- a fault of the second is one of the round
@@ -102,7 +102,7 @@ module _ (job : Job) (part : List Tri) where
         ∙ ap (λ (ms : List Move). ms ++ way_home job (last_place (home job) (vs ++ ws))) (second.joined ∙ ap (λ (ms : List Move). ms ++ second.added) first.joined);
   }
 
-  pub long_round : (visits : List Visit) (moves : List Move) → IsRound job part visits moves → most_moves < length moves → IsLongRound job part visits
+  pub long_round : (visits : List Visit) (moves : List Move) → IsRound job part visits moves → MAX_MOVES < length moves → IsLongRound job part visits
   long_round visits moves round many = record { moves = moves; round = round; many = many }
 
 -- where the cutter is after the visit of number k, and after all

@@ -1,5 +1,6 @@
 -- What a planner can answer to a job and a part, and when each answer is right.
 use Rattle.std.specs.Prelude.{◌≡◌, ◌⊎◌, ℕ, ◌≤◌, ◌<◌, ℤ, pos, ◌+ℤ◌, ◌<ℤ◌, List, length, All, Ok}
+use Rattle.mill_base.specs.declared.limits.TheConstants.{MAX_MOVES, MAX_NODES}
 use Rattle.mill_base.specs.Contact.{Holds}
 use Rattle.mill_base.specs.Covers.{IsHighestCovered}
 use Rattle.mill_base.specs.Lattices.{node_count}
@@ -11,7 +12,7 @@ use Rattle.mill_job.specs.Columns.{home, column_x, column_y}
 use Rattle.mill_job.specs.declared.job.Job.{Job}
 use Rattle.mill_ngc.specs.Programs.{program_of}
 use Rattle.mill_paths.specs.Lattices.{finish_lattice, rough_lattice}
-use Rattle.mill_paths.specs.Limits.{most_nodes, HasManyNodes}
+use Rattle.mill_paths.specs.Limits.{HasManyNodes}
 use Rattle.mill_paths.specs.Tours.{IsPlan}
 use Rattle.mill_paths.specs.Visits.{AreFinishVisits}
 use Rattle.mill_paths.specs.declared.visit.Visit.{Visit}
@@ -23,10 +24,6 @@ use Rattle.mill_verify.specs.declared.verdict.Reason.TheVariants.{Left}
 use Rattle.mill_plan.specs.declared.planned.Planned.{Planned}
 use Rattle.mill_plan.specs.declared.fault.PlanFault.{PlanFault}
 use Rattle.mill_plan.specs.declared.fault.PlanFault.TheVariants.{TooManyNodes, TooManyMoves, Uncut, WantOfMemory}
-
--- the most moves of a plan
-abbrev pub most_moves : ℕ
-most_moves = 1000000
 
 -- what a planner answers: a program's text, how many moves it has, how many columns the job has, and the most that a column's top stands over what covers it;
 -- or a lattice with so many nodes is too large; or the moves are too many; or the plan leaves this row's and column's stock uncut at a height
@@ -40,12 +37,12 @@ pub data PlanAnswer : Type 0 where
 
 -- each lattice that the paths go over is within its limit; the rough one is gone over only where there is a layer
 pub record HasFewNodes (job : Job) : Type 0 where
-  pub finish : node_count (finish_lattice job) ≤ most_nodes
-  pub rough : (pos 0) <ℤ job.layer → node_count (rough_lattice job) ≤ most_nodes
+  pub finish : node_count (finish_lattice job) ≤ MAX_NODES
+  pub rough : (pos 0) <ℤ job.layer → node_count (rough_lattice job) ≤ MAX_NODES
 
 -- the finishing lattice is within its limit, and the rough one, which is gone over, has so many nodes, and that is too many
 pub record HasManyRoughNodes (job : Job) (nodes : ℕ) : Type 0 where
-  pub finish : node_count (finish_lattice job) ≤ most_nodes
+  pub finish : node_count (finish_lattice job) ≤ MAX_NODES
   pub layer : (pos 0) <ℤ job.layer
   pub rough : HasManyNodes (rough_lattice job) nodes
 
@@ -56,13 +53,13 @@ IsOverNodes job nodes = HasManyNodes (finish_lattice job) nodes ⊎ HasManyRough
 -- the lattices are within their limits, and the plan's list of moves is too long
 pub record IsOverMoves (job : Job) (part : List Tri) : Type 0 where
   pub nodes : HasFewNodes job
-  pub many : (moves : List Move) → IsPlan job part moves → most_moves < length moves
+  pub many : (moves : List Move) → IsPlan job part moves → MAX_MOVES < length moves
 
 -- the lattices are within their limits, and so is this list of moves, which is the plan
 pub record HasPlan (job : Job) (part : List Tri) (moves : List Move) : Type 0 where
   pub nodes : HasFewNodes job
   pub is : IsPlan job part moves
-  pub few : length moves ≤ most_moves
+  pub few : length moves ≤ MAX_MOVES
 
 -- ---- the answers
 

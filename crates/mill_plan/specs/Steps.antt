@@ -9,7 +9,8 @@ use Rattle.mill_paths.specs.Links.{way_home}
 use Rattle.mill_paths.specs.Tours.{IsTour, last_place}
 use Rattle.mill_paths.specs.Unique.{BeginsTour}
 use Rattle.mill_paths.specs.declared.visit.Visit.{Visit}
-use Rattle.mill_plan.specs.Plans.{most_moves, IsOverNodes}
+use Rattle.mill_plan.specs.Plans.{IsOverNodes}
+use Rattle.mill_base.specs.declared.limits.TheConstants.{MAX_MOVES}
 use Rattle.mill_plan.specs.declared.fault.PlanFault.{PlanFault}
 use Rattle.mill_plan.specs.declared.fault.PlanFault.TheVariants.{TooManyNodes, TooManyMoves, Uncut, WantOfMemory}
 
@@ -30,7 +31,7 @@ pub record AddsTour (job : Job) (part : List Tri) (from : Pt3) (visits : List Vi
 pub record IsTourOver (job : Job) (part : List Tri) (from : Pt3) (visits : List Visit) (old : List Move) : Type 0 where
   pub begun : List Move
   pub begins : BeginsTour job part from visits begun
-  pub many : most_moves < length (old ++ begun)
+  pub many : MAX_MOVES < length (old ++ begun)
 
 -- a fault of a tour tells that there are too many moves, or nothing
 abbrev pub IsTourFault : Job → List Tri → Pt3 → List Visit → List Move → PlanFault → Type 0
@@ -49,7 +50,7 @@ pub record IsRound (job : Job) (part : List Tri) (visits : List Visit) (moves : 
 pub record IsLongRound (job : Job) (part : List Tri) (visits : List Visit) : Type 0 where
   pub moves : List Move
   pub round : IsRound job part visits moves
-  pub many : most_moves < length moves
+  pub many : MAX_MOVES < length moves
 
 -- a fault of a round tells that there are too many moves, on the way or with the way home, or nothing
 abbrev pub IsRoundFault : Job → List Tri → List Visit → PlanFault → Type 0

@@ -1,29 +1,22 @@
 ghost use Rattle.std.specs.Prelude.{◌≡◌, ◌<◌, ◌≤◌, [], ◌++◌, length, All, IfErr, IfOk, OnErr, OnOk};
+ghost use Rattle.mill_base.specs.declared.limits.TheConstants.{MAX_MOVES};
 ghost use Rattle.mill_base.specs.Covers.{IsUnder};
 ghost use Rattle.mill_base.specs.Ranges.{IsInTextRange};
-ghost use Rattle.mill_cells.specs.Sorted.{sorted_of};
 ghost use Rattle.mill_job.specs.Columns.{home as home_of};
 ghost use Rattle.mill_job.specs.Jobs.{IsJob};
 ghost use Rattle.mill_paths.specs.Safety.{GoSafely};
 ghost use Rattle.mill_paths.specs.Tours.{last_place};
 ghost use Rattle.mill_paths.specs.Visits.{IsVisit};
-ghost use Rattle.mill_plan.specs.Plans.{most_moves, HasFewNodes, HasPlan, IsPlanFault};
+ghost use Rattle.mill_plan.specs.Plans.{HasFewNodes, HasPlan, IsPlanFault};
 ghost use Rattle.mill_plan.specs.Steps.{AddsTour, IsNodesFault, IsRound, IsRoundFault, IsTourFault};
 
 use crate::fault::PlanFault;
-use mill_base::{Move, Pt3, WantOfMemory};
-use mill_cells::Cells;
+use mill_base::{MAX_MOVES, MAX_NODES, Move, Pt3};
 use mill_job::Job;
-use mill_part::Part;
+use mill_part::SortedPart;
 use mill_paths::{Visit, finish_lattice, finish_visits, home, link, rough_lattice, rough_visits};
 use std::alloc::Global;
 use std::thread::Threads;
-
-/// The most nodes of a lattice that paths go over.
-const MOST_NODES: u64 = 4_000_000;
-
-/// The most moves of a plan.
-const MOST_MOVES: usize = 1_000_000;
 
 /// Whether each lattice that the paths go over has at most 4,000,000 nodes: the finishing one, and,
 /// where there is a layer, the rough one. The error tells of the first that hasn't.
@@ -33,14 +26,14 @@ pub(crate) fn check_nodes(job: &Job) -> Result<(), PlanFault>
     ensures fault { IfErr result (IsNodesFault job.now) }
 {
     let finish = finish_lattice(job).nodes();
-    if finish > MOST_NODES {
+    if finish > MAX_NODES {
         return Err(PlanFault::TooManyNodes { nodes: finish });
     }
     if job.layer == 0 {
         return Ok(());
     }
     let rough = rough_lattice(job).nodes();
-    if rough > MOST_NODES {
+    if rough > MAX_NODES {
         return Err(PlanFault::TooManyNodes { nodes: rough });
     }
     Ok(())
@@ -53,7 +46,7 @@ pub(crate) fn planned_moves<R: Threads + Sync>(
     rt: &R,
     alloc: Global,
     job: &Job,
-    part: &Part,
+    part: &SortedPart,
 ) -> Result<Vec<Move>, PlanFault>
     requires job_ok { IsJob job.now }
     requires under { IsUnder part.now job.now.top }
@@ -64,43 +57,32 @@ pub(crate) fn planned_moves<R: Threads + Sync>(
         (λ moves. GoSafely job.now part.now [] (home_of job.now) moves.items (home_of job.now)) }
     ensures fault { IfErr result (IsPlanFault job.now part.now) }
 {
-    let cells = cells_of(alloc, part)?;
-    let rough = rough_visits(rt, alloc, job, part, &cells)?;
-    let finish = finish_visits(rt, alloc, job, part, &cells)?;
-    round_of(alloc, job, part, &cells, &rough, &finish)
-}
-
-/// The part's triangles in cells of the size that suits them.
-fn cells_of(alloc: Global, part: &Part) -> Result<Cells, WantOfMemory>
-    ensures { IfOk result (λ cells. cells ≡ sorted_of part.now) }
-{
-    let tris = part.tris();
-    Cells::new(alloc, tris, Cells::size_for(tris))
+    let rough = rough_visits(rt, alloc, job, part.part(), part.cells())?;
+    let finish = finish_visits(rt, alloc, job, part.part(), part.cells())?;
+    round_of(alloc, job, part, &rough, &finish)
 }
 
 /// The moves from home through the roughing and then the finishing visits, and home again, of which
-/// there are at most 1,000,000. The cells are those of the part's triangles.
+/// there are at most 1,000,000.
 fn round_of(
     alloc: Global,
     job: &Job,
-    part: &Part,
-    cells: &Cells,
+    part: &SortedPart,
     rough: &[Visit],
     finish: &[Visit],
 ) -> Result<Vec<Move>, PlanFault>
     requires job_ok { IsJob job.now }
-    requires cells_ok { cells.now ≡ sorted_of part.now }
     requires rough_ok { All (IsVisit job.now part.now) rough.now }
     requires finish_ok { All (IsVisit job.now part.now) finish.now }
     ensures round { IfOk
         result
         (λ moves. IsRound job.now part.now (rough.now ++ finish.now) moves.items) }
-    ensures few { IfOk result (λ moves. length moves.items ≤ most_moves) }
+    ensures few { IfOk result (λ moves. length moves.items ≤ MAX_MOVES) }
     ensures fault { IfErr result (IsRoundFault job.now part.now (rough.now ++ finish.now)) }
 {
     let mut moves = Vec::new(alloc);
-    let place = add_tour(job, part, cells, job.home(), rough, &mut moves)?;
-    let place = add_tour(job, part, cells, place, finish, &mut moves)?;
+    let place = add_tour(job, part, job.home(), rough, &mut moves)?;
+    let place = add_tour(job, part, place, finish, &mut moves)?;
     home(job, place, &mut moves)?;
     check_moves(&moves)?;
     Ok(moves)
@@ -111,30 +93,28 @@ fn round_of(
 /// It ends at the first link with which there are more than 1,000,000 moves.
 fn add_tour(
     job: &Job,
-    part: &Part,
-    cells: &Cells,
+    part: &SortedPart,
     from: Pt3,
     visits: &[Visit],
     moves: &mut Vec<Move>,
 ) -> Result<Pt3, PlanFault>
     requires job_ok { IsJob job.now }
-    requires cells_ok { cells.now ≡ sorted_of part.now }
     requires from_ok { IsInTextRange from }
     requires visits_ok { All (IsVisit job.now part.now) visits.now }
-    requires few { length moves.old.items ≤ most_moves }
+    requires few { length moves.old.items ≤ MAX_MOVES }
     ensures place { IfOk result (λ place. place ≡ last_place from visits.now) }
     ensures place_ok { IfOk result IsInTextRange }
     ensures tour { OnOk
         result
         (AddsTour job.now part.now from visits.now moves.old.items moves.new.items) }
-    ensures few { OnOk result (length moves.new.items ≤ most_moves) }
+    ensures few { OnOk result (length moves.new.items ≤ MAX_MOVES) }
     ensures fault { IfErr
         result
         (IsTourFault job.now part.now from visits.now moves.old.items) }
 {
     let mut place = from;
     for visit in visits {
-        link(job, part, cells, place, *visit, moves)?;
+        link(job, part.part(), part.cells(), place, *visit, moves)?;
         check_moves(moves)?;
         place = visit.at;
     }
@@ -143,11 +123,11 @@ fn add_tour(
 
 /// Whether there are at most 1,000,000 moves.
 fn check_moves(moves: &[Move]) -> Result<(), PlanFault>
-    ensures few { OnOk result (length moves.now ≤ most_moves) }
+    ensures few { OnOk result (length moves.now ≤ MAX_MOVES) }
     ensures fault { IfErr result (λ fault. fault ≡ PlanFault.TooManyMoves) }
-    ensures many { OnErr result (most_moves < length moves.now) }
+    ensures many { OnErr result (MAX_MOVES < length moves.now) }
 {
-    if moves.len() > MOST_MOVES {
+    if moves.len() > MAX_MOVES {
         return Err(PlanFault::TooManyMoves);
     }
     Ok(())

@@ -1,4 +1,5 @@
 ghost use Rattle.std.specs.Prelude.{◌≡◌, ◌↔◌, ℕ, ◌≤◌, [], IfErr, IfOk, IsErrOf};
+ghost use Rattle.mill_base.specs.declared.limits.TheConstants.{MAX_WORKERS};
 ghost use Rattle.mill_base.specs.Covers.{IsUnder};
 ghost use Rattle.mill_job.specs.Columns.{home};
 ghost use Rattle.mill_job.specs.Jobs.{IsJob};
@@ -11,9 +12,9 @@ use crate::moves::{check_nodes, planned_moves};
 use crate::planned::Planned;
 use mill_base::Move;
 use mill_job::Job;
-use mill_part::Part;
+use mill_part::{Part, SortedPart};
 use mill_post::write_program;
-use mill_verify::{Reason, Verdict, verify};
+use mill_verify::{Reason, Verdict, verify_sorted};
 use std::alloc::Global;
 use std::thread::Threads;
 
@@ -45,14 +46,15 @@ pub fn plan<R: Threads + Sync>(
     requires job_ok { IsJob job.now }
     requires under { IsUnder part.now job.now.top }
     requires some_workers { 1 ≤ workers }
-    requires few_workers { workers ≤ 64 }
+    requires few_workers { workers ≤ MAX_WORKERS }
     ensures planned { IfOk result (λ planned. IsPlanAnswer job.now part.now (answer_of planned)) }
     ensures fault { IfErr result (IsPlanFault job.now part.now) }
     ensures nodes { (nodes : ℕ) → IsErrOf result (TooManyNodes nodes) ↔ IsOverNodes job.now nodes }
 {
     check_nodes(job)?;
-    let moves = planned_moves(rt, alloc, job, part)?;
-    verified(rt, alloc, job, part, &moves, workers)
+    let part = SortedPart::new(alloc, part)?;
+    let moves = planned_moves(rt, alloc, job, &part)?;
+    verified(rt, alloc, job, &part, &moves, workers)
 }
 
 /// The planner's answer, from the verdict on the plan's moves.
@@ -60,7 +62,7 @@ fn verified<R: Threads + Sync>(
     rt: &R,
     alloc: Global,
     job: &Job,
-    part: &Part,
+    part: &SortedPart,
     moves: &[Move],
     workers: u32,
 ) -> Result<Planned, PlanFault>
@@ -69,13 +71,13 @@ fn verified<R: Threads + Sync>(
     requires plan_ok { HasPlan job.now part.now moves.now }
     requires safe { GoSafely job.now part.now [] (home job.now) moves.now (home job.now) }
     requires some_workers { 1 ≤ workers }
-    requires few_workers { workers ≤ 64 }
+    requires few_workers { workers ≤ MAX_WORKERS }
     ensures planned { IfOk
         result
         (λ planned. IsPlanAnswer job.now part.now (answer_of planned)) }
     ensures fault { IfErr result (IsPlanFault job.now part.now) }
 {
-    match verify(rt, alloc, job, part, moves, workers)? {
+    match verify_sorted(rt, alloc, job, part, moves, workers)? {
         Verdict::Accept {
             moves: count,
             columns,

@@ -22,5 +22,5 @@ mod stock;
 mod verdict;
 
 pub use laws::one_verdict;
-pub use program::verify;
+pub use program::{verify, verify_sorted};
 pub use verdict::{Reason, Verdict};

@@ -69,9 +69,39 @@ pub fn verify<R: Threads + Sync>(
         → IsStopped job.now moves.now number row col leaf }
 {
     let part = SortedPart::new(alloc, part)?;
-    let limit = part_limit(rt, job, &part, moves, workers);
+    verify_sorted(rt, alloc, job, &part, moves, workers)
+}
+
+/// The verdict of [`verify`], for a part whose triangles are sorted already.
+pub fn verify_sorted<R: Threads + Sync>(
+    rt: &R,
+    alloc: Global,
+    job: &Job,
+    part: &SortedPart,
+    moves: &[Move],
+    workers: u32,
+) -> Result<Verdict, WantOfMemory>
+    requires job_ok { IsJob job.now }
+    requires moves_ok { MovesInRange moves.now }
+    requires under { IsUnder part.now job.now.top }
+    requires follow { Follow (home job.now) moves.now }
+    requires few { length moves.now ≤ MAX_MOVES }
+    requires some_workers { 1 ≤ workers }
+    requires few_workers { workers ≤ MAX_WORKERS }
+    ensures verdict { IfOk result (IsVerdict job.now part.now moves.now) }
+    ensures safe { (count columns : ℕ) (left : ℤ)
+        → result ≡ Ok (Verdict.Accept count columns left)
+        → CutsSafely job.now part.now moves.now }
+    ensures blocked { (number tri : ℕ) (leaf : Leaf)
+        → result ≡ Ok (Verdict.Reject (Reason.Gouge number tri leaf))
+        → IsBlocked job.now part.now moves.now number tri leaf }
+    ensures stopped { (number row col : ℕ) (leaf : Leaf)
+        → result ≡ Ok (Verdict.Reject (Reason.Rapid number row col leaf))
+        → IsStopped job.now moves.now number row col leaf }
+{
+    let limit = part_limit(rt, job, part, moves, workers);
     let rows = turned_rows(rt, alloc, job, &moves[..limit.passed], workers)?;
-    Ok(verdict_of(rt, job, &part, moves, limit, &rows, workers))
+    Ok(verdict_of(rt, job, part, moves, limit, &rows, workers))
 }
 
 /// The verdict, from how far the moves pass tests (i) and (ii), and the rows after those that do.

@@ -2,7 +2,7 @@ use Rattle.std.proofs.Common.{◌+◌, ◌<◌, length, take, refl}
 use Rattle.std.proofs.lemmas.Result.{err_from_is_err_and}
 use Rattle.std.proofs.lemmas.List.Elements.{All-get_or}
 use Rattle.mill_paths.specs.Visits.{IsVisit}
-use Rattle.mill_plan.specs.Plans.{most_moves}
+use Rattle.mill_base.specs.declared.limits.TheConstants.{MAX_MOVES}
 use Rattle.mill_plan.specs.Steps.{AddsTour}
 use Rattle.mill_plan.proofs.Touring.{adds_all, adds_more, adds_none, last_all, last_more, over_at}
 use Rattle.mill_plan.proofs.moves.add_tour.Goals as goal
@@ -25,7 +25,7 @@ returns-in_err-check_moves-clause-fault c =
     let tour : AddsTour c.args.job.now c.args.part.now c.args.from (take (c.loop-visit.visit-index + 1) c.args.visits.now) c.args.moves.now.items c.link.new.out.items =
     adds_more c.args.job.now c.args.part.now c.args.from c.loop-visit.place c.args.visits.now c.loop-visit.visit-index _ c.args.moves.now.items c.loop-visit.moves.items c.link.new.out.items
     c.loop-visit-test.true so_far.place so_far.tour c.in_ok-link.ensures.ok in
-    let many : most_moves < length c.link.new.out.items = rw c.deref.ensures.value at c.in_err-check_moves.ensures.many in
+    let many : MAX_MOVES < length c.link.new.out.items = rw c.deref.ensures.value at c.in_err-check_moves.ensures.many in
     rw (p.1, p.2, c.in_err-check_moves.ensures.fault)
     (over_at c.args.job.now c.args.part.now c.args.from c.args.visits.now c.loop-visit.visit-index c.args.moves.now.items c.link.new.out.items tour many)
 

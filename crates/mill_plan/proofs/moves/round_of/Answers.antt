@@ -2,7 +2,7 @@ use Rattle.std.proofs.Common.{◌≡◌, ◌<◌, ◌++◌, [], inr, length}
 use Rattle.std.proofs.lemmas.Result.{err_from_is_err_and}
 use Rattle.mill_job.specs.Columns.{home}
 use Rattle.mill_paths.specs.Tours.{last_place}
-use Rattle.mill_plan.specs.Plans.{most_moves}
+use Rattle.mill_base.specs.declared.limits.TheConstants.{MAX_MOVES}
 use Rattle.mill_plan.specs.Steps.{AddsTour, IsRound}
 use Rattle.mill_plan.proofs.Touring.{long_round, round_made, second_told}
 use Rattle.mill_plan.proofs.moves.round_of.Goals as goal
@@ -28,7 +28,7 @@ returns-in_err-check_moves-clause-fault c =
     let round : IsRound c.args.job.now c.args.part.now (c.args.rough.now ++ c.args.finish.now) c.home-2.new.out.items =
     round_made c.args.job.now c.args.part.now c.args.rough.now c.args.finish.now c.in_ok-place-2.place c.add_tour.new.moves.items c.add_tour-2.new.moves.items c.home-2.new.out.items
     first second over c.in_ok-home.ensures.ok in
-    let many : most_moves < length c.home-2.new.out.items = rw c.deref.ensures.value at c.in_err-check_moves.ensures.many in
+    let many : MAX_MOVES < length c.home-2.new.out.items = rw c.deref.ensures.value at c.in_err-check_moves.ensures.many in
     rw (p.1, p.2, c.in_err-check_moves.ensures.fault) (inr (long_round c.args.job.now c.args.part.now (c.args.rough.now ++ c.args.finish.now) c.home-2.new.out.items round many))
 
 pub returns-clause-round : goal.returns-clause-round
