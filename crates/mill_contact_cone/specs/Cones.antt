@@ -1,12 +1,15 @@
 -- Points of segments and triangles strictly inside a cone cutter with its tip at the origin.
-use Rattle.std.specs.Prelude.{◌≡◌, ◌^◌, ℤ, pos, ◌+ℤ◌, ◌-ℤ◌, ◌*ℤ◌, ◌<ℤ◌, ◌≤ℤ◌}
+use Rattle.std.specs.Prelude.{◌≡◌, ℤ, pos, ◌+ℤ◌, ◌-ℤ◌, ◌*ℤ◌, ◌<ℤ◌, ◌≤ℤ◌}
 use Rattle.mill_base.specs.Numbers.{Within, square}
 use Rattle.mill_base.specs.Cutters.{InCone, apart}
 use Rattle.mill_base.specs.Sizes.{HasRadius, IsSlope}
+use Rattle.mill_base.specs.declared.limits.TheConstants.{MAX_WIDE_RADIUS}
 use Rattle.mill_base.specs.declared.cutter.Cutter.{Cutter}
 use Rattle.mill_base.specs.declared.cutter.Cutter.TheVariants.{Flat, Ball, Cone as ConeCutter}
 use Rattle.mill_geom.specs.declared.offset.Offset.{Offset}
-use Rattle.mill_geom.specs.Offsets.{mean2, mean3, farthest}
+use Rattle.mill_geom.specs.Offsets.{mean2, mean3}
+use Rattle.mill_geom.specs.Widths.{farthest}
+use Rattle.mill_contact_cone.specs.Widths.{most_over}
 use Rattle.mill_contact_cone.specs.declared.corner.Cone.{Cone}
 use Rattle.mill_contact_cone.specs.declared.corner.Corner.{Corner}
 
@@ -18,7 +21,7 @@ IsConical (ConeCutter r a b) = Unit {0}
 
 -- the radius and the slope are in the ranges of a contact test
 pub record IsCone (k : Cone) : Type 0 where
-  pub radius_ok : HasRadius k.radius (pos 11024)
+  pub radius_ok : HasRadius k.radius MAX_WIDE_RADIUS
   pub slope_ok : IsSlope k.rise k.run
 
 -- run*z - rise*radius: not negative from the height on at which the cone reaches its radius
@@ -34,7 +37,7 @@ pub record CornerInRange (p : Corner) : Type 0 where
   pub x_ok : Within farthest p.x
   pub y_ok : Within farthest p.y
   pub z_ok : Within farthest p.z
-  pub over_ok : Within (2 ^ 26) p.over
+  pub over_ok : Within most_over p.over
 
 -- the corner as an offset from the tip, and with its last number for its height
 abbrev pub plain : Corner → Offset

@@ -1,6 +1,7 @@
 -- The forms that decide whether a segment comes into the cone cutter, and the part of the segment on which each decides.
-use Rattle.std.specs.Prelude.{◌≡◌, ◌⊎◌, ◌^◌, ℤ, pos, ◌+ℤ◌, ◌-ℤ◌, ◌*ℤ◌, ◌<ℤ◌, ◌≤ℤ◌}
+use Rattle.std.specs.Prelude.{◌≡◌, ◌⊎◌, ℤ, pos, ◌+ℤ◌, ◌-ℤ◌, ◌*ℤ◌, ◌<ℤ◌, ◌≤ℤ◌}
 use Rattle.mill_base.specs.Numbers.{Within}
+use Rattle.mill_contact_cone.specs.Widths.{most_over, most_cone_form}
 use Rattle.mill_contact_cone.specs.declared.corner.Cone.{Cone}
 use Rattle.mill_contact_cone.specs.declared.corner.Corner.{Corner}
 use Rattle.mill_contact_cone.specs.declared.quadratic.Form.{Form}
@@ -8,14 +9,14 @@ use Rattle.mill_contact_cone.specs.declared.quadratic.Blend.{Blend}
 
 -- the three numbers of a form are small
 pub record FormInRange (f : Form) : Type 0 where
-  pub a_ok : Within (2 ^ 53) f.a
-  pub h_ok : Within (2 ^ 53) f.h
-  pub b_ok : Within (2 ^ 53) f.b
+  pub a_ok : Within most_cone_form f.a
+  pub h_ok : Within most_cone_form f.h
+  pub b_ok : Within most_cone_form f.b
 
 -- the weights of a blend are small, and not negative
 pub record BlendInRange (p : Blend) : Type 0 where
-  pub u_ok : Within (2 ^ 26) p.u
-  pub v_ok : Within (2 ^ 26) p.v
+  pub u_ok : Within most_over p.u
+  pub v_ok : Within most_over p.v
   pub u_least : (pos 0) ≤ℤ p.u
   pub v_least : (pos 0) ≤ℤ p.v
 

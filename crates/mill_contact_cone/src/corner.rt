@@ -1,7 +1,9 @@
-ghost use Rattle.std.specs.Prelude.{◌≡◌, ◌^◌, ◌-ℤ◌};
+ghost use Rattle.std.specs.Prelude.{◌≡◌, ◌-ℤ◌};
 ghost use Rattle.mill_base.specs.Numbers.{Within};
-ghost use Rattle.mill_base.specs.Ranges.{IsInTextRange};
-ghost use Rattle.mill_geom.specs.Offsets.{OffsetInRange, IsCentre, farthest};
+ghost use Rattle.mill_base.specs.Ranges.{IsInRange};
+ghost use Rattle.mill_geom.specs.Offsets.{OffsetInRange, IsCentre};
+ghost use Rattle.mill_geom.specs.Widths.{farthest};
+ghost use Rattle.mill_contact_cone.specs.Widths.{most_over};
 ghost use Rattle.mill_contact_cone.specs.Cones.{IsCone, over_of, IsCornerOf, plain, CornerInRange};
 ghost use Rattle.mill_contact_cone.specs.Positions.{IsAlong};
 
@@ -31,14 +33,14 @@ fn over(z: i64, cone: Cone) -> i64
     requires z_ok { Within farthest z }
     requires cone_ok { IsCone cone }
     ensures value { result ≡ over_of cone z }
-    ensures bound { Within (2 ^ 26) result }
+    ensures bound { Within most_over result }
 {
     cone.run * z - cone.rise * cone.radius
 }
 
 /// The corner at `point`, from the tip, with `axis` for x.
 pub fn corner_from(point: Pt3, tip: Pt3, axis: Axis, cone: Cone) -> Corner
-    requires point_ok { IsInTextRange point }
+    requires point_ok { IsInRange point }
     requires tip_ok { IsCentre tip }
     requires cone_ok { IsCone cone }
     ensures place { IsAlong axis result point tip }

@@ -1,5 +1,6 @@
-ghost use Rattle.std.specs.Prelude.{◌≡◌, ◌⊎◌, ◌^◌, ◌<ℤ◌, ◌≤ℤ◌, pos, false, IsTrue};
+ghost use Rattle.std.specs.Prelude.{◌≡◌, ◌⊎◌, ◌<ℤ◌, ◌≤ℤ◌, pos, false, IsTrue};
 ghost use Rattle.mill_base.specs.Numbers.{Within};
+ghost use Rattle.mill_contact_cone.specs.Widths.{most_over, most_cone_form};
 ghost use Rattle.mill_contact_cone.specs.Cones.{IsCone, IsCornerOf, CornerInRange, TouchesEdge, HitsUpper, HitsLower};
 ghost use Rattle.mill_contact_cone.specs.Quadratics.{FormInRange, BlendInRange, IsUpperForm, IsLowerForm, upper_of, lower_of, IsStart};
 
@@ -12,7 +13,7 @@ pub fn upper_product(p: Corner, q: Corner, cone: Cone) -> i64
     requires q_ok { CornerInRange q }
     requires cone_ok { IsCone cone }
     ensures value { result ≡ upper_of cone p q }
-    ensures bound { Within (2 ^ 53) result }
+    ensures bound { Within most_cone_form result }
 {
     p.x * q.x + p.y * q.y - cone.radius * cone.radius
 }
@@ -24,7 +25,7 @@ fn lower_product(p: Corner, q: Corner, cone: Cone) -> i64
     requires q_ok { CornerInRange q }
     requires cone_ok { IsCone cone }
     ensures value { result ≡ lower_of cone p q }
-    ensures bound { Within (2 ^ 53) result }
+    ensures bound { Within most_cone_form result }
 {
     let across = p.x * q.x + p.y * q.y;
     cone.rise * cone.rise * across - cone.run * cone.run * (p.z * q.z)
@@ -60,8 +61,8 @@ fn lower_form(p: Corner, q: Corner, cone: Cone) -> Form
 
 /// Where a quantity that is `f` at the first end and `g` at the last begins not to be negative.
 fn start(f: i64, g: i64) -> Blend
-    requires f_ok { Within (2 ^ 26) f }
-    requires g_ok { Within (2 ^ 26) g }
+    requires f_ok { Within most_over f }
+    requires g_ok { Within most_over g }
     requires g_least { pos 0 ≤ℤ g }
     ensures place { IsStart f g result }
     ensures range { BlendInRange result }

@@ -1,7 +1,8 @@
-ghost use Rattle.std.specs.Prelude.{◌≡◌, ◌^◌, ◌<ℤ◌, pos, false, IsTrue};
+ghost use Rattle.std.specs.Prelude.{◌≡◌, ◌<ℤ◌, pos, false, IsTrue};
 ghost use Rattle.mill_base.specs.Numbers.{Within};
 ghost use Rattle.mill_geom.specs.Forms.{level_form_of, mixed_form_of, IsAlone, IsOver};
 ghost use Rattle.mill_geom.specs.Contacts.{TouchesTriangle, OnLevel, EdgesClear};
+ghost use Rattle.mill_contact_cone.specs.Widths.{most_over, most_cone_form, most_cone_mixed_form};
 ghost use Rattle.mill_contact_cone.specs.Cones.{IsCone, CornerInRange, lifted};
 
 use crate::corner::{Cone, Corner};
@@ -35,15 +36,15 @@ fn is_alone(p: Corner, q: Corner, s: Corner) -> bool
 /// The form of the two points in which the edges from `p` come to that height, from the forms and
 /// heights of the corners.
 fn mixed_form(pp: i64, pq: i64, ps: i64, qs: i64, p: i64, q: i64, s: i64) -> i128
-    requires pp_ok { Within (2 ^ 53) pp }
-    requires pq_ok { Within (2 ^ 53) pq }
-    requires ps_ok { Within (2 ^ 53) ps }
-    requires qs_ok { Within (2 ^ 53) qs }
-    requires p_ok { Within (2 ^ 26) p }
-    requires q_ok { Within (2 ^ 26) q }
-    requires s_ok { Within (2 ^ 26) s }
+    requires pp_ok { Within most_cone_form pp }
+    requires pq_ok { Within most_cone_form pq }
+    requires ps_ok { Within most_cone_form ps }
+    requires qs_ok { Within most_cone_form qs }
+    requires p_ok { Within most_over p }
+    requires q_ok { Within most_over q }
+    requires s_ok { Within most_over s }
     ensures value { result ≡ mixed_form_of pp pq ps qs p q s }
-    ensures bound { Within (2 ^ 108) result }
+    ensures bound { Within most_cone_mixed_form result }
 {
     let first = (p * p) as i128 * qs as i128;
     let second = (p * s) as i128 * pq as i128;
@@ -59,7 +60,7 @@ fn level_form(p: Corner, q: Corner, s: Corner, cone: Cone) -> i128
     requires s_ok { CornerInRange s }
     requires cone_ok { IsCone cone }
     ensures value { result ≡ level_form_of cone.radius (lifted p) (lifted q) (lifted s) }
-    ensures bound { Within (2 ^ 108) result }
+    ensures bound { Within most_cone_mixed_form result }
 {
     let pp = upper_product(p, p, cone);
     let pq = upper_product(p, q, cone);
