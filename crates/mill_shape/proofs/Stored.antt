@@ -23,7 +23,7 @@ less_no a b m k fits_a fits_b room_a room_b h = from (subst (λ t. lt_z t (store
     from : lt_z a (stored w128 b) ≡ false → b ≤ℤ a
     from t = let less = subst (λ t. lt_z a t ≡ false) (kept w128 b k fits_b.within room_b) t in omega (arith, ints)
 
--- in 64 bits: the same of a test of the sign
+-- in 64 bits: a test of the sign of what is stored is one of the number
 pub not_negative : (a : ℤ) → Within length_width a → le_z (pos 0) (stored w64 a) ≡ true → (pos 0) ≤ℤ a
 not_negative a fits h = let test : le_z (pos 0) a ≡ true = rw (kept w64 a length_width fits.within refl) at h in omega (arith, ints)
 
