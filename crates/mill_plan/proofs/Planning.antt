@@ -22,7 +22,7 @@ use Rattle.mill_paths.proofs.Uniqueness.{one_plan}
 use Rattle.mill_plan.specs.Faults.{plan_fault_of}
 use Rattle.mill_plan.specs.Plans.{HasFewNodes, HasPlan, IsPlanFault}
 use Rattle.mill_base.specs.declared.limits.TheConstants.{MAX_MOVES}
-use Rattle.mill_plan.specs.Steps.{IsRound, IsRoundFault}
+use Rattle.mill_plan.specs.inner.Steps.{IsRound, IsRoundFault}
 use Rattle.mill_plan.specs.declared.fault.PlanFault.{PlanFault}
 use Rattle.mill_plan.specs.declared.fault.PlanFault.TheVariants.{TooManyNodes, TooManyMoves, Uncut, WantOfMemory}
 

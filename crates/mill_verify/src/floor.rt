@@ -1,6 +1,6 @@
 ghost use Rattle.std.specs.Prelude.{◌≡◌, ◌<◌, false, length, IsTrue};
 ghost use Rattle.mill_job.specs.Jobs.{IsJob};
-ghost use Rattle.mill_verify.specs.Firsts.{IsFloorEnd};
+ghost use Rattle.mill_verify.specs.inner.Firsts.{IsFloorEnd};
 ghost use Rattle.mill_verify.specs.Tests.{IsOverFloor};
 
 use mill_base::Move;

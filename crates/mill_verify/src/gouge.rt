@@ -2,7 +2,7 @@ ghost use Rattle.std.specs.Prelude.{◌≡◌, ◌+◌, ◌≤◌, ◌<◌, leng
 ghost use Rattle.mill_base.specs.declared.limits.TheConstants.{MAX_MOVES, MAX_WORKERS};
 ghost use Rattle.mill_base.specs.Ranges.{MovesInRange};
 ghost use Rattle.mill_job.specs.Jobs.{IsJob};
-ghost use Rattle.mill_verify.specs.Firsts.{AreStripes, ClearsBetween, ClearsStripes, IsEarlierFail, IsFirstPartFail, IsFirstStripesFail};
+ghost use Rattle.mill_verify.specs.inner.Firsts.{AreStripes, ClearsBetween, ClearsStripes, IsEarlierFail, IsFirstPartFail, IsFirstStripesFail};
 ghost use denote.Param.Send.{IsSync};
 
 use mill_base::Move;

@@ -2,7 +2,7 @@ ghost use Rattle.std.specs.Prelude.{◌≡◌, ◌≤◌, ◌<◌, false, length
 ghost use Rattle.mill_base.specs.declared.limits.TheConstants.{MAX_MOVES, MAX_WORKERS};
 ghost use Rattle.mill_base.specs.Ranges.{MovesInRange};
 ghost use Rattle.mill_job.specs.Jobs.{IsJob};
-ghost use Rattle.mill_verify.specs.Firsts.{IsLimit};
+ghost use Rattle.mill_verify.specs.inner.Firsts.{IsLimit};
 
 use crate::floor::floor_end;
 use crate::gouge::first_part_fail;

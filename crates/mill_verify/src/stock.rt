@@ -3,7 +3,7 @@ ghost use Rattle.mill_base.specs.declared.limits.TheConstants.{MAX_WORKERS};
 ghost use Rattle.mill_base.specs.Ranges.{MovesInRange};
 ghost use Rattle.mill_dexel.specs.Rows.{IsRowOf};
 ghost use Rattle.mill_job.specs.Jobs.{IsJob};
-ghost use Rattle.mill_verify.specs.Stock.{AreTurned, AreUncut};
+ghost use Rattle.mill_verify.specs.inner.Stock.{AreTurned, AreUncut};
 
 use mill_base::{Move, WantOfMemory};
 use mill_dexel::{Row, rows_static};
