@@ -1,0 +1,9 @@
+use borrow.Author.Gap.{gap}
+use Rattle.mill_push.proofs.Searching.{FirstSoFar}
+use Rattle.mill_push.proofs.stretch.Pusher.first_touched.Given as goal
+
+abbrev pub invariant-loop-free : goal.invariant-loop-free
+invariant-loop-free g l = FirstSoFar l.fn.self.cutter l.fn.tri l.fn.self.fiber l.fn.low l.fn.found l.free l.first l.fn.steps l.steps
+
+abbrev pub decreases-loop-free : goal.decreases-loop-free
+decreases-loop-free g l = gap l.free l.first
