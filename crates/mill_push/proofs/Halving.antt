@@ -1,5 +1,5 @@
 -- How many touches a search by halves takes.
-use Rattle.std.proofs.Common.{◌≡◌, ℕ, zero, suc, ◌+◌, ◌*◌, ◌<◌, ◌≤◌, arith}
+use Rattle.std.proofs.Common.{◌≡◌, ℕ, zero, suc, ◌+◌, ◌*◌, ◌<◌, ◌≤◌, subst, arith}
 use Rattle.std.specs.Prelude.{◌^◌}
 use Rattle.std.proofs.lemmas.Grind.{pow_more}
 
@@ -18,7 +18,10 @@ pub record IsPaidTwice (count old now n : ℕ) : Type 0 where
 -- where some position is left, half of them are under half the power
 half_under : (m count half : ℕ) → 0 < count → 2 * half ≤ count → count < 2 ^ m → (k : ℕ) × (m ≡ suc k) × (half < 2 ^ k)
 half_under zero count half some le under = absurd (let u : count < 1 = under in omega arith)
-half_under (suc k) count half some le under = (k, omega arith, let more = pow_more 2 k in let u : count < 2 ^ (k + 1) = under in omega arith)
+half_under (suc k) count half some le under = (k, omega arith, half_it (subst (λ m. count < 2 ^ m) (omega arith) under))
+  where
+    half_it : count < 2 ^ (k + 1) → half < 2 ^ k
+    half_it u = let more = pow_more 2 k in omega arith
 
 -- before the first touch
 pub paid_first : (count old n : ℕ) → count < 2 ^ n → IsPaid count old old n

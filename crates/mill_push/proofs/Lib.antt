@@ -4,6 +4,7 @@ pub mod OneList
 pub mod Holds
 pub mod Halving
 pub mod Searching
+pub mod Stored
 pub mod Pushing
 pub mod NearCerts
 pub mod Meeting

@@ -6,7 +6,6 @@ use lib.IntN.{ℤ, pos, ◌+ℤ◌, ◌-ℤ◌, ◌*ℤ◌}
 use lib.Signed.{◌<ℤ◌, ◌≤ℤ◌}
 use Rattle.mill_base.specs.declared.points.Tri.{Tri}
 use Rattle.mill_base.specs.declared.cutter.Cutter.{Cutter}
-use Rattle.mill_base.specs.Numbers.{Within}
 use Rattle.mill_geom.specs.declared.touch.Side.{Side}
 use Rattle.mill_geom.specs.declared.touch.Side.TheVariants.{Less, More, Never}
 use Rattle.mill_geom.specs.Sides.{IsOnSide}
@@ -98,10 +97,10 @@ module _ (cutter : Cutter) (tri : Tri) (fiber : Fiber) where
       halved a b m l k = omega (arith, ints)
 
   pub first_clear : (low found free first : ℤ) (old now : ℕ) → first ≤ℤ free → FirstSoFar low found free first old now → IsClear cutter tri fiber low (first -ℤ pos 1)
-  first_clear low found free first old now done h = λ v a b. h.clear v a (less v free first h.order b)
+  first_clear low found free first old now done h = λ v a b. h.clear v a (less v free first done b)
     where
-      less : (v f g : ℤ) → f ≤ℤ g → v ≤ℤ (g -ℤ pos 1) → v ≤ℤ (f -ℤ pos 1)
-      less v f g a b = let d = done in omega (arith, ints)
+      less : (v f g : ℤ) → g ≤ℤ f → v ≤ℤ (g -ℤ pos 1) → v ≤ℤ (f -ℤ pos 1)
+      less v f g a b = omega (arith, ints)
 
   -- the same at the other end
   pub record LastSoFar (found high last free : ℤ) (old now : ℕ) : Type 0 where
@@ -180,10 +179,10 @@ module _ (cutter : Cutter) (tri : Tri) (fiber : Fiber) where
       halved a b m l k = omega (arith, ints)
 
   pub last_clear : (found high last free : ℤ) (old now : ℕ) → free ≤ℤ last → LastSoFar found high last free old now → IsClear cutter tri fiber (last +ℤ pos 1) high
-  last_clear found high last free old now done h = λ v a b. h.clear v (more v free last a) b
+  last_clear found high last free old now done h = λ v a b. h.clear v (more v free last done a) b
     where
-      more : (v f l : ℤ) → (l +ℤ pos 1) ≤ℤ v → (f +ℤ pos 1) ≤ℤ v
-      more v f l a = let d = done in let o = h.order in omega (arith, ints)
+      more : (v f l : ℤ) → f ≤ℤ l → (l +ℤ pos 1) ≤ℤ v → (f +ℤ pos 1) ≤ℤ v
+      more v f l d a = omega (arith, ints)
 
   -- only the positions from `low` to `high` are left, and their count has been paid for
   pub record WindowSoFar (from to low high : ℤ) (old now : ℕ) : Type 0 where
@@ -294,13 +293,13 @@ module _ (cutter : Cutter) (tri : Tri) (fiber : Fiber) where
 
   -- no position is left
   pub window_ends : (from to low high : ℤ) (old now : ℕ) → high <ℤ low → WindowSoFar from to low high old now → IsClear cutter tri fiber from to
-  window_ends from to low high old now done h = λ v a b. by_lt_z v low (λ under. h.before v a (back v low under)) (λ over. h.beyond v (next v low high over h.order) b)
+  window_ends from to low high old now done h = λ v a b. by_lt_z v low (λ under. h.before v a (back v low under)) (λ over. h.beyond v (next v low high done over) b)
     where
       back : (v l : ℤ) → v <ℤ l → v ≤ℤ (l -ℤ pos 1)
       back v l u = omega (arith, ints)
 
-      next : (v l h : ℤ) → l ≤ℤ v → l ≤ℤ (h +ℤ pos 1) → (h +ℤ pos 1) ≤ℤ v
-      next v l h o k = let d = done in omega (arith, ints)
+      next : (v l h : ℤ) → h <ℤ l → l ≤ℤ v → (h +ℤ pos 1) ≤ℤ v
+      next v l h d o = omega (arith, ints)
 
   pub ends_cost : (from to low high : ℤ) (old now : ℕ) → WindowSoFar from to low high old now → (n : ℕ) → (nat_abs (to -ℤ from) + 1) < 2 ^ n → now ≤ old + 2 * n
   ends_cost from to low high old now h n p = twice_last (nat_abs ((high +ℤ pos 1) -ℤ low)) old now n (h.cost n p)
@@ -338,10 +337,6 @@ module _ (cutter : Cutter) (tri : Tri) (fiber : Fiber) where
       twice_ends (nat_abs ((high +ℤ pos 1) -ℤ low)) (nat_abs (middle -ℤ low)) (nat_abs (high -ℤ middle)) old now found first last n
       (some_left low high l) (half_before low high middle l a left) (half_after low high middle l b right) step to_left to_right (h.cost n p)
 
--- a number between two in range
-pub within_between : (m : ℕ) (low v high : ℤ) → Within m low → Within m high → low ≤ℤ v → v ≤ℤ high → Within m v
-within_between m low v high h k a b = let x = h.within in let y = k.within in record { within = omega (arith, ints) }
-
 -- what isn't touched at a position, by whichever side it is told
 pub apart_here : (s : Side) (T : ℤ → Type 0) (v : ℤ) → IsOnSide s (λ t. T (v +ℤ t)) → ¬ T v
 apart_here s T v h t = by s h
@@ -356,3 +351,16 @@ apart_here s T v h t = by s h
 
 pub touched_here : (T : ℤ → Type 0) (v : ℤ) → T (v +ℤ pos 0) → T v
 touched_here T v t = subst T (omega (arith, ints)) t
+
+-- the positions that are left become fewer
+pub fewer_before : (free first middle : ℤ) → free ≤ℤ middle → middle ≤ℤ (first -ℤ pos 1) → nat_abs (middle -ℤ free) < nat_abs (first -ℤ free)
+fewer_before free first middle a b = omega (arith, ints)
+
+pub fewer_after : (free first middle : ℤ) → free ≤ℤ middle → middle ≤ℤ (first -ℤ pos 1) → nat_abs (first -ℤ (middle +ℤ pos 1)) < nat_abs (first -ℤ free)
+fewer_after free first middle a b = omega (arith, ints)
+
+pub fewer_past : (last free middle : ℤ) → (last +ℤ pos 1) ≤ℤ middle → middle ≤ℤ free → nat_abs (free -ℤ middle) < nat_abs (free -ℤ last)
+fewer_past last free middle a b = omega (arith, ints)
+
+pub fewer_up_to : (last free middle : ℤ) → (last +ℤ pos 1) ≤ℤ middle → middle ≤ℤ free → nat_abs ((middle -ℤ pos 1) -ℤ last) < nat_abs (free -ℤ last)
+fewer_up_to last free middle a b = omega (arith, ints)

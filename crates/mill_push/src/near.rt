@@ -65,9 +65,10 @@ impl Pusher {
         let mut near = cells.near_over(self.strip(from, to));
         while let Some(number) = near.next_over(self.fiber.z) {
             let tri = &tris[number as usize];
-            if let Some(stretch) = self.stretch(tri, from, to, steps) {
-                stretches.push(stretch)?;
-            }
+            let Some(stretch) = self.stretch(tri, from, to, steps) else {
+                continue;
+            };
+            stretches.push(stretch)?;
         }
         Ok(stretches)
     }
