@@ -205,7 +205,7 @@ none_stand from to v a b s = absurd (omega (arith, s.member.1))
 
 -- the runs of the same positions
 pub runs_as : (P Q : ℤ → Type 0) (from to : ℤ) (runs : List Run) → ((v : ℤ) → from ≤ℤ v → v ≤ℤ to → P v ↔ Q v) → RunsOf P from to runs → RunsOf Q from to runs
-runs_as P Q from to [] same h v a b q = h v a b ((same v a (upto v to b)).1 q)
+runs_as P Q from to [] same h = λ v a b q. h v a b ((same v a (upto v to b)).1 q)
   where
     upto : (v t : ℤ) → v <ℤ (t +ℤ pos 1) → v ≤ℤ t
     upto v t b = omega (arith, ints)

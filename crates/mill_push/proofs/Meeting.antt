@@ -13,6 +13,7 @@ use Rattle.mill_base.specs.declared.points.Box2.{Box2}
 use Rattle.mill_base.specs.declared.cutter.Cutter.{Cutter}
 use Rattle.mill_base.proofs.Integers.{one-mul-ℤ}
 use Rattle.mill_shape.proofs.Holding.{holds_around, holds_over_tip}
+use Rattle.mill_part.proofs.TopLemmas.{corners_under}
 use Rattle.mill_cells.specs.Boxes.{Meet, box_of}
 use Rattle.mill_geom.specs.declared.touch.Axis.{Axis}
 use Rattle.mill_geom.specs.declared.touch.Axis.TheVariants.{X, Y}
@@ -110,16 +111,13 @@ in_strip Y at z r from to v a b = record { west = omega (arith, ints); east = om
 touching_over : (cutter : Cutter) (tri : Tri) (tip : Pt3) → (pos 1) ≤ℤ radius_of cutter → Touches cutter (pos 1) tip tri → tip.z <ℤ highest tri
 touching_over cutter tri tip least t =
     let k = t.point in
-    let c = corners_under tri.a.z tri.b.z tri.c.z in
+    let c = corners_under tri in
     let over = holds_over_tip cutter (pos 1) tip t.n t.p least (omega (arith, ints)) k.some t.inside in
     by_lt_z tip.z (highest tri) (λ less. less)
     (λ low.
     let under = mean_low k.u k.v k.w tri.a.z tri.b.z tri.c.z tip.z k.u_ok k.v_ok k.w_ok (through _ (highest tri) tip.z c.0 low) (through _ (highest tri) tip.z c.1 low) (through _ (highest tri) tip.z c.2 low) in
     absurd (against t.p.z t.n _ _ tip.z (pos 1 *ℤ t.p.z) (one-mul-ℤ t.p.z) (ap (λ (q : Pt3). q.z) k.place) k.weights over under))
   where
-    corners_under : (a b c : ℤ) → (a ≤ℤ greater a (greater b c)) × (b ≤ℤ greater a (greater b c)) × (c ≤ℤ greater a (greater b c))
-    corners_under a b c = grind (arith, ints)
-
     through : (a b c : ℤ) → a ≤ℤ b → b ≤ℤ c → a ≤ℤ c
     through a b c h k = omega (arith, ints)
 

@@ -364,3 +364,9 @@ fewer_past last free middle a b = omega (arith, ints)
 
 pub fewer_up_to : (last free middle : ℤ) → (last +ℤ pos 1) ≤ℤ middle → middle ≤ℤ free → nat_abs ((middle -ℤ pos 1) -ℤ last) < nat_abs (free -ℤ last)
 fewer_up_to last free middle a b = omega (arith, ints)
+
+pub fewer_low : (low high middle : ℤ) → low ≤ℤ middle → middle ≤ℤ high → nat_abs (((middle -ℤ pos 1) +ℤ pos 1) -ℤ low) < nat_abs ((high +ℤ pos 1) -ℤ low)
+fewer_low low high middle a b = omega (arith, ints)
+
+pub fewer_high : (low high middle : ℤ) → low ≤ℤ middle → middle ≤ℤ high → nat_abs ((high +ℤ pos 1) -ℤ (middle +ℤ pos 1)) < nat_abs ((high +ℤ pos 1) -ℤ low)
+fewer_high low high middle a b = omega (arith, ints)

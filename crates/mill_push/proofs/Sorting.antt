@@ -49,5 +49,5 @@ ordered_from_sort {g = g} {f = f} xs up h = ordered xs (up (λ (r : Run). r.firs
 pub stand_moved : (xs ys : List Run) (v : ℤ) → IsPermutation xs ys → StandsIn xs v ↔ StandsIn ys v
 stand_moved xs ys v p = (go xs ys p, go ys xs (IsPermutation-sym xs ys p))
   where
-    go : (as bs : List Run) → IsPermutation as bs → StandsIn as v → StandsIn bs v
-    go as bs q s = record { run = s.run; member = Contains-permutation as bs s.run q s.member; first = s.first; last = s.last }
+    go : (rs others : List Run) → IsPermutation rs others → StandsIn rs v → StandsIn others v
+    go rs others q s = record { run = s.run; member = Contains-permutation rs others s.run q s.member; first = s.first; last = s.last }

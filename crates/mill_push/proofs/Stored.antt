@@ -38,3 +38,22 @@ up_to_before a b h = omega (arith, ints)
 
 pub from_after : (a b : ℤ) → (a +ℤ pos 1) ≤ℤ b → a ≤ℤ b
 from_after a b h = omega (arith, ints)
+
+pub stored : (v : ℤ) → Within MAX_TEXT_COORDINATE v → to_z w32 (of_z w32 v) ≡ v
+stored v h = to_z-of_z w32 v (fits_signed_from_abs w32 v small)
+  where
+    small : nat_abs v < 2147483648
+    small = let w = h.within in omega (arith, ints)
+
+-- a radius more or less than a position
+pub less_radius : (x r : ℤ) → Within MAX_TEXT_COORDINATE x → (pos 1) ≤ℤ r → r ≤ℤ pos 10000 → to_z w32 (of_z w32 (x -ℤ r)) ≡ x -ℤ r
+less_radius x r h a b = to_z-of_z w32 (x -ℤ r) (fits_signed_from_abs w32 (x -ℤ r) small)
+  where
+    small : nat_abs (x -ℤ r) < 2147483648
+    small = let w = h.within in omega (arith, ints)
+
+pub and_radius : (x r : ℤ) → Within MAX_TEXT_COORDINATE x → (pos 1) ≤ℤ r → r ≤ℤ pos 10000 → to_z w32 (of_z w32 (x +ℤ r)) ≡ x +ℤ r
+and_radius x r h a b = to_z-of_z w32 (x +ℤ r) (fits_signed_from_abs w32 (x +ℤ r) small)
+  where
+    small : nat_abs (x +ℤ r) < 2147483648
+    small = let w = h.within in omega (arith, ints)
