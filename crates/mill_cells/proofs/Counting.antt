@@ -6,7 +6,7 @@ use Rattle.mill_base.specs.declared.points.Box2.{Box2}
 use Rattle.mill_cells.specs.Boxes.{box_at}
 use Rattle.mill_cells.specs.Frames.{covers, cell_count}
 use Rattle.mill_cells.specs.Grids.{numbers_in, start_of}
-use Rattle.mill_cells.specs.Placing.{IsCounted, IsCounting, sum_before, AreSmall}
+use Rattle.mill_cells.specs.inner.Placing.{IsCounted, IsCounting, sum_before, AreSmall}
 use Rattle.mill_cells.specs.declared.frame.Frame.{Frame}
 use Rattle.mill_cells.proofs.Passing.{length-passing_yes, length-passing_no, length-passing}
 use Rattle.mill_cells.proofs.UpTo.{skip, next_box, one_cell}

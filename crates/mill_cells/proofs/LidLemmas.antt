@@ -12,7 +12,7 @@ use Rattle.mill_cells.specs.Grids.{numbers_in, start_of}
 use Rattle.mill_cells.specs.declared.frame.Frame.{Frame}
 use Rattle.mill_cells.proofs.Placements.{start_mono}
 use Rattle.mill_cells.specs.Sorted.{height_at, AreUnder}
-use Rattle.mill_cells.specs.Placing.{AreLids}
+use Rattle.mill_cells.specs.inner.Placing.{AreLids}
 use Rattle.mill_cells.proofs.BoxLemmas.{le_trans_ℤ}
 
 -- one number more under a higher lid

@@ -8,7 +8,7 @@ use lib.Signed.{◌≤ℤ◌, lt_z, le_z}
 use Rattle.mill_cells.specs.Boxes.{box_at}
 use Rattle.mill_cells.specs.Frames.{cell_count, block_of}
 use Rattle.mill_cells.specs.Grids.{numbers_in}
-use Rattle.mill_cells.specs.Passed.{ArePassed, IsNext}
+use Rattle.mill_cells.specs.inner.Passed.{ArePassed, IsNext}
 use Rattle.mill_cells.specs.Sorted.{height_at, AreUnder}
 use Rattle.mill_cells.specs.Walks.{shows, column_in, row_in, given_in, given_from, rest_of, moved, IsWalk}
 use Rattle.mill_cells.specs.declared.frame.Block.{Block}

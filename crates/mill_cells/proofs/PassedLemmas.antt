@@ -9,7 +9,7 @@ use lib.Signed.{◌≤ℤ◌}
 use Rattle.mill_base.specs.Points.{highest}
 use Rattle.mill_base.specs.declared.points.Tri.{Tri}
 use Rattle.mill_cells.specs.Ahead.{Ahead, Comes, NoneComes, AreDealt}
-use Rattle.mill_cells.specs.Passed.{ArePassed, IsNext}
+use Rattle.mill_cells.specs.inner.Passed.{ArePassed, IsNext}
 use Rattle.mill_cells.specs.Sorted.{height_at}
 use Rattle.mill_cells.proofs.Lists.{nothing_in_nil, here, there, cons_cases}
 

@@ -10,7 +10,7 @@ use Rattle.mill_base.specs.declared.points.Box2.{Box2}
 use Rattle.mill_cells.specs.Boxes.{box_at}
 use Rattle.mill_cells.specs.Frames.{covers, cell_count}
 use Rattle.mill_cells.specs.Grids.{numbers, numbers_in, start_of}
-use Rattle.mill_cells.specs.Placing.{IsPlaced, IsPlacing}
+use Rattle.mill_cells.specs.inner.Placing.{IsPlaced, IsPlacing}
 use Rattle.mill_cells.specs.declared.frame.Frame.{Frame}
 use Rattle.mill_cells.proofs.Passing.{passing_yes, passing_no, length-passing_yes, length-passing, length-passing_mono}
 use Rattle.mill_cells.proofs.UpTo.{skip, next_box, one_cell}

@@ -3,7 +3,7 @@ use Rattle.std.proofs.Common.{◌≡◌, ℕ, ◌+◌, ◌<◌, ◌≤◌, List,
 use Rattle.std.specs.Prelude.{slice_index}
 use Rattle.std.proofs.lemmas.Bool.{cases_lt}
 use Rattle.std.proofs.lemmas.List.{drop_all, length-set, get_or-set_same, get_or-set_other}
-use Rattle.mill_cells.specs.Placing.{sum_before}
+use Rattle.mill_cells.specs.inner.Placing.{sum_before}
 
 -- the places up to the cell hold sums, and the later ones are as they were
 pub record IsSummed (old now : List ℕ) (cell sum : ℕ) : Type 0 where

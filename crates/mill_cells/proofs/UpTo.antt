@@ -1,7 +1,7 @@
 -- States of cells, box by box and cell by cell.
 use Rattle.std.proofs.Common.{◌≡◌, ℕ, ◌+◌, ◌<◌, ◌≤◌, inl, inr, sym, subst, arith}
 use Rattle.std.proofs.lemmas.Bool.{cases_lt}
-use Rattle.mill_cells.specs.Placing.{IsUpTo}
+use Rattle.mill_cells.specs.inner.Placing.{IsUpTo}
 
 -- over cells that the box doesn't change
 pub skip : (cells : ℕ) (State : ℕ → ℕ → Type 0) (m t u : ℕ) → t ≤ u → ((k : ℕ) → t ≤ k → k < u → k < cells → State k m → State k (m + 1)) → IsUpTo cells State m t → IsUpTo cells State m u

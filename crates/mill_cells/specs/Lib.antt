@@ -3,7 +3,6 @@ pub mod Frames
 pub mod Sizes
 pub mod Sorted
 pub mod Ahead
-pub mod Passed
 pub mod Grids
-pub mod Placing
 pub mod Walks
+pub mod inner

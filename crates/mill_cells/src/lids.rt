@@ -1,6 +1,6 @@
 ghost use Rattle.std.specs.Prelude.{◌≡◌, ℕ, ◌+◌, ◌<◌, ◌≤◌, length, slice_index, All, IfOk};
 ghost use Rattle.mill_cells.specs.Sorted.{AreUnder};
-ghost use Rattle.mill_cells.specs.Placing.{AreLids};
+ghost use Rattle.mill_cells.specs.inner.Placing.{AreLids};
 
 use mill_base::WantOfMemory;
 use std::alloc::Global;

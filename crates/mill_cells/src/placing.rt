@@ -1,7 +1,7 @@
 ghost use Rattle.std.specs.Prelude.{◌≡◌, ℕ, ◌<◌, ◌≤◌, ◌+◌, ◌^◌, length, slice_index};
 ghost use Rattle.mill_cells.specs.Boxes.{AllInside};
 ghost use Rattle.mill_cells.specs.Frames.{IsFrame, cell_count};
-ghost use Rattle.mill_cells.specs.Placing.{IsCounting, IsPlacing, sum_before, AreSmall};
+ghost use Rattle.mill_cells.specs.inner.Placing.{IsCounting, IsPlacing, sum_before, AreSmall};
 
 use crate::frame::Frame;
 use mill_base::Box2;

@@ -41,7 +41,7 @@ impl<'a> Walk<'a> {
     ghost use Rattle.mill_cells.specs.Boxes.{box_at};
     ghost use Rattle.mill_cells.specs.Frames.{block_of};
     ghost use Rattle.mill_cells.specs.Walks.{IsWalk, rest_of, shows, walk_over, moved};
-    ghost use Rattle.mill_cells.specs.Passed.{ArePassed, IsNext};
+    ghost use Rattle.mill_cells.specs.inner.Passed.{ArePassed, IsNext};
     ghost use Rattle.mill_cells.specs.Sorted.{height_at};
 
     /// The walk from the first cell of the area on.

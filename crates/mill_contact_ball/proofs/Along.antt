@@ -18,7 +18,7 @@ use Rattle.mill_geom.proofs.PlaceCerts.{swap_near}
 use Rattle.mill_geom.proofs.StripCerts.{unslid}
 use Rattle.mill_geom.proofs.Along.{touch_here, along_at as flat_along_at, side_carried, touch_carried}
 use Rattle.mill_contact_ball.specs.Centres.{centre_of}
-use Rattle.mill_contact_ball.specs.Spheres.{MeetsSphere, MeetsBall, MeetsAt, flat_of}
+use Rattle.mill_contact_ball.specs.inner.Spheres.{MeetsSphere, MeetsBall, MeetsAt, flat_of}
 use Rattle.mill_contact_ball.proofs.ShadowCerts.{swap_sphere}
 use Rattle.mill_contact_ball.proofs.Shadows.{same_sphere, flat_never}
 use Rattle.mill_contact_ball.proofs.Places.{ball_place, place_ball, in_cylinder}

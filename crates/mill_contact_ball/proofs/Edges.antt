@@ -7,8 +7,8 @@ use Rattle.mill_geom.specs.declared.offset.Offset.{Offset}
 use Rattle.mill_geom.specs.Forms.{PairHits}
 use Rattle.mill_geom.proofs.Segments.{never}
 use Rattle.mill_contact_ball.specs.declared.weights.EdgeWeights.{EdgeWeights}
-use Rattle.mill_contact_ball.specs.Vectors.{form_of}
-use Rattle.mill_contact_ball.specs.Spheres.{IsLow, IsEdgeSpot, EdgeMeets, IsSpot}
+use Rattle.mill_contact_ball.specs.inner.Vectors.{form_of}
+use Rattle.mill_contact_ball.specs.inner.Spheres.{IsLow, IsEdgeSpot, EdgeMeets, IsSpot}
 use Rattle.mill_contact_ball.proofs.EdgeCerts.{low_minor, edge_near, edge_far, spot_ab, spot_bc, spot_ca}
 
 -- neither end alone is low, and the two together are

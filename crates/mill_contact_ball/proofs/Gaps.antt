@@ -8,7 +8,7 @@ use Rattle.mill_base.proofs.Exit.{split_lt}
 use Rattle.mill_geom.specs.declared.offset.Offset.{Offset}
 use Rattle.mill_geom.specs.Offsets.{mean3}
 use Rattle.mill_geom.specs.Gaps.{AllApart, AllUpTo}
-use Rattle.mill_contact_ball.specs.Spheres.{MeetsBall}
+use Rattle.mill_contact_ball.specs.inner.Spheres.{MeetsBall}
 use Rattle.mill_contact_ball.proofs.GapCerts.{under_far, beside_far, axis_far, under_centre}
 
 time_ok : (u v w : ℤ) → (pos 0) ≤ℤ u → (pos 0) ≤ℤ v → (pos 0) ≤ℤ w → (pos 0) ≤ℤ ((u +ℤ v) +ℤ w)

@@ -16,7 +16,7 @@ use Rattle.mill_geom.specs.Offsets.{mean3, IsOffset}
 use Rattle.mill_geom.specs.Contacts.{TouchesTriangle}
 use Rattle.mill_geom.proofs.LevelCerts.{near_same}
 use Rattle.mill_contact_ball.specs.Centres.{centre_of}
-use Rattle.mill_contact_ball.specs.Spheres.{InSphere, MeetsSphere, MeetsBall}
+use Rattle.mill_contact_ball.specs.inner.Spheres.{InSphere, MeetsSphere, MeetsBall}
 use Rattle.mill_contact_ball.proofs.PlaceCerts.{shifted, raised, sphere_there, sphere_near, sphere_back, level_back, some_weight, over_centre as over_tip, in_sphere}
 
 -- one coordinate of a weighted sum, from the corners' and from the offsets'

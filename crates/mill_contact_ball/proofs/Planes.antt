@@ -5,8 +5,8 @@ use lib.Signed.{◌<ℤ◌}
 use Rattle.mill_geom.specs.declared.offset.Offset.{Offset}
 use Rattle.mill_contact_ball.specs.declared.vector.Vector.{Vector}
 use Rattle.mill_contact_ball.specs.declared.plane.Plane.{Plane}
-use Rattle.mill_contact_ball.specs.Vectors.{dot_of, height_of}
-use Rattle.mill_contact_ball.specs.Planes.{AreCrosses, IsPlane}
+use Rattle.mill_contact_ball.specs.inner.Vectors.{dot_of, height_of}
+use Rattle.mill_contact_ball.specs.inner.Planes.{AreCrosses, IsPlane}
 use Rattle.mill_contact_ball.proofs.Slide.{three}
 use Rattle.mill_contact_ball.proofs.Feet.{Parts}
 use Rattle.mill_contact_ball.proofs.FootCerts.{normal_a, normal_b, normal_c, foot_at, cramer_x, cramer_y, cramer_z}

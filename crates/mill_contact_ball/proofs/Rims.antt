@@ -4,8 +4,8 @@ use lib.IntN.{ℤ, pos, ◌-ℤ◌, ◌*ℤ◌}
 use lib.Signed.{◌<ℤ◌, ◌≤ℤ◌}
 use Rattle.std.proofs.lemmas.Int.{ints}
 use Rattle.mill_geom.specs.declared.offset.Offset.{Offset}
-use Rattle.mill_contact_ball.specs.Vectors.{form_of}
-use Rattle.mill_contact_ball.specs.Spheres.{EdgeMeets, MeetsSphere}
+use Rattle.mill_contact_ball.specs.inner.Vectors.{form_of}
+use Rattle.mill_contact_ball.specs.inner.Spheres.{EdgeMeets, MeetsSphere}
 use Rattle.mill_contact_ball.proofs.CornerCerts.{corner_first, corner_second, corner_third}
 use Rattle.mill_contact_ball.proofs.Edges.{low_both, low_spot, no_low, ab_spot, bc_spot, ca_spot}
 

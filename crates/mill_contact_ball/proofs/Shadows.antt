@@ -13,7 +13,7 @@ use Rattle.mill_geom.proofs.DescendCerts.{lin}
 use Rattle.mill_geom.proofs.LevelCerts.{near_same}
 use Rattle.mill_geom.proofs.SideCerts.{slid, slid_x, slid_back, sum_time, side_over, side_weight}
 use Rattle.mill_contact_ball.specs.declared.weights.Weights.{Weights}
-use Rattle.mill_contact_ball.specs.Spheres.{IsSpot, MeetsSphere, MeetsBall, MeetsAt, flat_of, x_of}
+use Rattle.mill_contact_ball.specs.inner.Spheres.{IsSpot, MeetsSphere, MeetsBall, MeetsAt, flat_of, x_of}
 use Rattle.mill_contact_ball.proofs.ShadowCerts.{dot_flat, dot_round, join_round, join_flat, join_low, in_shadow, to_shadow, on_axis}
 
 weak : (x : ℤ) → (pos 0) <ℤ x → (pos 0) ≤ℤ x

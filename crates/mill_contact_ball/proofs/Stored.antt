@@ -8,7 +8,7 @@ use Rattle.mill_base.specs.Numbers.{Within}
 use Rattle.mill_base.specs.Sizes.{HasRadius}
 use Rattle.mill_base.specs.declared.limits.TheConstants.{MAX_WIDE_RADIUS}
 use Rattle.mill_geom.specs.Widths.{farthest, widest, most_area, most_volume}
-use Rattle.mill_contact_ball.specs.Widths.{most_form, most_size, most_place}
+use Rattle.mill_contact_ball.specs.inner.Widths.{most_form, most_size, most_place}
 
 -- a cutter's radius, in 32 bits and in 64
 size_within : (r : ℤ) → HasRadius r MAX_WIDE_RADIUS → nat_abs r ≤ widest

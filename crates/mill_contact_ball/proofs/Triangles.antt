@@ -7,9 +7,9 @@ use Rattle.mill_base.proofs.Exit.{split_lt}
 use Rattle.mill_geom.specs.declared.offset.Offset.{Offset}
 use Rattle.mill_contact_ball.specs.declared.plane.Plane.{Plane}
 use Rattle.mill_contact_ball.specs.declared.weights.Weights.{Weights}
-use Rattle.mill_contact_ball.specs.Vectors.{dot_of}
-use Rattle.mill_contact_ball.specs.Planes.{IsPlane, IsPlaneNear, HasFoot, foot_of}
-use Rattle.mill_contact_ball.specs.Spheres.{IsSpot, MeetsSphere, RimClear}
+use Rattle.mill_contact_ball.specs.inner.Vectors.{dot_of}
+use Rattle.mill_contact_ball.specs.inner.Planes.{IsPlane, IsPlaneNear, HasFoot, foot_of}
+use Rattle.mill_contact_ball.specs.inner.Spheres.{IsSpot, MeetsSphere, RimClear}
 use Rattle.mill_contact_ball.proofs.Slide.{mean, form, three, Rim}
 use Rattle.mill_contact_ball.proofs.Feet.{timed, Face, ball_near, ball_face, face_ball}
 use Rattle.mill_contact_ball.proofs.FootCerts.{size_some}

@@ -1,5 +1,2 @@
-pub mod Widths
 pub mod Centres
-pub mod Vectors
-pub mod Planes
-pub mod Spheres
+pub mod inner

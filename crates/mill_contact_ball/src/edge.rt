@@ -3,9 +3,9 @@ ghost use Rattle.mill_base.specs.Numbers.{Within};
 ghost use Rattle.mill_geom.specs.Widths.{widest};
 ghost use Rattle.mill_geom.specs.Offsets.{OffsetInRange};
 ghost use Rattle.mill_geom.specs.Forms.{PairHits};
-ghost use Rattle.mill_contact_ball.specs.Widths.{most_form};
-ghost use Rattle.mill_contact_ball.specs.Vectors.{form_of};
-ghost use Rattle.mill_contact_ball.specs.Spheres.{
+ghost use Rattle.mill_contact_ball.specs.inner.Widths.{most_form};
+ghost use Rattle.mill_contact_ball.specs.inner.Vectors.{form_of};
+ghost use Rattle.mill_contact_ball.specs.inner.Spheres.{
   IsLow,
   IsEdgeSpot,
   EdgeMeets,

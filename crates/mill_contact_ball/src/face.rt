@@ -2,8 +2,8 @@ ghost use Rattle.std.specs.Prelude.{◌≡◌, false, IsTrue, IfSome, None};
 ghost use Rattle.mill_base.specs.Numbers.{Within};
 ghost use Rattle.mill_geom.specs.Widths.{widest};
 ghost use Rattle.mill_geom.specs.Offsets.{OffsetInRange};
-ghost use Rattle.mill_contact_ball.specs.Planes.{PlaneInRange, foot_of};
-ghost use Rattle.mill_contact_ball.specs.Spheres.{IsSpot, WeightsInRange, RimClear, CornersOut, MeetsSphere};
+ghost use Rattle.mill_contact_ball.specs.inner.Planes.{PlaneInRange, foot_of};
+ghost use Rattle.mill_contact_ball.specs.inner.Spheres.{IsSpot, WeightsInRange, RimClear, CornersOut, MeetsSphere};
 
 use crate::edge::{meets_rim, rim_spot};
 use crate::plane::{Plane, is_foot_inside, is_plane_near, plane_of};

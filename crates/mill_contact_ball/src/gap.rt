@@ -2,7 +2,7 @@ ghost use Rattle.std.specs.Prelude.{◌≡◌, ◌↔◌, ◌+ℤ◌, ◌*ℤ◌
 ghost use Rattle.mill_base.specs.Numbers.{Within, lesser};
 ghost use Rattle.mill_geom.specs.Widths.{farthest, most_area, widest};
 ghost use Rattle.mill_geom.specs.Offsets.{OffsetInRange};
-ghost use Rattle.mill_contact_ball.specs.Spheres.{IsBoxClose, MeetsBall};
+ghost use Rattle.mill_contact_ball.specs.inner.Spheres.{IsBoxClose, MeetsBall};
 
 use mill_geom::{Offset, box_gap, highest};
 

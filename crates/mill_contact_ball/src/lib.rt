@@ -21,7 +21,7 @@ ghost use Rattle.mill_geom.specs.Widths.{widest};
 ghost use Rattle.mill_geom.specs.Offsets.{IsCentre, OffsetInRange};
 ghost use Rattle.mill_geom.specs.Sides.{IsOnSide, IsTouch, along};
 ghost use Rattle.mill_contact_ball.specs.Centres.{IsBall};
-ghost use Rattle.mill_contact_ball.specs.Spheres.{MeetsAt, MeetsBall};
+ghost use Rattle.mill_contact_ball.specs.inner.Spheres.{MeetsAt, MeetsBall};
 
 mod centre;
 mod edge;

@@ -3,8 +3,8 @@ ghost use Rattle.mill_base.specs.Numbers.{Within};
 ghost use Rattle.mill_geom.specs.Widths.{widest};
 ghost use Rattle.mill_geom.specs.Offsets.{OffsetInRange};
 ghost use Rattle.mill_geom.specs.Sides.{IsOnSide};
-ghost use Rattle.mill_contact_ball.specs.Widths.{most_place};
-ghost use Rattle.mill_contact_ball.specs.Spheres.{MeetsBall, MeetsAt, WeightsInRange, flat_of, x_of};
+ghost use Rattle.mill_contact_ball.specs.inner.Widths.{most_place};
+ghost use Rattle.mill_contact_ball.specs.inner.Spheres.{MeetsBall, MeetsAt, WeightsInRange, flat_of, x_of};
 
 use crate::edge::has_corner_in;
 use crate::face::{meets_inner, sphere_spot};

@@ -2,7 +2,7 @@ ghost use Rattle.std.specs.Prelude.{◌≡◌, ◌↔◌, false, IsTrue};
 ghost use Rattle.mill_base.specs.Numbers.{Within};
 ghost use Rattle.mill_geom.specs.Widths.{widest};
 ghost use Rattle.mill_geom.specs.Offsets.{OffsetInRange};
-ghost use Rattle.mill_contact_ball.specs.Planes.{IsPlane, PlaneInRange, IsPlaneNear, HasFoot};
+ghost use Rattle.mill_contact_ball.specs.inner.Planes.{IsPlane, PlaneInRange, IsPlaneNear, HasFoot};
 
 use crate::vector::{Vector, cross, dot, height, sum};
 use mill_geom::Offset;

@@ -2,8 +2,8 @@ ghost use Rattle.std.specs.Prelude.{◌≡◌};
 ghost use Rattle.mill_base.specs.Numbers.{Within};
 ghost use Rattle.mill_geom.specs.Widths.{farthest, most_area, most_volume};
 ghost use Rattle.mill_geom.specs.Offsets.{OffsetInRange};
-ghost use Rattle.mill_contact_ball.specs.Widths.{most_normal, most_size};
-ghost use Rattle.mill_contact_ball.specs.Vectors.{minor_of, IsCross, IsSum, dot_of, height_of, VectorWithin};
+ghost use Rattle.mill_contact_ball.specs.inner.Widths.{most_normal, most_size};
+ghost use Rattle.mill_contact_ball.specs.inner.Vectors.{minor_of, IsCross, IsSum, dot_of, height_of, VectorWithin};
 
 use mill_geom::Offset;
 

@@ -9,7 +9,7 @@ use Rattle.mill_base.proofs.Machine.{stored, kept}
 use Rattle.mill_contact_cone.specs.declared.corner.Cone.{Cone}
 use Rattle.mill_contact_cone.specs.declared.corner.Corner.{Corner}
 use Rattle.mill_geom.specs.Widths.{farthest, widest}
-use Rattle.mill_contact_cone.specs.Widths.{most_over}
+use Rattle.mill_contact_cone.specs.inner.Widths.{most_over}
 use Rattle.mill_contact_cone.specs.Cones.{IsCone, CornerInRange}
 use Rattle.mill_contact_cone.proofs.Sizes.{radius_within}
 

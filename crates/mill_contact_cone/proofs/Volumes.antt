@@ -12,7 +12,7 @@ use Rattle.mill_geom.specs.declared.offset.Offset.{Offset}
 use Rattle.mill_geom.specs.Forms.{cross_of, volume_of}
 use Rattle.mill_contact_cone.specs.declared.plane.TheConstants.{FAR_VOLUME}
 use Rattle.mill_geom.specs.Widths.{widest}
-use Rattle.mill_contact_cone.specs.Widths.{most_lifted_slope}
+use Rattle.mill_contact_cone.specs.inner.Widths.{most_lifted_slope}
 
 -- the weighted sum is the volume
 pub volume_as : (v i j l : ℤ) (a b c : Offset) → v ≡ (i *ℤ a.z +ℤ j *ℤ b.z) +ℤ l *ℤ c.z → i ≡ cross_of b c → j ≡ cross_of c a → l ≡ cross_of a b → v ≡ volume_of a b c

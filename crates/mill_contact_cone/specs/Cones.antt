@@ -9,7 +9,7 @@ use Rattle.mill_base.specs.declared.cutter.Cutter.TheVariants.{Flat, Ball, Cone 
 use Rattle.mill_geom.specs.declared.offset.Offset.{Offset}
 use Rattle.mill_geom.specs.Offsets.{mean2, mean3}
 use Rattle.mill_geom.specs.Widths.{farthest}
-use Rattle.mill_contact_cone.specs.Widths.{most_over}
+use Rattle.mill_contact_cone.specs.inner.Widths.{most_over}
 use Rattle.mill_contact_cone.specs.declared.corner.Cone.{Cone}
 use Rattle.mill_contact_cone.specs.declared.corner.Corner.{Corner}
 

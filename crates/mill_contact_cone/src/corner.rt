@@ -3,9 +3,9 @@ ghost use Rattle.mill_base.specs.Numbers.{Within};
 ghost use Rattle.mill_base.specs.Ranges.{IsInRange};
 ghost use Rattle.mill_geom.specs.Offsets.{OffsetInRange, IsCentre};
 ghost use Rattle.mill_geom.specs.Widths.{farthest};
-ghost use Rattle.mill_contact_cone.specs.Widths.{most_over};
+ghost use Rattle.mill_contact_cone.specs.inner.Widths.{most_over};
 ghost use Rattle.mill_contact_cone.specs.Cones.{IsCone, over_of, IsCornerOf, plain, CornerInRange};
-ghost use Rattle.mill_contact_cone.specs.Positions.{IsAlong};
+ghost use Rattle.mill_contact_cone.specs.inner.Positions.{IsAlong};
 
 use mill_base::Pt3;
 use mill_geom::{Axis, Offset, offset_from};

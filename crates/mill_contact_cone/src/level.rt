@@ -2,7 +2,7 @@ ghost use Rattle.std.specs.Prelude.{◌≡◌, ◌<ℤ◌, pos, false, IsTrue};
 ghost use Rattle.mill_base.specs.Numbers.{Within};
 ghost use Rattle.mill_geom.specs.Forms.{level_form_of, mixed_form_of, IsAlone, IsOver};
 ghost use Rattle.mill_geom.specs.Contacts.{TouchesTriangle, OnLevel, EdgesClear};
-ghost use Rattle.mill_contact_cone.specs.Widths.{most_over, most_cone_form, most_cone_mixed_form};
+ghost use Rattle.mill_contact_cone.specs.inner.Widths.{most_over, most_cone_form, most_cone_mixed_form};
 ghost use Rattle.mill_contact_cone.specs.Cones.{IsCone, CornerInRange, lifted};
 
 use crate::corner::{Cone, Corner};

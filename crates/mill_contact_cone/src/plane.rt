@@ -3,7 +3,7 @@ ghost use Rattle.mill_base.specs.Numbers.{Within};
 ghost use Rattle.mill_geom.specs.Forms.{cross_of, AllUp, AllDown, IsPierced, IsLineNear};
 ghost use Rattle.mill_contact_cone.specs.declared.plane.TheConstants.{FAR_VOLUME};
 ghost use Rattle.mill_geom.specs.Widths.{farthest, widest, most_area};
-ghost use Rattle.mill_contact_cone.specs.Widths.{most_over, most_lifted_slope, most_lifted_volume};
+ghost use Rattle.mill_contact_cone.specs.inner.Widths.{most_over, most_lifted_slope, most_lifted_volume};
 ghost use Rattle.mill_contact_cone.specs.Cones.{CornerInRange, plain, lifted};
 
 use crate::corner::Corner;

@@ -8,7 +8,7 @@ use Rattle.mill_decimal.specs.declared.short.Short.{Short}
 use Rattle.mill_decimal.specs.declared.snap.Snap.{Snap}
 use Rattle.mill_decimal.specs.declared.snap.Snap.TheVariants.{Nearest, Exact}
 use Rattle.mill_decimal.specs.Decimals.{is_whole, nearest, is_between, in_range, or_out_of_range, units_or_fault, units_of}
-use Rattle.mill_decimal.specs.Shorts.{scaled_from}
+use Rattle.mill_decimal.specs.inner.Shorts.{scaled_from}
 use Rattle.mill_decimal.specs.Spelling.{scaled_by}
 use Rattle.mill_decimal.proofs.DigitRuns.{digits_value-append}
 

@@ -3,7 +3,7 @@ ghost use Rattle.mill_base.specs.Numbers.{Within};
 ghost use Rattle.mill_base.specs.declared.limits.TheConstants.{MAX_TEXT_COORDINATE};
 ghost use Rattle.mill_decimal.specs.Decimals.{read_as, units_of as units_of_scaled, is_rounded, is_refused as is_refused_under, is_between, units_or_fault};
 ghost use Rattle.mill_decimal.specs.declared.snap.Snap.{Snap};
-ghost use Rattle.mill_decimal.specs.Shorts.{scaled_from};
+ghost use Rattle.mill_decimal.specs.inner.Shorts.{scaled_from};
 
 use crate::digits::with_sign;
 use crate::fault::DecFault;

@@ -3,7 +3,7 @@
 ghost use Rattle.std.specs.Prelude.{◌≡◌, ◌+◌, ◌<◌, ◌≤◌, ◌^◌, length, IfSome, Some, Ok, pos};
 ghost use Rattle.std.specs.Str.Parse.{digits_value, digits_value_after};
 ghost use Rattle.mill_decimal.specs.Spelling.{fraction_of, after_fraction, scaled_by, scaled_of as scaled_in};
-ghost use Rattle.mill_decimal.specs.Shorts.{scaled_from};
+ghost use Rattle.mill_decimal.specs.inner.Shorts.{scaled_from};
 
 use crate::digits::{split_sign, split_value};
 

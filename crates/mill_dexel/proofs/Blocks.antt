@@ -18,7 +18,7 @@ use Rattle.mill_dexel.specs.Tops.{tops_after_move}
 use Rattle.mill_dexel.specs.Rows.{RowState, IsRowOf, top_at}
 use Rattle.mill_dexel.specs.Cuts.{IsBeyond}
 use Rattle.mill_dexel.specs.Turns.{move_at, ClearsRow, StopsRow, tops_after, row_before, EndsAt, IsRunOn, IsTurned, EndsBy, IsRunUpTo, IsTurnedUpTo}
-use Rattle.mill_dexel.specs.Bands.{IsInBand, IsBand, PassesOver}
+use Rattle.mill_dexel.specs.inner.Bands.{IsInBand, IsBand, PassesOver}
 use Rattle.mill_dexel.specs.declared.fail.RowFail.{RowFail}
 use Rattle.mill_dexel.specs.declared.band.Band.{Band}
 use Rattle.mill_dexel.proofs.Beyond.{move_keeps}

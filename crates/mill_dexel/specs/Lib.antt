@@ -3,5 +3,5 @@ pub mod Tops
 pub mod Laws
 pub mod Rows
 pub mod Turns
-pub mod Bands
 pub mod Cuts
+pub mod inner

@@ -3,7 +3,7 @@ ghost use Rattle.mill_base.specs.Ranges.{MoveInTextRange, MovesInTextRange};
 ghost use Rattle.mill_base.specs.declared.motion.Kind.TheVariants.{Rapid};
 ghost use Rattle.mill_job.specs.Columns.{row_count, column_count};
 ghost use Rattle.mill_job.specs.Jobs.{IsJob};
-ghost use Rattle.mill_dexel.specs.Bands.{PassesOver};
+ghost use Rattle.mill_dexel.specs.inner.Bands.{PassesOver};
 ghost use Rattle.mill_dexel.specs.Cuts.{IsCutAt};
 ghost use Rattle.mill_dexel.specs.Tops.{tops_after_move};
 ghost use Rattle.mill_dexel.specs.Rows.{IsRowOf, PassesRow, IsFirstStop, IsBlocked, row_point, uncut_tri};

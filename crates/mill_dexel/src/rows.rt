@@ -3,7 +3,7 @@ ghost use Rattle.std.specs.List.{AllZip};
 ghost use Rattle.mill_base.specs.Ranges.{MovesInTextRange};
 ghost use Rattle.mill_job.specs.Jobs.{IsJob};
 ghost use Rattle.mill_dexel.specs.Rows.{IsRowOf};
-ghost use Rattle.mill_dexel.specs.Bands.{IsBand};
+ghost use Rattle.mill_dexel.specs.inner.Bands.{IsBand};
 ghost use Rattle.mill_dexel.specs.Turns.{IsTurned, IsTurnedUpTo};
 ghost use denote.Param.Send.{IsSync};
 

@@ -18,7 +18,7 @@ use Rattle.mill_cells.specs.Ahead.{Ahead, Comes, NoneComes, AreDealt}
 use Rattle.mill_cells.specs.Sorted.{Sorted, sorted_of, height_at}
 use Rattle.mill_cells.proofs.PassedLemmas.{deals_on, deals_last, top_is}
 use Rattle.mill_drop.specs.Drops.{TouchesAt, GougesAt, IsRaised, IsDropHeight}
-use Rattle.mill_drop.specs.Near.{AreFree, square_about}
+use Rattle.mill_drop.specs.inner.Near.{AreFree, square_about}
 use Rattle.mill_drop.proofs.Heights.{lowered, has_radius, over_top_free}
 use Rattle.mill_drop.proofs.NearLemmas.{touching_meets}
 

@@ -1,4 +1,3 @@
 pub mod Drops
-pub mod Near
-pub mod Spindles
 pub mod Maps
+pub mod inner

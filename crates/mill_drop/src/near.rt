@@ -4,8 +4,8 @@ ghost use Rattle.mill_base.specs.declared.limits.TheConstants.{MAX_TEXT_COORDINA
 ghost use Rattle.mill_base.specs.Sizes.{IsCutter};
 ghost use Rattle.mill_cells.specs.Sorted.{sorted_of};
 ghost use Rattle.mill_drop.specs.Drops.{IsRaised};
-ghost use Rattle.mill_drop.specs.Near.{AreFree, point_box, square_about};
-ghost use Rattle.mill_drop.specs.Spindles.{IsSpindle};
+ghost use Rattle.mill_drop.specs.inner.Near.{AreFree, point_box, square_about};
+ghost use Rattle.mill_drop.specs.inner.Spindles.{IsSpindle};
 
 use crate::search::Spindle;
 use mill_base::{Box2, Cutter};

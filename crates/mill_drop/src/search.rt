@@ -4,7 +4,7 @@ ghost use Rattle.mill_base.specs.declared.limits.TheConstants.{MAX_TEXT_COORDINA
 ghost use Rattle.mill_base.specs.Points.{highest as highest_of};
 ghost use Rattle.mill_base.specs.Ranges.{TriInTextRange};
 ghost use Rattle.mill_drop.specs.Drops.{TouchesAt};
-ghost use Rattle.mill_drop.specs.Spindles.{IsSpindle};
+ghost use Rattle.mill_drop.specs.inner.Spindles.{IsSpindle};
 
 use crate::contact::holds_some;
 use mill_base::{Cutter, Pt3, Tri};

@@ -29,8 +29,8 @@ use Rattle.mill_sweep.specs.declared.leaf.Leaf.{Leaf}
 use Rattle.mill_sweep.proofs.Passing.{radius_least}
 use Rattle.mill_gouge.specs.declared.gouge.Gouge.{Gouge}
 use Rattle.mill_gouge.specs.Gouges.{tri_at, PassesPart, IsFirstGouge}
-use Rattle.mill_gouge.specs.Firsts.{ComesBefore, IsEarlier, IsGouge}
-use Rattle.mill_gouge.specs.Near.{IsOver, area_of, margin_of}
+use Rattle.mill_gouge.specs.inner.Firsts.{ComesBefore, IsEarlier, IsGouge}
+use Rattle.mill_gouge.specs.inner.Near.{IsOver, area_of, margin_of}
 
 -- some place is in both stretches
 record HasCommon (low high from to : ℤ) : Type 0 where

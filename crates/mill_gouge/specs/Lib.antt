@@ -1,3 +1,2 @@
 pub mod Gouges
-pub mod Near
-pub mod Firsts
+pub mod inner

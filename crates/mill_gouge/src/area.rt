@@ -3,7 +3,7 @@ ghost use Rattle.mill_base.specs.Numbers.{Within, greater, lesser};
 ghost use Rattle.mill_base.specs.declared.limits.TheConstants.{MAX_TEXT_COORDINATE};
 ghost use Rattle.mill_base.specs.Ranges.{MoveInTextRange};
 ghost use Rattle.mill_base.specs.Sizes.{IsCutter};
-ghost use Rattle.mill_gouge.specs.Near.{IsOver, area_of, margin_of};
+ghost use Rattle.mill_gouge.specs.inner.Near.{IsOver, area_of, margin_of};
 
 use mill_base::{Box2, Cutter, Move};
 

@@ -2,7 +2,7 @@ ghost use Rattle.std.specs.Prelude.{◌≡◌, MatchOption};
 ghost use Rattle.mill_base.specs.Ranges.{MoveInTextRange, TriInTextRange};
 ghost use Rattle.mill_base.specs.Sizes.{IsCutter};
 ghost use Rattle.mill_cells.specs.Sorted.{sorted_of};
-ghost use Rattle.mill_gouge.specs.Firsts.{IsEarlier};
+ghost use Rattle.mill_gouge.specs.inner.Firsts.{IsEarlier};
 ghost use Rattle.mill_gouge.specs.Gouges.{IsFirstGouge, PassesPart};
 
 use crate::area::{area_about, is_over, low_end};

@@ -1,4 +1,4 @@
-ghost use Rattle.mill_gouge.specs.Near.{IsLid};
+ghost use Rattle.mill_gouge.specs.inner.Near.{IsLid};
 
 use mill_part::Part;
 

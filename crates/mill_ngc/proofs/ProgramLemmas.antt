@@ -14,7 +14,7 @@ use Rattle.mill_ngc.specs.declared.progress.Progress.{Progress}
 use Rattle.mill_ngc.specs.Said.{◌>>=◌}
 use Rattle.mill_ngc.specs.Programs.{begun, after_line, made_list, read_from}
 use Rattle.mill_ngc.specs.Readings.{Reads}
-use Rattle.mill_ngc.specs.Bounds.{KeepsMove, MakesMove, MakesNone}
+use Rattle.mill_ngc.specs.inner.Bounds.{KeepsMove, MakesMove, MakesNone}
 
 -- ---- the meaning of the rest
 

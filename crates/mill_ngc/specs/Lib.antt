@@ -4,4 +4,4 @@ pub mod Said
 pub mod Motion
 pub mod Programs
 pub mod Readings
-pub mod Bounds
+pub mod inner

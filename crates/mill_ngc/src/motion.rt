@@ -5,7 +5,7 @@ ghost use Rattle.mill_base.specs.declared.limits.TheConstants.{MAX_TEXT_COORDINA
 ghost use Rattle.mill_base.specs.Ranges.{IsInTextRange};
 ghost use Rattle.mill_words.specs.Words.{FitsNum};
 ghost use Rattle.mill_ngc.specs.Motion.{settled, coordinate as coordinate_of, target as target_of, moved_to, moved_by, moved, acted};
-ghost use Rattle.mill_ngc.specs.Bounds.{FitsSaid, Keeps};
+ghost use Rattle.mill_ngc.specs.inner.Bounds.{FitsSaid, Keeps};
 
 use crate::fault::NgcFault;
 use crate::numbers::units_of;

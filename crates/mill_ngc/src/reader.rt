@@ -7,7 +7,7 @@ ghost use Rattle.mill_words.specs.Words.{Line};
 ghost use Rattle.mill_words.specs.Marks.{is_blank as is_blank_byte};
 ghost use Rattle.mill_ngc.specs.declared.progress.Progress.{Progress};
 ghost use Rattle.mill_ngc.specs.Programs.{start_at, is_percent as is_percent_line, percent_step as percent_step_by, has_frame, with_percent, with_line, begun, after_line, after_words, words_or_fault};
-ghost use Rattle.mill_ngc.specs.Bounds.{Keeps};
+ghost use Rattle.mill_ngc.specs.inner.Bounds.{Keeps};
 
 use crate::fault::NgcFault;
 use crate::profile::Mode;

@@ -4,7 +4,7 @@ ghost use Rattle.mill_words.specs.Words.{FitsNum, FitsWord};
 ghost use Rattle.mill_words.specs.Words.{Line};
 ghost use Rattle.mill_ngc.specs.Profile.{is_tool as is_tool_effect, may_repeat as may_repeat_group, repeated as repeated_group};
 ghost use Rattle.mill_ngc.specs.Said.{nothing_said, noted, once as once_in, after_entry, after_word, said_from, said_by, has_axis as has_axis_said, has_motion as has_motion_mode};
-ghost use Rattle.mill_ngc.specs.Bounds.{FitsSaid};
+ghost use Rattle.mill_ngc.specs.inner.Bounds.{FitsSaid};
 
 use crate::fault::NgcFault;
 use crate::groups::{Group, Groups};

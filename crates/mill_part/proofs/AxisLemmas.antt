@@ -3,8 +3,8 @@ use Rattle.std.proofs.Common.{◌≡◌, arith}
 use Rattle.std.specs.Prelude.{Option}
 use Rattle.std.proofs.lemmas.Int.{ints, by_lt_z}
 use Rattle.mill_base.specs.declared.points.Tri.{Tri}
-use Rattle.mill_part.specs.Columns.{weigh, Reaches, StandsOver, IsGreatest, IsUpright, turn_of}
-use Rattle.mill_part.specs.Lines.{LineOver}
+use Rattle.mill_part.specs.inner.Columns.{weigh, Reaches, StandsOver, IsGreatest, IsUpright, turn_of}
+use Rattle.mill_part.specs.inner.Lines.{LineOver}
 use Rattle.mill_part.specs.declared.line.Place.{Place}
 use Rattle.mill_part.proofs.ColumnCerts as cert
 use Rattle.mill_part.proofs.FaceLemmas.{both_ways, to_offsets, from_offsets}

@@ -17,7 +17,7 @@ use Rattle.mill_base.specs.declared.points.Tri.{Tri}
 use Rattle.mill_base.proofs.Exit.{split_lt}
 use Rattle.mill_base.proofs.Integers.{mul_pos-ℤ}
 use Rattle.mill_geom.specs.Reaches.{Reaches}
-use Rattle.mill_part.specs.Columns.{CoversColumn, StandsOver}
+use Rattle.mill_part.specs.inner.Columns.{CoversColumn, StandsOver}
 use Rattle.mill_part.proofs.ColumnCerts.{mean_under, lower_too, never_near}
 use Rattle.mill_part.proofs.Stored.{coordinate_bounds}
 use Rattle.mill_part.proofs.TopLemmas.{corners_under, highest_is}

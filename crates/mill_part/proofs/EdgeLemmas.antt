@@ -3,8 +3,8 @@ use Rattle.std.proofs.Common.{◌≡◌, ◌⊎◌, inl, inr, ◌∙◌, arith}
 use Rattle.std.specs.Prelude.{Option}
 use Rattle.std.specs.Int.{int_max}
 use Rattle.std.proofs.lemmas.Int.{ints, clamps}
-use Rattle.mill_part.specs.Columns.{IsFloor, IsGreatest}
-use Rattle.mill_part.specs.Lines.{EdgeOver}
+use Rattle.mill_part.specs.inner.Columns.{IsFloor, IsGreatest}
+use Rattle.mill_part.specs.inner.Lines.{EdgeOver}
 use Rattle.mill_part.specs.declared.line.Place.{Place}
 use Rattle.mill_part.proofs.LineCerts as cert
 use Rattle.mill_part.proofs.FaceLemmas.{both_ways}

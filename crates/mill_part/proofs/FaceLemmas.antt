@@ -4,7 +4,7 @@ use Rattle.std.specs.Prelude.{Option}
 use Rattle.std.proofs.lemmas.Int.{ints}
 use Rattle.mill_base.proofs.Integers.{one-mul-ℤ}
 use Rattle.mill_base.specs.declared.points.Tri.{Tri}
-use Rattle.mill_part.specs.Columns.{weigh, Reaches, StandsOver, IsGreatest, turn_of, AreApart}
+use Rattle.mill_part.specs.inner.Columns.{weigh, Reaches, StandsOver, IsGreatest, turn_of, AreApart}
 use Rattle.mill_part.proofs.ColumnCerts as cert
 use Rattle.mill_part.proofs.Greatest.{greatest_same}
 use lib.IntN.{ℤ, pos, negsuc, ◌+ℤ◌, ◌-ℤ◌, ◌*ℤ◌}

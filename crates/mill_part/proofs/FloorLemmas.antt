@@ -7,7 +7,7 @@ use lib.Signed.{◌<ℤ◌, ◌≤ℤ◌}
 use Rattle.mill_base.proofs.Integers.{mul-add-ℤ}
 use Rattle.mill_base.specs.declared.limits.TheConstants.{MAX_COORDINATE}
 use Rattle.mill_base.specs.declared.points.Tri.{Tri}
-use Rattle.mill_part.specs.Columns.{IsFloor, Reaches, weigh}
+use Rattle.mill_part.specs.inner.Columns.{IsFloor, Reaches, weigh}
 use Rattle.mill_part.proofs.ColumnCerts.{floor_greatest, floor_most, floor_least}
 
 suc-times : (d q : ℕ) → d * (q + 1) ≡ d * q + d

@@ -5,7 +5,7 @@ use Rattle.std.specs.Option.{option_cmp}
 use Rattle.std.specs.Ordering.{int_cmp, is_lt, ord_max}
 use Rattle.std.proofs.lemmas.Int.{ints}
 use Rattle.mill_base.proofs.Cert.{by_opposite_le}
-use Rattle.mill_part.specs.Columns.{IsGreatest}
+use Rattle.mill_part.specs.inner.Columns.{IsGreatest}
 use Rattle.mill_part.proofs.TopLemmas.{less_is, other_is}
 use lib.IntN.{ℤ}
 use lib.Signed.{◌<ℤ◌, ◌≤ℤ◌}

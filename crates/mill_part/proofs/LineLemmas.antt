@@ -5,8 +5,8 @@ use Rattle.std.specs.Option.{option_cmp}
 use Rattle.std.specs.Ordering.{int_cmp, ord_max}
 use Rattle.std.proofs.lemmas.Int.{ints, by_lt_z}
 use Rattle.mill_base.proofs.Cert.{by_opposite_lt}
-use Rattle.mill_part.specs.Columns.{IsGreatest, weigh}
-use Rattle.mill_part.specs.Lines.{EdgeOver, LineOver}
+use Rattle.mill_part.specs.inner.Columns.{IsGreatest, weigh}
+use Rattle.mill_part.specs.inner.Lines.{EdgeOver, LineOver}
 use Rattle.mill_part.specs.declared.line.Place.{Place}
 use Rattle.mill_part.proofs.LineCerts as cert
 use Rattle.mill_part.proofs.ColumnCerts.{mean_under}

@@ -10,7 +10,7 @@ use Rattle.mill_base.specs.declared.points.Tri.{Tri}
 use Rattle.mill_base.proofs.Integers.{mul_nonneg-ℤ}
 use Rattle.mill_cells.specs.Boxes.{Meet, box_of}
 use Rattle.mill_cells.proofs.Meeting.{Overlap, overlapping_meet, least_of_three, greatest_of_three, ends_in_order}
-use Rattle.mill_part.specs.Columns.{CoversColumn, square_about, weigh}
+use Rattle.mill_part.specs.inner.Columns.{CoversColumn, square_about, weigh}
 use Rattle.mill_part.proofs.NearCerts.{mean_reaches_up, mean_reaches_down, nearer_up, nearer_down}
 
 -- the magnitude of an offset is at most m

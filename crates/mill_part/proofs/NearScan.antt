@@ -18,7 +18,7 @@ use Rattle.mill_cells.specs.Ahead.{Ahead, Comes, NoneComes, AreDealt}
 use Rattle.mill_cells.specs.Boxes.{Meet, IsNear, box_of, boxes_of, origin_box}
 use Rattle.mill_cells.specs.Sorted.{Sorted, sorted_of, height_at}
 use Rattle.mill_cells.proofs.PassedLemmas.{deals_on, deals_last, top_is}
-use Rattle.mill_part.specs.Columns.{CoversColumn, square_about}
+use Rattle.mill_part.specs.inner.Columns.{CoversColumn, square_about}
 use Rattle.mill_part.proofs.Below.{covered_below}
 use Rattle.mill_part.proofs.CoverLemmas.{point_of_part, covers_of_point, covered_bound, under_highest}
 use Rattle.mill_part.proofs.NearLemmas.{covering_meets}

@@ -7,7 +7,7 @@ use lib.Signed.{◌<ℤ◌, ◌≤ℤ◌, lt_z}
 use Rattle.mill_base.specs.Numbers.{Within}
 use Rattle.mill_base.specs.declared.limits.TheConstants.{MAX_COORDINATE}
 use Rattle.mill_base.proofs.Machine.{X, Read, Lit, Sum, Diff, stored, roomy, exact, stays, sum_fits, diff_fits, kept}
-use Rattle.mill_part.specs.Columns.{weigh}
+use Rattle.mill_part.specs.inner.Columns.{weigh}
 
 -- a coordinate is stored as it is
 pub coordinate : (z : ℤ) → Within MAX_COORDINATE z → stored w32 z ≡ z

@@ -1,4 +1,3 @@
 pub mod Parts
 pub mod Tops
-pub mod Columns
-pub mod Lines
+pub mod inner

@@ -2,7 +2,7 @@ ghost use Rattle.std.specs.Prelude.{◌≡◌, ◌^◌, ◌↔◌, ◌+ℤ◌, �
 ghost use Rattle.mill_base.specs.Numbers.{Within};
 ghost use Rattle.mill_base.specs.declared.limits.TheConstants.{MAX_COORDINATE};
 ghost use Rattle.mill_base.specs.Ranges.{IsInRange, TriInRange};
-ghost use Rattle.mill_part.specs.Columns.{AreApart, AreOver, AreUnder, IsFloor, IsGreatest, Reaches, StandsOver, turn_of, weigh};
+ghost use Rattle.mill_part.specs.inner.Columns.{AreApart, AreOver, AreUnder, IsFloor, IsGreatest, Reaches, StandsOver, turn_of, weigh};
 
 use crate::line::line_height;
 use crate::whole::{area, floor_height, offset, weighted};

@@ -2,7 +2,7 @@ ghost use Rattle.std.specs.Prelude.{◌≡◌, ◌^◌, ◌↔◌, ◌*ℤ◌, �
 ghost use Rattle.mill_base.specs.Numbers.{Within};
 ghost use Rattle.mill_base.specs.declared.limits.TheConstants.{MAX_COORDINATE};
 ghost use Rattle.mill_base.specs.Ranges.{IsInRange, TriInRange};
-ghost use Rattle.mill_part.specs.Columns.{IsFloor, IsGreatest, IsUpright, StandsOver, turn_of};
+ghost use Rattle.mill_part.specs.inner.Columns.{IsFloor, IsGreatest, IsUpright, StandsOver, turn_of};
 
 use crate::whole::{floor_height, offset, weighted};
 use mill_base::{Pt3, Tri};
@@ -73,7 +73,7 @@ fn along_y(p: &Pt3, y: i32) -> Place
 }
 
 impl Place {
-    ghost use Rattle.mill_part.specs.Lines.{EdgeOver, LineOver};
+    ghost use Rattle.mill_part.specs.inner.Lines.{EdgeOver, LineOver};
 
     /// The greatest whole height over the column of the edge to `other`.
     fn edge_height(self, other: Place) -> Option<i32>

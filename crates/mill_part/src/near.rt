@@ -39,7 +39,7 @@ pub struct Column {
 }
 
 impl Column {
-    ghost use Rattle.mill_part.specs.Columns.{CoversColumn, square_about};
+    ghost use Rattle.mill_part.specs.inner.Columns.{CoversColumn, square_about};
 
     /// The square about the column in which each point lies that covers it.
     pub fn area(self) -> Box2

@@ -1,7 +1,7 @@
 ghost use Rattle.std.specs.Prelude.{◌≡◌, ◌^◌, ◌+ℤ◌, ◌-ℤ◌, ◌*ℤ◌, ◌<ℤ◌, ◌≤ℤ◌, pos, neg_ℤ};
 ghost use Rattle.mill_base.specs.Numbers.{Within};
 ghost use Rattle.mill_base.specs.declared.limits.TheConstants.{MAX_COORDINATE};
-ghost use Rattle.mill_part.specs.Columns.{IsFloor};
+ghost use Rattle.mill_part.specs.inner.Columns.{IsFloor};
 
 /// How far `a` is over `b`.
 pub fn offset(a: i32, b: i32) -> i64

@@ -1,7 +1,7 @@
 ghost use Rattle.std.specs.Prelude.{◌≡◌, ◌<◌, length, option_to_list};
 ghost use Rattle.mill_drop.specs.Maps.{IsMapLattice, nodes_of};
 ghost use Rattle.mill_job.specs.Jobs.{IsJob};
-ghost use Rattle.mill_paths.specs.Paths.{path_height, path_lattice, path_visit};
+ghost use Rattle.mill_paths.specs.inner.Paths.{path_height, path_lattice, path_visit};
 
 use crate::lattices::{finish_lattice, rough_lattice};
 use crate::visit::Visit;

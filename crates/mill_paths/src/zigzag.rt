@@ -5,7 +5,7 @@ ghost use Rattle.mill_drop.specs.Maps.{IsMapLattice, nodes_of};
 ghost use Rattle.mill_job.specs.Jobs.{IsJob};
 ghost use Rattle.mill_paths.specs.Lattices.{zigzag_row};
 ghost use Rattle.mill_paths.specs.Limits.{IsListFault, most_nodes};
-ghost use Rattle.mill_paths.specs.Paths.{path_lattice, path_visit, path_visits};
+ghost use Rattle.mill_paths.specs.inner.Paths.{path_lattice, path_visit, path_visits};
 
 use crate::fault::PathFault;
 use crate::path::{Path, lattice_of, visit_of};

@@ -21,7 +21,7 @@ use Rattle.mill_paths.proofs.Rounds.{round_is_safe}
 use Rattle.mill_paths.proofs.Uniqueness.{one_plan}
 use Rattle.mill_plan.specs.Faults.{plan_fault_of}
 use Rattle.mill_plan.specs.Plans.{HasFewNodes, HasPlan, IsPlanFault, most_moves}
-use Rattle.mill_plan.specs.Steps.{IsRound, IsRoundFault}
+use Rattle.mill_plan.specs.inner.Steps.{IsRound, IsRoundFault}
 use Rattle.mill_plan.specs.declared.fault.PlanFault.{PlanFault}
 use Rattle.mill_plan.specs.declared.fault.PlanFault.TheVariants.{TooManyNodes, TooManyMoves, Uncut, WantOfMemory}
 

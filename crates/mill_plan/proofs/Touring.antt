@@ -12,7 +12,7 @@ use Rattle.mill_paths.specs.Tours.{last_place}
 use Rattle.mill_paths.specs.declared.visit.Visit.{Visit}
 use Rattle.mill_paths.proofs.Steps.{last_join, last_snoc, tour_join, tour_nil, tour_snoc}
 use Rattle.mill_plan.specs.Plans.{most_moves}
-use Rattle.mill_plan.specs.Steps.{AddsTour, IsLongRound, IsRound, IsRoundFault, IsTourFault, IsTourOver}
+use Rattle.mill_plan.specs.inner.Steps.{AddsTour, IsLongRound, IsRound, IsRoundFault, IsTourFault, IsTourOver}
 use Rattle.mill_plan.specs.declared.fault.PlanFault.{PlanFault}
 use Rattle.mill_plan.specs.declared.fault.PlanFault.TheVariants.{TooManyNodes, TooManyMoves, Uncut, WantOfMemory}
 

@@ -1,4 +1,4 @@
 pub mod Faults
 pub mod Plans
-pub mod Steps
 pub mod Laws
+pub mod inner

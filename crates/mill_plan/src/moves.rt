@@ -8,7 +8,7 @@ ghost use Rattle.mill_paths.specs.Safety.{GoSafely};
 ghost use Rattle.mill_paths.specs.Tours.{last_place};
 ghost use Rattle.mill_paths.specs.Visits.{IsVisit};
 ghost use Rattle.mill_plan.specs.Plans.{most_moves, HasFewNodes, HasPlan, IsPlanFault};
-ghost use Rattle.mill_plan.specs.Steps.{AddsTour, IsNodesFault, IsRound, IsRoundFault, IsTourFault};
+ghost use Rattle.mill_plan.specs.inner.Steps.{AddsTour, IsNodesFault, IsRound, IsRoundFault, IsTourFault};
 
 use crate::fault::PlanFault;
 use mill_base::{Move, Pt3, WantOfMemory};

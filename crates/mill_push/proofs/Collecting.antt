@@ -29,7 +29,7 @@ use Rattle.mill_push.specs.Fibers.{IsTouched, IsBlocked}
 use Rattle.mill_push.specs.Runs.{StandsIn}
 use Rattle.mill_push.specs.Stretches.{IsStretch, IsStretchAnswer, IsClear}
 use Rattle.mill_push.specs.Touches.{IsNearFiber, IsTried, TouchesFew, position_count, strip_of, tri_at}
-use Rattle.mill_push.specs.Unions.{AreSpans, IsSpan, AreStretches}
+use Rattle.mill_push.specs.inner.Unions.{AreSpans, IsSpan, AreStretches}
 use Rattle.mill_push.proofs.Meeting.{touched_near}
 
 -- a list of numbers in which no number stands twice

@@ -10,7 +10,7 @@ use lib.IntN.{ℤ, pos, ◌+ℤ◌, ◌-ℤ◌}
 use lib.Signed.{◌<ℤ◌, ◌≤ℤ◌}
 use Rattle.mill_push.specs.declared.fiber.Run.{Run}
 use Rattle.mill_push.specs.Runs.{FreeUpTo, IsNextRun, RunsOf, StandsIn}
-use Rattle.mill_push.specs.Unions.{IsSpan, AreSpans, AreOrdered}
+use Rattle.mill_push.specs.inner.Unions.{IsSpan, AreSpans, AreOrdered}
 
 -- the list begins the runs from `from` on, and what comes after its last run begins here
 abbrev pub Leads : (ℤ → Type 0) → ℤ → ℤ → List Run → ℤ → Type 0

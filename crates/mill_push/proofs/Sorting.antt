@@ -13,7 +13,7 @@ use lib.IntN.{ℤ, pos}
 use lib.Signed.{◌<ℤ◌, ◌≤ℤ◌}
 use Rattle.mill_push.specs.declared.fiber.Run.{Run}
 use Rattle.mill_push.specs.Runs.{StandsIn}
-use Rattle.mill_push.specs.Unions.{AreOrdered}
+use Rattle.mill_push.specs.inner.Unions.{AreOrdered}
 
 not_before : (a b : ℤ) → is_lt (int_cmp a b) ≡ false → b ≤ℤ a
 not_before a b h = by (int_lt a b) (int_lt b a) refl refl h

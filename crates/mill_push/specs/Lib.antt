@@ -1,6 +1,5 @@
 pub mod Fibers
-pub mod Pushers
 pub mod Runs
 pub mod Stretches
 pub mod Touches
-pub mod Unions
+pub mod inner

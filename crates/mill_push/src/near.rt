@@ -2,9 +2,9 @@ ghost use Rattle.std.specs.Prelude.{◌≡◌, ◌≤ℤ◌, IfOk};
 ghost use Rattle.mill_base.specs.Numbers.{Within};
 ghost use Rattle.mill_base.specs.declared.limits.TheConstants.{MAX_TEXT_COORDINATE};
 ghost use Rattle.mill_cells.specs.Sorted.{sorted_of};
-ghost use Rattle.mill_push.specs.Pushers.{IsPusher};
+ghost use Rattle.mill_push.specs.inner.Pushers.{IsPusher};
 ghost use Rattle.mill_push.specs.Touches.{TouchesFew, strip_of};
-ghost use Rattle.mill_push.specs.Unions.{AreStretches};
+ghost use Rattle.mill_push.specs.inner.Unions.{AreStretches};
 
 use crate::fiber::Run;
 use crate::stretch::Pusher;

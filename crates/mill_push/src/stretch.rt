@@ -4,7 +4,7 @@ ghost use Rattle.mill_base.specs.declared.limits.TheConstants.{MAX_TEXT_COORDINA
 ghost use Rattle.mill_base.specs.Ranges.{TriInTextRange};
 ghost use Rattle.mill_geom.specs.Sides.{IsTouch};
 ghost use Rattle.mill_push.specs.Fibers.{IsTouched, tip_on};
-ghost use Rattle.mill_push.specs.Pushers.{IsPusher};
+ghost use Rattle.mill_push.specs.inner.Pushers.{IsPusher};
 ghost use Rattle.mill_push.specs.Stretches.{IsClear, IsHeld, IsStretchAnswer};
 ghost use Rattle.mill_push.specs.Touches.{position_count};
 

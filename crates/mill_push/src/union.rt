@@ -2,7 +2,7 @@ ghost use Rattle.std.specs.Prelude.{ℤ, IfOk, Contains};
 ghost use Rattle.mill_base.specs.Numbers.{Within};
 ghost use Rattle.mill_base.specs.declared.limits.TheConstants.{MAX_TEXT_COORDINATE};
 ghost use Rattle.mill_push.specs.Runs.{RunsOf, StandsIn};
-ghost use Rattle.mill_push.specs.Unions.{AreOrdered, AreSpans};
+ghost use Rattle.mill_push.specs.inner.Unions.{AreOrdered, AreSpans};
 ghost use Rattle.mill_push.specs.declared.fiber.Run.{Run};
 
 use crate::fiber::Run;

@@ -16,7 +16,7 @@ use Rattle.mill_base.specs.declared.points.Pt3.{Pt3}
 use Rattle.mill_base.specs.declared.cutter.Cutter.{Cutter}
 use Rattle.mill_base.specs.declared.cutter.Cutter.TheVariants.{Flat, Ball, Cone}
 use Rattle.mill_shape.proofs.CutCerts.{unit_near, ball_high_free, ball_deep_free, ball_held, wall_held, wall_low, wall_high}
-use Rattle.mill_shape.specs.Roots.{IsFloorRoot, IsCeilRoot}
+use Rattle.mill_shape.specs.inner.Roots.{IsFloorRoot, IsCeilRoot}
 use Rattle.mill_shape.specs.Widths.{greatest_area}
 use Rattle.mill_shape.proofs.RootLemmas.{floor_root_is, ceil_root_is}
 

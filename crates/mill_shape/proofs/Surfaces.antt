@@ -9,7 +9,7 @@ use Rattle.mill_base.specs.declared.limits.TheConstants.{MAX_WIDE_RADIUS}
 use Rattle.mill_base.specs.declared.points.Pt3.{Pt3}
 use Rattle.mill_base.specs.declared.cutter.Cutter.{Cutter}
 use Rattle.mill_base.specs.declared.cutter.Cutter.TheVariants.{Flat, Ball, Cone}
-use Rattle.mill_shape.specs.Roots.{IsFloorRoot, IsCeilRoot}
+use Rattle.mill_shape.specs.inner.Roots.{IsFloorRoot, IsCeilRoot}
 use Rattle.mill_shape.specs.Widths.{greatest_radius, greatest_area}
 use Rattle.mill_shape.proofs.RootLemmas.{floor_root_agrees, ceil_root_agrees}
 

@@ -1,3 +1,3 @@
 pub mod Offsets
-pub mod Roots
 pub mod Widths
+pub mod inner

@@ -2,7 +2,7 @@ ghost use Rattle.std.specs.Prelude.{◌≡◌, ◌+◌, ◌-◌, ◌*◌, ◌<�
 ghost use Rattle.mill_base.specs.Numbers.{square as square_of, Within};
 ghost use Rattle.mill_base.specs.declared.limits.TheConstants.{LOWEST_TIP, MAX_COORDINATE};
 ghost use Rattle.mill_base.specs.Sizes.{radius_of, surface as surface_of, IsWideCutter, IsCutHeight, cut_height_of};
-ghost use Rattle.mill_shape.specs.Roots.{IsFloorRoot, IsCeilRoot};
+ghost use Rattle.mill_shape.specs.inner.Roots.{IsFloorRoot, IsCeilRoot};
 ghost use Rattle.mill_shape.specs.Widths.{greatest_radius, greatest_area, rise_width};
 
 use mill_base::{Cutter, Pt3, ceil_root, floor_root};

@@ -11,7 +11,7 @@ use Rattle.mill_stl.specs.declared.state.Cursor.{Cursor}
 use Rattle.mill_stl.specs.declared.state.Progress.{Progress}
 use Rattle.mill_stl.specs.Facets.{after_word}
 use Rattle.mill_stl.specs.Parts.{Reached, Part, is_space, next_line, and_then, after_step, reached_at, with_word, after_byte, after_text, read_from, whole_part, Fails}
-use Rattle.mill_stl.specs.Bounds.{scan_at, meaning_from}
+use Rattle.mill_stl.specs.inner.Bounds.{scan_at, meaning_from}
 
 -- the same first bytes, and one more
 pub take-next : (xs ys : List ℕ) (i : ℕ) → i < length xs → i < length ys → get_or xs i 0 ≡ get_or ys i 0

@@ -1,4 +1,4 @@
 pub mod Faults
 pub mod Facets
 pub mod Parts
-pub mod Bounds
+pub mod inner

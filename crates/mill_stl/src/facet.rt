@@ -5,7 +5,7 @@ ghost use Rattle.mill_base.specs.Numbers.{Within};
 ghost use Rattle.mill_base.specs.declared.limits.TheConstants.{MAX_TEXT_COORDINATE, MAX_TRIANGLES};
 ghost use Rattle.mill_base.specs.Ranges.{TriInTextRange};
 ghost use Rattle.mill_stl.specs.Facets.{is_keyword as is_keyword_of, moved_to, with_name, after_keyword, after_solid, begun_facet, after_facet_or_end, stage_after_ignored as stage_after_ignored_of, stage_after_coord as stage_after_coord_of, rounded_after as rounded_after_of, with_coord, after_coord, tri_of as tri_of_coords, after_end_facet, at_stage as at_stage_of, after_word};
-ghost use Rattle.mill_stl.specs.Bounds.{FitsStage, CoordsInRange, Fits, IsStep, stepped, Does};
+ghost use Rattle.mill_stl.specs.inner.Bounds.{FitsStage, CoordsInRange, Fits, IsStep, stepped, Does};
 
 use crate::fault::{StlFault, What};
 use crate::state::{Progress, Stage};

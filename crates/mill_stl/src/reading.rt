@@ -4,7 +4,7 @@ ghost use Rattle.std.specs.Prelude.{◌≡◌, ◌≤◌, ◌<◌, ◌*◌, [], 
 ghost use Rattle.mill_base.specs.declared.limits.TheConstants.{MAX_TRIANGLES};
 ghost use Rattle.mill_base.specs.Ranges.{TrisInTextRange};
 ghost use Rattle.mill_stl.specs.Parts.{is_end as is_end_stage, start, reached_at, with_tri, with_word, whole_part, part_of, Fails, Gives};
-ghost use Rattle.mill_stl.specs.Bounds.{IsSound, IsBeforeWord, meaning_from};
+ghost use Rattle.mill_stl.specs.inner.Bounds.{IsSound, IsBeforeWord, meaning_from};
 
 use crate::facet::take_word;
 use crate::fault::StlFault;

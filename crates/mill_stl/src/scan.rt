@@ -5,7 +5,7 @@ ghost use Rattle.mill_base.specs.declared.points.Tri.{Tri};
 ghost use Rattle.mill_decimal.specs.declared.snap.Snap.{Snap};
 ghost use Rattle.mill_stl.specs.declared.state.Progress.{Progress};
 ghost use Rattle.mill_stl.specs.Parts.{is_space as is_space_byte, next_line as next_line_of};
-ghost use Rattle.mill_stl.specs.Bounds.{IsBeforeWord, meaning_from};
+ghost use Rattle.mill_stl.specs.inner.Bounds.{IsBeforeWord, meaning_from};
 
 use crate::state::Cursor;
 use std::simd::prelude::*;

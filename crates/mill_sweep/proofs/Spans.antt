@@ -11,7 +11,7 @@ use Rattle.mill_base.proofs.Divisions.{floor_div_low, half_within}
 use Rattle.mill_base.specs.Numbers.{floor_div, lesser}
 use Rattle.mill_base.specs.declared.limits.TheConstants.{MAX_COORDINATE, MAX_DEPTH}
 use Rattle.mill_shape.proofs.RootLemmas.{ceil_root_agrees, ceil_root_is}
-use Rattle.mill_shape.specs.Roots.{IsCeilRoot}
+use Rattle.mill_shape.specs.inner.Roots.{IsCeilRoot}
 use Rattle.mill_sweep.specs.Leaves.{end_of, middle_of, farther_of, lower_of, diagonal_of}
 use Rattle.mill_sweep.proofs.LeafCerts.{end_high, end_low}
 use Rattle.mill_sweep.specs.Widths.{longest, end_depth, farthest_end}

@@ -13,7 +13,7 @@ use Rattle.mill_dexel.specs.Tops.{top_after}
 use Rattle.mill_part.proofs.Below.{covered_below}
 use Rattle.mill_verify.specs.Tests.{IsCut}
 use Rattle.mill_verify.specs.Verdicts.{IsLeftOver}
-use Rattle.mill_verify.specs.Firsts.{IsCutTo, IsMostWith, IsRowLeft, IsRowUncut, IsMostOf, LeftInRow, AreRowsLeft, IsFirstUncutOf, IsBoth, IsStockLeft, IsFirstUncut}
+use Rattle.mill_verify.specs.inner.Firsts.{IsCutTo, IsMostWith, IsRowLeft, IsRowUncut, IsMostOf, LeftInRow, AreRowsLeft, IsFirstUncutOf, IsBoth, IsStockLeft, IsFirstUncut}
 use Rattle.mill_verify.specs.declared.remains.Uncut.{Uncut}
 use Rattle.mill_verify.proofs.Most.{most_none, most_more, most_stays, most_both, below_suc}
 

@@ -4,7 +4,7 @@ use Rattle.std.proofs.Common.{arith}
 use Rattle.mill_base.specs.declared.points.Tri.{Tri}
 use Rattle.mill_base.specs.declared.motion.Move.{Move}
 use Rattle.mill_job.specs.declared.job.Job.{Job}
-use Rattle.mill_verify.specs.Firsts.{ClearsBetween, IsFirstPartFail, IsFloorEnd, IsLimit}
+use Rattle.mill_verify.specs.inner.Firsts.{ClearsBetween, IsFirstPartFail, IsFloorEnd, IsLimit}
 use Rattle.mill_verify.specs.declared.part_fail.PartFail.{PartFail}
 use Rattle.mill_verify.specs.declared.verdict.Reason.TheVariants.{Floor, Gouge}
 

@@ -6,7 +6,7 @@ use Rattle.std.specs.declared.cmp.Ordering.TheVariants.{Less, Equal, Greater}
 use Rattle.std.proofs.Common.{subst, inl, inr, arith}
 use Rattle.std.proofs.lemmas.Bool.{cases_lt}
 use Rattle.std.proofs.lemmas.Int.{ints, clamps, by_lt_z}
-use Rattle.mill_verify.specs.Firsts.{IsMostOf}
+use Rattle.mill_verify.specs.inner.Firsts.{IsMostOf}
 
 pub most_none : (L : ℕ → ℤ → Type 0) (s : ℕ) (most : ℤ) → most ≡ pos 0 → IsMostOf L s s most
 most_none L s most e = record { low = omega (e, arith, ints); none = λ _. e; there = λ h. absurd (omega (h, arith)); bound = λ i x h k l. absurd (omega (h, k, arith)) }

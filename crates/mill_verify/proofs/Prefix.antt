@@ -15,8 +15,8 @@ use Rattle.mill_dexel.specs.Tops.{top_point}
 use Rattle.mill_verify.specs.Tests.{move_at, ClearsStock, GoodBefore}
 use Rattle.mill_verify.specs.Verdicts.{FailsStock, IsStopped, IsRejection}
 use Rattle.mill_dexel.specs.Rows.{RowState}
-use Rattle.mill_verify.specs.Stock.{IsStock}
-use Rattle.mill_verify.specs.Firsts.{ClearsStockThrough, IsFirstStop, IsLimit}
+use Rattle.mill_verify.specs.inner.Stock.{IsStock}
+use Rattle.mill_verify.specs.inner.Firsts.{ClearsStockThrough, IsFirstStop, IsLimit}
 use Rattle.mill_verify.specs.declared.verdict.Reason.{Reason}
 use Rattle.mill_verify.specs.declared.limit.Limit.{Limit}
 

@@ -5,7 +5,7 @@ use Rattle.mill_base.specs.declared.points.Tri.{Tri}
 use Rattle.mill_base.specs.declared.motion.Move.{Move}
 use Rattle.mill_job.specs.declared.job.Job.{Job}
 use Rattle.mill_verify.specs.Tests.{ClearsPart}
-use Rattle.mill_verify.specs.Firsts.{ClearsBetween}
+use Rattle.mill_verify.specs.inner.Firsts.{ClearsBetween}
 use Rattle.mill_verify.proofs.Most.{below_suc}
 
 -- a number before the end is one of a move

@@ -9,7 +9,7 @@ use Rattle.mill_job.specs.declared.job.Job.{Job}
 use Rattle.mill_job.specs.Columns.{row_count}
 use Rattle.mill_dexel.specs.Rows.{RowState, IsRowOf}
 use Rattle.mill_dexel.specs.Turns.{IsTurned}
-use Rattle.mill_verify.specs.Stock.{IsRow, IsStock, uncut_row, AreUncut, AreTurned}
+use Rattle.mill_verify.specs.inner.Stock.{IsRow, IsStock, uncut_row, AreUncut, AreTurned}
 use Rattle.mill_verify.proofs.Most.{below_suc}
 
 pub row_there : {job : Job} {moves : List Move} {rows : List RowState} {j : ℕ} → IsStock job moves rows → j < length rows → j < row_count job

@@ -8,8 +8,8 @@ use Rattle.mill_dexel.specs.Rows.{RowState}
 use Rattle.mill_dexel.specs.Turns.{IsRunOn}
 use Rattle.mill_dexel.specs.declared.fail.RowFail.{RowFail}
 use Rattle.mill_verify.specs.Tests.{PassesColumn}
-use Rattle.mill_verify.specs.Stock.{uncut_row}
-use Rattle.mill_verify.specs.Firsts.{ClearsStockThrough, IsFirstStop, IsStoppedBy, IsEarlierStop}
+use Rattle.mill_verify.specs.inner.Stock.{uncut_row}
+use Rattle.mill_verify.specs.inner.Firsts.{ClearsStockThrough, IsFirstStop, IsStoppedBy, IsEarlierStop}
 use Rattle.mill_verify.specs.declared.stop.Stop.{Stop}
 use Rattle.mill_verify.proofs.Most.{below_suc}
 use Rattle.mill_verify.proofs.Turned.{RowClears, IsRowStop, row_passes, row_fails, row_ends}

@@ -7,7 +7,7 @@ use Rattle.mill_base.specs.declared.points.Tri.{Tri}
 use Rattle.mill_base.specs.declared.motion.Move.{Move}
 use Rattle.mill_job.specs.declared.job.Job.{Job}
 use Rattle.mill_verify.specs.Tests.{ClearsPart}
-use Rattle.mill_verify.specs.Firsts.{ClearsBetween, IsFirstPartFail, stripe_of, IsInStripes, AreStripes, ClearsStripesTo, ClearsStripes, IsFirstStripesFail, IsEarlierFail}
+use Rattle.mill_verify.specs.inner.Firsts.{ClearsBetween, IsFirstPartFail, stripe_of, IsInStripes, AreStripes, ClearsStripesTo, ClearsStripes, IsFirstStripesFail, IsEarlierFail}
 use Rattle.mill_verify.specs.declared.part_fail.PartFail.{PartFail}
 use Rattle.mill_verify.specs.declared.part_fail.Stripes.{Stripes}
 

@@ -18,8 +18,8 @@ use Rattle.mill_dexel.specs.declared.fail.RowFail.{RowFail}
 use Rattle.mill_dexel.proofs.RowLaws.{row_after-at, row_after_none, row_after_more}
 use Rattle.mill_verify.specs.Tests.{move_at, PassesColumn}
 use Rattle.mill_verify.specs.Verdicts.{IsStopped}
-use Rattle.mill_verify.specs.Stock.{IsRow, IsStock, uncut_row, AreTurned}
-use Rattle.mill_verify.specs.Firsts.{ClearsStockThrough}
+use Rattle.mill_verify.specs.inner.Stock.{IsRow, IsStock, uncut_row, AreTurned}
+use Rattle.mill_verify.specs.inner.Firsts.{ClearsStockThrough}
 
 -- move by move, the tops after some moves become those after more
 tops_from : (job : Job) (j : ℕ) (before ms : List Move) → tops_after job j ms (row_after job j before) ≡ row_after job j (before ++ ms)

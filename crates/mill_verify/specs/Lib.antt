@@ -1,5 +1,4 @@
 pub mod Tests
 pub mod Verdicts
 pub mod Claims
-pub mod Stock
-pub mod Firsts
+pub mod inner

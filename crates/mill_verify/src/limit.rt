@@ -2,7 +2,7 @@ ghost use Rattle.std.specs.Prelude.{◌≡◌, ◌≤◌, ◌<◌, false, length
 ghost use Rattle.mill_base.specs.Ranges.{MovesInTextRange};
 ghost use Rattle.mill_cells.specs.Sorted.{sorted_of};
 ghost use Rattle.mill_job.specs.Jobs.{IsJob};
-ghost use Rattle.mill_verify.specs.Firsts.{IsFloorEnd, IsLimit};
+ghost use Rattle.mill_verify.specs.inner.Firsts.{IsFloorEnd, IsLimit};
 ghost use Rattle.mill_verify.specs.Tests.{IsOverFloor};
 
 use crate::part_fail::first_part_fail;

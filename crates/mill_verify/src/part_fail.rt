@@ -2,7 +2,7 @@ ghost use Rattle.std.specs.Prelude.{◌≡◌, ◌+◌, ◌≤◌, ◌<◌, leng
 ghost use Rattle.mill_base.specs.Ranges.{MovesInTextRange};
 ghost use Rattle.mill_cells.specs.Sorted.{sorted_of};
 ghost use Rattle.mill_job.specs.Jobs.{IsJob};
-ghost use Rattle.mill_verify.specs.Firsts.{AreStripes, ClearsBetween, ClearsStripes, IsEarlierFail, IsFirstPartFail, IsFirstStripesFail};
+ghost use Rattle.mill_verify.specs.inner.Firsts.{AreStripes, ClearsBetween, ClearsStripes, IsEarlierFail, IsFirstPartFail, IsFirstStripesFail};
 ghost use denote.Param.Send.{IsSync};
 
 use mill_base::Move;

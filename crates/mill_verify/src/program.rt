@@ -7,8 +7,8 @@ ghost use Rattle.mill_job.specs.Columns.{home};
 ghost use Rattle.mill_job.specs.Jobs.{IsJob};
 ghost use Rattle.mill_sweep.specs.declared.leaf.Leaf.{Leaf};
 ghost use Rattle.mill_verify.specs.Claims.{CutsSafely};
-ghost use Rattle.mill_verify.specs.Firsts.{IsLimit};
-ghost use Rattle.mill_verify.specs.Stock.{AreTurned, IsStock};
+ghost use Rattle.mill_verify.specs.inner.Firsts.{IsLimit};
+ghost use Rattle.mill_verify.specs.inner.Stock.{AreTurned, IsStock};
 ghost use Rattle.mill_verify.specs.Tests.{GoodBefore};
 ghost use Rattle.mill_verify.specs.Verdicts.{IsBlocked, IsStopped, IsVerdict, ShowsBlocks};
 

@@ -5,8 +5,8 @@ ghost use Rattle.mill_base.specs.Covers.{Covered};
 ghost use Rattle.mill_cells.specs.Sorted.{sorted_of};
 ghost use Rattle.mill_job.specs.Jobs.{IsJob, IsFrom};
 ghost use Rattle.mill_job.specs.Columns.{row_count};
-ghost use Rattle.mill_verify.specs.Stock.{IsRow, IsStock};
-ghost use Rattle.mill_verify.specs.Firsts.{AreRowsLeft, IsBoth, IsCutTo, IsFirstUncut, IsFirstUncutOf, IsMostWith, IsRowLeft, IsRowUncut, IsStockLeft};
+ghost use Rattle.mill_verify.specs.inner.Stock.{IsRow, IsStock};
+ghost use Rattle.mill_verify.specs.inner.Firsts.{AreRowsLeft, IsBoth, IsCutTo, IsFirstUncut, IsFirstUncutOf, IsMostWith, IsRowLeft, IsRowUncut, IsStockLeft};
 ghost use denote.Param.Send.{IsSync};
 
 use mill_base::Move;

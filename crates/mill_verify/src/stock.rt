@@ -2,7 +2,7 @@ ghost use Rattle.std.specs.Prelude.{◌≤◌, All, IfOk};
 ghost use Rattle.mill_base.specs.Ranges.{MovesInTextRange};
 ghost use Rattle.mill_dexel.specs.Rows.{IsRowOf};
 ghost use Rattle.mill_job.specs.Jobs.{IsJob};
-ghost use Rattle.mill_verify.specs.Stock.{AreTurned, AreUncut};
+ghost use Rattle.mill_verify.specs.inner.Stock.{AreTurned, AreUncut};
 
 use mill_base::{Move, WantOfMemory};
 use mill_dexel::{Row, rows_static};

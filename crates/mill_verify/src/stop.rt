@@ -1,7 +1,7 @@
 ghost use Rattle.std.specs.Prelude.{MatchOption, length};
 ghost use Rattle.mill_job.specs.Jobs.{IsJob};
-ghost use Rattle.mill_verify.specs.Firsts.{ClearsStockThrough, IsEarlierStop, IsFirstStop};
-ghost use Rattle.mill_verify.specs.Stock.{AreTurned};
+ghost use Rattle.mill_verify.specs.inner.Firsts.{ClearsStockThrough, IsEarlierStop, IsFirstStop};
+ghost use Rattle.mill_verify.specs.inner.Stock.{AreTurned};
 
 use mill_base::Move;
 use mill_dexel::{Row, RowFail};

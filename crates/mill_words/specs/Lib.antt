@@ -1,4 +1,4 @@
 pub mod Marks
 pub mod Words
 pub mod Lines
-pub mod Bounds
+pub mod inner

@@ -1,7 +1,7 @@
 ghost use Rattle.std.specs.Prelude.{◌≡◌, ◌<◌, ◌^◌, length, OnOk, IfErr, Ok, Err};
 ghost use Rattle.mill_words.specs.Lines.{line_of, read_marks};
 ghost use Rattle.mill_words.specs.Marks.{end_marks};
-ghost use Rattle.mill_words.specs.Bounds.{FitsStage};
+ghost use Rattle.mill_words.specs.inner.Bounds.{FitsStage};
 
 use crate::line_words::LineWords;
 use crate::marks::{Region, scan};

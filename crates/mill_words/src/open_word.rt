@@ -2,7 +2,7 @@
 ghost use Rattle.std.specs.Prelude.{◌≡◌, ◌<◌, ◌≤◌, true, false, Ok};
 ghost use Rattle.std.specs.Char.{is_ascii_digit};
 ghost use Rattle.mill_words.specs.Lines.{grown_word, grows, with_digit, is_sign as is_sign_byte, is_fresh as is_fresh_word, opened_at};
-ghost use Rattle.mill_words.specs.Bounds.{FitsOpenWord};
+ghost use Rattle.mill_words.specs.inner.Bounds.{FitsOpenWord};
 
 use crate::word::{Num, WordFault};
 

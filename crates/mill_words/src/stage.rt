@@ -1,7 +1,7 @@
 //! How far the words of a line are read, byte by byte.
 ghost use Rattle.std.specs.Prelude.{◌≡◌, ◌<◌, ◌≤◌, length, IfOk, IfErr, OnOk, Ok, Err, false};
 ghost use Rattle.mill_words.specs.Lines.{grown, grown_number, grows, finished, started, started_word, started_front, begun, joined, taken};
-ghost use Rattle.mill_words.specs.Bounds.{FitsStage};
+ghost use Rattle.mill_words.specs.inner.Bounds.{FitsStage};
 
 use crate::line_words::{LineWords, MOST_WORDS};
 use crate::marks::Mark;

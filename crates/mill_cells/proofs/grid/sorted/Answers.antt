@@ -2,7 +2,7 @@ use Rattle.std.proofs.Common.{◌≡◌, ℕ, ◌+◌, ◌<◌, ◌≤◌, List,
 use Rattle.std.specs.Prelude.{slice_index}
 use Rattle.mill_cells.specs.Frames.{cell_count}
 use Rattle.mill_cells.specs.Grids.{start_of}
-use Rattle.mill_cells.specs.Placing.{IsCounting, IsPlacing, sum_before}
+use Rattle.mill_cells.specs.inner.Placing.{IsCounting, IsPlacing, sum_before}
 use Rattle.mill_cells.proofs.Counting.{counts_small, sums_are_starts}
 use Rattle.mill_cells.proofs.LidLemmas.{starts_order, starts_room, lids_placed, lids_same}
 use Rattle.mill_cells.proofs.Placements.{none_placed, cells_placed, starts_placed}

@@ -1,4 +1,4 @@
-use Rattle.mill_cells.specs.Placing.{IsCounting, IsPlacing}
+use Rattle.mill_cells.specs.inner.Placing.{IsCounting, IsPlacing}
 use Rattle.mill_cells.proofs.grid.sorted.Given as goal
 
 abbrev pub invariant-loop-number : goal.invariant-loop-number

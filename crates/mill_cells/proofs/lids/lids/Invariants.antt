@@ -1,5 +1,5 @@
 use Rattle.std.specs.Prelude.{◌≡◌, length}
-use Rattle.mill_cells.specs.Placing.{AreLids}
+use Rattle.mill_cells.specs.inner.Placing.{AreLids}
 use Rattle.mill_cells.proofs.lids.lids.Given as goal
 
 abbrev pub invariant-loop-cell : goal.invariant-loop-cell

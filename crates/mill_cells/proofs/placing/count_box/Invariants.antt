@@ -1,5 +1,5 @@
 use Rattle.std.specs.Prelude.{◌+◌, ◌*◌}
-use Rattle.mill_cells.specs.Placing.{IsCounting}
+use Rattle.mill_cells.specs.inner.Placing.{IsCounting}
 use Rattle.mill_cells.proofs.placing.count_box.Given as goal
 
 abbrev pub invariant-loop-row : goal.invariant-loop-row

@@ -4,8 +4,8 @@ use Rattle.mill_geom.specs.declared.offset.Offset.{Offset}
 use Rattle.mill_geom.specs.Forms.{PairHits}
 use Rattle.mill_contact_ball.proofs.Stored.{radius_kept, form_kept}
 use Rattle.mill_contact_ball.specs.declared.weights.EdgeWeights.{EdgeWeights}
-use Rattle.mill_contact_ball.specs.Vectors.{form_of}
-use Rattle.mill_contact_ball.specs.Spheres.{IsLow, IsEdgeSpot, EdgeMeets}
+use Rattle.mill_contact_ball.specs.inner.Vectors.{form_of}
+use Rattle.mill_contact_ball.specs.inner.Spheres.{IsLow, IsEdgeSpot, EdgeMeets}
 use Rattle.mill_contact_ball.proofs.Edges.{low_spot, no_low}
 use Rattle.mill_contact_ball.proofs.edge.edge_spot.Goals as goal
 

@@ -6,7 +6,7 @@ use Rattle.mill_geom.specs.declared.offset.Offset.{Offset}
 use Rattle.mill_base.proofs.Range.{Bounded}
 use Rattle.mill_base.proofs.Machine.{X, Read, Sum, Diff, Prod, exact, sum_fits, diff_fits, prod_fits, stays}
 use Rattle.mill_geom.specs.Widths.{farthest, widest}
-use Rattle.mill_contact_ball.specs.Widths.{most_form}
+use Rattle.mill_contact_ball.specs.inner.Widths.{most_form}
 use Rattle.mill_contact_ball.proofs.edge.form.Goals as goal
 
 abbrev bs : List ℕ

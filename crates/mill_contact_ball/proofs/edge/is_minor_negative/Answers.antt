@@ -1,7 +1,7 @@
 use Rattle.std.proofs.Common.{[], ◌∷◌, refl, w64}
 use mir.Syntax.{w128}
 use Rattle.mill_base.proofs.Machine.{Read, Cast, Prod, less}
-use Rattle.mill_contact_ball.specs.Widths.{most_form}
+use Rattle.mill_contact_ball.specs.inner.Widths.{most_form}
 use Rattle.mill_contact_ball.proofs.edge.is_minor_negative.Goals as goal
 
 pub returns : goal.returns

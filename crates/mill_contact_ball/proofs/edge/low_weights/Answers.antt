@@ -3,7 +3,7 @@ use lib.IntN.{pos, ◌-ℤ◌}
 use lib.Signed.{◌<ℤ◌, ◌≤ℤ◌}
 use Rattle.std.proofs.lemmas.Int.{ints}
 use Rattle.mill_base.proofs.Machine.{Read, Diff, exact}
-use Rattle.mill_contact_ball.specs.Widths.{most_form}
+use Rattle.mill_contact_ball.specs.inner.Widths.{most_form}
 use Rattle.mill_contact_ball.proofs.Stored.{form_kept}
 use Rattle.mill_contact_ball.proofs.Edges.{low_both}
 use Rattle.mill_contact_ball.proofs.edge.low_weights.Goals as goal

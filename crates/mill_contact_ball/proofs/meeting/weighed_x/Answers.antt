@@ -6,9 +6,9 @@ use Rattle.mill_geom.specs.declared.offset.Offset.{Offset}
 use Rattle.mill_base.proofs.Range.{Bounded}
 use Rattle.mill_base.proofs.Machine.{X, Read, Cast, Sum, Prod, exact, sum_fits, prod_fits, stays}
 use Rattle.mill_geom.specs.Widths.{farthest}
-use Rattle.mill_contact_ball.specs.Widths.{most_size, most_place}
+use Rattle.mill_contact_ball.specs.inner.Widths.{most_size, most_place}
 use Rattle.mill_contact_ball.specs.declared.weights.Weights.{Weights}
-use Rattle.mill_contact_ball.specs.Spheres.{WeightsInRange}
+use Rattle.mill_contact_ball.specs.inner.Spheres.{WeightsInRange}
 use Rattle.mill_contact_ball.proofs.meeting.weighed_x.Goals as goal
 
 abbrev bs : List ℕ

@@ -6,8 +6,8 @@ use Rattle.mill_base.proofs.Range.{Bounded}
 use Rattle.mill_base.proofs.Machine.{X, Read, Cast, Prod, less, prod_fits}
 use Rattle.mill_geom.specs.Widths.{most_volume, widest}
 use Rattle.mill_contact_ball.specs.declared.plane.Plane.{Plane}
-use Rattle.mill_contact_ball.specs.Widths.{most_size}
-use Rattle.mill_contact_ball.specs.Planes.{PlaneInRange}
+use Rattle.mill_contact_ball.specs.inner.Widths.{most_size}
+use Rattle.mill_contact_ball.specs.inner.Planes.{PlaneInRange}
 use Rattle.mill_contact_ball.proofs.plane.is_plane_near.Goals as goal
 
 abbrev bs : List ℕ

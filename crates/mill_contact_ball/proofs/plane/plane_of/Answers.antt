@@ -1,5 +1,5 @@
 use Rattle.std.proofs.Common.{◌∙◌}
-use Rattle.mill_contact_ball.specs.Planes.{AreCrosses}
+use Rattle.mill_contact_ball.specs.inner.Planes.{AreCrosses}
 use Rattle.mill_contact_ball.proofs.Stored.{height_kept, dot_kept}
 use Rattle.mill_contact_ball.proofs.Planes.{same_height}
 use Rattle.mill_contact_ball.proofs.plane.plane_of.Goals as goal

@@ -1,9 +1,9 @@
 use Rattle.std.proofs.Common.{ℕ, List, [], ◌∷◌, refl, w64}
 use mir.Syntax.{w128}
 use lib.IntN.{ℤ}
-use Rattle.mill_contact_ball.specs.Widths.{most_normal, most_size}
+use Rattle.mill_contact_ball.specs.inner.Widths.{most_normal, most_size}
 use Rattle.mill_contact_ball.specs.declared.vector.Vector.{Vector}
-use Rattle.mill_contact_ball.specs.Vectors.{VectorWithin}
+use Rattle.mill_contact_ball.specs.inner.Vectors.{VectorWithin}
 use Rattle.mill_base.proofs.Range.{Bounded}
 use Rattle.mill_base.proofs.Machine.{X, Read, Cast, Sum, Prod, exact, sum_fits, stays}
 use Rattle.mill_contact_ball.proofs.vector.dot.Goals as goal

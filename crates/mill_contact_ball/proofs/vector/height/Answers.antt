@@ -2,7 +2,7 @@ use Rattle.std.proofs.Common.{ℕ, List, [], ◌∷◌, refl, w64}
 use lib.IntN.{ℤ}
 use Rattle.mill_geom.specs.Widths.{farthest, most_area, most_volume}
 use Rattle.mill_contact_ball.specs.declared.vector.Vector.{Vector}
-use Rattle.mill_contact_ball.specs.Vectors.{VectorWithin}
+use Rattle.mill_contact_ball.specs.inner.Vectors.{VectorWithin}
 use Rattle.mill_geom.specs.Offsets.{OffsetInRange}
 use Rattle.mill_geom.specs.declared.offset.Offset.{Offset}
 use Rattle.mill_base.proofs.Range.{Bounded}

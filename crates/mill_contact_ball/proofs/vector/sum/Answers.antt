@@ -3,7 +3,7 @@ use lib.IntN.{ℤ, ◌+ℤ◌, nat_abs}
 use Rattle.mill_base.specs.Numbers.{Within}
 use Rattle.mill_base.proofs.Machine.{X, Read, Sum, run, exact, stays}
 use Rattle.mill_geom.specs.Widths.{most_area}
-use Rattle.mill_contact_ball.specs.Widths.{most_normal}
+use Rattle.mill_contact_ball.specs.inner.Widths.{most_normal}
 use Rattle.mill_contact_ball.proofs.vector.sum.Goals as goal
 
 -- the sum of three small numbers, as the code computes it

@@ -1,7 +1,7 @@
 use Rattle.std.proofs.Common.{ℕ, List, [], ◌∷◌, refl, w64}
 use mir.Syntax.{w128}
 use Rattle.mill_base.proofs.Machine.{Read, Cast, Sum, Diff, Prod, exact, stays, sum_fits, diff_fits, prod_fits}
-use Rattle.mill_contact_cone.specs.Widths.{most_over, most_cone_form, most_cone_mixed_form}
+use Rattle.mill_contact_cone.specs.inner.Widths.{most_over, most_cone_form, most_cone_mixed_form}
 use Rattle.mill_contact_cone.proofs.level.mixed_form.Goals as goal
 
 -- how far each number is from 0

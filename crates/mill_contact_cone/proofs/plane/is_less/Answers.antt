@@ -3,7 +3,7 @@ use mir.Syntax.{w128}
 use Rattle.mill_base.proofs.Machine.{Read, Cast, Sum, Prod, less, sum_fits, prod_fits}
 use Rattle.mill_contact_cone.specs.declared.plane.TheConstants.{FAR_VOLUME}
 use Rattle.mill_geom.specs.Widths.{widest}
-use Rattle.mill_contact_cone.specs.Widths.{most_lifted_slope}
+use Rattle.mill_contact_cone.specs.inner.Widths.{most_lifted_slope}
 use Rattle.mill_contact_cone.proofs.plane.is_less.Goals as goal
 
 -- how far each number is from 0

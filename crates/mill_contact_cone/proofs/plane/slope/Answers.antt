@@ -1,7 +1,7 @@
 use Rattle.std.proofs.Common.{ℕ, List, [], ◌∷◌, refl, w64}
 use Rattle.mill_base.proofs.Machine.{Read, Sum, Diff, Prod, exact, stays, sum_fits, diff_fits, prod_fits}
 use Rattle.mill_geom.specs.Widths.{farthest}
-use Rattle.mill_contact_cone.specs.Widths.{most_over, most_lifted_slope}
+use Rattle.mill_contact_cone.specs.inner.Widths.{most_over, most_lifted_slope}
 use Rattle.mill_contact_cone.proofs.plane.slope.Goals as goal
 
 -- how far each number is from 0

@@ -2,7 +2,7 @@ use Rattle.std.proofs.Common.{ℕ, List, [], ◌∷◌, refl, w64}
 use mir.Syntax.{w128}
 use Rattle.mill_base.proofs.Machine.{Read, Cast, Sum, Prod, exact, stays, sum_fits, prod_fits}
 use Rattle.mill_geom.specs.Widths.{most_area}
-use Rattle.mill_contact_cone.specs.Widths.{most_over, most_lifted_volume}
+use Rattle.mill_contact_cone.specs.inner.Widths.{most_over, most_lifted_volume}
 use Rattle.mill_contact_cone.proofs.plane.weighted.Goals as goal
 
 -- how far each number is from 0

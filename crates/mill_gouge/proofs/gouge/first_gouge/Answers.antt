@@ -6,8 +6,8 @@ use Rattle.mill_base.specs.declared.points.Box2.{Box2}
 use Rattle.mill_base.specs.declared.points.Tri.{Tri}
 use Rattle.mill_cells.specs.Boxes.{IsNear}
 use Rattle.mill_sweep.proofs.Far.{far_passes}
-use Rattle.mill_gouge.specs.Firsts.{IsEarlier}
-use Rattle.mill_gouge.specs.Near.{IsOver}
+use Rattle.mill_gouge.specs.inner.Firsts.{IsEarlier}
+use Rattle.mill_gouge.specs.inner.Near.{IsOver}
 use Rattle.mill_gouge.proofs.ReadLemmas.{at_tri}
 use Rattle.mill_gouge.proofs.Looking.{over_clears, look_starts, next_within, tri_in_range, look_goes_on, look_ends, earlier_swept}
 use Rattle.mill_gouge.proofs.gouge.first_gouge.Goals as goal

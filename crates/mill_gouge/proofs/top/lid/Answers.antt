@@ -4,7 +4,7 @@ use Rattle.std.proofs.Common.{FitsSigned, rules, sym, ◌∙◌, subst, w32, ari
 use Rattle.std.proofs.lemmas.Int.{to_z-of_z}
 use Rattle.mill_base.specs.declared.points.Tri.{Tri}
 use Rattle.mill_part.specs.Tops.{IsTop}
-use Rattle.mill_gouge.specs.Near.{IsLid}
+use Rattle.mill_gouge.specs.inner.Near.{IsLid}
 use Rattle.mill_gouge.proofs.top.lid.Goals as goal
 
 nothing : (k n : ℕ) → k < n → n ≡ 0 → ⊥

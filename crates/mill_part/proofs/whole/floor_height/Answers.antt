@@ -3,7 +3,7 @@ use Rattle.std.specs.Int.{int_div_euclid}
 use mir.Syntax.{w32, w64}
 use Rattle.std.proofs.lemmas.Int.{to_z-of_z}
 use Rattle.mill_base.proofs.Machine.{kept}
-use Rattle.mill_part.specs.Columns.{IsFloor}
+use Rattle.mill_part.specs.inner.Columns.{IsFloor}
 use Rattle.mill_part.proofs.FloorLemmas.{floor_is, floor_in_range}
 use Rattle.mill_part.proofs.whole.floor_height.Goals as goal
 

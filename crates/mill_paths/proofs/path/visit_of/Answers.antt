@@ -5,7 +5,7 @@ use Rattle.mill_base.proofs.Machine.{stored}
 use Rattle.mill_base.specs.declared.lattice.Lattice.{Lattice}
 use Rattle.mill_drop.specs.Maps.{nodes_of}
 use Rattle.mill_part.proofs.Stored.{coordinate}
-use Rattle.mill_paths.specs.Paths.{path_height}
+use Rattle.mill_paths.specs.inner.Paths.{path_height}
 use Rattle.mill_paths.specs.Visits.{height_at}
 use Rattle.mill_paths.proofs.PathLemmas.{visit_made, visit_nowhere}
 use Rattle.mill_paths.proofs.path.visit_of.Goals as goal

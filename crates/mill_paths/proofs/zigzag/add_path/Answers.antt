@@ -5,7 +5,7 @@ use Rattle.mill_base.specs.Lattices.{lattice_xs, lattice_ys}
 use Rattle.mill_base.specs.declared.lattice.Lattice.{Lattice}
 use Rattle.mill_paths.specs.Lattices.{zigzag_row}
 use Rattle.mill_paths.specs.Limits.{IsListFault}
-use Rattle.mill_paths.specs.Paths.{path_lattice, path_visit}
+use Rattle.mill_paths.specs.inner.Paths.{path_lattice, path_visit}
 use Rattle.mill_paths.specs.declared.visit.Visit.{Visit}
 use Rattle.mill_paths.proofs.Adding.{counts_all, counts_fault, counts_more}
 use Rattle.mill_paths.proofs.ZigzagLemmas.{by_rows}

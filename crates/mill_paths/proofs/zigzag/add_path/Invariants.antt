@@ -2,7 +2,7 @@ use Rattle.std.proofs.Common.{◌≡◌, ◌++◌, length, take}
 use Rattle.std.specs.List.{flat_map, range_with_len}
 use Rattle.mill_base.specs.Lattices.{lattice_ys}
 use Rattle.mill_paths.specs.Lattices.{zigzag_row}
-use Rattle.mill_paths.specs.Paths.{path_lattice, path_visit}
+use Rattle.mill_paths.specs.inner.Paths.{path_lattice, path_visit}
 use Rattle.mill_paths.proofs.zigzag.add_path.Given as goal
 
 abbrev pub invariant-loop-row : goal.invariant-loop-row

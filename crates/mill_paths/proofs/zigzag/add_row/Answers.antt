@@ -1,7 +1,7 @@
 use Rattle.std.proofs.Common.{◌<◌, ◌≤◌, length}
 use Rattle.std.proofs.lemmas.Result.{err_from_is_err_and}
 use Rattle.mill_paths.specs.Lattices.{zigzag_row}
-use Rattle.mill_paths.specs.Paths.{path_lattice, path_visit}
+use Rattle.mill_paths.specs.inner.Paths.{path_lattice, path_visit}
 use Rattle.mill_paths.proofs.Adding.{adds_all, adds_fault, adds_more}
 use Rattle.mill_paths.proofs.ZigzagLemmas.{length-zigzag_row, number_within}
 use Rattle.mill_paths.proofs.zigzag.add_row.Goals as goal

@@ -1,7 +1,7 @@
 use Rattle.std.proofs.Common.{◌≡◌, ◌++◌, take}
 use Rattle.std.specs.List.{flat_map}
 use Rattle.mill_paths.specs.Lattices.{zigzag_row}
-use Rattle.mill_paths.specs.Paths.{path_visit}
+use Rattle.mill_paths.specs.inner.Paths.{path_visit}
 use Rattle.mill_paths.proofs.zigzag.add_row.Given as goal
 
 abbrev pub invariant-loop-place : goal.invariant-loop-place

@@ -3,7 +3,7 @@ use Rattle.std.proofs.lemmas.Result.{err_from_is_err_and}
 use Rattle.std.proofs.lemmas.List.Elements.{All-get_or}
 use Rattle.mill_paths.specs.Visits.{IsVisit}
 use Rattle.mill_plan.specs.Plans.{most_moves}
-use Rattle.mill_plan.specs.Steps.{AddsTour}
+use Rattle.mill_plan.specs.inner.Steps.{AddsTour}
 use Rattle.mill_plan.proofs.Touring.{adds_all, adds_more, adds_none, last_all, last_more, over_at}
 use Rattle.mill_plan.proofs.moves.add_tour.Goals as goal
 

@@ -2,7 +2,7 @@ use Rattle.std.specs.Prelude.{◌≡◌, ◌≤◌, length, take}
 use Rattle.mill_base.specs.Ranges.{IsInTextRange}
 use Rattle.mill_paths.specs.Tours.{last_place}
 use Rattle.mill_plan.specs.Plans.{most_moves}
-use Rattle.mill_plan.specs.Steps.{AddsTour}
+use Rattle.mill_plan.specs.inner.Steps.{AddsTour}
 use Rattle.mill_plan.proofs.moves.add_tour.Given as goal
 
 abbrev pub invariant-loop-visit : goal.invariant-loop-visit

@@ -3,7 +3,7 @@ use Rattle.std.proofs.lemmas.Result.{err_from_is_err_and, IfErr-weaker, IfOk-wea
 use Rattle.mill_job.specs.Columns.{home}
 use Rattle.mill_paths.specs.Safety.{GoSafely}
 use Rattle.mill_plan.specs.Plans.{IsPlanFault}
-use Rattle.mill_plan.specs.Steps.{IsRound, IsRoundFault}
+use Rattle.mill_plan.specs.inner.Steps.{IsRound, IsRoundFault}
 use Rattle.mill_plan.proofs.Planning.{finish_told, plan_goes, rough_told, round_told}
 use Rattle.mill_plan.proofs.moves.planned_moves.Goals as goal
 

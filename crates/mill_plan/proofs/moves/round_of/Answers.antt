@@ -3,7 +3,7 @@ use Rattle.std.proofs.lemmas.Result.{err_from_is_err_and}
 use Rattle.mill_job.specs.Columns.{home}
 use Rattle.mill_paths.specs.Tours.{last_place}
 use Rattle.mill_plan.specs.Plans.{most_moves}
-use Rattle.mill_plan.specs.Steps.{AddsTour, IsRound}
+use Rattle.mill_plan.specs.inner.Steps.{AddsTour, IsRound}
 use Rattle.mill_plan.proofs.Touring.{long_round, round_made, second_told}
 use Rattle.mill_plan.proofs.moves.round_of.Goals as goal
 

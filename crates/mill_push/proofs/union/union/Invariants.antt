@@ -1,7 +1,7 @@
 use Rattle.std.specs.Prelude.{ℤ, ◌+◌}
 use Rattle.mill_base.specs.Numbers.{Within}
 use Rattle.mill_base.specs.declared.limits.TheConstants.{MAX_TEXT_COORDINATE}
-use Rattle.mill_push.specs.Unions.{AreSpans}
+use Rattle.mill_push.specs.inner.Unions.{AreSpans}
 use Rattle.mill_push.proofs.Joining.{GrownSoFar}
 use Rattle.mill_push.proofs.union.union.Given as goal
 

@@ -2,7 +2,7 @@ use Rattle.std.proofs.Common.{◌≡◌, ◌∙◌, ◌-◌, ◌*◌, ◌/◌, �
 use Rattle.std.specs.Prelude.{nat_abs}
 use Rattle.mill_base.specs.Sizes.{HasRadius, IsSlope}
 use Rattle.mill_base.specs.declared.limits.TheConstants.{MAX_WIDE_RADIUS}
-use Rattle.mill_shape.specs.Roots.{IsFloorRoot, IsCeilRoot}
+use Rattle.mill_shape.specs.inner.Roots.{IsFloorRoot, IsCeilRoot}
 use Rattle.mill_shape.proofs.Stored.{radius_kept, rise_kept, run_kept, natural_kept, radius_bound}
 use Rattle.mill_shape.proofs.Surfaces.{ball_value, cone_value, distance_small}
 use Rattle.mill_shape.proofs.height.surface.Goals as goal

@@ -1,6 +1,6 @@
 use Rattle.std.proofs.Common.{◌≡◌, ◌-◌, length}
 use Rattle.mill_stl.specs.Parts.{part_of}
-use Rattle.mill_stl.specs.Bounds.{meaning_from, IsBeforeWord, IsSound}
+use Rattle.mill_stl.specs.inner.Bounds.{meaning_from, IsBeforeWord, IsSound}
 use Rattle.mill_stl.proofs.reading.read_stl.Given as goal
 
 abbrev pub invariant-loop-cursor : goal.invariant-loop-cursor

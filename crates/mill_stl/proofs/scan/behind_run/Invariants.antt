@@ -2,7 +2,7 @@ use Rattle.std.proofs.Common.{◌≡◌, ◌≤◌, ◌+◌, ◌-◌, List, leng
 use Rattle.mill_base.specs.declared.points.Tri.{Tri}
 use Rattle.mill_decimal.specs.declared.snap.Snap.{Snap}
 use Rattle.mill_stl.specs.declared.state.Progress.{Progress}
-use Rattle.mill_stl.specs.Bounds.{meaning_from}
+use Rattle.mill_stl.specs.inner.Bounds.{meaning_from}
 use Rattle.mill_stl.proofs.scan.behind_run.Given as goal
 
 abbrev pub invariant-loop-from : goal.invariant-loop-from

@@ -1,4 +1,4 @@
-use Rattle.mill_verify.specs.Firsts.{ClearsBetween}
+use Rattle.mill_verify.specs.inner.Firsts.{ClearsBetween}
 use Rattle.mill_verify.proofs.part_fail.scan.Given as goal
 
 abbrev pub invariant-loop-at : goal.invariant-loop-at

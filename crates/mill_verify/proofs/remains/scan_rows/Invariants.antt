@@ -1,4 +1,4 @@
-use Rattle.mill_verify.specs.Firsts.{AreRowsLeft}
+use Rattle.mill_verify.specs.inner.Firsts.{AreRowsLeft}
 use Rattle.mill_verify.proofs.remains.scan_rows.Given as goal
 
 abbrev pub invariant-loop-index : goal.invariant-loop-index

@@ -1,7 +1,7 @@
 use Rattle.std.proofs.Common.{◌≤ℤ◌, ℤ, pos, sym, subst, arith, rules, w32, to_z, of_z}
 use Rattle.std.proofs.lemmas.Int.{to_z-of_z}
 use Rattle.std.proofs.lemmas.List.{get_or_read}
-use Rattle.mill_cells.specs.Passed.{ArePassed}
+use Rattle.mill_cells.specs.inner.Passed.{ArePassed}
 use Rattle.mill_cells.specs.Walks.{rest_of}
 use Rattle.mill_cells.specs.declared.walk.Walk.{Walk}
 use Rattle.mill_cells.proofs.OverLemmas.{skip_passes, at_most}

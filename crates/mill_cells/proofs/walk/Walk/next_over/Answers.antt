@@ -1,6 +1,6 @@
 use Rattle.std.proofs.Common.{ℤ, [], subst, w32, to_z, of_z}
 use Rattle.std.proofs.lemmas.Int.{to_z-of_z}
-use Rattle.mill_cells.specs.Passed.{ArePassed, IsNext}
+use Rattle.mill_cells.specs.inner.Passed.{ArePassed, IsNext}
 use Rattle.mill_cells.specs.Walks.{rest_of}
 use Rattle.mill_cells.proofs.OverLemmas.{next_over_found, next_over_none, over_on}
 use Rattle.mill_cells.proofs.WalkLemmas.{all_given}

@@ -4,7 +4,7 @@ use Rattle.std.proofs.lemmas.List.{get_or_read}
 use lib.IntN.{ℤ}
 use Rattle.mill_cells.specs.Boxes.{box_at}
 use Rattle.mill_cells.specs.Frames.{block_of}
-use Rattle.mill_cells.specs.Passed.{ArePassed, IsNext}
+use Rattle.mill_cells.specs.inner.Passed.{ArePassed, IsNext}
 use Rattle.mill_cells.specs.Walks.{begins_at, is_first_cell, rest_of}
 use Rattle.mill_cells.proofs.OverLemmas.{over_in_starts, over_found, over_left}
 use Rattle.mill_cells.proofs.WalkLemmas.{stepped, step_walks, first_tells}

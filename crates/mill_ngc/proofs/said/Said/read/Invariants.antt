@@ -1,6 +1,6 @@
 use Rattle.std.proofs.Common.{◌≡◌, ◌≤◌, drop, length}
 use Rattle.mill_ngc.specs.Said.{said_from, nothing_said}
-use Rattle.mill_ngc.specs.Bounds.{FitsSaid}
+use Rattle.mill_ngc.specs.inner.Bounds.{FitsSaid}
 use Rattle.mill_ngc.proofs.said.Said.read.Given as goal
 
 abbrev pub invariant-loop-word : goal.invariant-loop-word

@@ -6,8 +6,8 @@ use Rattle.mill_geom.specs.Widths.{most_area, most_volume}
 use Rattle.mill_contact_ball.specs.declared.vector.Vector.{Vector}
 use Rattle.mill_contact_ball.specs.declared.plane.Plane.{Plane}
 use Rattle.mill_contact_ball.specs.declared.weights.Weights.{Weights}
-use Rattle.mill_contact_ball.specs.Widths.{most_normal, most_size}
-use Rattle.mill_contact_ball.specs.Vectors.{IsCross, IsSum, dot_of, height_of, VectorWithin}
+use Rattle.mill_contact_ball.specs.inner.Widths.{most_normal, most_size}
+use Rattle.mill_contact_ball.specs.inner.Vectors.{IsCross, IsSum, dot_of, height_of, VectorWithin}
 
 -- the cross products of three corners, and their sum
 pub record AreCrosses (bc ca ab sum : Vector) (a b c : Offset) : Type 0 where

@@ -1,7 +1,7 @@
 -- The forms that decide whether a segment comes into the cone cutter, and the part of the segment on which each decides.
 use Rattle.std.specs.Prelude.{◌≡◌, ◌⊎◌, ℤ, pos, ◌+ℤ◌, ◌-ℤ◌, ◌*ℤ◌, ◌<ℤ◌, ◌≤ℤ◌}
 use Rattle.mill_base.specs.Numbers.{Within}
-use Rattle.mill_contact_cone.specs.Widths.{most_over, most_cone_form}
+use Rattle.mill_contact_cone.specs.inner.Widths.{most_over, most_cone_form}
 use Rattle.mill_contact_cone.specs.declared.corner.Cone.{Cone}
 use Rattle.mill_contact_cone.specs.declared.corner.Corner.{Corner}
 use Rattle.mill_contact_cone.specs.declared.quadratic.Form.{Form}

@@ -9,8 +9,8 @@ use Rattle.mill_geom.specs.Sides.{slid_by}
 use Rattle.mill_geom.specs.Gaps.{highest_of, box_gap_of}
 use Rattle.mill_contact_ball.specs.declared.weights.EdgeWeights.{EdgeWeights}
 use Rattle.mill_contact_ball.specs.declared.weights.Weights.{Weights}
-use Rattle.mill_contact_ball.specs.Widths.{most_end_weight, most_size}
-use Rattle.mill_contact_ball.specs.Vectors.{form_of}
+use Rattle.mill_contact_ball.specs.inner.Widths.{most_end_weight, most_size}
+use Rattle.mill_contact_ball.specs.inner.Vectors.{form_of}
 
 -- the offset d over the denominator n is nearer to the origin than r
 pub record InSphere (r n : ℤ) (d : Pt3) : Type 0 where

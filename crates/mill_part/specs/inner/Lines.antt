@@ -1,6 +1,6 @@
 -- At what heights an edge or a triangle that is seen as a line from above stands over a column.
 use Rattle.std.specs.Prelude.{◌≡◌, ℤ, pos, ◌+ℤ◌, ◌*ℤ◌, ◌<ℤ◌, ◌≤ℤ◌}
-use Rattle.mill_part.specs.Columns.{weigh}
+use Rattle.mill_part.specs.inner.Columns.{weigh}
 use Rattle.mill_part.specs.declared.line.Place.{Place}
 
 -- some point between p and q, with the weights u and v, is at least as high as h and stands on the column
