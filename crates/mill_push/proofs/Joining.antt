@@ -1,0 +1,243 @@
+-- Runs that overlap or touch, in the order of their first positions, joined to the maximal runs of the positions that stand in them.
+use Rattle.std.proofs.Common.{◌≡◌, ◌⊎◌, inl, inr, ℕ, zero, suc, ◌+◌, ◌<◌, ◌≤◌, List, [], ◌∷◌, ◌++◌, length, get_or, refl, sym, subst, ap, ◌∙◌, arith}
+use Rattle.std.specs.Prelude.{int_lt, Bool, true, false, ◌↔◌}
+use Rattle.std.specs.List.{Contains}
+use Rattle.std.proofs.lemmas.Bool.{cases_lt}
+use Rattle.std.proofs.lemmas.Int.{ints, by_lt_z}
+use Rattle.std.proofs.lemmas.List.{get_or_default}
+use Rattle.std.proofs.lemmas.List.Elements.{Contains-get_or}
+use lib.IntN.{ℤ, pos, ◌+ℤ◌, ◌-ℤ◌}
+use lib.Signed.{◌<ℤ◌, ◌≤ℤ◌}
+use Rattle.mill_push.specs.declared.fiber.Run.{Run}
+use Rattle.mill_push.specs.Runs.{FreeUpTo, IsNextRun, RunsOf, StandsIn}
+use Rattle.mill_push.specs.inner.Unions.{IsSpan, AreSpans, AreOrdered}
+
+-- the list begins the runs from `from` on, and what comes after its last run begins here
+abbrev pub Leads : (ℤ → Type 0) → ℤ → ℤ → List Run → ℤ → Type 0
+Leads P from to [] here = from ≡ here
+Leads P from to (run ∷ runs) here = IsNextRun P from to run × Leads P (run.last +ℤ pos 1) to runs here
+
+leads_on : (P : ℤ → Type 0) (from to here : ℤ) (runs : List Run) (run : Run) → Leads P from to runs here → IsNextRun P here to run → Leads P from to (runs ++ run ∷ []) (run.last +ℤ pos 1)
+leads_on P from to here [] run h next = (subst (λ (f : ℤ). IsNextRun P f to run) (sym h) next, refl)
+leads_on P from to here (r ∷ rs) run h next = (h.0, leads_on P (r.last +ℤ pos 1) to here rs run h.1 next)
+
+leads_all : (P : ℤ → Type 0) (from to here : ℤ) (runs rest : List Run) → Leads P from to runs here → RunsOf P here to rest → RunsOf P from to (runs ++ rest)
+leads_all P from to here [] rest h last = subst (λ (f : ℤ). RunsOf P f to rest) (sym h) last
+leads_all P from to here (r ∷ rs) rest h last = (h.0, leads_all P (r.last +ℤ pos 1) to here rs rest h.1 last)
+
+module _ (xs : List Run) where
+  -- after the first k runs of the list: those that are done, and the one that grows
+  pub record GrownSoFar (from to : ℤ) (k : ℕ) (runs : List Run) (run : Run) : Type 0 where
+    pub here : ℤ
+    pub leads : Leads (StandsIn xs) from to runs here
+    pub after : here ≤ℤ run.first
+    pub some : run.first ≤ℤ run.last
+    pub within : run.last ≤ℤ to
+    pub before : FreeUpTo (StandsIn xs) here run.first
+    pub blocks : (v : ℤ) → run.first ≤ℤ v → v ≤ℤ run.last → StandsIn xs v
+    pub taken : (j : ℕ) (d : Run) → j < k → j < length xs → (get_or xs j d).last ≤ℤ run.last
+
+  -- a position past what was taken, and before what is still to come
+  gap : (k : ℕ) (run : Run) (v : ℤ) → ((j : ℕ) (d : Run) → j < k → j < length xs → (get_or xs j d).last ≤ℤ run.last) → run.last <ℤ v
+      → ((j : ℕ) (d : Run) → k ≤ j → j < length xs → v <ℤ (get_or xs j d).first) → ¬ StandsIn xs v
+  gap k run v taken past ahead s =
+      let m = s.member in
+      elim (cases_lt m.0 k) [
+        | inl less ↦ before (taken m.0 s.run less m.1) (ap (λ (r : Run). r.last) m.2) s.last
+        | inr more ↦ beyond (ahead m.0 s.run more m.1) (ap (λ (r : Run). r.first) m.2) s.first
+      ]
+    where
+      before : {a b : ℤ} → a ≤ℤ run.last → a ≡ b → v ≤ℤ b → ⊥
+      before a e b = let p = past in omega (arith, ints)
+
+      beyond : {a b : ℤ} → v <ℤ a → a ≡ b → b ≤ℤ v → ⊥
+      beyond a e b = omega (arith, ints)
+
+  member : (k : ℕ) (d : Run) → k < length xs → Contains xs (get_or xs k d)
+  member k d less = Contains-get_or xs k d less
+
+  -- what comes later begins no earlier
+  later : AreOrdered xs → (k j : ℕ) (s d : Run) (v : ℤ) → k < length xs → get_or xs k s ≡ s → v <ℤ s.first → k ≤ j → j < length xs → v <ℤ (get_or xs j d).first
+  later ordered k j s d v less it before le inside = by (ordered k j d le inside) (get_or_default xs k d s less ∙ it)
+    where
+      by : {a : Run} → a.first ≤ℤ (get_or xs j d).first → a ≡ s → v <ℤ (get_or xs j d).first
+      by {a} h e = let f : a.first ≡ s.first = ap (λ (r : Run). r.first) e in let b = before in omega (arith, ints)
+
+  pub grown_first : AreOrdered xs → (from to : ℤ) (s : Run) → AreSpans from to xs → 0 < length xs → get_or xs 0 s ≡ s → GrownSoFar from to 1 [] s
+  grown_first ordered from to s spans some it = record {
+    here = from;
+    leads = refl;
+    after = span.after;
+    some = span.some;
+    within = span.within;
+    before = λ v a b. gap 0 (record { first = v; last = v -ℤ pos 1 }) v (λ j d less inside. absurd (omega (arith, less))) (omega (arith, ints)) (λ j d le inside. later ordered 0 j s d v some it b le inside);
+    blocks = λ v a b. record { run = s; member = (0, some, it); first = a; last = b };
+    taken = λ j d less inside. only j d less;
+  }
+    where
+      span : IsSpan from to s
+      span = spans s (0, some, it)
+
+      only : (j : ℕ) (d : Run) → j < 1 → (get_or xs j d).last ≤ℤ s.last
+      only j d less =
+          let zero_it : 0 ≡ j = omega arith in
+          let same : get_or xs j d ≡ s = ap (λ i. get_or xs i d) (sym zero_it) ∙ (get_or_default xs 0 d s some ∙ it) in
+          equal (ap (λ (r : Run). r.last) same)
+        where
+          equal : {a b : ℤ} → a ≡ b → a ≤ℤ b
+          equal e = omega (arith, ints)
+
+  -- the next one goes on where the growing one is, or just after it
+  pub grown_on : AreOrdered xs → (from to : ℤ) (k : ℕ) (runs : List Run) (run s : Run) (last : ℤ) → AreSpans from to xs → k < length xs → get_or xs k s ≡ s
+      → s.first ≤ℤ (run.last +ℤ pos 1) → run.last ≤ℤ last → s.last ≤ℤ last → (last ≡ run.last) ⊎ (last ≡ s.last) → GrownSoFar from to k runs run
+      → GrownSoFar from to (k + 1) runs (record { first = run.first; last = last })
+  grown_on ordered from to k runs run s last spans less it near kept most one h = record {
+    here = h.here;
+    leads = h.leads;
+    after = h.after;
+    some = through run.first run.last last h.some kept;
+    within = elim one [ | inl e ↦ as_it e h.within | inr e ↦ as_it e span.within ];
+    before = h.before;
+    blocks = λ v a b. by_lt_z run.last v
+        (λ past. record { run = s; member = (k, less, it); first = reached v past; last = elim one [ | inl e ↦ absurd (not_past v past b e) | inr e ↦ bound b e ] })
+        (λ under. h.blocks v a under);
+    taken = λ j d small inside. elim (cases_lt j k) [
+      | inl before ↦ through (get_or xs j d).last run.last last (h.taken j d before inside) kept
+      | inr it_is ↦ same_one j d small it_is
+    ];
+  }
+    where
+      span : IsSpan from to s
+      span = spans s (k, less, it)
+
+      through : (a b c : ℤ) → a ≤ℤ b → b ≤ℤ c → a ≤ℤ c
+      through a b c h k = omega (arith, ints)
+
+      as_it : {a b c : ℤ} → a ≡ b → b ≤ℤ c → a ≤ℤ c
+      as_it e h = omega (arith, ints)
+
+      bound : {a b c : ℤ} → a ≤ℤ b → b ≡ c → a ≤ℤ c
+      bound h e = omega (arith, ints)
+
+      reached : (v : ℤ) → run.last <ℤ v → s.first ≤ℤ v
+      reached v past = let n = near in omega (arith, ints)
+
+      not_past : (v : ℤ) → run.last <ℤ v → v ≤ℤ last → last ≡ run.last → ⊥
+      not_past v past b e = omega (arith, ints)
+
+      same_one : (j : ℕ) (d : Run) → j < k + 1 → k ≤ j → (get_or xs j d).last ≤ℤ last
+      same_one j d small large =
+          let place : k ≡ j = omega arith in
+          let same : get_or xs j d ≡ s = ap (λ i. get_or xs i d) (sym place) ∙ (get_or_default xs k d s less ∙ it) in
+          as_it (ap (λ (r : Run). r.last) same) most
+
+  -- the next one begins after a free position: the growing one is done
+  next_run : AreOrdered xs → (from to : ℤ) (k : ℕ) (runs : List Run) (run : Run) → ((v : ℤ) → v ≡ run.last +ℤ pos 1 → (j : ℕ) (d : Run) → k ≤ j → j < length xs → v <ℤ (get_or xs j d).first)
+      → (h : GrownSoFar from to k runs run) → IsNextRun (StandsIn xs) h.here to run
+  next_run ordered from to k runs run ahead h = record {
+    after = h.after;
+    some = h.some;
+    within = h.within;
+    before = h.before;
+    blocks = h.blocks;
+    stops = λ less. gap k run (run.last +ℤ pos 1) h.taken (omega (arith, ints)) (ahead (run.last +ℤ pos 1) refl);
+  }
+
+  pub grown_next : AreOrdered xs → (from to : ℤ) (k : ℕ) (runs : List Run) (run s : Run) → AreSpans from to xs → k < length xs → get_or xs k s ≡ s
+      → (run.last +ℤ pos 1) <ℤ s.first → GrownSoFar from to k runs run → GrownSoFar from to (k + 1) (runs ++ run ∷ []) s
+  grown_next ordered from to k runs run s spans less it far h = record {
+    here = run.last +ℤ pos 1;
+    leads = leads_on (StandsIn xs) from to h.here runs run h.leads
+        (next_run ordered from to k runs run (λ v e j d le inside. later ordered k j s d v less it (as_far v e) le inside) h);
+    after = weak far;
+    some = span.some;
+    within = span.within;
+    before = λ v a b. gap k run v h.taken (past v a) (λ j d le inside. later ordered k j s d v less it b le inside);
+    blocks = λ v a b. record { run = s; member = (k, less, it); first = a; last = b };
+    taken = λ j d small inside. elim (cases_lt j k) [
+      | inl before ↦ beyond (h.taken j d before inside)
+      | inr it_is ↦ same_one j d small it_is
+    ];
+  }
+    where
+      span : IsSpan from to s
+      span = spans s (k, less, it)
+
+      as_far : (v : ℤ) → v ≡ run.last +ℤ pos 1 → v <ℤ s.first
+      as_far v e = let f = far in omega (arith, ints)
+
+      weak : {a b : ℤ} → a <ℤ b → a ≤ℤ b
+      weak h = omega (arith, ints)
+
+      past : (v : ℤ) → (run.last +ℤ pos 1) ≤ℤ v → run.last <ℤ v
+      past v a = omega (arith, ints)
+
+      beyond : {a : ℤ} → a ≤ℤ run.last → a ≤ℤ s.last
+      beyond a = let f = far in let o = span.some in omega (arith, ints)
+
+      same_one : (j : ℕ) (d : Run) → j < k + 1 → k ≤ j → (get_or xs j d).last ≤ℤ s.last
+      same_one j d small large =
+          let place : k ≡ j = omega arith in
+          let same : get_or xs j d ≡ s = ap (λ i. get_or xs i d) (sym place) ∙ (get_or_default xs k d s less ∙ it) in
+          equal (ap (λ (r : Run). r.last) same)
+        where
+          equal : {a b : ℤ} → a ≡ b → a ≤ℤ b
+          equal e = omega (arith, ints)
+
+  -- after the last one
+  pub grown_all : AreOrdered xs → (from to : ℤ) (k : ℕ) (runs : List Run) (run : Run) → length xs ≤ k → GrownSoFar from to k runs run → RunsOf (StandsIn xs) from to (runs ++ run ∷ [])
+  grown_all ordered from to k runs run all h =
+      leads_all (StandsIn xs) from to h.here runs (run ∷ []) h.leads
+      (
+        next_run ordered from to k runs run (λ v e j d le inside. absurd (none j le inside)) h,
+        λ v a b. gap k run v h.taken (past v a) (λ j d le inside. absurd (none j le inside)),
+      )
+    where
+      none : (j : ℕ) → k ≤ j → j < length xs → ⊥
+      none j le inside = let a = all in omega arith
+
+      past : (v : ℤ) → (run.last +ℤ pos 1) ≤ℤ v → run.last <ℤ v
+      past v a = omega (arith, ints)
+
+-- no runs at all
+pub none_stand : (from to : ℤ) → RunsOf (StandsIn []) from to []
+none_stand from to v a b s = absurd (omega (arith, s.member.1))
+
+-- the runs of the same positions
+pub runs_as : (P Q : ℤ → Type 0) (from to : ℤ) (runs : List Run) → ((v : ℤ) → from ≤ℤ v → v ≤ℤ to → P v ↔ Q v) → RunsOf P from to runs → RunsOf Q from to runs
+runs_as P Q from to [] same h = λ v a b q. h v a b ((same v a (upto v to b)).1 q)
+  where
+    upto : (v t : ℤ) → v <ℤ (t +ℤ pos 1) → v ≤ℤ t
+    upto v t b = omega (arith, ints)
+runs_as P Q from to (run ∷ runs) same h = (
+  record {
+    after = n.after;
+    some = n.some;
+    within = n.within;
+    before = λ v a b q. n.before v a b ((same v a (up_to_run v b)).1 q);
+    blocks = λ v a b. (same v (from_run v a) (upto_run v b)).0 (n.blocks v a b);
+    stops = λ less q. n.stops less ((same (run.last +ℤ pos 1) next_from (next_to less)).1 q);
+  },
+  runs_as P Q (run.last +ℤ pos 1) to runs (λ v a b. same v (later v a) b) h.1,
+)
+  where
+    n : IsNextRun P from to run
+    n = h.0
+
+    up_to_run : (v : ℤ) → v <ℤ run.first → v ≤ℤ to
+    up_to_run v b = let s = n.some in let w = n.within in omega (arith, ints)
+
+    from_run : (v : ℤ) → run.first ≤ℤ v → from ≤ℤ v
+    from_run v a = let f = n.after in omega (arith, ints)
+
+    upto_run : (v : ℤ) → v ≤ℤ run.last → v ≤ℤ to
+    upto_run v b = let w = n.within in omega (arith, ints)
+
+    next_from : from ≤ℤ (run.last +ℤ pos 1)
+    next_from = let f = n.after in let s = n.some in omega (arith, ints)
+
+    next_to : run.last <ℤ to → (run.last +ℤ pos 1) ≤ℤ to
+    next_to less = omega (arith, ints)
+
+    later : (v : ℤ) → (run.last +ℤ pos 1) ≤ℤ v → from ≤ℤ v
+    later v a = let f = n.after in let s = n.some in omega (arith, ints)

@@ -1,0 +1,13 @@
+pub mod MeanCerts
+pub mod Means
+pub mod OneList
+pub mod Holds
+pub mod Halving
+pub mod Searching
+pub mod Stored
+pub mod Pushing
+pub mod NearCerts
+pub mod Meeting
+pub mod Joining
+pub mod Sorting
+pub mod Collecting

@@ -1,0 +1,53 @@
+-- What a sort by the first positions gives.
+use Rattle.std.proofs.Common.{◌≡◌, ℕ, zero, suc, ◌+◌, ◌-◌, ◌<◌, ◌≤◌, Bool, true, false, cond, Bor, List, length, get_or, refl, ap, subst, arith}
+use Rattle.std.specs.Prelude.{int_lt, ◌↔◌, IsPermutation}
+use Rattle.std.specs.Fn.{Called, ComputesKey}
+use Rattle.std.specs.List.{Contains}
+use Rattle.std.specs.List.Sorted.{IsSortedByKey}
+use Rattle.std.specs.Ordering.{int_cmp, is_lt, Less, Equal, Greater}
+use Rattle.std.proofs.lemmas.Fn.{always_returns_same}
+use Rattle.std.proofs.lemmas.Int.{ints}
+use Rattle.std.proofs.lemmas.List.Sorted.{Contains-permutation, IsPermutation-sym}
+use denote.Param.Members.{Mut}
+use lib.IntN.{ℤ, pos}
+use lib.Signed.{◌<ℤ◌, ◌≤ℤ◌}
+use Rattle.mill_push.specs.declared.fiber.Run.{Run}
+use Rattle.mill_push.specs.Runs.{StandsIn}
+use Rattle.mill_push.specs.inner.Unions.{AreOrdered}
+
+not_before : (a b : ℤ) → is_lt (int_cmp a b) ≡ false → b ≤ℤ a
+not_before a b h = by (int_lt a b) (int_lt b a) refl refl h
+  where
+    by : (s t : Bool) → int_lt a b ≡ s → int_lt b a ≡ t → is_lt (cond s Less (cond t Greater Equal)) ≡ false → b ≤ℤ a
+    by true t e f k = cc
+    by false t e f k = omega (e, arith, ints)
+
+far : (xs : List Run) → IsSortedByKey (λ (r : Run). r.first) int_cmp xs → (i m : ℕ) (d : Run) → i + m < length xs → (get_or xs i d).first ≤ℤ (get_or xs (i + m) d).first
+far xs h i zero d less = same (ap (λ k. (get_or xs k d).first) (omega arith))
+  where
+    same : {a b : ℤ} → a ≡ b → a ≤ℤ b
+    same e = omega (arith, ints)
+far xs h i (suc m) d less =
+    let on : i + m + 1 ≡ i + suc m = omega arith in
+    let step = not_before (get_or xs (i + m + 1) d).first (get_or xs (i + m) d).first (h (i + m) d (omega arith) (omega arith)) in
+    subst (λ k. (get_or xs i d).first ≤ℤ (get_or xs k d).first) on (through (get_or xs i d).first (get_or xs (i + m) d).first (get_or xs (i + m + 1) d).first (far xs h i m d (omega arith)) step)
+  where
+    through : (a b c : ℤ) → a ≤ℤ b → b ≤ℤ c → a ≤ℤ c
+    through a b c h k = omega (arith, ints)
+
+ordered : (xs : List Run) → IsSortedByKey (λ (r : Run). r.first) int_cmp xs → AreOrdered xs
+ordered xs h i j d le less =
+    let at : i + (j - i) ≡ j = omega arith in
+    subst (λ k. (get_or xs i d).first ≤ℤ (get_or xs k d).first) at (far xs h i (j - i) d (omega arith))
+
+-- from the clause of `sort_by_key`, where each call gives the first position
+pub ordered_from_sort : {F : Type 0} {g : Mut F (Bor Run × Unit {0}) ℤ} {f : F} (xs : List Run) → ((key : Run → ℤ) → ComputesKey g key f → IsSortedByKey key int_cmp xs)
+    → ((a : Bor Run × Unit {0}) (r : ℤ) (f' : F) → Called g f a r f' → (r ≡ a.0.now.first) × (f' ≡ f)) → AreOrdered xs
+ordered_from_sort {g = g} {f = f} xs up h = ordered xs (up (λ (r : Run). r.first) (always_returns_same g (λ a r. r ≡ a.0.now.first) f h))
+
+-- the same positions stand in the same runs in another order
+pub stand_moved : (xs ys : List Run) (v : ℤ) → IsPermutation xs ys → StandsIn xs v ↔ StandsIn ys v
+stand_moved xs ys v p = (go xs ys p, go ys xs (IsPermutation-sym xs ys p))
+  where
+    go : (rs others : List Run) → IsPermutation rs others → StandsIn rs v → StandsIn others v
+    go rs others q s = record { run = s.run; member = Contains-permutation rs others s.run q s.member; first = s.first; last = s.last }

@@ -1,0 +1,5 @@
+pub mod Fibers
+pub mod Runs
+pub mod Stretches
+pub mod Touches
+pub mod inner

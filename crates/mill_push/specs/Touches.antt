@@ -1,0 +1,52 @@
+-- How many touches a push may take.
+use Rattle.std.specs.Prelude.{ℕ, ◌+◌, ◌*◌, ◌^◌, ◌<◌, ◌≤◌, nat_abs, nat_eq, ℤ, pos, ◌+ℤ◌, ◌-ℤ◌, ◌<ℤ◌, List, length, slice_index_or, Contains}
+use Rattle.std.specs.List.{IsDistinct}
+use Rattle.mill_base.specs.Numbers.{Within}
+use Rattle.mill_base.specs.Points.{highest, point_at, point_tri}
+use Rattle.mill_base.specs.Sizes.{radius_of}
+use Rattle.mill_base.specs.declared.limits.TheConstants.{MAX_TEXT_COORDINATE}
+use Rattle.mill_base.specs.declared.points.Tri.{Tri}
+use Rattle.mill_base.specs.declared.points.Box2.{Box2}
+use Rattle.mill_base.specs.declared.cutter.Cutter.{Cutter}
+use Rattle.mill_geom.specs.declared.touch.Axis.{Axis}
+use Rattle.mill_geom.specs.declared.touch.Axis.TheVariants.{X, Y}
+use Rattle.mill_cells.specs.Boxes.{Meet, box_of}
+use Rattle.mill_push.specs.declared.fiber.Fiber.{Fiber}
+
+-- the rectangle that the cutter may come over: the fiber from `from` to `to`, and a radius more on every side
+abbrev pub strip_along : Axis → ℤ → ℤ → ℤ → ℤ → Box2
+strip_along X at r from to = record { x0 = from -ℤ r; y0 = at -ℤ r; x1 = to +ℤ r; y1 = at +ℤ r }
+strip_along Y at r from to = record { x0 = at -ℤ r; y0 = from -ℤ r; x1 = at +ℤ r; y1 = to +ℤ r }
+
+abbrev pub strip_of : Cutter → Fiber → ℤ → ℤ → Box2
+strip_of cutter fiber from to = strip_along fiber.axis fiber.at (radius_of cutter) from to
+
+-- the fiber's coordinates are in range
+pub record IsFiber (fiber : Fiber) : Type 0 where
+  pub at_ok : Within MAX_TEXT_COORDINATE fiber.at
+  pub z_ok : Within MAX_TEXT_COORDINATE fiber.z
+
+-- the triangle's box meets the strip, and some corner of it is over the fiber's height
+pub record IsNearFiber (cutter : Cutter) (fiber : Fiber) (from to : ℤ) (tri : Tri) : Type 0 where
+  pub meets : Meet (box_of tri) (strip_of cutter fiber from to)
+  pub over : fiber.z <ℤ highest tri
+
+-- how many positions lie from a to b
+abbrev pub position_count : ℤ → ℤ → ℕ
+position_count a b = nat_abs (b -ℤ a) + 1
+
+-- the triangle of number i; the origin if there is none
+abbrev pub tri_at : List Tri → ℕ → Tri
+tri_at part i = slice_index_or part i (point_tri (point_at (pos 0) (pos 0) (pos 0)))
+
+-- the part has a triangle of number i, and it is near the fiber
+pub record IsTried (cutter : Cutter) (part : List Tri) (fiber : Fiber) (from to : ℤ) (i : ℕ) : Type 0 where
+  pub within : i < length part
+  pub near : IsNearFiber cutter fiber from to (tri_at part i)
+
+-- the counter rose from the first number to the second: for some of the triangles that are near the fiber, each taken once, by at most twice as many touches as the count of positions has binary digits
+pub record TouchesFew (cutter : Cutter) (part : List Tri) (fiber : Fiber) (from to : ℤ) (old new : ℕ) : Type 0 where
+  pub numbers : List ℕ
+  pub once : IsDistinct nat_eq numbers
+  pub tried : (i : ℕ) → Contains numbers i → IsTried cutter part fiber from to i
+  pub bound : (n : ℕ) → position_count from to < 2 ^ n → new ≤ old + 2 * n * length numbers

@@ -1,0 +1,9 @@
+-- A cutter that is pushed along a fiber.
+use Rattle.mill_base.specs.Sizes.{IsCutter}
+use Rattle.mill_push.specs.declared.stretch.Pusher.{Pusher}
+use Rattle.mill_push.specs.Touches.{IsFiber}
+
+-- the cutter is one of a job, and the fiber's coordinates are in range
+pub record IsPusher (p : Pusher) : Type 0 where
+  pub cutter_ok : IsCutter p.cutter
+  pub fiber_ok : IsFiber p.fiber

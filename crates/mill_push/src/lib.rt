@@ -1,0 +1,24 @@
+//! The push-cutter: the positions along a line at one height at which a cutter gouges.
+//!
+//! It stands on the part and its cells (mill_part, mill_cells) and on the contact crates. `push`
+//! promises the maximal runs of those positions, exactly, for every triangle and cutter, and that it
+//! touches each triangle near the line at most 40 times. `specs/Fibers` says when a position is
+//! blocked, `specs/Runs` what its runs are, and `specs/Touches` which triangles are touched.
+#![tactic(auto)]
+
+mod contact;
+mod fiber;
+mod laws;
+mod near;
+mod runs;
+
+mod stretch;
+
+
+mod union;
+
+pub use contact::counted_touch;
+pub use fiber::{Fiber, Run};
+pub use laws::{one_list_of_runs, one_stretch, runs_hold_blocked};
+pub use mill_geom::{Axis, Side, Touch};
+pub use runs::push;

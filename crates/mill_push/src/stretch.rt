@@ -1,0 +1,194 @@
+ghost use Rattle.std.specs.Prelude.{◌≡◌, ◌+◌, ◌*◌, ◌^◌, ◌<◌, ◌≤◌, ◌≤ℤ◌, ◌+ℤ◌, ◌-ℤ◌, ◌*ℤ◌, ℕ, pos, nat_abs, false, IsTrue};
+ghost use Rattle.mill_base.specs.Numbers.{Within};
+ghost use Rattle.mill_base.specs.declared.limits.TheConstants.{MAX_TEXT_COORDINATE};
+ghost use Rattle.mill_base.specs.Ranges.{TriInTextRange};
+ghost use Rattle.mill_geom.specs.Sides.{IsTouch};
+ghost use Rattle.mill_push.specs.Fibers.{IsTouched, tip_on};
+ghost use Rattle.mill_push.specs.inner.Pushers.{IsPusher};
+ghost use Rattle.mill_push.specs.Stretches.{IsClear, IsHeld, IsStretchAnswer};
+ghost use Rattle.mill_push.specs.Touches.{position_count};
+
+use crate::contact::counted_touch;
+use crate::fiber::{Fiber, Run};
+use mill_base::{Cutter, Pt3, Steps, Tri};
+use mill_geom::{Axis, Side, Touch};
+use std::sync::ledger::Ledger;
+
+/// A cutter that is pushed along a fiber.
+#[derive(Clone, Copy)]
+pub struct Pusher {
+    pub cutter: Cutter,
+    pub fiber: Fiber,
+}
+
+impl Fiber {
+    /// The tip at this position.
+    fn tip(self, at: i32) -> Pt3
+        ensures { result ≡ tip_on self at }
+    {
+        match self.axis {
+            Axis::X => Pt3 {
+                x: at,
+                y: self.at,
+                z: self.z,
+            },
+            Axis::Y => Pt3 {
+                x: self.at,
+                y: at,
+                z: self.z,
+            },
+        }
+    }
+}
+
+impl Pusher {
+    /// How the triangle lies to the cutter at this position, by one touch.
+    fn touch_at<L: Ledger>(self, tri: &Tri, at: i32, steps: &mut Steps<L>) -> Touch
+        requires self_ok { IsPusher self }
+        requires tri_ok { TriInTextRange tri.now }
+        requires at_ok { Within MAX_TEXT_COORDINATE at }
+        ensures touch { IsTouch result (λ t. IsTouched self.cutter tri.now self.fiber (at +ℤ t)) }
+        ensures step { steps.new ≡ steps.old + 1 }
+    {
+        counted_touch(
+            tri,
+            self.cutter,
+            self.fiber.tip(at),
+            self.fiber.axis,
+            steps,
+        )
+    }
+
+    /// Whether some point of the triangle is strictly inside the cutter at this position.
+    fn is_touched<L: Ledger>(self, tri: &Tri, at: i32, steps: &mut Steps<L>) -> bool
+        requires self_ok { IsPusher self }
+        requires tri_ok { TriInTextRange tri.now }
+        requires at_ok { Within MAX_TEXT_COORDINATE at }
+        ensures yes { IsTrue result → IsTouched self.cutter tri.now self.fiber at }
+        ensures no { result ≡ false → ¬ IsTouched self.cutter tri.now self.fiber at }
+        ensures step { steps.new ≡ steps.old + 1 }
+    {
+        match self.touch_at(tri, at, steps) {
+            Touch::Inside => true,
+            Touch::Apart(_) => false,
+        }
+    }
+
+    /// The first position from `low` on at which the triangle is touched, where it is at `found`.
+    fn first_touched<L: Ledger>(
+        self,
+        tri: &Tri,
+        low: i32,
+        found: i32,
+        steps: &mut Steps<L>,
+    ) -> i32
+        requires self_ok { IsPusher self }
+        requires tri_ok { TriInTextRange tri.now }
+        requires low_ok { Within MAX_TEXT_COORDINATE low }
+        requires found_ok { Within MAX_TEXT_COORDINATE found }
+        requires order { low ≤ℤ found }
+        requires held { IsTouched self.cutter tri.now self.fiber found }
+        ensures from { low ≤ℤ result }
+        ensures to { result ≤ℤ found }
+        ensures held { IsHeld self.cutter tri.now self.fiber result found }
+        ensures clear { IsClear self.cutter tri.now self.fiber low (result -ℤ pos 1) }
+        ensures cost { (n : ℕ) → nat_abs (found -ℤ low) < 2 ^ n → steps.new ≤ steps.old + n }
+    {
+        let mut free = low;
+        let mut first = found;
+        while free < first {
+            let middle = middle(free, first - 1);
+            if self.is_touched(tri, middle, steps) {
+                first = middle;
+            } else {
+                free = middle + 1;
+            }
+        }
+        first
+    }
+
+    /// The last position up to `high` at which the triangle is touched, where it is at `found`.
+    fn last_touched<L: Ledger>(
+        self,
+        tri: &Tri,
+        found: i32,
+        high: i32,
+        steps: &mut Steps<L>,
+    ) -> i32
+        requires self_ok { IsPusher self }
+        requires tri_ok { TriInTextRange tri.now }
+        requires found_ok { Within MAX_TEXT_COORDINATE found }
+        requires high_ok { Within MAX_TEXT_COORDINATE high }
+        requires order { found ≤ℤ high }
+        requires held { IsTouched self.cutter tri.now self.fiber found }
+        ensures from { found ≤ℤ result }
+        ensures to { result ≤ℤ high }
+        ensures held { IsHeld self.cutter tri.now self.fiber found result }
+        ensures clear { IsClear self.cutter tri.now self.fiber (result +ℤ pos 1) high }
+        ensures cost { (n : ℕ) → nat_abs (high -ℤ found) < 2 ^ n → steps.new ≤ steps.old + n }
+    {
+        let mut last = found;
+        let mut free = high;
+        while last < free {
+            let middle = middle(last + 1, free);
+            if self.is_touched(tri, middle, steps) {
+                last = middle;
+            } else {
+                free = middle - 1;
+            }
+        }
+        last
+    }
+
+    /// The positions from `from` to `to` at which the triangle is touched: one run, or none.
+    ///
+    /// A touch in the middle of the positions that are left finds one, or leaves half of them: that
+    /// a triangle isn't touched tells on which side it may be. From one that is touched each end is
+    /// looked for in its own half.
+    pub fn stretch<L: Ledger>(
+        self,
+        tri: &Tri,
+        from: i32,
+        to: i32,
+        steps: &mut Steps<L>,
+    ) -> Option<Run>
+        requires self_ok { IsPusher self }
+        requires tri_ok { TriInTextRange tri.now }
+        requires from_ok { Within MAX_TEXT_COORDINATE from }
+        requires to_ok { Within MAX_TEXT_COORDINATE to }
+        requires order { from ≤ℤ to }
+        ensures stretch { IsStretchAnswer self.cutter tri.now self.fiber from to result }
+        ensures cost { (n : ℕ) → position_count from to < 2 ^ n → steps.new ≤ steps.old + 2 * n }
+    {
+        let mut low = from;
+        let mut high = to;
+        while low <= high {
+            let middle = middle(low, high);
+            match self.touch_at(tri, middle, steps) {
+                Touch::Inside => {
+                    let first = self.first_touched(tri, low, middle, steps);
+                    let last = self.last_touched(tri, middle, high, steps);
+                    return Some(Run { first, last });
+                }
+                Touch::Apart(Side::Less) => high = middle - 1,
+                Touch::Apart(Side::More) => low = middle + 1,
+                Touch::Apart(Side::Never) => return None,
+            }
+        }
+        None
+    }
+}
+
+/// The middle of the positions from `low` to `high`: at most half of them are before it, and at most
+/// half after it.
+fn middle(low: i32, high: i32) -> i32
+    requires low_ok { Within MAX_TEXT_COORDINATE low }
+    requires high_ok { Within MAX_TEXT_COORDINATE high }
+    requires order { low ≤ℤ high }
+    ensures from { low ≤ℤ result }
+    ensures to { result ≤ℤ high }
+    ensures before { (pos 2 *ℤ (result -ℤ low)) ≤ℤ (high -ℤ low) }
+    ensures after { (pos 2 *ℤ (high -ℤ result)) ≤ℤ ((high -ℤ low) +ℤ pos 1) }
+{
+    low + (high - low) / 2
+}
