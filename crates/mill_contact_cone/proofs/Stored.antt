@@ -39,7 +39,7 @@ module _ (p : Corner) (h : CornerInRange p) where
       small : (x : ℤ) → nat_abs x ≤ most_over → nat_abs (pos 0 -ℤ x) ≤ most_over
       small x k = omega (arith, ints)
 
-  -- how far the corner is under that height, as it is stored
+  -- how far the corner is under the height of the rim, as it is stored
   pub under_kept : stored w64 (pos 0 -ℤ stored w64 p.over) ≡ pos 0 -ℤ p.over
   under_kept = ap (λ t. stored w64 (pos 0 -ℤ t)) over_kept ∙ kept w64 (pos 0 -ℤ p.over) most_over opposite_small refl
 

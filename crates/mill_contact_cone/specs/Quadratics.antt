@@ -42,19 +42,21 @@ pub record HitsBetween (f : Form) (from to : Blend) : Type 0 where
   pub before : (pos 0) ≤ℤ (u *ℤ to.v -ℤ v *ℤ to.u)
   pub negative : value_of f u v <ℤ pos 0
 
--- the products of corners whose sign decides over the height at which the cone reaches its radius, and under it
+-- the product of corners whose sign decides over the height of the rim
 abbrev pub upper_of : Cone → Corner → Corner → ℤ
 upper_of k p q = (p.x *ℤ q.x +ℤ p.y *ℤ q.y) -ℤ k.radius *ℤ k.radius
 
+-- the product of corners whose sign decides under the height of the rim
 abbrev pub lower_of : Cone → Corner → Corner → ℤ
 lower_of k p q = k.rise *ℤ k.rise *ℤ (p.x *ℤ q.x +ℤ p.y *ℤ q.y) -ℤ k.run *ℤ k.run *ℤ (p.z *ℤ q.z)
 
--- the form of a segment's two ends
+-- the form of a segment's two ends that decides over the height of the rim
 pub record IsUpperForm (k : Cone) (p q : Corner) (f : Form) : Type 0 where
   pub a_is : f.a ≡ upper_of k p p
   pub h_is : f.h ≡ upper_of k p q
   pub b_is : f.b ≡ upper_of k q q
 
+-- the form of a segment's two ends that decides under the height of the rim
 pub record IsLowerForm (k : Cone) (p q : Corner) (f : Form) : Type 0 where
   pub a_is : f.a ≡ lower_of k p p
   pub h_is : f.h ≡ lower_of k p q

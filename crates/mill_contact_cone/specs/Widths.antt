@@ -6,7 +6,7 @@ use Rattle.mill_geom.specs.Widths.{farthest, widest, most_area, most_fall}
 abbrev pub steepest : ℕ
 steepest = 100
 
--- of how far a corner is over the height at which the cone reaches its radius, times the run: less than 2^27
+-- of how far a corner is over the height of the rim, times the run: less than 2^27
 abbrev pub most_over : ℕ
 most_over = steepest * farthest + steepest * widest
 

@@ -60,7 +60,8 @@ fn touches_cone(a: Corner, b: Corner, c: Corner, cone: Cone) -> bool
     touches_on_level(a, b, c, cone)
 }
 
-/// The same answer, from the box and the corners alone wherever they show it.
+/// Whether some point of the triangle is strictly inside the cone cutter, from the box and the corners
+/// alone wherever they show it.
 fn has_inside(a: Corner, b: Corner, c: Corner, cone: Cone) -> bool
     requires a_ok { CornerInRange a }
     requires b_ok { CornerInRange b }

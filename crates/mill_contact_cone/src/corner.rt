@@ -10,7 +10,8 @@ ghost use Rattle.mill_contact_cone.specs.Positions.{IsAlong};
 use mill_base::Pt3;
 use mill_geom::{Axis, Offset, offset_from};
 
-/// A cone that rises by `rise` over each `run` until it reaches its radius, in units of 0.01 mm.
+/// A cone that rises by `rise` over each `run` until it reaches its radius at its rim, in units of
+/// 0.01 mm.
 #[derive(Clone, Copy, Debug, PartialEq, Eq)]
 pub struct Cone {
     pub radius: i64,
@@ -19,7 +20,7 @@ pub struct Cone {
 }
 
 /// How far a corner of a triangle is from the tip, and, times the run, how far it is over the
-/// height at which the cone reaches its radius.
+/// height of the rim.
 #[derive(Clone, Copy, Debug, PartialEq, Eq)]
 pub struct Corner {
     pub x: i64,
@@ -28,7 +29,7 @@ pub struct Corner {
     pub over: i64,
 }
 
-/// How far the height `z` is over that at which the cone reaches its radius, times the run.
+/// How far the height `z` is over that of the rim, times the run.
 fn over(z: i64, cone: Cone) -> i64
     requires z_ok { Within farthest z }
     requires cone_ok { IsCone cone }

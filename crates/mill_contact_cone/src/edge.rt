@@ -31,7 +31,7 @@ fn lower_product(p: Corner, q: Corner, cone: Cone) -> i64
     cone.rise * cone.rise * across - cone.run * cone.run * (p.z * q.z)
 }
 
-/// The form that decides over the height at which the cone reaches its radius.
+/// The form that decides over the height of the rim.
 fn upper_form(p: Corner, q: Corner, cone: Cone) -> Form
     requires p_ok { CornerInRange p }
     requires q_ok { CornerInRange q }
@@ -45,7 +45,7 @@ fn upper_form(p: Corner, q: Corner, cone: Cone) -> Form
     Form { a, h, b }
 }
 
-/// The form that decides under that height.
+/// The form that decides under the height of the rim.
 fn lower_form(p: Corner, q: Corner, cone: Cone) -> Form
     requires p_ok { CornerInRange p }
     requires q_ok { CornerInRange q }
@@ -73,7 +73,7 @@ fn start(f: i64, g: i64) -> Blend
     Blend { u: g, v: -f }
 }
 
-/// The same point, from the other end of the segment.
+/// A point of a segment, as one of the segment with its ends swapped.
 fn turned(p: Blend) -> Blend
     requires p_ok { BlendInRange p }
     ensures u { result.u ≡ p.v }
@@ -93,7 +93,7 @@ fn last() -> Blend
 }
 
 /// Whether a point of the segment is inside the cutter's cylinder, where the last end is over the
-/// height at which the cone reaches its radius.
+/// height of the rim.
 fn hits_upper(p: Corner, q: Corner, cone: Cone) -> bool
     requires p_ok { CornerInRange p }
     requires q_ok { CornerInRange q }
@@ -108,7 +108,7 @@ fn hits_upper(p: Corner, q: Corner, cone: Cone) -> bool
 }
 
 /// Whether a point of the segment is inside the cutter's cone, where the last end is over the tip
-/// and not under the first, and some point is under the height at which the cone reaches its radius.
+/// and not under the first, and some point is under the height of the rim.
 fn hits_lower(p: Corner, q: Corner, cone: Cone) -> bool
     requires p_ok { CornerInRange p }
     requires q_ok { CornerInRange q }
@@ -127,7 +127,8 @@ fn hits_lower(p: Corner, q: Corner, cone: Cone) -> bool
     hits_between(form, from, turned(back))
 }
 
-/// The test of a segment whose last end isn't lower than its first.
+/// Whether some point of the segment is strictly inside the cone cutter, where its last end isn't
+/// lower than its first.
 fn touches_rising(p: Corner, q: Corner, cone: Cone) -> bool
     requires p_ok { CornerInRange p }
     requires q_ok { CornerInRange q }

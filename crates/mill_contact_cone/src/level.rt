@@ -9,8 +9,8 @@ use crate::corner::{Cone, Corner};
 use crate::edge::upper_product;
 use crate::plane::is_line_near;
 
-/// Whether the corner `p` is on one side of the height at which the cone reaches its radius, and
-/// the others on the other side or on it.
+/// Whether the corner `p` is on one side of the height of the rim, and the others on the other side
+/// or on it.
 fn is_alone(p: Corner, q: Corner, s: Corner) -> bool
     requires p_ok { CornerInRange p }
     requires q_ok { CornerInRange q }
@@ -33,8 +33,8 @@ fn is_alone(p: Corner, q: Corner, s: Corner) -> bool
     s.over > 0
 }
 
-/// The form of the two points in which the edges from `p` come to that height, from the forms and
-/// heights of the corners.
+/// The form of the two points in which the edges from `p` come to the height of the rim, from the
+/// forms of the corners and how far they are over it.
 fn mixed_form(pp: i64, pq: i64, ps: i64, qs: i64, p: i64, q: i64, s: i64) -> i128
     requires pp_ok { Within most_cone_form pp }
     requires pq_ok { Within most_cone_form pq }
@@ -53,7 +53,7 @@ fn mixed_form(pp: i64, pq: i64, ps: i64, qs: i64, p: i64, q: i64, s: i64) -> i12
     first - second - third + last
 }
 
-/// The form of the two points in which the edges from `p` come to that height.
+/// The form of the two points in which the edges from `p` come to the height of the rim.
 fn level_form(p: Corner, q: Corner, s: Corner, cone: Cone) -> i128
     requires p_ok { CornerInRange p }
     requires q_ok { CornerInRange q }
@@ -69,8 +69,8 @@ fn level_form(p: Corner, q: Corner, s: Corner, cone: Cone) -> i128
     mixed_form(pp, pq, ps, qs, p.over, q.over, s.over)
 }
 
-/// Whether the triangle's points at that height come nearer to the axis than the radius between the
-/// two edges from `p`, where these keep off it.
+/// Whether the triangle's points at the height of the rim come nearer to the axis than the radius
+/// between the two edges from `p`, where these keep off it.
 fn crosses(p: Corner, q: Corner, s: Corner, cone: Cone) -> bool
     requires p_ok { CornerInRange p }
     requires q_ok { CornerInRange q }
@@ -86,8 +86,8 @@ fn crosses(p: Corner, q: Corner, s: Corner, cone: Cone) -> bool
     is_line_near(p, q, s, cone.radius)
 }
 
-/// Whether some point of the triangle at the height at which the cone reaches its radius is nearer
-/// to the axis than the radius, where the edges keep off it and some corner is higher.
+/// Whether some point of the triangle at the height of the rim is nearer to the axis than the
+/// radius, where the edges keep off it and some corner is higher.
 pub fn touches_on_level(a: Corner, b: Corner, c: Corner, cone: Cone) -> bool
     requires a_ok { CornerInRange a }
     requires b_ok { CornerInRange b }

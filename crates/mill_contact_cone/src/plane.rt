@@ -80,8 +80,8 @@ fn is_near(volume: i128, x: i64, y: i64, radius: i64) -> bool
     is_less(volume, x, y, radius)
 }
 
-/// Whether the line in which the plane meets the height at which the cone reaches its radius is
-/// nearer to the axis than the radius.
+/// Whether the line in which the plane meets the height of the rim is nearer to the axis than the
+/// radius.
 pub fn is_line_near(a: Corner, b: Corner, c: Corner, radius: i64) -> bool
     requires a_ok { CornerInRange a }
     requires b_ok { CornerInRange b }

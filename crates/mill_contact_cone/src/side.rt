@@ -53,7 +53,7 @@ fn holds_before(f: i64, g: i64, x: i64, w: i64) -> bool
     w * f <= x * g
 }
 
-/// How far the corner is from the cylinder's side at the greater y, and at the lesser.
+/// How far the corner is from the cylinder's side at the greater y.
 fn from_right(p: Corner, cone: Cone) -> i64
     requires p_ok { CornerInRange p }
     requires cone_ok { IsCone cone }
@@ -63,6 +63,7 @@ fn from_right(p: Corner, cone: Cone) -> i64
     cone.radius - p.y
 }
 
+/// How far the corner is from the cylinder's side at the lesser y.
 fn from_left(p: Corner, cone: Cone) -> i64
     requires p_ok { CornerInRange p }
     requires cone_ok { IsCone cone }
@@ -72,7 +73,7 @@ fn from_left(p: Corner, cone: Cone) -> i64
     cone.radius + p.y
 }
 
-/// How far the corner is over the cone's wall at the greater y, and at the lesser, times the run.
+/// How far the corner is over the cone's wall at the greater y, times the run.
 fn over_right(p: Corner, cone: Cone) -> i64
     requires p_ok { CornerInRange p }
     requires cone_ok { IsCone cone }
@@ -82,6 +83,7 @@ fn over_right(p: Corner, cone: Cone) -> i64
     cone.run * p.z - cone.rise * p.y
 }
 
+/// How far the corner is over the cone's wall at the lesser y, times the run.
 fn over_left(p: Corner, cone: Cone) -> i64
     requires p_ok { CornerInRange p }
     requires cone_ok { IsCone cone }

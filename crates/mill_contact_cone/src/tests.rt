@@ -6,6 +6,8 @@ use mill_base::{Cutter, Pt3, Tri};
 use mill_geom::{Axis, Side, Touch};
 use std::test::Fail;
 
+mod limits;
+
 const INSIDE: Touch = Touch::Inside;
 
 const LESS: Touch = Touch::Apart(Side::Less);
