@@ -23,7 +23,7 @@ pub no_low : (r : ℤ) (p q : Offset) → (PairHits (form_of r p p) (form_of r p
 no_low r p q n t =
     edge_far p.x p.y p.z q.x q.y q.z r t.at.u t.at.v t.spot.inside.near (never (form_of r p p) (form_of r p q) (form_of r q q) n t.at.u t.at.v t.spot.u_ok t.spot.v_ok)
 
-zero_ok : (pos 0) ≤ℤ pos 0
+pub zero_ok : (pos 0) ≤ℤ pos 0
 zero_ok = omega (arith, ints)
 
 -- a point of an edge is one of the triangle

@@ -11,7 +11,7 @@ use Rattle.mill_contact_ball.proofs.FootCerts.{cauchy_plane, square_down, foot_m
 abbrev pub timed : ℤ → Offset → V
 timed r p = record { x = p.x; y = p.y; z = p.z; n = r }
 
-both_ways : (x y : ℤ) → x ≤ℤ y → y ≤ℤ x → x ≡ y
+pub both_ways : (x y : ℤ) → x ≤ℤ y → y ≤ℤ x → x ≡ y
 both_ways x y h k = omega (arith, ints)
 
 weak : (x y : ℤ) → x <ℤ y → x ≤ℤ y

@@ -9,10 +9,8 @@ use Rattle.mill_geom.specs.declared.offset.Offset.{Offset}
 use Rattle.mill_geom.specs.Offsets.{mean3}
 use Rattle.mill_geom.specs.Gaps.{AllApart, AllUpTo}
 use Rattle.mill_contact_ball.specs.inner.Spheres.{MeetsBall}
+use Rattle.mill_contact_ball.proofs.FootCerts.{add3_nonneg as time_ok}
 use Rattle.mill_contact_ball.proofs.GapCerts.{under_far, beside_far, axis_far, under_centre}
-
-time_ok : (u v w : ℤ) → (pos 0) ≤ℤ u → (pos 0) ≤ℤ v → (pos 0) ≤ℤ w → (pos 0) ≤ℤ ((u +ℤ v) +ℤ w)
-time_ok u v w hu hv hw = omega (arith, ints)
 
 -- the box reaches over the centre: its distance from the axis counts
 over_none : (r : ℤ) (a b c : Offset) (gap : ℤ) → AllApart gap a b c → (r *ℤ r) ≤ℤ (pos 0 *ℤ pos 0 +ℤ gap) → MeetsBall r a b c → ⊥

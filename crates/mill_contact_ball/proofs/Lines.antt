@@ -7,12 +7,9 @@ use Rattle.mill_base.proofs.Exit.{NeverFalls}
 use Rattle.mill_geom.proofs.Descend.{Weights}
 use Rattle.mill_contact_ball.proofs.Slide.{mean, form, three, three_lines, Rim, slide}
 use Rattle.mill_geom.specs.declared.offset.Offset.{Offset}
-use Rattle.mill_contact_ball.proofs.Feet.{timed}
+use Rattle.mill_contact_ball.proofs.Feet.{timed, both_ways}
 use Rattle.mill_contact_ball.proofs.FootCerts.{same_radius}
 use Rattle.mill_contact_ball.proofs.LineCerts.{deg_x_le, deg_x_ge, deg_y_le, deg_y_ge, deg_z_le, deg_z_ge, deg_sum, flat_mixed, minus_le, minus_ge, third_is, one_only, one_only2, zero_x_le, zero_x_ge, zero_y_le, zero_y_ge, zero_z_le, zero_z_ge}
-
-both_ways : (x y : ℤ) → x ≤ℤ y → y ≤ℤ x → x ≡ y
-both_ways x y h k = omega (arith, ints)
 
 -- a direction along which nothing changes
 pub record Idle (a b c : Offset) (i j k : ℤ) : Type 0 where

@@ -7,10 +7,7 @@ use Rattle.mill_geom.specs.declared.offset.Offset.{Offset}
 use Rattle.mill_contact_ball.specs.inner.Vectors.{form_of}
 use Rattle.mill_contact_ball.specs.inner.Spheres.{EdgeMeets, MeetsSphere}
 use Rattle.mill_contact_ball.proofs.CornerCerts.{corner_first, corner_second, corner_third}
-use Rattle.mill_contact_ball.proofs.Edges.{low_both, low_spot, no_low, ab_spot, bc_spot, ca_spot}
-
-zero_ok : (pos 0) ≤ℤ pos 0
-zero_ok = omega (arith, ints)
+use Rattle.mill_contact_ball.proofs.Edges.{zero_ok, low_both, low_spot, no_low, ab_spot, bc_spot, ca_spot}
 
 one_ok : (pos 0) ≤ℤ pos 1
 one_ok = omega (arith, ints)

@@ -14,6 +14,7 @@ use Rattle.mill_geom.proofs.LevelCerts.{near_same}
 use Rattle.mill_geom.proofs.SideCerts.{slid, slid_x, slid_back, sum_time, side_over, side_weight}
 use Rattle.mill_contact_ball.specs.declared.weights.Weights.{Weights}
 use Rattle.mill_contact_ball.specs.inner.Spheres.{IsSpot, MeetsSphere, MeetsBall, MeetsAt, flat_of, x_of}
+use Rattle.mill_contact_ball.proofs.FootCerts.{add3_nonneg as time_ok}
 use Rattle.mill_contact_ball.proofs.ShadowCerts.{dot_flat, dot_round, join_round, join_flat, join_low, in_shadow, to_shadow, on_axis}
 
 weak : (x : ℤ) → (pos 0) <ℤ x → (pos 0) ≤ℤ x
@@ -24,9 +25,6 @@ less x h = omega (arith, ints)
 
 negated : (x : ℤ) → x <ℤ pos 0 → (pos 0) <ℤ (pos 0 -ℤ x)
 negated x h = omega (arith, ints)
-
-time_ok : (u v w : ℤ) → (pos 0) ≤ℤ u → (pos 0) ≤ℤ v → (pos 0) ≤ℤ w → (pos 0) ≤ℤ ((u +ℤ v) +ℤ w)
-time_ok u v w hu hv hw = omega (arith, ints)
 
 -- the point with these weights is passed by the ball on its way along x
 pub record Shadow (r : ℤ) (a b c : Offset) (s : Weights) : Type 0 where
@@ -93,7 +91,7 @@ joined_sphere r a b c t k m s hr shadow v hk hm e =
       };
     }
 
--- and with the cylinder
+-- such a point and a meeting with the cylinder at t, weighed in the same way, give a meeting here
 joined_cylinder : (r : ℤ) (a b c : Offset) (t k m : ℤ) (s : Weights) → (pos 0) <ℤ r → Shadow r a b c s → (v : TouchesAt r a b c t) → (pos 0) ≤ℤ k → (pos 0) <ℤ m
     → k *ℤ (mean3 s.u s.v s.w a b c).x +ℤ m *ℤ (mean3 v.u v.v v.w a b c).x ≡ m *ℤ ((mean3 v.u v.v v.w a b c).x -ℤ t *ℤ ((v.u +ℤ v.v) +ℤ v.w)) → MeetsBall r a b c
 joined_cylinder r a b c t k m s hr shadow v hk hm e =

@@ -1,4 +1,4 @@
-use Rattle.mill_contact_ball.proofs.Stored.{radius_kept}
+use Rattle.mill_geom.proofs.Kept.{radius_kept}
 use Rattle.mill_contact_ball.proofs.meets_here.Goals as goal
 
 pub returns-then-not-is_box_close-clause-no : goal.returns-then-not-is_box_close-clause-no

@@ -1,9 +1,9 @@
 use Rattle.mill_base.specs.Sizes.{HasRadius}
 use Rattle.mill_base.specs.declared.limits.TheConstants.{MAX_WIDE_RADIUS}
-use Rattle.mill_contact_ball.proofs.Stored.{size_kept}
+use Rattle.mill_geom.proofs.Kept.{given_kept}
 use Rattle.mill_contact_ball.proofs.touch.Goals as goal
 
 pub returns : goal.returns
 returns c =
     let size : HasRadius c.in-Ball.radius MAX_WIDE_RADIUS = rw c.in-Ball.is at c.requires.cutter_ok in
-    rw c.in-Ball.is (rw (size_kept c.in-Ball.radius size) at c.touch_ball.ensures)
+    rw c.in-Ball.is (rw (given_kept c.in-Ball.radius size) at c.touch_ball.ensures)

@@ -1,4 +1,4 @@
-use Rattle.mill_contact_ball.proofs.Stored.{radius_kept}
+use Rattle.mill_geom.proofs.Kept.{radius_kept}
 use Rattle.mill_contact_ball.proofs.Along.{meeting_here}
 use Rattle.mill_contact_ball.proofs.touch_along_x.Goals as goal
 

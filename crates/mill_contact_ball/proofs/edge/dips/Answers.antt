@@ -3,7 +3,8 @@ use lib.IntN.{pos}
 use lib.Signed.{◌<ℤ◌, ◌≤ℤ◌}
 use Rattle.std.proofs.lemmas.Int.{ints}
 use Rattle.std.proofs.lemmas.Bool.{false≢true}
-use Rattle.mill_contact_ball.proofs.Stored.{radius_kept, form_kept}
+use Rattle.mill_geom.proofs.Kept.{radius_kept}
+use Rattle.mill_contact_ball.proofs.Stored.{form_kept}
 use Rattle.mill_contact_ball.proofs.Rims.{dips_in, level_out, dips_out}
 use Rattle.mill_contact_ball.proofs.edge.dips.Goals as goal
 

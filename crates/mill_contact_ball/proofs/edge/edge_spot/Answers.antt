@@ -2,7 +2,8 @@ use Rattle.std.proofs.Common.{◌≡◌, Option, Some, None, IfSome}
 use lib.IntN.{ℤ}
 use Rattle.mill_geom.specs.declared.offset.Offset.{Offset}
 use Rattle.mill_geom.specs.Forms.{PairHits}
-use Rattle.mill_contact_ball.proofs.Stored.{radius_kept, form_kept}
+use Rattle.mill_geom.proofs.Kept.{radius_kept}
+use Rattle.mill_contact_ball.proofs.Stored.{form_kept}
 use Rattle.mill_contact_ball.specs.declared.weights.EdgeWeights.{EdgeWeights}
 use Rattle.mill_contact_ball.specs.inner.Vectors.{form_of}
 use Rattle.mill_contact_ball.specs.inner.Spheres.{IsLow, IsEdgeSpot, EdgeMeets}

@@ -1,4 +1,4 @@
-use Rattle.mill_contact_ball.proofs.Stored.{radius_kept}
+use Rattle.mill_geom.proofs.Kept.{radius_kept}
 use Rattle.mill_contact_ball.proofs.Rims.{first_in, second_in, third_in}
 use Rattle.mill_contact_ball.proofs.edge.has_corner_in.Goals as goal
 

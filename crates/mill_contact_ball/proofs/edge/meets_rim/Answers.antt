@@ -1,4 +1,4 @@
-use Rattle.mill_contact_ball.proofs.Stored.{radius_kept}
+use Rattle.mill_geom.proofs.Kept.{radius_kept}
 use Rattle.mill_contact_ball.proofs.Rims.{ab_in, bc_in, ca_in}
 use Rattle.mill_contact_ball.proofs.edge.meets_rim.Goals as goal
 

@@ -4,7 +4,7 @@ use lib.IntN.{ℤ}
 use Rattle.mill_base.specs.Numbers.{Within}
 use Rattle.mill_base.proofs.Machine.{Read, Cast, exact}
 use Rattle.mill_contact_ball.specs.inner.Widths.{most_end_weight}
-use Rattle.mill_contact_ball.proofs.Stored.{radius_kept}
+use Rattle.mill_geom.proofs.Kept.{radius_kept}
 use Rattle.mill_contact_ball.proofs.Edges.{ab_spot, bc_spot, ca_spot}
 use Rattle.mill_contact_ball.proofs.edge.rim_spot.Goals as goal
 

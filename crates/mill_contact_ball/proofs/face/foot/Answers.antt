@@ -1,6 +1,6 @@
 use Rattle.std.proofs.Common.{◌∙◌, sym}
 use Rattle.std.proofs.lemmas.Bool.{false≢true}
-use Rattle.mill_contact_ball.proofs.Stored.{radius_kept}
+use Rattle.mill_geom.proofs.Kept.{radius_kept}
 use Rattle.mill_contact_ball.proofs.Triangles.{not_near, foot_missed, foot_spot}
 use Rattle.mill_contact_ball.proofs.face.foot.Goals as goal
 

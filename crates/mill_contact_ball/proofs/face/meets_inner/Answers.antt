@@ -3,7 +3,8 @@ use lib.IntN.{pos}
 use lib.Signed.{◌<ℤ◌}
 use Rattle.std.proofs.lemmas.Int.{ints}
 use Rattle.std.proofs.lemmas.Bool.{false≢true}
-use Rattle.mill_contact_ball.proofs.Stored.{radius_kept, dot_kept}
+use Rattle.mill_geom.proofs.Kept.{radius_kept}
+use Rattle.mill_contact_ball.proofs.Stored.{dot_kept}
 use Rattle.mill_contact_ball.proofs.Triangles.{not_near, plane_none, foot_met, foot_missed}
 use Rattle.mill_contact_ball.proofs.face.meets_inner.Goals as goal
 

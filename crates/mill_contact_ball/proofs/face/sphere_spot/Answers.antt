@@ -1,4 +1,4 @@
-use Rattle.mill_contact_ball.proofs.Stored.{radius_kept}
+use Rattle.mill_geom.proofs.Kept.{radius_kept}
 use Rattle.mill_contact_ball.proofs.face.sphere_spot.Goals as goal
 
 pub returns-clause-none : goal.returns-clause-none

@@ -1,5 +1,5 @@
 use Rattle.std.proofs.Common.{inl, inr}
-use Rattle.mill_contact_ball.proofs.Stored.{radius_kept}
+use Rattle.mill_geom.proofs.Kept.{radius_kept}
 use Rattle.mill_contact_ball.proofs.meeting.meets_ball.Goals as goal
 
 pub returns-then-has_corner_in-clause-yes : goal.returns-then-has_corner_in-clause-yes

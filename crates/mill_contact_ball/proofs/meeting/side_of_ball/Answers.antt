@@ -2,7 +2,8 @@ use Rattle.std.proofs.Common.{inr, arith}
 use lib.IntN.{pos}
 use lib.Signed.{◌<ℤ◌, ◌≤ℤ◌}
 use Rattle.std.proofs.lemmas.Int.{ints}
-use Rattle.mill_contact_ball.proofs.Stored.{radius_kept, place_kept}
+use Rattle.mill_geom.proofs.Kept.{radius_kept}
+use Rattle.mill_contact_ball.proofs.Stored.{weighed_kept}
 use Rattle.mill_contact_ball.proofs.Shadows.{shadow_more, shadow_less}
 use Rattle.mill_contact_ball.proofs.Along.{cylinder_side}
 use Rattle.mill_contact_ball.proofs.meeting.side_of_ball.Goals as goal
@@ -19,7 +20,7 @@ returns-in_default c =
 pub returns-then-weighed_x-gt0 : goal.returns-then-weighed_x-gt0
 returns-then-weighed_x-gt0 c =
     let r = radius_kept _ c.requires.r_ok in
-    let x = place_kept _ c.weighed_x.ensures.bound in
+    let x = weighed_kept _ c.weighed_x.ensures.bound in
     let spot = rw (r, c.flattened.ensures.value, c.flattened-2.ensures.value, c.flattened-3.ensures.value) at c.in-Some.ensures.found in
     let test = rw x at c.if-weighed_x-gt0.true in
     let high : (pos 0) <ℤ c.weighed_x.result = omega (arith, ints) in
@@ -28,7 +29,7 @@ returns-then-weighed_x-gt0 c =
 pub returns : goal.returns
 returns c =
     let r = radius_kept _ c.requires.r_ok in
-    let x = place_kept _ c.weighed_x.ensures.bound in
+    let x = weighed_kept _ c.weighed_x.ensures.bound in
     let spot = rw (r, c.flattened.ensures.value, c.flattened-2.ensures.value, c.flattened-3.ensures.value) at c.in-Some.ensures.found in
     let test = rw x at c.if-weighed_x-gt0.false in
     let low : c.weighed_x.result ≤ℤ pos 0 = omega (arith, ints) in
