@@ -8,7 +8,7 @@ use Rattle.mill_geom.proofs.Descend.{V4, mix, Weights, Hit}
 use Rattle.mill_geom.proofs.DescendCerts.{lin}
 use Rattle.mill_geom.proofs.Segments.{finds, never, pair_or}
 use Rattle.mill_geom.proofs.SegmentCerts.{far_weight}
-use Rattle.mill_geom.proofs.Pair.{pair_hit_far}
+use Rattle.mill_geom.proofs.PairCerts.{pair_hit_far}
 use Rattle.mill_base.proofs.Integers.{mul_nonneg-ℤ}
 use Rattle.mill_geom.proofs.TriangleCerts.{one_x}
 use Rattle.mill_geom.proofs.CutCerts.{cut_lin, cut_lin2, cut_back, cut_level, cut_level2, bal_le, bal_ge, scaled_form, quad_form, quad_near, nonneg_sum, near_of, open_near, open_time, open_over, form_neg}

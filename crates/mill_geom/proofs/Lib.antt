@@ -1,6 +1,6 @@
 pub mod Kept
 pub mod Bounds
-pub mod Pair
+pub mod PairCerts
 pub mod SegmentCerts
 pub mod Segments
 pub mod DescendCerts

@@ -7,7 +7,7 @@ use Rattle.mill_geom.specs.declared.offset.Offset.{Offset}
 use Rattle.mill_geom.specs.Forms.{PairHits, form_of}
 use Rattle.mill_geom.specs.Contacts.{TouchesSegment}
 use Rattle.mill_base.proofs.Exit.{split_lt}
-use Rattle.mill_geom.proofs.Pair.{pair_free_plus, pair_free_minor, pair_free_zero, pair_hit_far, pair_hit_minor, pair_hit_zero}
+use Rattle.mill_geom.proofs.PairCerts.{pair_free_plus, pair_free_minor, pair_free_zero, pair_hit_far, pair_hit_minor, pair_hit_zero}
 use Rattle.mill_geom.proofs.SegmentCerts.{seg_near, seg_far, seg_over, seg_some, seg_low, cut_near, cut_over, cut_first, cut_second, cut_some, cut_far, cut_up, minor_to, minor_from, far_weight, turn_some, turn_near, turn_over}
 
 abbrev pub quad : ℤ → ℤ → ℤ → ℤ → ℤ → ℤ

@@ -28,7 +28,7 @@ pub record ReachesTriangle (r : ℤ) (a b c : Offset) : Type 0 where
   pub near : apart (mean3 u v w a b c) <ℤ (square r *ℤ square ((u +ℤ v) +ℤ w))
   pub level : (pos 0) ≤ℤ (mean3 u v w a b c).z
 
--- the same of the segment from p to q
+-- some point of the segment from p to q is nearer to the axis than r, and on the level or over it
 pub record ReachesSegment (r : ℤ) (p q : Offset) : Type 0 where
   pub u : ℤ
   pub v : ℤ
@@ -37,7 +37,7 @@ pub record ReachesSegment (r : ℤ) (p q : Offset) : Type 0 where
   pub near : apart (mean2 u v p q) <ℤ (square r *ℤ square (u +ℤ v))
   pub level : (pos 0) ≤ℤ (mean2 u v p q).z
 
--- the same of the corner p
+-- the corner p is nearer to the axis than r, and on the level or over it
 pub record ReachesCorner (r : ℤ) (p : Offset) : Type 0 where
   pub near : form_of r p p <ℤ pos 0
   pub level : (pos 0) ≤ℤ p.z

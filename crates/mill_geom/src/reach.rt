@@ -71,7 +71,8 @@ fn reaches_segment(p: Offset, q: Offset, radius: i64) -> bool
     touches_segment(raised(p), raised(q), radius)
 }
 
-/// The same of a triangle.
+/// Whether some point of the triangle isn't under the level, and is nearer to the axis than the
+/// radius, where no corner is over the level: then only its points on the level count.
 fn reaches_under(a: Offset, b: Offset, c: Offset, radius: i64) -> bool
     requires a_ok { OffsetInRange a }
     requires b_ok { OffsetInRange b }

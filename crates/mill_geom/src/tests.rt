@@ -132,3 +132,32 @@ fn spots(rt: HostRuntime) -> Result<(), Fail> {
     assert_eq!(rt; spot_below(a, b, c, -100), None);
     Ok(())
 }
+
+// Corners as far away as offsets may be, and the widest cylinder: a slope that comes up to the level
+// at the axis, and one that is far under it there.
+#[test]
+fn at_the_limits(rt: HostRuntime) -> Result<(), Fail> {
+    let a = Offset {
+        x: -1_069_287,
+        y: -1_069_287,
+        z: 1_069_287,
+    };
+    let b = Offset {
+        x: 1_069_287,
+        y: -1_069_287,
+        z: -1_069_287,
+    };
+    let c = Offset {
+        x: -1_069_287,
+        y: 1_069_287,
+        z: 1_069_287,
+    };
+    let low = Offset {
+        x: -1_069_287,
+        y: 1_069_287,
+        z: 1,
+    };
+    assert!(rt; touches_triangle(a, b, c, 11_024));
+    assert!(rt; !touches_triangle(a, b, low, 11_024));
+    Ok(())
+}
