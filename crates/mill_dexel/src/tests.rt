@@ -9,7 +9,7 @@ ghost use Rattle.mill_job.specs.Jobs.{IsJob};
 use crate::row::Row;
 use mill_base::{Box2, Cutter, Kind, Move, Pt3, WantOfMemory};
 use mill_decimal::Snap;
-use mill_job::Job;
+use mill_job::{Job, Place};
 use mill_sweep::Leaf;
 
 /// One row of three columns at x = 0, 100 and 200, from 0 to 300.
@@ -28,8 +28,7 @@ fn three_columns() -> Job
             x1: 200,
             y1: 0,
         },
-        home_x: 0,
-        home_y: 0,
+        home: Place { x: 0, y: 0 },
         pitch: 100,
         sample: 100,
         allowance: 0,
@@ -105,8 +104,7 @@ fn long_row(cutter: Cutter) -> Job
             x1: 200,
             y1: 0,
         },
-        home_x: 0,
-        home_y: 0,
+        home: Place { x: 0, y: 0 },
         pitch: 5,
         sample: 50,
         allowance: 0,
