@@ -11,6 +11,7 @@ use super::*;
 use crate::fail::RowFail;
 use mill_base::{Box2, Cutter, Kind, Pt3, WantOfMemory};
 use mill_decimal::Snap;
+use mill_job::Place;
 use mill_sweep::Leaf;
 use std::alloc::Global;
 
