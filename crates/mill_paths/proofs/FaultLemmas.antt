@@ -5,12 +5,11 @@ use Rattle.std.proofs.lemmas.Int.{ints}
 use mir.Val.{of_z, to_z}
 use Rattle.mill_base.specs.Lattices.{node_count}
 use Rattle.mill_base.specs.Numbers.{Within}
-use Rattle.mill_base.specs.declared.limits.TheConstants.{MAX_TEXT_COORDINATE}
+use Rattle.mill_base.specs.declared.limits.TheConstants.{MAX_NODES, MAX_TEXT_COORDINATE}
 use Rattle.mill_base.specs.declared.lattice.Lattice.{Lattice}
 use Rattle.mill_drop.specs.Maps.{IsMapLattice}
 use Rattle.mill_part.proofs.Stored.{coordinate}
 use Rattle.mill_paths.specs.Limits.{change_count, most_changes, HasManyNodes, IsHeightsFault, IsListFault}
-use Rattle.mill_base.specs.declared.limits.TheConstants.{MAX_NODES}
 use Rattle.mill_paths.specs.declared.fault.PathFault.{PathFault}
 use Rattle.mill_paths.specs.declared.fault.PathFault.TheVariants.{TooManyNodes, TooManyVisits, WantOfMemory}
 use Rattle.mill_paths.specs.declared.visit.Visit.{Visit}
@@ -40,7 +39,7 @@ ok_apart v fault e = cc
 few_nodes : (lattice : Lattice) (n : ℕ) → node_count lattice ≤ MAX_NODES → HasManyNodes lattice n → ⊥
 few_nodes lattice n few many = let all = many.all in let over = many.many in absurd (over_few n (node_count lattice) all over few)
   where
-    over_few : (n m : ℕ) → n ≡ m → 4000000 < n → m ≤ 4000000 → ⊥
+    over_few : (n m : ℕ) → n ≡ m → MAX_NODES < n → m ≤ MAX_NODES → ⊥
     over_few n m e h l = omega arith
 
 -- where the drop heights meet a fault, it is that of too many nodes exactly where there are

@@ -13,3 +13,4 @@ pub mod Steps
 pub mod Uniqueness
 pub mod Lengths
 pub mod Rounds
+mod Many

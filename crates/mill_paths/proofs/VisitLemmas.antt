@@ -1,5 +1,5 @@
 -- Each visit of a plan is in range, between floor and top, and free of the part.
-use Rattle.std.proofs.Common.{◌≡◌, ℕ, zero, suc, ◌+◌, ◌*◌, ◌/◌, ◌%◌, ◌<◌, Bool, true, false, List, [], ◌∷◌, length, get_or, refl, sym, ◌∙◌, subst, mod-lt, arith}
+use Rattle.std.proofs.Common.{◌≡◌, ℕ, zero, suc, ◌+◌, ◌*◌, ◌/◌, ◌%◌, ◌<◌, Bool, true, false, List, [], ◌∷◌, length, get_or, min, refl, sym, ◌∙◌, subst, mod-lt, arith}
 use Rattle.std.specs.Prelude.{nat_abs, int_lt, int_le, ℤ, pos, ◌+ℤ◌, ◌-ℤ◌, ◌<ℤ◌, ◌≤ℤ◌, All}
 use Rattle.std.specs.List.{AllZip, flat_map, range_with_len}
 use Rattle.std.specs.Int.{div_ceil}
@@ -12,15 +12,16 @@ use Rattle.mill_base.specs.Lattices.{lattice_positions, lattice_xs, lattice_ys}
 use Rattle.mill_base.specs.declared.lattice.Lattice.{Lattice}
 use Rattle.mill_base.specs.declared.points.Tri.{Tri}
 use Rattle.mill_drop.specs.Drops.{IsDropHeight}
-use Rattle.mill_drop.specs.Maps.{AreDropHeights, IsHeightAt, IsMapLattice, node_at, nodes_of}
-use Rattle.mill_drop.proofs.NodeLemmas.{get_or-rows, get_or-positions, length-positions, length-rows, position_within, row_within}
+use Rattle.mill_drop.specs.Maps.{AreDropHeights, IsHeightAt, node_at, nodes_of}
+use Rattle.mill_drop.proofs.NodeLemmas.{get_or-rows, get_or-positions, length-positions, length-rows, row_within}
 use Rattle.mill_job.specs.Jobs.{IsFrom, IsJob}
+use Rattle.mill_job.specs.Tables.{IsArea}
 use Rattle.mill_job.specs.declared.job.Job.{Job}
 use Rattle.mill_paths.specs.Lattices.{finish_lattice, rough_lattice, zigzag_of, zigzag_row}
-use Rattle.mill_paths.specs.Visits.{IsVisit, finish_visit, finish_visits_of, height_at, rough_levels, rough_visit, rough_visits_of, rough_visits_on, visit_at, visit_if}
+use Rattle.mill_paths.specs.Visits.{FinishVisitsAreFree, RoughVisitsAreFree, IsVisit, finish_visit, finish_visits_of, height_at, rough_levels, rough_visit, rough_visits_of, rough_visits_on, visit_at, visit_if}
 use Rattle.mill_paths.specs.declared.visit.Visit.{Visit}
 use Rattle.mill_paths.proofs.Adding.{flat_map-nested}
-use Rattle.mill_paths.proofs.LevelLemmas.{IsLevel, is_level}
+use Rattle.mill_paths.proofs.LevelLemmas.{IsLevel, is_level, no_levels}
 use Rattle.mill_paths.proofs.ZigzagLemmas.{length-zigzag_row, number_within}
 
 -- what holds place by place of two lists holds at each number
@@ -44,17 +45,31 @@ some_positions lo hi step =
     more : (n : ℕ) → 0 < n + 1
     more n = omega arith
 
+between_ends : (lo hi : ℤ) (n : ℕ) → Within MAX_TEXT_COORDINATE lo → Within MAX_TEXT_COORDINATE hi → lo ≤ℤ hi → Within MAX_TEXT_COORDINATE (lo +ℤ pos (min n (nat_abs (hi -ℤ lo))))
+between_ends lo hi n l h order =
+    let a = l.within in
+    let b = h.within in
+    record { within = omega (arith, ints) }
+
 positions_within : (lo hi step : ℤ) (k : ℕ) → Within MAX_TEXT_COORDINATE lo → Within MAX_TEXT_COORDINATE hi → lo ≤ℤ hi → (pos 1) ≤ℤ step → k < length (lattice_positions lo hi step)
     → Within MAX_TEXT_COORDINATE (get_or (lattice_positions lo hi step) k (pos 0))
 positions_within lo hi step k low high order some inside =
-    subst (λ z. Within MAX_TEXT_COORDINATE z) (sym (get_or-positions lo hi step k order some inside)) (position_within lo hi (k * nat_abs step) low high order)
+    subst (λ z. Within MAX_TEXT_COORDINATE z) (sym (get_or-positions lo hi step k order some inside)) (between_ends lo hi (k * nat_abs step) low high order)
 
 -- the node of each number is in range
 record IsPlace (node : ℤ × ℤ) : Type 0 where
   pub x_ok : Within MAX_TEXT_COORDINATE node.0
   pub y_ok : Within MAX_TEXT_COORDINATE node.1
 
-node_within : (lattice : Lattice) (number : ℕ) → IsMapLattice lattice → number < length (nodes_of lattice) → IsPlace (node_at lattice number)
+-- a lattice over a job's area
+record IsJobLattice (lattice : Lattice) : Type 0 where
+  pub area_ok : IsArea lattice.area
+  pub step_ok : IsFrom (pos 1) (pos 10000) lattice.step
+
+area_in_range : (job : Job) → IsJob job → IsArea job.area
+area_in_range job ok = record { x0_ok = ok.x0_ok; y0_ok = ok.y0_ok; x1_ok = ok.x1_ok; y1_ok = ok.y1_ok; x_order = ok.x_order; y_order = ok.y_order }
+
+node_within : (lattice : Lattice) (number : ℕ) → IsJobLattice lattice → number < length (nodes_of lattice) → IsPlace (node_at lattice number)
 node_within lattice number ok inside =
     let xs : List ℤ = lattice_xs lattice in
     let ys : List ℤ = lattice_ys lattice in
@@ -62,17 +77,17 @@ node_within lattice number ok inside =
     let product : number < length xs * length ys = subst (λ n. number < n) (length-rows xs ys) inside in
     let is : node_at lattice number ≡ (get_or xs (number % length xs) (pos 0), get_or ys (number / length xs) (pos 0)) = get_or-rows xs ys number (pos 0, pos 0) some product in
     subst (λ node. IsPlace node) (sym is) (record {
-      x_ok = positions_within lattice.area.x0 lattice.area.x1 lattice.step (number % length xs) ok.x0_ok ok.x1_ok ok.x_order ok.step_ok (mod-lt number some);
-      y_ok = positions_within lattice.area.y0 lattice.area.y1 lattice.step (number / length xs) ok.y0_ok ok.y1_ok ok.y_order ok.step_ok (row_within xs ys (length xs) number refl some inside);
+      x_ok = positions_within lattice.area.x0 lattice.area.x1 lattice.step (number % length xs) ok.area_ok.x0_ok ok.area_ok.x1_ok ok.area_ok.x_order ok.step_ok.low (mod-lt number some);
+      y_ok = positions_within lattice.area.y0 lattice.area.y1 lattice.step (number / length xs) ok.area_ok.y0_ok ok.area_ok.y1_ok ok.area_ok.y_order ok.step_ok.low (row_within xs ys (length xs) number refl some inside);
     })
 
 -- a visit of a job over a node, from its drop height on and under the top
-visit_ok : (job : Job) (part : List Tri) (lattice : Lattice) (heights : List ℤ) (number : ℕ) (z : ℤ) → IsJob job → IsMapLattice lattice → IsFrom (pos 1) (pos 10000) lattice.step
+visit_ok : (job : Job) (part : List Tri) (lattice : Lattice) (heights : List ℤ) (number : ℕ) (z : ℤ) → IsJob job → IsJobLattice lattice
     → AreDropHeights job.cutter part job.floor lattice heights → number < length (nodes_of lattice) → height_at heights number ≤ℤ z → z <ℤ job.top
     → IsVisit job part (visit_at lattice number z)
-visit_ok job part lattice heights number z ok map_ok step are inside free under =
+visit_ok job part lattice heights number z ok lattice_ok are inside free under =
     let node : ℤ × ℤ = node_at lattice number in
-    let place : IsPlace node = node_within lattice number map_ok inside in
+    let place : IsPlace node = node_within lattice number lattice_ok inside in
     let drop : IsDropHeight job.cutter part node.0 node.1 job.floor (height_at heights number) =
     AllZip-at (IsHeightAt job.cutter part job.floor) (nodes_of lattice) heights number (pos 0, pos 0) (pos 0) are inside in
     let kept : job.floor ≤ℤ z = upto job.floor (height_at heights number) z drop.kept free in
@@ -81,7 +96,7 @@ visit_ok job part lattice heights number z ok map_ok step are inside free under 
       kept = kept;
       under_top = under;
       free = λ higher h. drop.free higher (upto (height_at heights number) z higher free h);
-      step_ok = step;
+      step_ok = lattice_ok.step_ok;
     }
   where
     upto : (a b c : ℤ) → a ≤ℤ b → b ≤ℤ c → a ≤ℤ c
@@ -96,20 +111,20 @@ if_ok P true lattice number z h = All-cons P (visit_at lattice number z) [] (h r
 if_ok P false lattice number z h = All-nil P
 
 -- each visit on a level between floor and top
-rough_visit_ok : (job : Job) (part : List Tri) (heights : List ℤ) (z : ℤ) (number : ℕ) → IsJob job → IsMapLattice (rough_lattice job) → IsLevel job z
+rough_visit_ok : (job : Job) (part : List Tri) (heights : List ℤ) (z : ℤ) (number : ℕ) → IsJob job → IsLevel job z
     → AreDropHeights job.cutter part job.floor (rough_lattice job) heights → number < length (nodes_of (rough_lattice job)) → All (IsVisit job part) (rough_visit job heights z number)
-rough_visit_ok job part heights z number ok map_ok level are inside =
+rough_visit_ok job part heights z number ok level are inside =
     if_ok (IsVisit job part) (int_le (height_at heights number +ℤ job.rough_stock) z) (rough_lattice job) number z
-    (λ holds. visit_ok job part (rough_lattice job) heights number z ok map_ok ok.rough_raster_ok are inside (less (height_at heights number) job.rough_stock z ok.rough_stock_ok.low holds) level.under)
+    (λ holds. visit_ok job part (rough_lattice job) heights number z ok (record { area_ok = area_in_range job ok; step_ok = ok.rough_raster_ok }) are inside (less (height_at heights number) job.rough_stock z ok.rough_stock_ok.low holds) level.under)
   where
     less : (h stock z : ℤ) → (pos 0) ≤ℤ stock → int_le (h +ℤ stock) z ≡ true → h ≤ℤ z
     less h stock z least e = omega (arith, ints)
 
-finish_visit_ok : (job : Job) (part : List Tri) (heights : List ℤ) (number : ℕ) → IsJob job → IsMapLattice (finish_lattice job)
+finish_visit_ok : (job : Job) (part : List Tri) (heights : List ℤ) (number : ℕ) → IsJob job
     → AreDropHeights job.cutter part job.floor (finish_lattice job) heights → number < length (nodes_of (finish_lattice job)) → All (IsVisit job part) (finish_visit job heights number)
-finish_visit_ok job part heights number ok map_ok are inside =
+finish_visit_ok job part heights number ok are inside =
     if_ok (IsVisit job part) (int_lt (height_at heights number +ℤ job.lift) job.top) (finish_lattice job) number (height_at heights number +ℤ job.lift)
-    (λ holds. visit_ok job part (finish_lattice job) heights number (height_at heights number +ℤ job.lift) ok map_ok ok.raster_ok are inside
+    (λ holds. visit_ok job part (finish_lattice job) heights number (height_at heights number +ℤ job.lift) ok (record { area_ok = area_in_range job ok; step_ok = ok.raster_ok }) are inside
     (more (height_at heights number) job.lift ok.lift_ok.low) (less (height_at heights number +ℤ job.lift) job.top holds))
   where
     more : (h lift : ℤ) → (pos 0) ≤ℤ lift → h ≤ℤ (h +ℤ lift)
@@ -135,14 +150,31 @@ zigzag_ok P f lattice each =
     plain n = omega arith
 
 -- the finishing visits, and the roughing visits
-pub finish_visits_ok : (job : Job) (part : List Tri) (heights : List ℤ) → IsJob job → IsMapLattice (finish_lattice job)
+pub finish_visits_ok : (job : Job) (part : List Tri) (heights : List ℤ) → IsJob job
     → AreDropHeights job.cutter part job.floor (finish_lattice job) heights → All (IsVisit job part) (finish_visits_of job heights)
-finish_visits_ok job part heights ok map_ok are =
-    zigzag_ok (IsVisit job part) (finish_visit job heights) (finish_lattice job) (λ number inside. finish_visit_ok job part heights number ok map_ok are inside)
+finish_visits_ok job part heights ok are =
+    zigzag_ok (IsVisit job part) (finish_visit job heights) (finish_lattice job) (λ number inside. finish_visit_ok job part heights number ok are inside)
 
-pub rough_visits_ok : (job : Job) (part : List Tri) (heights : List ℤ) → IsJob job → (pos 0) <ℤ job.layer → IsMapLattice (rough_lattice job)
+pub rough_visits_ok : (job : Job) (part : List Tri) (heights : List ℤ) → IsJob job → (pos 0) <ℤ job.layer
     → AreDropHeights job.cutter part job.floor (rough_lattice job) heights → All (IsVisit job part) (rough_visits_of job heights)
-rough_visits_ok job part heights ok some map_ok are =
+rough_visits_ok job part heights ok some are =
     All-flat_map (IsVisit job part) (rough_visits_on job heights) (rough_levels job) (pos 0) (λ k inside.
     zigzag_ok (IsVisit job part) (rough_visit job heights (get_or (rough_levels job) k (pos 0))) (rough_lattice job) (λ number within.
-    rough_visit_ok job part heights (get_or (rough_levels job) k (pos 0)) number ok map_ok (is_level job k ok some inside) are within))
+    rough_visit_ok job part heights (get_or (rough_levels job) k (pos 0)) number ok (is_level job k ok some inside) are within))
+
+-- so all finishing visits of a job and a part are, and all its roughing visits, of which there are none without a layer
+pub finish_visits_are_free : FinishVisitsAreFree
+finish_visits_are_free job part list ok are =
+    subst (λ (visits : List Visit). All (IsVisit job part) visits) (sym are.visits) (finish_visits_ok job part are.heights ok are.are)
+
+layered : (l : ℤ) → (pos 0) ≤ℤ l → (l ≡ pos 0) ⊎ ((pos 0) <ℤ l)
+layered (pos zero) least = inl refl
+layered (pos (suc n)) least = inr (omega arith)
+layered (negsuc n) least = absurd (omega (least, arith, ints))
+
+pub rough_visits_are_free : RoughVisitsAreFree
+rough_visits_are_free job part list ok are =
+    subst (λ (visits : List Visit). All (IsVisit job part) visits) (sym are.visits) (elim (layered job.layer ok.layer_ok.low) [
+    | inl none ↦ subst (λ (levels : List ℤ). All (IsVisit job part) (flat_map (rough_visits_on job are.heights) levels)) (sym (no_levels job none)) (All-nil (IsVisit job part))
+    | inr some ↦ rough_visits_ok job part are.heights ok some (are.are some)
+    ])

@@ -1,5 +1,5 @@
 -- The places that a plan comes to, in their order, from the drop heights over its lattices.
-use Rattle.std.specs.Prelude.{◌≡◌, ℕ, ◌-◌, ◌/◌, ◌<◌, nat_abs, Bool, if◌then◌else◌, ℤ, pos, ◌+ℤ◌, ◌-ℤ◌, ◌*ℤ◌, ◌<ℤ◌, ◌≤ℤ◌, int_lt, int_le, List, [], ◌∷◌, map, slice_index_or}
+use Rattle.std.specs.Prelude.{◌≡◌, ℕ, ◌-◌, ◌/◌, ◌<◌, nat_abs, Bool, if◌then◌else◌, ℤ, pos, ◌+ℤ◌, ◌-ℤ◌, ◌*ℤ◌, ◌<ℤ◌, ◌≤ℤ◌, int_lt, int_le, List, [], ◌∷◌, map, slice_index_or, All}
 use Rattle.std.specs.List.{flat_map, range_with_len}
 use Rattle.mill_base.specs.Points.{point_at}
 use Rattle.mill_base.specs.Ranges.{IsInTextRange}
@@ -7,7 +7,7 @@ use Rattle.mill_base.specs.declared.lattice.Lattice.{Lattice}
 use Rattle.mill_base.specs.declared.points.Tri.{Tri}
 use Rattle.mill_drop.specs.Drops.{GougesAt}
 use Rattle.mill_drop.specs.Maps.{AreDropHeights, node_at}
-use Rattle.mill_job.specs.Jobs.{IsFrom}
+use Rattle.mill_job.specs.Jobs.{IsFrom, IsJob}
 use Rattle.mill_job.specs.declared.job.Job.{Job}
 use Rattle.mill_paths.specs.Lattices.{finish_lattice, rough_lattice, zigzag_of}
 use Rattle.mill_paths.specs.Limits.{change_count, most_changes}
@@ -84,3 +84,11 @@ pub record IsVisit (job : Job) (part : List Tri) (visit : Visit) : Type 0 where
   pub under_top : visit.at.z <ℤ job.top
   pub free : (higher : ℤ) → visit.at.z ≤ℤ higher → ¬ GougesAt job.cutter part visit.at.x visit.at.y higher
   pub step_ok : IsFrom (pos 1) (pos 10000) visit.step
+
+-- the finishing visits are places that a plan may come to
+abbrev pub FinishVisitsAreFree : Type 0
+FinishVisitsAreFree = (job : Job) (part : List Tri) (visits : List Visit) → IsJob job → AreFinishVisits job part visits → All (IsVisit job part) visits
+
+-- so are the roughing visits
+abbrev pub RoughVisitsAreFree : Type 0
+RoughVisitsAreFree = (job : Job) (part : List Tri) (visits : List Visit) → IsJob job → AreRoughVisits job part visits → All (IsVisit job part) visits

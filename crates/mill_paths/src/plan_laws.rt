@@ -1,3 +1,4 @@
+ghost use Rattle.mill_paths.specs.Visits.{FinishVisitsAreFree, RoughVisitsAreFree};
 ghost use Rattle.mill_paths.specs.Unique.{ManyFinishVisitsMakeMoves, ManyRoughVisitsMakeMoves, OnePlan, PlanIsLonger, RoundIsSafe};
 
 /// A job and a part have at most one plan.
@@ -20,4 +21,11 @@ pub fn many_visits_make_moves()
 /// A tour of visits from home, and the way home from its last, go safely.
 pub fn round_is_safe()
     ensures { RoundIsSafe }
+{}
+
+/// Each visit of a plan is a place that it may come to: in range, from the floor on and under the top,
+/// and the cutter doesn't gouge there nor at any greater height.
+pub fn visits_are_free()
+    ensures rough { RoughVisitsAreFree }
+    ensures finish { FinishVisitsAreFree }
 {}

@@ -29,8 +29,9 @@ use std::thread::Threads;
 /// # Errors
 ///
 /// `TooManyNodes` exactly where there is a layer and the rough lattice has more than 4,000,000
-/// nodes; `TooManyVisits` only where more than 1,000,000 visits differ from the one before them, of
-/// which the first has none before it.
+/// nodes; `TooManyVisits` exactly where it hasn't, and more than 1,000,000 visits differ from the one
+/// before them, of which the first has none before it. Want of memory may come in the place of the
+/// latter.
 pub fn rough_visits<R: Threads + Sync>(
     rt: &R,
     alloc: Global,
@@ -47,6 +48,7 @@ pub fn rough_visits<R: Threads + Sync>(
         ↔ (((pos 0) <ℤ job.now.layer) × HasManyNodes (rough_lattice job.now) nodes) }
     ensures visits { IsErrOf result TooManyVisits
         → ((pos 0) <ℤ job.now.layer) × HaveManyRoughVisits job.now part.now }
+    ensures many { OnOk result (¬ HaveManyRoughVisits job.now part.now) }
 {
     if job.layer == 0 {
         return Ok(Vec::new(alloc));
@@ -64,8 +66,9 @@ pub fn rough_visits<R: Threads + Sync>(
 ///
 /// # Errors
 ///
-/// `TooManyNodes` exactly where the lattice has more than 4,000,000 nodes; `TooManyVisits` only
-/// where more than 1,000,000 visits differ from the one before them.
+/// `TooManyNodes` exactly where the lattice has more than 4,000,000 nodes; `TooManyVisits` exactly
+/// where it hasn't, and more than 1,000,000 visits differ from the one before them. Want of memory may
+/// come in the place of the latter.
 pub fn finish_visits<R: Threads + Sync>(
     rt: &R,
     alloc: Global,
@@ -81,6 +84,7 @@ pub fn finish_visits<R: Threads + Sync>(
     ensures nodes { (nodes : ℕ) → IsErrOf result (TooManyNodes nodes)
         ↔ HasManyNodes (finish_lattice job.now) nodes }
     ensures visits { IsErrOf result TooManyVisits → HaveManyFinishVisits job.now part.now }
+    ensures many { OnOk result (¬ HaveManyFinishVisits job.now part.now) }
 {
     let heights = drop_heights(rt, alloc, job, part, cells, job.raster)?;
     let mut list = VisitList::new(alloc);

@@ -6,3 +6,4 @@ mod Ends
 mod Reach
 mod Telling
 mod Answering
+mod Never

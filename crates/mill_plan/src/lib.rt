@@ -16,6 +16,6 @@ mod program;
 mod tests;
 
 pub use fault::PlanFault;
-pub use laws::one_plan_answer;
+pub use laws::{one_plan_answer, plan_never_fails};
 pub use planned::Planned;
 pub use program::plan;

@@ -9,6 +9,7 @@ use Rattle.mill_paths.specs.Limits.{IsHeightsFault, IsListFault}
 use Rattle.mill_paths.specs.Visits.{IsVisit, finish_visits_of}
 use Rattle.mill_paths.specs.declared.visit.Visit.{Visit}
 use Rattle.mill_paths.proofs.FaultLemmas.{heights_fault, heights_fault_visits, list_fault, list_fault_visits, list_there, step_least}
+use Rattle.mill_paths.proofs.Many.{few_finish}
 use Rattle.mill_paths.proofs.VisitLemmas.{finish_visits_ok}
 use Rattle.mill_paths.proofs.visits.finish_visits.Goals as goal
 
@@ -76,10 +77,17 @@ returns-clause-each g c =
     let map_ok : IsMapLattice (finish_lattice c.args.job.now) = simp step at c.in_ok-heights.ensures.lattice_ok in
     let added = rw (c.new-list.ensures, c.deref.ensures.value) at c.in_ok-add_path.ensures.ok in
     let visits : c.into_visits.result.items ≡ finish_visits_of c.args.job.now c.in_ok-heights.heights.items = c.into_visits.ensures.visits ∙ added in
-    subst (λ (list : List Visit). All (IsVisit c.args.job.now c.args.part.now) list) (sym visits) (finish_visits_ok c.args.job.now c.args.part.now c.in_ok-heights.heights.items c.requires.job_ok map_ok are)
+    subst (λ (list : List Visit). All (IsVisit c.args.job.now c.args.part.now) list) (sym visits) (finish_visits_ok c.args.job.now c.args.part.now c.in_ok-heights.heights.items c.requires.job_ok are)
 
 pub returns-clause-nodes : goal.returns-clause-nodes
 returns-clause-nodes g c =
     let step = band_kept c.args.job.now.raster (step_least c.args.job.now.raster c.requires.job_ok.raster_ok.low) c.requires.job_ok.raster_ok.high in
     let map_ok : IsMapLattice (finish_lattice c.args.job.now) = simp step at c.in_ok-heights.ensures.lattice_ok in
     λ nodes. list_there c.into_visits.result (finish_lattice c.args.job.now) map_ok nodes
+
+pub returns-clause-many : goal.returns-clause-many
+returns-clause-many g c =
+    let step = band_kept c.args.job.now.raster (step_least c.args.job.now.raster c.requires.job_ok.raster_ok.low) c.requires.job_ok.raster_ok.high in
+    let are : AreDropHeights c.args.job.now.cutter c.args.part.now c.args.job.now.floor (finish_lattice c.args.job.now) c.in_ok-heights.heights.items = simp step at c.in_ok-heights.ensures.heights in
+    let added = rw (c.new-list.ensures, c.deref.ensures.value) at c.in_ok-add_path.ensures.ok in
+    few_finish c.args.job.now c.args.part.now c.in_ok-heights.heights.items c.into_visits.result.items are (c.into_visits.ensures.visits ∙ added) c.into_visits.ensures.few

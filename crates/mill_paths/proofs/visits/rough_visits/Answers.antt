@@ -12,6 +12,7 @@ use Rattle.mill_paths.specs.Visits.{IsVisit, rough_visits_of, rough_visits_on}
 use Rattle.mill_paths.specs.declared.visit.Visit.{Visit}
 use Rattle.mill_paths.proofs.FaultLemmas.{heights_fault, heights_fault_visits, list_fault, list_fault_visits, list_there, step_least, layer_none, layer_some, list_without_layer, no_layer, with_layer}
 use Rattle.mill_paths.proofs.LevelLemmas.{layer_within, no_levels}
+use Rattle.mill_paths.proofs.Many.{few_rough, none_rough}
 use Rattle.mill_paths.proofs.VisitLemmas.{rough_visits_ok}
 use Rattle.mill_paths.proofs.visits.rough_visits.Goals as goal
 
@@ -104,7 +105,7 @@ returns-clause-each g c =
     let map_ok : IsMapLattice (rough_lattice c.args.job.now) = simp step at c.in_ok-heights.ensures.lattice_ok in
     let added = rw (c.new-list.ensures, c.deref.ensures.value) at c.in_ok-add_levels.ensures.ok in
     let visits : c.into_visits.result.items ≡ rough_visits_of c.args.job.now c.in_ok-heights.heights.items = c.into_visits.ensures.visits ∙ added in
-    subst (λ (list : List Visit). All (IsVisit c.args.job.now c.args.part.now) list) (sym visits) (rough_visits_ok c.args.job.now c.args.part.now c.in_ok-heights.heights.items c.requires.job_ok some map_ok are)
+    subst (λ (list : List Visit). All (IsVisit c.args.job.now c.args.part.now) list) (sym visits) (rough_visits_ok c.args.job.now c.args.part.now c.in_ok-heights.heights.items c.requires.job_ok some are)
 
 pub returns-clause-nodes : goal.returns-clause-nodes
 returns-clause-nodes g c =
@@ -112,3 +113,14 @@ returns-clause-nodes g c =
     let step = band_kept c.args.job.now.rough_raster (step_least c.args.job.now.rough_raster c.requires.job_ok.rough_raster_ok.low) c.requires.job_ok.rough_raster_ok.high in
     let map_ok : IsMapLattice (rough_lattice c.args.job.now) = simp step at c.in_ok-heights.ensures.lattice_ok in
     λ nodes. with_layer c.args.job.now.layer some (list_there c.into_visits.result (rough_lattice c.args.job.now) map_ok nodes)
+
+pub returns-then-job-eq0-clause-many : goal.returns-then-job-eq0-clause-many
+returns-then-job-eq0-clause-many g c =
+    none_rough c.args.job.now c.args.part.now (layer_none c.args.job.now.layer (layer_within c.args.job.now c.requires.job_ok) c.if-job-eq0.true)
+
+pub returns-clause-many : goal.returns-clause-many
+returns-clause-many g c =
+    let step = band_kept c.args.job.now.rough_raster (step_least c.args.job.now.rough_raster c.requires.job_ok.rough_raster_ok.low) c.requires.job_ok.rough_raster_ok.high in
+    let are : AreDropHeights c.args.job.now.cutter c.args.part.now c.args.job.now.floor (rough_lattice c.args.job.now) c.in_ok-heights.heights.items = simp step at c.in_ok-heights.ensures.heights in
+    let added = rw (c.new-list.ensures, c.deref.ensures.value) at c.in_ok-add_levels.ensures.ok in
+    few_rough c.args.job.now c.args.part.now c.in_ok-heights.heights.items c.into_visits.result.items are (c.into_visits.ensures.visits ∙ added) c.into_visits.ensures.few

@@ -1,0 +1,36 @@
+-- A list of visits that was made isn't one of which too many differ from the one before them: the drop heights are unique, and so is the list.
+use Rattle.std.proofs.Common.{◌≡◌, ℕ, ◌<◌, ◌≤◌, List, sym, subst, arith}
+use Rattle.std.specs.Prelude.{ℤ, pos}
+use Rattle.std.specs.List.{flat_map}
+use Rattle.mill_base.specs.declared.points.Tri.{Tri}
+use Rattle.mill_drop.specs.Maps.{AreDropHeights}
+use Rattle.mill_drop.proofs.Uniqueness.{one_map}
+use Rattle.mill_job.specs.declared.job.Job.{Job}
+use Rattle.mill_paths.specs.Lattices.{finish_lattice, rough_lattice}
+use Rattle.mill_paths.specs.Limits.{change_count, most_changes}
+use Rattle.mill_paths.specs.Visits.{HaveManyFinishVisits, HaveManyRoughVisits, finish_visits_of, rough_visits_of, rough_visits_on}
+use Rattle.mill_paths.specs.declared.visit.Visit.{Visit}
+use Rattle.mill_paths.proofs.LevelLemmas.{no_levels}
+
+over : (n : ℕ) → n ≤ most_changes → most_changes < n → ⊥
+over n few many = omega arith
+
+none_over : most_changes < 0 → ⊥
+none_over many = omega arith
+
+pub few_finish : (job : Job) (part : List Tri) (heights : List ℤ) (list : List Visit) → AreDropHeights job.cutter part job.floor (finish_lattice job) heights
+    → list ≡ finish_visits_of job heights → change_count list ≤ most_changes → ¬ HaveManyFinishVisits job part
+few_finish job part heights list are is few many =
+    over (change_count list) few (subst (λ (visits : List Visit). most_changes < change_count visits) (sym is)
+    (subst (λ (hs : List ℤ). most_changes < change_count (finish_visits_of job hs)) (one_map job.cutter part job.floor (finish_lattice job) many.heights heights many.are are) many.many))
+
+pub few_rough : (job : Job) (part : List Tri) (heights : List ℤ) (list : List Visit) → AreDropHeights job.cutter part job.floor (rough_lattice job) heights
+    → list ≡ rough_visits_of job heights → change_count list ≤ most_changes → ¬ HaveManyRoughVisits job part
+few_rough job part heights list are is few many =
+    over (change_count list) few (subst (λ (visits : List Visit). most_changes < change_count visits) (sym is)
+    (subst (λ (hs : List ℤ). most_changes < change_count (rough_visits_of job hs)) (one_map job.cutter part job.floor (rough_lattice job) many.heights heights many.are are) many.many))
+
+-- without a layer there are none
+pub none_rough : (job : Job) (part : List Tri) → job.layer ≡ pos 0 → ¬ HaveManyRoughVisits job part
+none_rough job part none many =
+    none_over (subst (λ (levels : List ℤ). most_changes < change_count (flat_map (rough_visits_on job many.heights) levels)) (no_levels job none) many.many)
