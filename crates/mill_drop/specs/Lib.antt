@@ -2,3 +2,4 @@ pub mod Drops
 pub mod Near
 pub mod Spindles
 pub mod Maps
+pub mod Unique
