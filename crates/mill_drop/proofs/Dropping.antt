@@ -7,7 +7,7 @@ use Rattle.std.proofs.lemmas.List.Elements.{Contains-get_or}
 use lib.IntN.{ℤ, pos, ◌-ℤ◌}
 use lib.Signed.{◌<ℤ◌, ◌≤ℤ◌}
 use Rattle.mill_base.specs.Numbers.{Within}
-use Rattle.mill_base.specs.declared.limits.TheConstants.{MAX_TEXT_COORDINATE}
+use Rattle.mill_base.specs.declared.limits.TheConstants.{MAX_COORDINATE}
 use Rattle.mill_base.specs.Points.{point_at, highest}
 use Rattle.mill_base.specs.Sizes.{IsCutter}
 use Rattle.mill_base.specs.declared.points.Tri.{Tri}
@@ -54,13 +54,13 @@ IsFree cutter part d x y height i = i < length part → ¬ TouchesAt cutter (get
 -- the numbers ahead are those of triangles, and each near triangle is ahead or the cutter holds nothing of it at this height
 pub record RaisesSoFar (cutter : Cutter) (part : List Tri) (d : Tri) (area : Box2) (x y from : ℤ) (near : Ahead) (height : ℤ) : Type 0 where
   pub raised : IsRaised cutter part x y from height
-  pub bound : Within MAX_TEXT_COORDINATE height
+  pub bound : Within MAX_COORDINATE height
   pub tops : near.tops ≡ map highest part
   pub within : (i : ℕ) → Contains near.numbers i → i < length part
   pub dealt : AreDealt (IsNearBy part area) (IsFree cutter part d x y height) near.numbers
 
 -- before the first triangle, those near are ahead
-pub raise_starts : (cutter : Cutter) (part : List Tri) (d : Tri) (area : Box2) (x y from : ℤ) (s : Sorted) (near : Ahead) → Within MAX_TEXT_COORDINATE from → s ≡ sorted_of part → near.tops ≡ s.tops
+pub raise_starts : (cutter : Cutter) (part : List Tri) (d : Tri) (area : Box2) (x y from : ℤ) (s : Sorted) (near : Ahead) → Within MAX_COORDINATE from → s ≡ sorted_of part → near.tops ≡ s.tops
     → ((i : ℕ) → Contains near.numbers i ↔ IsNear s.boxes area i) → RaisesSoFar cutter part d area x y from near from
 raise_starts cutter part d area x y from s near ranged e same each = record {
   raised = raised_none cutter part x y from;
@@ -80,7 +80,7 @@ low_top cutter part d x y height tops j ok e le inside t =
     over_top_free cutter (get_or part j d) x y height ok (subst (λ z. z ≤ℤ height) top le) t
 
 pub raise_goes_on : (cutter : Cutter) (part : List Tri) (d : Tri) (area : Box2) (x y from : ℤ) (near later : Ahead) (i : ℕ) (height new : ℤ) → IsCutter cutter → Comes height near i later
-    → RaisesSoFar cutter part d area x y from near height → height ≤ℤ new → Within MAX_TEXT_COORDINATE new → (¬ TouchesAt cutter (get_or part i d) x y new) → (new ≡ height) ⊎ TouchesAt cutter (get_or part i d) x y (new -ℤ pos 1)
+    → RaisesSoFar cutter part d area x y from near height → height ≤ℤ new → Within MAX_COORDINATE new → (¬ TouchesAt cutter (get_or part i d) x y new) → (new ≡ height) ⊎ TouchesAt cutter (get_or part i d) x y (new -ℤ pos 1)
     → RaisesSoFar cutter part d area x y from later new
 raise_goes_on cutter part d area x y from near later i height new ok h s more bound free least = record {
   raised = raised_twice cutter part x y from height new s.raised (record {

@@ -1,3 +1,5 @@
 pub mod Drops
+pub mod Near
+pub mod Spindles
 pub mod Maps
-pub mod inner
+pub mod Unique

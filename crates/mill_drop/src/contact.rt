@@ -1,6 +1,6 @@
 ghost use Rattle.std.specs.Prelude.{◌≡◌, pos, false, IsTrue};
 ghost use Rattle.mill_base.specs.Contact.{Touches};
-ghost use Rattle.mill_base.specs.Ranges.{TriInTextRange};
+ghost use Rattle.mill_base.specs.Ranges.{TriInRange};
 ghost use Rattle.mill_base.specs.Sizes.{IsWideCutter};
 ghost use Rattle.mill_geom.specs.Offsets.{IsCentre};
 
@@ -10,7 +10,7 @@ use mill_base::{Cutter, Pt3, Tri};
 pub fn holds_some(cutter: Cutter, tip: Pt3, tri: &Tri) -> bool
     requires cutter_ok { IsWideCutter cutter }
     requires tip_ok { IsCentre tip }
-    requires tri_ok { TriInTextRange tri.now }
+    requires tri_ok { TriInRange tri.now }
     ensures yes { IsTrue result → Touches cutter (pos 1) tip tri.now }
     ensures no { result ≡ false → ¬ Touches cutter (pos 1) tip tri.now }
 {
