@@ -9,6 +9,7 @@ use Rattle.std.proofs.lemmas.List.{get_or_default}
 use Rattle.std.proofs.lemmas.List.Elements.{Contains-get_or}
 use lib.IntN.{ℤ, pos, ◌+ℤ◌, ◌-ℤ◌}
 use lib.Signed.{◌<ℤ◌, ◌≤ℤ◌}
+use Rattle.mill_base.specs.Numbers.{Within}
 use Rattle.mill_push.specs.declared.fiber.Run.{Run}
 use Rattle.mill_push.specs.Runs.{FreeUpTo, IsNextRun, RunsOf, StandsIn}
 use Rattle.mill_push.specs.Unions.{IsSpan, AreSpans, AreOrdered}
@@ -266,3 +267,10 @@ one_of_two a b = by (int_lt b a) refl
 
 pub most_of_two : (a b : ℤ) → (a ≤ℤ int_max a b) × (b ≤ℤ int_max a b)
 most_of_two a b = (grind (arith, ints), grind (arith, ints))
+
+pub most_within : (m : ℕ) (a b : ℤ) → Within m a → Within m b → Within m (int_max a b)
+most_within m a b h k = by (one_of_two a b)
+  where
+    by : (int_max a b ≡ a) ⊎ (int_max a b ≡ b) → Within m (int_max a b)
+    by (inl e) = subst (λ (v : ℤ). Within m v) (sym e) h
+    by (inr e) = subst (λ (v : ℤ). Within m v) (sym e) k

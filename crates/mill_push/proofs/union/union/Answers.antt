@@ -1,11 +1,11 @@
 use Rattle.std.proofs.Common.{◌+◌, ◌≡◌, get_or, sym, subst, arith}
 use Rattle.std.specs.Int.{int_max}
+use Rattle.std.specs.List.{Contains}
 use Rattle.std.proofs.lemmas.Int.{ints}
 use lib.IntN.{ℤ, pos, ◌+ℤ◌}
 use lib.Signed.{◌<ℤ◌, ◌≤ℤ◌}
-use Rattle.mill_base.specs.Numbers.{Within}
 use Rattle.mill_base.specs.declared.limits.TheConstants.{MAX_TEXT_COORDINATE}
-use Rattle.mill_push.proofs.Joining.{grown_first, grown_on, grown_next, grown_all, at_head, at_later, all_taken, one_of_two, most_of_two}
+use Rattle.mill_push.proofs.Joining.{grown_first, grown_on, grown_next, grown_all, at_head, at_later, all_taken, one_of_two, most_of_two, most_within}
 use Rattle.mill_push.proofs.Stored.{stored, and_one}
 use Rattle.mill_push.proofs.union.union.Goals as goal
 
@@ -19,12 +19,6 @@ loop-stretch-init c =
       c.requires.lasts first (0, h.0, h.1),
     )
 
-most_within : (a b : ℤ) → Within MAX_TEXT_COORDINATE a → Within MAX_TEXT_COORDINATE b → Within MAX_TEXT_COORDINATE (int_max a b)
-most_within a b h k = elim (one_of_two a b) [
-  | inl e ↦ subst (Within MAX_TEXT_COORDINATE) (sym e) h
-  | inr e ↦ subst (Within MAX_TEXT_COORDINATE) (sym e) k
-]
-
 pub loop-stretch-preserved-then-stretch-run : goal.loop-stretch-preserved-then-stretch-run
 loop-stretch-preserved-then-stretch-run c =
     let xs = c.args.stretches.now in
@@ -32,7 +26,7 @@ loop-stretch-preserved-then-stretch-run c =
     let s = get_or c.in-Some.others.now k (record { first = pos 0; last = pos 0 }) in
     let run = c.loop-stretch.run in
     let h = at_later xs c.in-Some.others.now c.in-Some.first.now (record { first = pos 0; last = pos 0 }) k c.in-Some.ensures.cases.0 c.loop-stretch-test.true in
-    let m = (k + 1, h.0, h.1) in
+    let m : Contains xs s = (k + 1, h.0, h.1) in
     let i = c.loop-stretch.invariant in
     let first = stored s.first (c.requires.firsts s m) in
     let last = stored s.last (c.requires.lasts s m) in
@@ -42,7 +36,7 @@ loop-stretch-preserved-then-stretch-run c =
     let near : s.first ≤ℤ (run.last +ℤ pos 1) = omega (test, arith, ints) in
     let value = rw (end, last) at c.max.ensures.value in
     let most = most_of_two run.last s.last in
-    let within = most_within run.last s.last i.1 (c.requires.lasts s m) in
+    let within = most_within MAX_TEXT_COORDINATE run.last s.last i.1 (c.requires.lasts s m) in
     rw (value, stored (int_max run.last s.last) within)
     (
       λ from to spans. grown_on xs c.requires.ordered from to (k + 1) c.loop-stretch.runs.items run s (int_max run.last s.last) spans h.0 h.1 near most.0 most.1 (one_of_two run.last s.last) (i.0 from to spans),
@@ -56,7 +50,7 @@ loop-stretch-preserved c =
     let s = get_or c.in-Some.others.now k (record { first = pos 0; last = pos 0 }) in
     let run = c.loop-stretch.run in
     let h = at_later xs c.in-Some.others.now c.in-Some.first.now (record { first = pos 0; last = pos 0 }) k c.in-Some.ensures.cases.0 c.loop-stretch-test.true in
-    let m = (k + 1, h.0, h.1) in
+    let m : Contains xs s = (k + 1, h.0, h.1) in
     let i = c.loop-stretch.invariant in
     let first = stored s.first (c.requires.firsts s m) in
     let last = stored s.last (c.requires.lasts s m) in
