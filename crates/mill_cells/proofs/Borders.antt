@@ -10,7 +10,7 @@ use lib.Signed.{◌≤ℤ◌, lt_z}
 use mir.Syntax.{w32}
 use Rattle.mill_base.proofs.Machine.{stored, kept}
 use Rattle.mill_base.specs.Numbers.{Within}
-use Rattle.mill_base.specs.declared.limits.TheConstants.{MAX_TEXT_COORDINATE}
+use Rattle.mill_base.specs.declared.limits.TheConstants.{MAX_COORDINATE}
 use Rattle.mill_base.specs.declared.points.Box2.{Box2}
 use Rattle.mill_cells.specs.Boxes.{box_at}
 use Rattle.mill_cells.specs.Frames.{cell_of, border_of, block_of, covers}
@@ -30,10 +30,10 @@ at_lowest : (low x : ℤ) → low ≤ℤ x → not (lt_z x low) ≡ true
 at_lowest low x h = grind (arith, ints)
 
 -- a coordinate as it is stored
-pub coordinate : (z : ℤ) → Within MAX_TEXT_COORDINATE z → stored w32 z ≡ z
-coordinate z h = kept w32 z 131071 h.within refl
+pub coordinate : (z : ℤ) → Within MAX_COORDINATE z → stored w32 z ≡ z
+coordinate z h = kept w32 z 524287 h.within refl
 
-pub border_stored : (r low : ℤ) (size first at : ℕ) → FitsSigned w32 r → Within MAX_TEXT_COORDINATE low → r ≡ border_of (stored w32 low) size first at → stored w32 r ≡ border_of low size first at
+pub border_stored : (r low : ℤ) (size first at : ℕ) → FitsSigned w32 r → Within MAX_COORDINATE low → r ≡ border_of (stored w32 low) size first at → stored w32 r ≡ border_of low size first at
 border_stored r low size first at fits h e = to_z-of_z w32 r fits ∙ (e ∙ ap (λ (z : ℤ). border_of z size first at) (coordinate low h))
 
 -- a coordinate in a column or before it is at its border or further on exactly where the column is the first one that it and the area cover

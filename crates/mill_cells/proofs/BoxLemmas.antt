@@ -10,12 +10,13 @@ use lib.IntN.{ℤ, pos, nat_abs}
 use lib.Signed.{◌<ℤ◌, ◌≤ℤ◌, lt_z}
 use Rattle.mill_cells.specs.Walks.{do_overlap}
 use Rattle.mill_base.specs.Numbers.{Within, lesser, greater}
-use Rattle.mill_base.specs.declared.limits.TheConstants.{MAX_TEXT_COORDINATE}
-use Rattle.mill_base.specs.Ranges.{TriInTextRange, TrisInTextRange}
+use Rattle.mill_base.specs.declared.limits.TheConstants.{MAX_COORDINATE}
+use Rattle.mill_base.specs.Ranges.{TriInRange, TrisInRange}
 use Rattle.mill_base.specs.declared.points.Pt3.{Pt3}
 use Rattle.mill_base.specs.declared.points.Tri.{Tri}
 use Rattle.mill_base.specs.declared.points.Box2.{Box2}
 use Rattle.mill_cells.specs.Boxes.{box_of, boxes_of, box_at, origin_box, widened, bounds_of, IsBounds, IsInside, AllInside, IsCommon}
+use Rattle.mill_cells.proofs.Meeting.{ends_in_order}
 
 -- the least and the greatest of two numbers, as they are stored
 pub least_is : (a b : ℤ) → int_min a b ≡ lesser a b
@@ -46,42 +47,39 @@ pub same_box : (a b c d p q r s : ℤ) → a ≡ p → b ≡ q → c ≡ r → d
 same_box a b c d p q r s e f g h = cc
 
 -- the ends of three numbers
-low_end : (a b c : ℤ) → Within MAX_TEXT_COORDINATE a → Within MAX_TEXT_COORDINATE b → Within MAX_TEXT_COORDINATE c → Within MAX_TEXT_COORDINATE (lesser a (lesser b c))
+low_end : (a b c : ℤ) → Within MAX_COORDINATE a → Within MAX_COORDINATE b → Within MAX_COORDINATE c → Within MAX_COORDINATE (lesser a (lesser b c))
 low_end a b c ha hb hc = record { within = low a b c ha.within hb.within hc.within }
   where
-    low : (a b c : ℤ) → nat_abs a ≤ 131071 → nat_abs b ≤ 131071 → nat_abs c ≤ 131071 → nat_abs (lesser a (lesser b c)) ≤ 131071
+    low : (a b c : ℤ) → nat_abs a ≤ 524287 → nat_abs b ≤ 524287 → nat_abs c ≤ 524287 → nat_abs (lesser a (lesser b c)) ≤ 524287
     low a b c ha hb hc = grind (arith, ints)
 
-high_end : (a b c : ℤ) → Within MAX_TEXT_COORDINATE a → Within MAX_TEXT_COORDINATE b → Within MAX_TEXT_COORDINATE c → Within MAX_TEXT_COORDINATE (greater a (greater b c))
+high_end : (a b c : ℤ) → Within MAX_COORDINATE a → Within MAX_COORDINATE b → Within MAX_COORDINATE c → Within MAX_COORDINATE (greater a (greater b c))
 high_end a b c ha hb hc = record { within = high a b c ha.within hb.within hc.within }
   where
-    high : (a b c : ℤ) → nat_abs a ≤ 131071 → nat_abs b ≤ 131071 → nat_abs c ≤ 131071 → nat_abs (greater a (greater b c)) ≤ 131071
+    high : (a b c : ℤ) → nat_abs a ≤ 524287 → nat_abs b ≤ 524287 → nat_abs c ≤ 524287 → nat_abs (greater a (greater b c)) ≤ 524287
     high a b c ha hb hc = grind (arith, ints)
 
-ends_order : (a b c : ℤ) → lesser a (lesser b c) ≤ℤ greater a (greater b c)
-ends_order a b c = grind (arith, ints)
-
-pub box_bounds : (t : Tri) → TriInTextRange t → IsBounds (box_of t)
+pub box_bounds : (t : Tri) → TriInRange t → IsBounds (box_of t)
 box_bounds t h = record {
   x0_ok = low_end t.a.x t.b.x t.c.x h.a_ok.x_ok h.b_ok.x_ok h.c_ok.x_ok;
   y0_ok = low_end t.a.y t.b.y t.c.y h.a_ok.y_ok h.b_ok.y_ok h.c_ok.y_ok;
   x1_ok = high_end t.a.x t.b.x t.c.x h.a_ok.x_ok h.b_ok.x_ok h.c_ok.x_ok;
   y1_ok = high_end t.a.y t.b.y t.c.y h.a_ok.y_ok h.b_ok.y_ok h.c_ok.y_ok;
-  x_order = ends_order t.a.x t.b.x t.c.x;
-  y_order = ends_order t.a.y t.b.y t.c.y;
+  x_order = ends_in_order t.a.x t.b.x t.c.x;
+  y_order = ends_in_order t.a.y t.b.y t.c.y;
 }
 
 -- the lesser and the greater of two numbers
-lesser_ok : (a b : ℤ) → Within MAX_TEXT_COORDINATE a → Within MAX_TEXT_COORDINATE b → Within MAX_TEXT_COORDINATE (lesser a b)
+lesser_ok : (a b : ℤ) → Within MAX_COORDINATE a → Within MAX_COORDINATE b → Within MAX_COORDINATE (lesser a b)
 lesser_ok a b ha hb = record { within = ok a b ha.within hb.within }
   where
-    ok : (a b : ℤ) → nat_abs a ≤ 131071 → nat_abs b ≤ 131071 → nat_abs (lesser a b) ≤ 131071
+    ok : (a b : ℤ) → nat_abs a ≤ 524287 → nat_abs b ≤ 524287 → nat_abs (lesser a b) ≤ 524287
     ok a b ha hb = grind (arith, ints)
 
-greater_ok : (a b : ℤ) → Within MAX_TEXT_COORDINATE a → Within MAX_TEXT_COORDINATE b → Within MAX_TEXT_COORDINATE (greater a b)
+greater_ok : (a b : ℤ) → Within MAX_COORDINATE a → Within MAX_COORDINATE b → Within MAX_COORDINATE (greater a b)
 greater_ok a b ha hb = record { within = ok a b ha.within hb.within }
   where
-    ok : (a b : ℤ) → nat_abs a ≤ 131071 → nat_abs b ≤ 131071 → nat_abs (greater a b) ≤ 131071
+    ok : (a b : ℤ) → nat_abs a ≤ 524287 → nat_abs b ≤ 524287 → nat_abs (greater a b) ≤ 524287
     ok a b ha hb = grind (arith, ints)
 
 lesser_le : (a b : ℤ) → (lesser a b ≤ℤ a) × (lesser a b ≤ℤ b)
@@ -148,24 +146,24 @@ inside_further a b c h k = record {
 abbrev pub hull_of : Box2 → List Tri → Box2
 hull_of b tris = fold (λ b u. widened b (box_of u)) b tris
 
-first_in : (t : Tri) (tris : List Tri) → TrisInTextRange (t ∷ tris) → TriInTextRange t
+first_in : (t : Tri) (tris : List Tri) → TrisInRange (t ∷ tris) → TriInRange t
 first_in t tris all = all t (0, omega arith, refl)
 
-others_in : (t : Tri) (tris : List Tri) → TrisInTextRange (t ∷ tris) → TrisInTextRange tris
+others_in : (t : Tri) (tris : List Tri) → TrisInRange (t ∷ tris) → TrisInRange tris
 others_in t tris all u m = all u (suc m.0, omega (arith, m.1), m.2)
 
-hull_bounds : (b : Box2) (tris : List Tri) → IsBounds b → TrisInTextRange tris → IsBounds (hull_of b tris)
+hull_bounds : (b : Box2) (tris : List Tri) → IsBounds b → TrisInRange tris → IsBounds (hull_of b tris)
 hull_bounds b [] h all = h
 hull_bounds b (t ∷ tris) h all = hull_bounds (widened b (box_of t)) tris (widened_bounds b (box_of t) h (box_bounds t (first_in t tris all))) (others_in t tris all)
 
-hull_holds_first : (b : Box2) (tris : List Tri) → IsBounds b → TrisInTextRange tris → IsInside (hull_of b tris) b
+hull_holds_first : (b : Box2) (tris : List Tri) → IsBounds b → TrisInRange tris → IsInside (hull_of b tris) b
 hull_holds_first b [] h all = inside_itself b h
 hull_holds_first b (t ∷ tris) h all =
     inside_further _ (widened b (box_of t)) b
     (hull_holds_first (widened b (box_of t)) tris (widened_bounds b (box_of t) h (box_bounds t (first_in t tris all))) (others_in t tris all))
     (widened_first b (box_of t) h)
 
-hull_holds : (b : Box2) (tris : List Tri) (i : ℕ) → IsBounds b → TrisInTextRange tris → i < length tris → IsInside (hull_of b tris) (box_at (boxes_of tris) i)
+hull_holds : (b : Box2) (tris : List Tri) (i : ℕ) → IsBounds b → TrisInRange tris → i < length tris → IsInside (hull_of b tris) (box_at (boxes_of tris) i)
 hull_holds b [] i h all within = absurd (omega arith)
 hull_holds b (t ∷ tris) zero h all within =
     let bt = box_bounds t (first_in t tris all) in
@@ -175,7 +173,7 @@ hull_holds b (t ∷ tris) zero h all within =
 hull_holds b (t ∷ tris) (suc i) h all within =
     hull_holds (widened b (box_of t)) tris i (widened_bounds b (box_of t) h (box_bounds t (first_in t tris all))) (others_in t tris all) (omega arith)
 
-pub bounds_ok : (tris : List Tri) → TrisInTextRange tris → IsBounds (bounds_of tris)
+pub bounds_ok : (tris : List Tri) → TrisInRange tris → IsBounds (bounds_of tris)
 bounds_ok [] all = record {
   x0_ok = record { within = omega arith };
   y0_ok = record { within = omega arith };
@@ -186,7 +184,7 @@ bounds_ok [] all = record {
 }
 bounds_ok (t ∷ tris) all = hull_bounds (box_of t) tris (box_bounds t (first_in t tris all)) (others_in t tris all)
 
-pub bounds_hold : (tris : List Tri) → TrisInTextRange tris → AllInside (bounds_of tris) (boxes_of tris)
+pub bounds_hold : (tris : List Tri) → TrisInRange tris → AllInside (bounds_of tris) (boxes_of tris)
 bounds_hold [] all i within = absurd (omega arith)
 bounds_hold (t ∷ tris) all zero within = hull_holds_first (box_of t) tris (box_bounds t (first_in t tris all)) (others_in t tris all)
 bounds_hold (t ∷ tris) all (suc i) within = hull_holds (box_of t) tris i (box_bounds t (first_in t tris all)) (others_in t tris all) (omega (arith, length-map tris box_of))
@@ -254,7 +252,7 @@ pub folded : (tris : List Tri) (t : Tri) (others : List Tri) → tris ≡ t ∷ 
 folded tris t others e b r p q = rw e (rw p at q)
 
 -- the same of a member
-pub bounds_hold_one : (tris : List Tri) (t : Tri) → TrisInTextRange tris → Contains tris t → IsInside (bounds_of tris) (box_of t)
+pub bounds_hold_one : (tris : List Tri) (t : Tri) → TrisInRange tris → Contains tris t → IsInside (bounds_of tris) (box_of t)
 bounds_hold_one tris t all m =
     let at : box_at (boxes_of tris) m.0 ≡ box_of t = get_or-map box_of tris m.0 t origin_box m.1 ∙ ap box_of m.2 in
     subst (IsInside (bounds_of tris)) at (bounds_hold tris all m.0 (omega (arith, m.1, length-map tris box_of)))

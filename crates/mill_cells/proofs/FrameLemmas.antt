@@ -8,7 +8,7 @@ use Rattle.std.proofs.lemmas.Bool.{and_parts, and_from, and_left, and_right, leb
 use lib.IntN.{ℤ, ◌-ℤ◌}
 use lib.Signed.{◌≤ℤ◌}
 use Rattle.mill_base.specs.Numbers.{Within}
-use Rattle.mill_base.specs.declared.limits.TheConstants.{MAX_TEXT_COORDINATE}
+use Rattle.mill_base.specs.declared.limits.TheConstants.{MAX_COORDINATE}
 use Rattle.mill_base.specs.declared.points.Box2.{Box2}
 use Rattle.mill_cells.specs.Boxes.{IsInside, IsBounds}
 use Rattle.mill_cells.specs.Frames.{cell_of, cell_count, block_of, width_of, height_of, area_of, has_cell, covers, IsBlock, IsFrame}
@@ -22,11 +22,11 @@ div_mono m n k h le = le-div (m / k) n k h (omega (arith, div-mul-le_self m k))
 pub cell_mono : (low : ℤ) (size : ℕ) (a b : ℤ) → 0 < size → low ≤ℤ a → a ≤ℤ b → cell_of low size a ≤ cell_of low size b
 cell_mono low size a b h p q = div_mono (nat_abs (a -ℤ low)) (nat_abs (b -ℤ low)) size h (omega (arith, ints))
 
-pub cell_small : (low : ℤ) (size : ℕ) (a : ℤ) → Within MAX_TEXT_COORDINATE low → Within MAX_TEXT_COORDINATE a → cell_of low size a < 2 ^ 18
+pub cell_small : (low : ℤ) (size : ℕ) (a : ℤ) → Within MAX_COORDINATE low → Within MAX_COORDINATE a → cell_of low size a < 2 ^ 20
 cell_small low size a hl ha =
     let k = hl.within in
     let l = ha.within in
-    let d : nat_abs (a -ℤ low) ≤ 262142 = omega (arith, ints) in
+    let d : nat_abs (a -ℤ low) ≤ 1048574 = omega (arith, ints) in
     omega (arith, div-le_self (nat_abs (a -ℤ low)) size)
 
 -- a block's first and last cells are in order and in the frame
@@ -53,7 +53,7 @@ block_in f b h i =
       low = omega arith;
     }
 
-within_bounds : (lo hi a : ℤ) → Within MAX_TEXT_COORDINATE lo → Within MAX_TEXT_COORDINATE hi → lo ≤ℤ a → a ≤ℤ hi → Within MAX_TEXT_COORDINATE a
+within_bounds : (lo hi a : ℤ) → Within MAX_COORDINATE lo → Within MAX_COORDINATE hi → lo ≤ℤ a → a ≤ℤ hi → Within MAX_COORDINATE a
 within_bounds lo hi a p q h k = let u = p.within in let v = q.within in record { within = omega (arith, ints) }
 
 -- a box within bounds has ends in range
@@ -133,20 +133,20 @@ itself_inside b h = record {
 }
 
 -- a column and a row of the frame begin within its bounds
-place_room : (low high : ℤ) (size at : ℕ) → Within MAX_TEXT_COORDINATE low → Within MAX_TEXT_COORDINATE high → at ≤ cell_of low size high → at * size < 2 ^ 18
+place_room : (low high : ℤ) (size at : ℕ) → Within MAX_COORDINATE low → Within MAX_COORDINATE high → at ≤ cell_of low size high → at * size < 2 ^ 20
 place_room low high size at hl hh le =
     let k = hl.within in
     let l = hh.within in
-    let d : nat_abs (high -ℤ low) ≤ 262142 = omega (arith, ints) in
+    let d : nat_abs (high -ℤ low) ≤ 1048574 = omega (arith, ints) in
     let m = mul-le-mul {n₁ = at} {m₁ = size} {n₂ = cell_of low size high} {m₂ = size} le (omega arith) in
     omega (arith, m, d, div-mul-le_self (nat_abs (high -ℤ low)) size)
 
-pub column_room : (f : Frame) (column : ℕ) → IsFrame f → column < f.columns → column * f.size < 2 ^ 18
+pub column_room : (f : Frame) (column : ℕ) → IsFrame f → column < f.columns → column * f.size < 2 ^ 20
 column_room f column h less =
     let c : f.columns ≡ cell_of f.bounds.x0 f.size f.bounds.x1 + 1 = ap (λ (g : Frame). g.columns) h.made in
     place_room f.bounds.x0 f.bounds.x1 f.size column h.bounds.x0_ok h.bounds.x1_ok (omega arith)
 
-pub row_room : (f : Frame) (row : ℕ) → IsFrame f → row < f.rows → row * f.size < 2 ^ 18
+pub row_room : (f : Frame) (row : ℕ) → IsFrame f → row < f.rows → row * f.size < 2 ^ 20
 row_room f row h less =
     let r : f.rows ≡ cell_of f.bounds.y0 f.size f.bounds.y1 + 1 = ap (λ (g : Frame). g.rows) h.made in
     place_room f.bounds.y0 f.bounds.y1 f.size row h.bounds.y0_ok h.bounds.y1_ok (omega arith)

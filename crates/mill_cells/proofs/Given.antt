@@ -9,7 +9,6 @@ use Rattle.std.proofs.lemmas.List.Elements.{Contains-append_cases, Contains-appe
 use Rattle.std.proofs.lemmas.Nat.{div-mul-add, mod-mul-add, div-add-mod', mul-add-lt}
 use lib.IntN.{ℤ, pos}
 use lib.Signed.{◌≤ℤ◌, lt_z}
-use Rattle.mill_base.specs.Numbers.{greater}
 use Rattle.mill_base.specs.declared.points.Box2.{Box2}
 use Rattle.mill_cells.specs.Boxes.{box_at, IsIn, Meet, IsNear, IsInside, IsCommon}
 use Rattle.mill_cells.specs.Frames.{block_of, width_of, height_of, area_of, covers, IsFrame}
@@ -21,6 +20,7 @@ use Rattle.mill_cells.specs.declared.grid.Grid.{Grid}
 use Rattle.mill_cells.specs.declared.walk.Walk.{Walk}
 use Rattle.mill_cells.proofs.BoxLemmas.{not_less}
 use Rattle.mill_cells.proofs.FrameLemmas.{block_in, cell_mono, covers_at, has_cell_yes}
+use Rattle.mill_cells.proofs.Meeting.{overlapping_meet}
 use Rattle.mill_cells.proofs.Lists.{nothing_in_nil, Contains-filter, filter_keeps, distinct-append, distinct-filter, distinct-nil}
 use Rattle.mill_cells.proofs.Passing.{in_passing, passing_has, passing_distinct}
 use Rattle.std.proofs.Math.Nat.{sub-zero}
@@ -35,24 +35,13 @@ overlap_tells a0 a1 b0 b1 e = let p = and_parts _ _ e in (not_less a0 b1 (not-tr
 overlap_yes : (a0 a1 b0 b1 : ℤ) → a0 ≤ℤ b1 → b0 ≤ℤ a1 → do_overlap a0 a1 b0 b1 ≡ true
 overlap_yes a0 a1 b0 b1 p q = and_from _ _ (not_from_false _ (less_no a0 b1 p)) (not_from_false _ (less_no b0 a1 q))
 
-between_both : (a0 a1 b0 b1 : ℤ) → a0 ≤ℤ a1 → b0 ≤ℤ b1 → a0 ≤ℤ b1 → b0 ≤ℤ a1
-    → (a0 ≤ℤ greater a0 b0) × (greater a0 b0 ≤ℤ a1) × (b0 ≤ℤ greater a0 b0) × (greater a0 b0 ≤ℤ b1)
-between_both a0 a1 b0 b1 p q r s = (grind (arith, ints), grind (arith, ints), grind (arith, ints), grind (arith, ints))
-
 -- the test of two boxes, with their ends the right way round
 pub meet_tells : (a b : Box2) → a.x0 ≤ℤ a.x1 → a.y0 ≤ℤ a.y1 → b.x0 ≤ℤ b.x1 → b.y0 ≤ℤ b.y1 → do_meet a b ≡ true → Meet a b
 meet_tells a b ax ay bx by' e =
     let p = and_parts _ _ e in
-    let ox = overlap_tells a.x0 a.x1 b.x0 b.x1 p.0 in
-    let oy = overlap_tells a.y0 a.y1 b.y0 b.y1 p.1 in
-    let x = between_both a.x0 a.x1 b.x0 b.x1 ax bx ox.0 ox.1 in
-    let y = between_both a.y0 a.y1 b.y0 b.y1 ay by' oy.0 oy.1 in
-    record {
-      x = greater a.x0 b.x0;
-      y = greater a.y0 b.y0;
-      in_first = record { right = x.0; left = x.1; over = y.0; under = y.1 };
-      in_second = record { right = x.2; left = x.3; over = y.2; under = y.3 };
-    }
+    let in_x = overlap_tells a.x0 a.x1 b.x0 b.x1 p.0 in
+    let in_y = overlap_tells a.y0 a.y1 b.y0 b.y1 p.1 in
+    overlapping_meet a b (record { first = ax; second = bx; up = in_x.0; down = in_x.1 }) (record { first = ay; second = by'; up = in_y.0; down = in_y.1 })
 
 le_on : (a x b : ℤ) → a ≤ℤ x → x ≤ℤ b → a ≤ℤ b
 le_on a x b h k = omega (arith, ints)

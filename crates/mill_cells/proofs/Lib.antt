@@ -5,6 +5,7 @@ pub mod FrameLemmas
 pub mod Given
 pub mod LidLemmas
 pub mod Lists
+pub mod Meeting
 pub mod OverLemmas
 pub mod PassedLemmas
 pub mod Passing

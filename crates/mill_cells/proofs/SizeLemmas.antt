@@ -12,8 +12,8 @@ use Rattle.std.proofs.lemmas.List.Elements.{Contains-get_or}
 use lib.IntN.{ℤ, pos, ◌-ℤ◌}
 use lib.Signed.{◌<ℤ◌, ◌≤ℤ◌}
 use Rattle.mill_base.specs.Numbers.{Within}
-use Rattle.mill_base.specs.declared.limits.TheConstants.{MAX_TEXT_COORDINATE}
-use Rattle.mill_base.specs.Ranges.{TrisInTextRange}
+use Rattle.mill_base.specs.declared.limits.TheConstants.{MAX_COORDINATE}
+use Rattle.mill_base.specs.Ranges.{TrisInRange}
 use Rattle.mill_base.specs.declared.points.Tri.{Tri}
 use Rattle.mill_base.specs.declared.points.Box2.{Box2}
 use Rattle.mill_cells.specs.Boxes.{box_of, boxes_of, bounds_of, IsBounds, IsInside, AllInside}
@@ -41,37 +41,37 @@ works_on tris s size some h le =
     record { some = omega (arith, ints); few = omega (arith, h.few, cells_fewer (bounds_of tris) s (nat_abs size) some le') }
 
 -- the greatest size makes one cell of any bounds
-one_cell_of : (low a : ℤ) → Within MAX_TEXT_COORDINATE low → Within MAX_TEXT_COORDINATE a → cell_of low (2 ^ 18) a ≡ 0
+one_cell_of : (low a : ℤ) → Within MAX_COORDINATE low → Within MAX_COORDINATE a → cell_of low (2 ^ 20) a ≡ 0
 one_cell_of low a hl ha =
     let k = hl.within in
     let l = ha.within in
-    let d : nat_abs (a -ℤ low) ≤ 262142 = omega (arith, ints) in
-    let less : nat_abs (a -ℤ low) / (2 ^ 18) < 1 = div_below (nat_abs (a -ℤ low)) (2 ^ 18) 1 (omega arith) (omega arith) in
+    let d : nat_abs (a -ℤ low) ≤ 1048574 = omega (arith, ints) in
+    let less : nat_abs (a -ℤ low) / (2 ^ 20) < 1 = div_below (nat_abs (a -ℤ low)) (2 ^ 20) 1 (omega arith) (omega arith) in
     omega arith
 
-one_block : (b c : Box2) → IsBounds b → IsBounds c → area_of (block_of (frame_over b (2 ^ 18)) c) ≡ 1
+one_block : (b c : Box2) → IsBounds b → IsBounds c → area_of (block_of (frame_over b (2 ^ 20)) c) ≡ 1
 one_block b c hb hc =
     rw (one_cell_of b.x0 c.x0 hb.x0_ok hc.x0_ok, one_cell_of b.x0 c.x1 hb.x0_ok hc.x1_ok, one_cell_of b.y0 c.y0 hb.y0_ok hc.y0_ok, one_cell_of b.y0 c.y1 hb.y0_ok hc.y1_ok) refl
 
-ones : (b : Box2) (tris : List Tri) → IsBounds b → TrisInTextRange tris → sum_by (λ t. area_of (block_of (frame_over b (2 ^ 18)) (box_of t))) tris ≡ length tris
+ones : (b : Box2) (tris : List Tri) → IsBounds b → TrisInRange tris → sum_by (λ t. area_of (block_of (frame_over b (2 ^ 20)) (box_of t))) tris ≡ length tris
 ones b [] hb all = refl
 ones b (t ∷ tris) hb all =
-    let f = λ (u : Tri). area_of (block_of (frame_over b (2 ^ 18)) (box_of u)) in
+    let f = λ (u : Tri). area_of (block_of (frame_over b (2 ^ 20)) (box_of u)) in
     let here : f t ≡ 1 = one_block b (box_of t) hb (box_bounds t (all t (0, omega arith, refl))) in
     let others = ones b tris hb (λ u m. all u (suc m.0, omega (arith, m.1), m.2)) in
     let e = sum_by-cons f t tris in
     omega arith
 
-pub greatest_fits : (tris : List Tri) → TrisInTextRange tris → Fits tris (2 ^ 18)
+pub greatest_fits : (tris : List Tri) → TrisInRange tris → Fits tris (2 ^ 20)
 greatest_fits tris all =
     let h = bounds_ok tris all in
     let b = bounds_of tris in
-    let one : cell_count (frame_of tris (2 ^ 18)) ≡ 1 = rw (one_cell_of b.x0 b.x1 h.x0_ok h.x1_ok, one_cell_of b.y0 b.y1 h.y0_ok h.y1_ok) refl in
-    let entries : entry_count tris (2 ^ 18) ≡ length tris = ones b tris h all in
+    let one : cell_count (frame_of tris (2 ^ 20)) ≡ 1 = rw (one_cell_of b.x0 b.x1 h.x0_ok h.x1_ok, one_cell_of b.y0 b.y1 h.y0_ok h.y1_ok) refl in
+    let entries : entry_count tris (2 ^ 20) ≡ length tris = ones b tris h all in
     record { few = omega arith; small = omega arith }
 
 -- a triangle's box within the bounds
-pub tri_inside : (tris : List Tri) (i : ℕ) (d : Tri) → TrisInTextRange tris → i < length tris → IsInside (bounds_of tris) (box_of (get_or tris i d))
+pub tri_inside : (tris : List Tri) (i : ℕ) (d : Tri) → TrisInRange tris → i < length tris → IsInside (bounds_of tris) (box_of (get_or tris i d))
 tri_inside tris i d all less = bounds_hold_one tris (get_or tris i d) all (Contains-get_or tris i d less)
 
 -- the sum over the triangles so far
@@ -99,15 +99,15 @@ least_power tris d before k less = elim (cases_lt k d) [
     not_under a b h k = omega (arith, ints)
 
 -- a power of two as it is shifted and cast
-pub shifted : (d n : ℕ) → d < 18 → n ≡ 1 * 2 ^ d % 4294967296 → (n ≡ 2 ^ d) × (n ≤ 2 ^ 17) × (to_z w32 n ≡ pos (2 ^ d))
+pub shifted : (d n : ℕ) → d < 20 → n ≡ 1 * 2 ^ d % 4294967296 → (n ≡ 2 ^ d) × (n ≤ 2 ^ 19) × (to_z w32 n ≡ pos (2 ^ d))
 shifted d n less e =
     let same : n ≡ 2 ^ d = e ∙ one_shl d 32 (omega arith) in
-    let small = pow_mono {i = d} {j = 17} (omega arith) in
-    let low : n ≤ 2 ^ 17 = omega arith in
+    let small = pow_mono {i = d} {j = 19} (omega arith) in
+    let low : n ≤ 2 ^ 19 = omega arith in
     (same, low, to_z_pos w32 n (omega arith) ∙ ap pos same)
 
 -- the cells of a fit size over the triangles
-pub frame_is : (tris : List Tri) (f : Frame) (b : Box2) (x : ℕ) (size : ℤ) → TrisInTextRange tris → b ≡ bounds_of tris → f ≡ frame_over b x → x ≡ nat_abs size → IsCellSize tris size → IsFrame f
+pub frame_is : (tris : List Tri) (f : Frame) (b : Box2) (x : ℕ) (size : ℤ) → TrisInRange tris → b ≡ bounds_of tris → f ≡ frame_over b x → x ≡ nat_abs size → IsCellSize tris size → IsFrame f
 frame_is tris f b x size all eb ef ex h =
     let e : f ≡ frame_of tris (nat_abs size) = ef ∙ ap₂ frame_over eb ex in
     subst IsFrame (sym e) (record { bounds = bounds_ok tris all; some = positive size h.some; made = refl; few = h.few })
@@ -115,7 +115,7 @@ frame_is tris f b x size all eb ef ex h =
     positive : (z : ℤ) → (pos 0) <ℤ z → 0 < nat_abs z
     positive z k = omega (arith, ints)
 
-pub boxes_inside : (tris : List Tri) (f : Frame) (b : Box2) (x : ℕ) (boxes : List Box2) (i : ℕ) → TrisInTextRange tris → b ≡ bounds_of tris → f ≡ frame_over b x → length tris ≤ i → boxes ≡ map box_of (take i tris)
+pub boxes_inside : (tris : List Tri) (f : Frame) (b : Box2) (x : ℕ) (boxes : List Box2) (i : ℕ) → TrisInRange tris → b ≡ bounds_of tris → f ≡ frame_over b x → length tris ≤ i → boxes ≡ map box_of (take i tris)
     → AllInside f.bounds boxes
 boxes_inside tris f b x boxes i all eb ef end e =
     let whole : boxes ≡ boxes_of tris = e ∙ ap (map box_of) (take_all i tris end) in

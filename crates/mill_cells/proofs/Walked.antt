@@ -11,7 +11,7 @@ use Rattle.mill_cells.proofs.FrameLemmas.{block_in, block_is, covers_at, has_cel
 
 -- which of the cells in each row the box covers
 pub record Walked (f : Frame) (b : Box2) (k : Block) : Type 0 where
-  pub small : (k.last_column < 2 ^ 18) × (k.last_row < 2 ^ 18)
+  pub small : (k.last_column < 2 ^ 20) × (k.last_row < 2 ^ 20)
   pub last : (k.last_row + 1) * f.columns ≤ cell_count f
   pub order : (k.first_column ≤ k.last_column) × (k.first_row ≤ k.last_row) × (k.last_column < f.columns) × (k.last_row < f.rows)
   pub before_rows : (c : ℕ) → c < k.first_row * f.columns → covers f b c ≡ false

@@ -1,7 +1,7 @@
 -- Boxes of triangles in x and y, and when they meet.
 use Rattle.std.specs.Prelude.{ℕ, ◌<◌, ℤ, pos, ◌≤ℤ◌, List, [], ◌∷◌, length, map, fold, slice_index_or}
 use Rattle.mill_base.specs.Numbers.{Within, lesser, greater}
-use Rattle.mill_base.specs.declared.limits.TheConstants.{MAX_TEXT_COORDINATE}
+use Rattle.mill_base.specs.declared.limits.TheConstants.{MAX_COORDINATE}
 use Rattle.mill_base.specs.Points.{least_x, least_y, most_x, most_y}
 use Rattle.mill_base.specs.declared.points.Tri.{Tri}
 use Rattle.mill_base.specs.declared.points.Box2.{Box2}
@@ -52,10 +52,10 @@ bounds_of (t ∷ tris) = fold (λ b u. widened b (box_of u)) (box_of t) tris
 
 -- the ends are in range and the right way round
 pub record IsBounds (b : Box2) : Type 0 where
-  pub x0_ok : Within MAX_TEXT_COORDINATE b.x0
-  pub y0_ok : Within MAX_TEXT_COORDINATE b.y0
-  pub x1_ok : Within MAX_TEXT_COORDINATE b.x1
-  pub y1_ok : Within MAX_TEXT_COORDINATE b.y1
+  pub x0_ok : Within MAX_COORDINATE b.x0
+  pub y0_ok : Within MAX_COORDINATE b.y0
+  pub x1_ok : Within MAX_COORDINATE b.x1
+  pub y1_ok : Within MAX_COORDINATE b.y1
   pub x_order : b.x0 ≤ℤ b.x1
   pub y_order : b.y0 ≤ℤ b.y1
 

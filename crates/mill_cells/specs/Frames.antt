@@ -44,8 +44,8 @@ area_of b = width_of b * height_of b
 pub record IsBlock (b : Block) : Type 0 where
   pub columns : b.first_column ≤ b.last_column
   pub rows : b.first_row ≤ b.last_row
-  pub narrow : b.last_column < 2 ^ 18
-  pub low : b.last_row < 2 ^ 18
+  pub narrow : b.last_column < 2 ^ 20
+  pub low : b.last_row < 2 ^ 20
 
 -- the block has the cell in this column and row
 abbrev pub has_cell : Block → ℕ → ℕ → Bool

@@ -1,6 +1,6 @@
 ghost use Rattle.std.specs.Prelude.{◌≡◌, ◌<◌, ◌^◌, ◌↔◌, ℤ, pos, ◌<ℤ◌, ◌≤ℤ◌, length, IfOk, Contains, ℕ, nat_eq, nat_abs};
 ghost use Rattle.std.specs.List.{IsDistinct};
-ghost use Rattle.mill_base.specs.Ranges.{TrisInTextRange};
+ghost use Rattle.mill_base.specs.Ranges.{TrisInRange};
 ghost use Rattle.mill_cells.specs.Boxes.{IsNear};
 ghost use Rattle.mill_cells.specs.Sizes.{Fits, IsCellSize};
 ghost use Rattle.mill_cells.specs.Sorted.{sorted_of};
@@ -41,7 +41,7 @@ impl Cells {
     /// at which there are at most 2^20 cells, and cells and entries in them together are at most
     /// four for each triangle and four more.
     pub fn size_for(tris: &[Tri]) -> i32
-        requires in_range { TrisInTextRange tris.now }
+        requires in_range { TrisInRange tris.now }
         requires count { length tris.now < 2 ^ 32 }
         ensures power { (k : ℕ) × (result ≡ pos (2 ^ k)) }
         ensures fits { Fits tris.now (nat_abs result) }
@@ -55,7 +55,7 @@ impl Cells {
     ///
     /// `size_for` gives a size that suits, and each greater one will do.
     pub fn new(alloc: Global, tris: &[Tri], size: i32) -> Result<Cells, WantOfMemory>
-        requires in_range { TrisInTextRange tris.now }
+        requires in_range { TrisInRange tris.now }
         requires count { length tris.now < 2 ^ 32 }
         requires size { IsCellSize tris.now size }
         ensures { IfOk result (λ cells. cells ≡ sorted_of tris.now) }

@@ -1,6 +1,6 @@
 ghost use Rattle.std.specs.Prelude.{◌≡◌, ◌<◌, ◌≤◌, ◌≤ℤ◌, ◌^◌, ◌+◌, ◌*◌};
 ghost use Rattle.mill_base.specs.Numbers.{Within};
-ghost use Rattle.mill_base.specs.declared.limits.TheConstants.{MAX_TEXT_COORDINATE};
+ghost use Rattle.mill_base.specs.declared.limits.TheConstants.{MAX_COORDINATE};
 ghost use Rattle.mill_cells.specs.Boxes.{IsInside, IsBounds};
 ghost use Rattle.mill_cells.specs.Frames.{cell_of, border_of};
 
@@ -71,12 +71,12 @@ impl Frame {
 
 /// The number of the column, or of the row, in which a coordinate lies: that of `low` is 0.
 pub fn cell_number(low: i32, size: u32, at: i32) -> u32
-    requires low_ok { Within MAX_TEXT_COORDINATE low }
-    requires at_ok { Within MAX_TEXT_COORDINATE at }
+    requires low_ok { Within MAX_COORDINATE low }
+    requires at_ok { Within MAX_COORDINATE at }
     requires order { low ≤ℤ at }
     requires size { 0 < size }
     ensures value { result ≡ cell_of low size at }
-    ensures bound { result < 2 ^ 18 }
+    ensures bound { result < 2 ^ 20 }
 {
     (at - low) as u32 / size
 }
@@ -84,8 +84,8 @@ pub fn cell_number(low: i32, size: u32, at: i32) -> u32
 /// Where the column, or the row, `at` begins, for that of number 0 at `low`; for the first one that
 /// is looked at, `low` itself, since what begins before it can't be met before.
 pub fn border(low: i32, size: u32, first: u32, at: u32) -> i32
-    requires low_ok { Within MAX_TEXT_COORDINATE low }
-    requires room { at * size < 2 ^ 18 }
+    requires low_ok { Within MAX_COORDINATE low }
+    requires room { at * size < 2 ^ 20 }
     ensures { result ≡ border_of low size first at }
 {
     if at == first {
@@ -111,7 +111,7 @@ impl Block {
     pub fn cells(self) -> u64
         requires { IsBlock self }
         ensures value { result ≡ area_of self }
-        ensures bound { result ≤ 2 ^ 36 }
+        ensures bound { result ≤ 2 ^ 40 }
     {
         u64::from(self.width()) * u64::from(self.last_row - self.first_row + 1)
     }

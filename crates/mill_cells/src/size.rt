@@ -1,5 +1,5 @@
 ghost use Rattle.std.specs.Prelude.{◌≡◌, ◌<◌, ◌^◌, ◌↔◌, ℕ, ℤ, pos, ◌<ℤ◌, ◌≤ℤ◌, length, IsTrue, nat_abs};
-ghost use Rattle.mill_base.specs.Ranges.{TrisInTextRange};
+ghost use Rattle.mill_base.specs.Ranges.{TrisInRange};
 ghost use Rattle.mill_cells.specs.Boxes.{bounds_of};
 ghost use Rattle.mill_cells.specs.Sizes.{Fits, IsCellSize};
 
@@ -11,11 +11,11 @@ use mill_base::{Box2, Tri};
 const MOST_CELLS: u64 = 1 << 20;
 
 /// At this size every part has one cell.
-const MOST_DOUBLINGS: u32 = 18;
+const MOST_DOUBLINGS: u32 = 20;
 
 /// The least power of two that is fit as a size of cells.
 pub fn size_for(tris: &[Tri]) -> i32
-    requires in_range { TrisInTextRange tris.now }
+    requires in_range { TrisInRange tris.now }
     requires count { length tris.now < 2 ^ 32 }
     ensures power { (k : ℕ) × (result ≡ pos (2 ^ k)) }
     ensures fits { Fits tris.now (nat_abs result) }
@@ -34,7 +34,7 @@ pub fn size_for(tris: &[Tri]) -> i32
 
 /// Whether a size of cells is fit: it makes few cells, and few entries in them.
 fn fits(tris: &[Tri], bounds: Box2, size: u32) -> bool
-    requires in_range { TrisInTextRange tris.now }
+    requires in_range { TrisInRange tris.now }
     requires count { length tris.now < 2 ^ 32 }
     requires bounds { bounds ≡ bounds_of tris.now }
     requires size { 0 < size }

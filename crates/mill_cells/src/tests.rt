@@ -1,5 +1,5 @@
 ghost use Rattle.std.specs.Prelude.{◌≡◌, ℕ, ◌≤ℤ◌};
-ghost use Rattle.mill_base.specs.Ranges.{IsInTextRange, TrisInTextRange};
+ghost use Rattle.mill_base.specs.Ranges.{IsInRange, TrisInRange};
 ghost use Rattle.mill_cells.specs.Boxes.{IsNear};
 ghost use Rattle.mill_cells.specs.Sorted.{height_at, sorted_of};
 
@@ -9,7 +9,7 @@ use mill_base::{Box2, Pt3, Tri};
 use std::test::Fail;
 
 fn at(x: i16, y: i16, z: i16) -> Pt3
-    ensures { IsInTextRange result }
+    ensures { IsInRange result }
 {
     Pt3 {
         x: i32::from(x),
@@ -21,7 +21,7 @@ fn at(x: i16, y: i16, z: i16) -> Pt3
 // Two triangles over squares of 10, the second one 100 to the right of the first. Their tops are 5
 // and 8.
 fn apart() -> [Tri; 2]
-    ensures { TrisInTextRange result }
+    ensures { TrisInRange result }
 {
     [
         Tri {

@@ -1,6 +1,7 @@
 -- Meetings at the positions along an axis, and what the cylinder's side says where the sphere meets nothing.
-use Rattle.std.proofs.Common.{◌≡◌, inl, inr, refl, arith}
+use Rattle.std.proofs.Common.{◌≡◌, inl, inr, refl, arith, Option, Some, None, IfSome}
 use lib.IntN.{ℤ, pos, ◌+ℤ◌, ◌-ℤ◌}
+use lib.Signed.{◌≤ℤ◌}
 use Rattle.std.proofs.lemmas.Int.{ints}
 use Rattle.mill_base.specs.declared.points.Pt3.{Pt3}
 use Rattle.mill_base.specs.declared.points.Tri.{Tri}
@@ -15,12 +16,12 @@ use Rattle.mill_geom.specs.Offsets.{mean3, IsOffset}
 use Rattle.mill_geom.specs.Sides.{IsOnSide, IsTouch, TouchesAt, along, slid_by, turned_to}
 use Rattle.mill_geom.proofs.PlaceCerts.{swap_near}
 use Rattle.mill_geom.proofs.StripCerts.{unslid}
-use Rattle.mill_geom.proofs.Along.{touch_here, side_carried, touch_carried}
+use Rattle.mill_geom.proofs.Along.{touch_here, along_at as flat_along_at, side_carried, touch_carried}
 use Rattle.mill_contact_ball.specs.Centres.{centre_of}
 use Rattle.mill_contact_ball.specs.Spheres.{MeetsSphere, MeetsBall, MeetsAt, flat_of}
 use Rattle.mill_contact_ball.proofs.ShadowCerts.{swap_sphere}
 use Rattle.mill_contact_ball.proofs.Shadows.{same_sphere, flat_never}
-use Rattle.mill_contact_ball.proofs.Places.{ball_place, place_ball}
+use Rattle.mill_contact_ball.proofs.Places.{ball_place, place_ball, in_cylinder}
 
 -- a meeting is one at the position 0
 pub meeting_here : (r : ℤ) (a b c : Offset) → MeetsBall r a b c → MeetsAt r a b c (pos 0)
@@ -106,3 +107,11 @@ pub touch_along : (s : Touch) (r : ℤ) (tri : Tri) (tip : Pt3) (axis : Axis) (a
 touch_along s r tri tip axis a b c oa ob oc h =
     touch_carried s (MeetsAt r (turned_to axis a) (turned_to axis b) (turned_to axis c)) (λ t. Touches (Ball r) (pos 1) (along axis tip t) tri)
     (at_along r tri tip axis a b c (pos 0) oa ob oc) (λ t. along_at r tri tip axis a b c t oa ob oc) h
+
+-- a ball lies in the flat cutter of its radius, so where the box keeps that off the triangle, it keeps the ball off
+pub box_along : (s : Option Side) (r : ℤ) (tri : Tri) (tip : Pt3) (axis : Axis) (a b c : Offset) → (pos 1) ≤ℤ r → IsOffset a tri.a tip → IsOffset b tri.b tip → IsOffset c tri.c tip
+    → IfSome s (λ side. IsOnSide side (TouchesAt r (turned_to axis a) (turned_to axis b) (turned_to axis c))) → IfSome s (λ side. IsOnSide side (λ t. Touches (Ball r) (pos 1) (along axis tip t) tri))
+box_along None r tri tip axis a b c hr oa ob oc h = tt
+box_along (Some side) r tri tip axis a b c hr oa ob oc h =
+    side_carried side (TouchesAt r (turned_to axis a) (turned_to axis b) (turned_to axis c)) (λ t. Touches (Ball r) (pos 1) (along axis tip t) tri)
+    (λ t v. flat_along_at r tri tip axis a b c t oa ob oc (in_cylinder r tri (along axis tip t) hr v)) h

@@ -1,3 +1,4 @@
+-- Polynomial facts behind the foot of the centre on a triangle's plane; written by tools/certificates.py from tools/certificates/mill_contact_ball_foot.spec.
 use Rattle.std.proofs.Common.{◌≡◌, [], ◌∷◌, refl}
 use lib.IntN.{ℤ, pos, ◌+ℤ◌, ◌-ℤ◌, ◌*ℤ◌}
 use lib.Signed.{◌<ℤ◌, ◌≤ℤ◌}
@@ -28,26 +29,26 @@ plane_le u v w ax ay az bx by bz cx cy cz vx vy vz D e1 e2 e3 = prove_le_by (u �
 pub plane_ge : (u v w ax ay az bx by bz cx cy cz vx vy vz D : ℤ) → (((vx *ℤ ax) +ℤ (vy *ℤ ay)) +ℤ (vz *ℤ az)) ≡ D → (((vx *ℤ bx) +ℤ (vy *ℤ by)) +ℤ (vz *ℤ bz)) ≡ D → (((vx *ℤ cx) +ℤ (vy *ℤ cy)) +ℤ (vz *ℤ cz)) ≡ D → (((u +ℤ v) +ℤ w) *ℤ D) ≤ℤ (((vx *ℤ (((u *ℤ ax) +ℤ (v *ℤ bx)) +ℤ (w *ℤ cx))) +ℤ (vy *ℤ (((u *ℤ ay) +ℤ (v *ℤ by)) +ℤ (w *ℤ cy)))) +ℤ (vz *ℤ (((u *ℤ az) +ℤ (v *ℤ bz)) +ℤ (w *ℤ cz))))
 plane_ge u v w ax ay az bx by bz cx cy cz vx vy vz D e1 e2 e3 = prove_le_by (u ∷ v ∷ w ∷ ax ∷ ay ∷ az ∷ bx ∷ by ∷ bz ∷ cx ∷ cy ∷ cz ∷ vx ∷ vy ∷ vz ∷ D ∷ []) (Eq (Add (Add (Mul (Var 12) (Var 3)) (Mul (Var 13) (Var 4))) (Mul (Var 14) (Var 5))) (Var 15) ∷ Eq (Add (Add (Mul (Var 12) (Var 6)) (Mul (Var 13) (Var 7))) (Mul (Var 14) (Var 8))) (Var 15) ∷ Eq (Add (Add (Mul (Var 12) (Var 9)) (Mul (Var 13) (Var 10))) (Mul (Var 14) (Var 11))) (Var 15) ∷ []) (Mul (Add (Add (Var 0) (Var 1)) (Var 2)) (Var 15)) (Add (Add (Mul (Var 12) (Add (Add (Mul (Var 0) (Var 3)) (Mul (Var 1) (Var 6))) (Mul (Var 2) (Var 9)))) (Mul (Var 13) (Add (Add (Mul (Var 0) (Var 4)) (Mul (Var 1) (Var 7))) (Mul (Var 2) (Var 10))))) (Mul (Var 14) (Add (Add (Mul (Var 0) (Var 5)) (Mul (Var 1) (Var 8))) (Mul (Var 2) (Var 11))))) (Plus (Hyp 0) (Plus (TimesEq 1 (Neg (Var 0))) (Plus (TimesEq 2 (Neg (Var 1))) (TimesEq 3 (Neg (Var 2)))))) 0 (e1, (e2, (e3, tt))) refl
 
-pub normal_a : (ax ay az bx by bz cx cy cz : ℤ) → (((((((by *ℤ cz) -ℤ (bz *ℤ cy)) +ℤ ((cy *ℤ az) -ℤ (cz *ℤ ay))) +ℤ ((ay *ℤ bz) -ℤ (az *ℤ by))) *ℤ ax) +ℤ (((((bz *ℤ cx) -ℤ (bx *ℤ cz)) +ℤ ((cz *ℤ ax) -ℤ (cx *ℤ az))) +ℤ ((az *ℤ bx) -ℤ (ax *ℤ bz))) *ℤ ay)) +ℤ (((((bx *ℤ cy) -ℤ (by *ℤ cx)) +ℤ ((cx *ℤ ay) -ℤ (cy *ℤ ax))) +ℤ ((ax *ℤ by) -ℤ (ay *ℤ bx))) *ℤ az)) ≡ (((ax *ℤ ((by *ℤ cz) -ℤ (bz *ℤ cy))) +ℤ (ay *ℤ ((bz *ℤ cx) -ℤ (bx *ℤ cz)))) +ℤ (az *ℤ ((bx *ℤ cy) -ℤ (by *ℤ cx))))
-normal_a ax ay az bx by bz cx cy cz = ring (ax ∷ ay ∷ az ∷ bx ∷ by ∷ bz ∷ cx ∷ cy ∷ cz ∷ []) (Add (Add (Mul (Add (Add (Sub (Mul (Var 4) (Var 8)) (Mul (Var 5) (Var 7))) (Sub (Mul (Var 7) (Var 2)) (Mul (Var 8) (Var 1)))) (Sub (Mul (Var 1) (Var 5)) (Mul (Var 2) (Var 4)))) (Var 0)) (Mul (Add (Add (Sub (Mul (Var 5) (Var 6)) (Mul (Var 3) (Var 8))) (Sub (Mul (Var 8) (Var 0)) (Mul (Var 6) (Var 2)))) (Sub (Mul (Var 2) (Var 3)) (Mul (Var 0) (Var 5)))) (Var 1))) (Mul (Add (Add (Sub (Mul (Var 3) (Var 7)) (Mul (Var 4) (Var 6))) (Sub (Mul (Var 6) (Var 1)) (Mul (Var 7) (Var 0)))) (Sub (Mul (Var 0) (Var 4)) (Mul (Var 1) (Var 3)))) (Var 2))) (Add (Add (Mul (Var 0) (Sub (Mul (Var 4) (Var 8)) (Mul (Var 5) (Var 7)))) (Mul (Var 1) (Sub (Mul (Var 5) (Var 6)) (Mul (Var 3) (Var 8))))) (Mul (Var 2) (Sub (Mul (Var 3) (Var 7)) (Mul (Var 4) (Var 6))))) refl
+pub normal_a : (ax ay az bx by bz cx cy cz : ℤ) → (((((((by *ℤ cz) -ℤ (bz *ℤ cy)) +ℤ ((cy *ℤ az) -ℤ (cz *ℤ ay))) +ℤ ((ay *ℤ bz) -ℤ (az *ℤ by))) *ℤ ax) +ℤ (((((bz *ℤ cx) -ℤ (bx *ℤ cz)) +ℤ ((cz *ℤ ax) -ℤ (cx *ℤ az))) +ℤ ((az *ℤ bx) -ℤ (ax *ℤ bz))) *ℤ ay)) +ℤ (((((bx *ℤ cy) -ℤ (by *ℤ cx)) +ℤ ((cx *ℤ ay) -ℤ (cy *ℤ ax))) +ℤ ((ax *ℤ by) -ℤ (ay *ℤ bx))) *ℤ az)) ≡ (((((by *ℤ cz) -ℤ (bz *ℤ cy)) *ℤ ax) +ℤ (((bz *ℤ cx) -ℤ (bx *ℤ cz)) *ℤ ay)) +ℤ (((bx *ℤ cy) -ℤ (by *ℤ cx)) *ℤ az))
+normal_a ax ay az bx by bz cx cy cz = ring (ax ∷ ay ∷ az ∷ bx ∷ by ∷ bz ∷ cx ∷ cy ∷ cz ∷ []) (Add (Add (Mul (Add (Add (Sub (Mul (Var 4) (Var 8)) (Mul (Var 5) (Var 7))) (Sub (Mul (Var 7) (Var 2)) (Mul (Var 8) (Var 1)))) (Sub (Mul (Var 1) (Var 5)) (Mul (Var 2) (Var 4)))) (Var 0)) (Mul (Add (Add (Sub (Mul (Var 5) (Var 6)) (Mul (Var 3) (Var 8))) (Sub (Mul (Var 8) (Var 0)) (Mul (Var 6) (Var 2)))) (Sub (Mul (Var 2) (Var 3)) (Mul (Var 0) (Var 5)))) (Var 1))) (Mul (Add (Add (Sub (Mul (Var 3) (Var 7)) (Mul (Var 4) (Var 6))) (Sub (Mul (Var 6) (Var 1)) (Mul (Var 7) (Var 0)))) (Sub (Mul (Var 0) (Var 4)) (Mul (Var 1) (Var 3)))) (Var 2))) (Add (Add (Mul (Sub (Mul (Var 4) (Var 8)) (Mul (Var 5) (Var 7))) (Var 0)) (Mul (Sub (Mul (Var 5) (Var 6)) (Mul (Var 3) (Var 8))) (Var 1))) (Mul (Sub (Mul (Var 3) (Var 7)) (Mul (Var 4) (Var 6))) (Var 2))) refl
 
-pub normal_b : (ax ay az bx by bz cx cy cz : ℤ) → (((((((by *ℤ cz) -ℤ (bz *ℤ cy)) +ℤ ((cy *ℤ az) -ℤ (cz *ℤ ay))) +ℤ ((ay *ℤ bz) -ℤ (az *ℤ by))) *ℤ bx) +ℤ (((((bz *ℤ cx) -ℤ (bx *ℤ cz)) +ℤ ((cz *ℤ ax) -ℤ (cx *ℤ az))) +ℤ ((az *ℤ bx) -ℤ (ax *ℤ bz))) *ℤ by)) +ℤ (((((bx *ℤ cy) -ℤ (by *ℤ cx)) +ℤ ((cx *ℤ ay) -ℤ (cy *ℤ ax))) +ℤ ((ax *ℤ by) -ℤ (ay *ℤ bx))) *ℤ bz)) ≡ (((ax *ℤ ((by *ℤ cz) -ℤ (bz *ℤ cy))) +ℤ (ay *ℤ ((bz *ℤ cx) -ℤ (bx *ℤ cz)))) +ℤ (az *ℤ ((bx *ℤ cy) -ℤ (by *ℤ cx))))
-normal_b ax ay az bx by bz cx cy cz = ring (ax ∷ ay ∷ az ∷ bx ∷ by ∷ bz ∷ cx ∷ cy ∷ cz ∷ []) (Add (Add (Mul (Add (Add (Sub (Mul (Var 4) (Var 8)) (Mul (Var 5) (Var 7))) (Sub (Mul (Var 7) (Var 2)) (Mul (Var 8) (Var 1)))) (Sub (Mul (Var 1) (Var 5)) (Mul (Var 2) (Var 4)))) (Var 3)) (Mul (Add (Add (Sub (Mul (Var 5) (Var 6)) (Mul (Var 3) (Var 8))) (Sub (Mul (Var 8) (Var 0)) (Mul (Var 6) (Var 2)))) (Sub (Mul (Var 2) (Var 3)) (Mul (Var 0) (Var 5)))) (Var 4))) (Mul (Add (Add (Sub (Mul (Var 3) (Var 7)) (Mul (Var 4) (Var 6))) (Sub (Mul (Var 6) (Var 1)) (Mul (Var 7) (Var 0)))) (Sub (Mul (Var 0) (Var 4)) (Mul (Var 1) (Var 3)))) (Var 5))) (Add (Add (Mul (Var 0) (Sub (Mul (Var 4) (Var 8)) (Mul (Var 5) (Var 7)))) (Mul (Var 1) (Sub (Mul (Var 5) (Var 6)) (Mul (Var 3) (Var 8))))) (Mul (Var 2) (Sub (Mul (Var 3) (Var 7)) (Mul (Var 4) (Var 6))))) refl
+pub normal_b : (ax ay az bx by bz cx cy cz : ℤ) → (((((((by *ℤ cz) -ℤ (bz *ℤ cy)) +ℤ ((cy *ℤ az) -ℤ (cz *ℤ ay))) +ℤ ((ay *ℤ bz) -ℤ (az *ℤ by))) *ℤ bx) +ℤ (((((bz *ℤ cx) -ℤ (bx *ℤ cz)) +ℤ ((cz *ℤ ax) -ℤ (cx *ℤ az))) +ℤ ((az *ℤ bx) -ℤ (ax *ℤ bz))) *ℤ by)) +ℤ (((((bx *ℤ cy) -ℤ (by *ℤ cx)) +ℤ ((cx *ℤ ay) -ℤ (cy *ℤ ax))) +ℤ ((ax *ℤ by) -ℤ (ay *ℤ bx))) *ℤ bz)) ≡ (((((by *ℤ cz) -ℤ (bz *ℤ cy)) *ℤ ax) +ℤ (((bz *ℤ cx) -ℤ (bx *ℤ cz)) *ℤ ay)) +ℤ (((bx *ℤ cy) -ℤ (by *ℤ cx)) *ℤ az))
+normal_b ax ay az bx by bz cx cy cz = ring (ax ∷ ay ∷ az ∷ bx ∷ by ∷ bz ∷ cx ∷ cy ∷ cz ∷ []) (Add (Add (Mul (Add (Add (Sub (Mul (Var 4) (Var 8)) (Mul (Var 5) (Var 7))) (Sub (Mul (Var 7) (Var 2)) (Mul (Var 8) (Var 1)))) (Sub (Mul (Var 1) (Var 5)) (Mul (Var 2) (Var 4)))) (Var 3)) (Mul (Add (Add (Sub (Mul (Var 5) (Var 6)) (Mul (Var 3) (Var 8))) (Sub (Mul (Var 8) (Var 0)) (Mul (Var 6) (Var 2)))) (Sub (Mul (Var 2) (Var 3)) (Mul (Var 0) (Var 5)))) (Var 4))) (Mul (Add (Add (Sub (Mul (Var 3) (Var 7)) (Mul (Var 4) (Var 6))) (Sub (Mul (Var 6) (Var 1)) (Mul (Var 7) (Var 0)))) (Sub (Mul (Var 0) (Var 4)) (Mul (Var 1) (Var 3)))) (Var 5))) (Add (Add (Mul (Sub (Mul (Var 4) (Var 8)) (Mul (Var 5) (Var 7))) (Var 0)) (Mul (Sub (Mul (Var 5) (Var 6)) (Mul (Var 3) (Var 8))) (Var 1))) (Mul (Sub (Mul (Var 3) (Var 7)) (Mul (Var 4) (Var 6))) (Var 2))) refl
 
-pub normal_c : (ax ay az bx by bz cx cy cz : ℤ) → (((((((by *ℤ cz) -ℤ (bz *ℤ cy)) +ℤ ((cy *ℤ az) -ℤ (cz *ℤ ay))) +ℤ ((ay *ℤ bz) -ℤ (az *ℤ by))) *ℤ cx) +ℤ (((((bz *ℤ cx) -ℤ (bx *ℤ cz)) +ℤ ((cz *ℤ ax) -ℤ (cx *ℤ az))) +ℤ ((az *ℤ bx) -ℤ (ax *ℤ bz))) *ℤ cy)) +ℤ (((((bx *ℤ cy) -ℤ (by *ℤ cx)) +ℤ ((cx *ℤ ay) -ℤ (cy *ℤ ax))) +ℤ ((ax *ℤ by) -ℤ (ay *ℤ bx))) *ℤ cz)) ≡ (((ax *ℤ ((by *ℤ cz) -ℤ (bz *ℤ cy))) +ℤ (ay *ℤ ((bz *ℤ cx) -ℤ (bx *ℤ cz)))) +ℤ (az *ℤ ((bx *ℤ cy) -ℤ (by *ℤ cx))))
-normal_c ax ay az bx by bz cx cy cz = ring (ax ∷ ay ∷ az ∷ bx ∷ by ∷ bz ∷ cx ∷ cy ∷ cz ∷ []) (Add (Add (Mul (Add (Add (Sub (Mul (Var 4) (Var 8)) (Mul (Var 5) (Var 7))) (Sub (Mul (Var 7) (Var 2)) (Mul (Var 8) (Var 1)))) (Sub (Mul (Var 1) (Var 5)) (Mul (Var 2) (Var 4)))) (Var 6)) (Mul (Add (Add (Sub (Mul (Var 5) (Var 6)) (Mul (Var 3) (Var 8))) (Sub (Mul (Var 8) (Var 0)) (Mul (Var 6) (Var 2)))) (Sub (Mul (Var 2) (Var 3)) (Mul (Var 0) (Var 5)))) (Var 7))) (Mul (Add (Add (Sub (Mul (Var 3) (Var 7)) (Mul (Var 4) (Var 6))) (Sub (Mul (Var 6) (Var 1)) (Mul (Var 7) (Var 0)))) (Sub (Mul (Var 0) (Var 4)) (Mul (Var 1) (Var 3)))) (Var 8))) (Add (Add (Mul (Var 0) (Sub (Mul (Var 4) (Var 8)) (Mul (Var 5) (Var 7)))) (Mul (Var 1) (Sub (Mul (Var 5) (Var 6)) (Mul (Var 3) (Var 8))))) (Mul (Var 2) (Sub (Mul (Var 3) (Var 7)) (Mul (Var 4) (Var 6))))) refl
+pub normal_c : (ax ay az bx by bz cx cy cz : ℤ) → (((((((by *ℤ cz) -ℤ (bz *ℤ cy)) +ℤ ((cy *ℤ az) -ℤ (cz *ℤ ay))) +ℤ ((ay *ℤ bz) -ℤ (az *ℤ by))) *ℤ cx) +ℤ (((((bz *ℤ cx) -ℤ (bx *ℤ cz)) +ℤ ((cz *ℤ ax) -ℤ (cx *ℤ az))) +ℤ ((az *ℤ bx) -ℤ (ax *ℤ bz))) *ℤ cy)) +ℤ (((((bx *ℤ cy) -ℤ (by *ℤ cx)) +ℤ ((cx *ℤ ay) -ℤ (cy *ℤ ax))) +ℤ ((ax *ℤ by) -ℤ (ay *ℤ bx))) *ℤ cz)) ≡ (((((by *ℤ cz) -ℤ (bz *ℤ cy)) *ℤ ax) +ℤ (((bz *ℤ cx) -ℤ (bx *ℤ cz)) *ℤ ay)) +ℤ (((bx *ℤ cy) -ℤ (by *ℤ cx)) *ℤ az))
+normal_c ax ay az bx by bz cx cy cz = ring (ax ∷ ay ∷ az ∷ bx ∷ by ∷ bz ∷ cx ∷ cy ∷ cz ∷ []) (Add (Add (Mul (Add (Add (Sub (Mul (Var 4) (Var 8)) (Mul (Var 5) (Var 7))) (Sub (Mul (Var 7) (Var 2)) (Mul (Var 8) (Var 1)))) (Sub (Mul (Var 1) (Var 5)) (Mul (Var 2) (Var 4)))) (Var 6)) (Mul (Add (Add (Sub (Mul (Var 5) (Var 6)) (Mul (Var 3) (Var 8))) (Sub (Mul (Var 8) (Var 0)) (Mul (Var 6) (Var 2)))) (Sub (Mul (Var 2) (Var 3)) (Mul (Var 0) (Var 5)))) (Var 7))) (Mul (Add (Add (Sub (Mul (Var 3) (Var 7)) (Mul (Var 4) (Var 6))) (Sub (Mul (Var 6) (Var 1)) (Mul (Var 7) (Var 0)))) (Sub (Mul (Var 0) (Var 4)) (Mul (Var 1) (Var 3)))) (Var 8))) (Add (Add (Mul (Sub (Mul (Var 4) (Var 8)) (Mul (Var 5) (Var 7))) (Var 0)) (Mul (Sub (Mul (Var 5) (Var 6)) (Mul (Var 3) (Var 8))) (Var 1))) (Mul (Sub (Mul (Var 3) (Var 7)) (Mul (Var 4) (Var 6))) (Var 2))) refl
 
 pub foot_at : (v1 v2 v3 bc1 bc2 bc3 ca1 ca2 ca3 ab1 ab2 ab3 : ℤ) → (((((v1 *ℤ bc1) +ℤ (v2 *ℤ bc2)) +ℤ (v3 *ℤ bc3)) +ℤ (((v1 *ℤ ca1) +ℤ (v2 *ℤ ca2)) +ℤ (v3 *ℤ ca3))) +ℤ (((v1 *ℤ ab1) +ℤ (v2 *ℤ ab2)) +ℤ (v3 *ℤ ab3))) ≡ (((v1 *ℤ ((bc1 +ℤ ca1) +ℤ ab1)) +ℤ (v2 *ℤ ((bc2 +ℤ ca2) +ℤ ab2))) +ℤ (v3 *ℤ ((bc3 +ℤ ca3) +ℤ ab3)))
 foot_at v1 v2 v3 bc1 bc2 bc3 ca1 ca2 ca3 ab1 ab2 ab3 = ring (v1 ∷ v2 ∷ v3 ∷ bc1 ∷ bc2 ∷ bc3 ∷ ca1 ∷ ca2 ∷ ca3 ∷ ab1 ∷ ab2 ∷ ab3 ∷ []) (Add (Add (Add (Add (Mul (Var 0) (Var 3)) (Mul (Var 1) (Var 4))) (Mul (Var 2) (Var 5))) (Add (Add (Mul (Var 0) (Var 6)) (Mul (Var 1) (Var 7))) (Mul (Var 2) (Var 8)))) (Add (Add (Mul (Var 0) (Var 9)) (Mul (Var 1) (Var 10))) (Mul (Var 2) (Var 11)))) (Add (Add (Mul (Var 0) (Add (Add (Var 3) (Var 6)) (Var 9))) (Mul (Var 1) (Add (Add (Var 4) (Var 7)) (Var 10)))) (Mul (Var 2) (Add (Add (Var 5) (Var 8)) (Var 11)))) refl
 
-pub cramer_x : (vx vy vz ax ay az bx by bz cx cy cz : ℤ) → ((((((vx *ℤ ((by *ℤ cz) -ℤ (bz *ℤ cy))) +ℤ (vy *ℤ ((bz *ℤ cx) -ℤ (bx *ℤ cz)))) +ℤ (vz *ℤ ((bx *ℤ cy) -ℤ (by *ℤ cx)))) *ℤ ax) +ℤ ((((vx *ℤ ((cy *ℤ az) -ℤ (cz *ℤ ay))) +ℤ (vy *ℤ ((cz *ℤ ax) -ℤ (cx *ℤ az)))) +ℤ (vz *ℤ ((cx *ℤ ay) -ℤ (cy *ℤ ax)))) *ℤ bx)) +ℤ ((((vx *ℤ ((ay *ℤ bz) -ℤ (az *ℤ by))) +ℤ (vy *ℤ ((az *ℤ bx) -ℤ (ax *ℤ bz)))) +ℤ (vz *ℤ ((ax *ℤ by) -ℤ (ay *ℤ bx)))) *ℤ cx)) ≡ ((((ax *ℤ ((by *ℤ cz) -ℤ (bz *ℤ cy))) +ℤ (ay *ℤ ((bz *ℤ cx) -ℤ (bx *ℤ cz)))) +ℤ (az *ℤ ((bx *ℤ cy) -ℤ (by *ℤ cx)))) *ℤ vx)
-cramer_x vx vy vz ax ay az bx by bz cx cy cz = ring (vx ∷ vy ∷ vz ∷ ax ∷ ay ∷ az ∷ bx ∷ by ∷ bz ∷ cx ∷ cy ∷ cz ∷ []) (Add (Add (Mul (Add (Add (Mul (Var 0) (Sub (Mul (Var 7) (Var 11)) (Mul (Var 8) (Var 10)))) (Mul (Var 1) (Sub (Mul (Var 8) (Var 9)) (Mul (Var 6) (Var 11))))) (Mul (Var 2) (Sub (Mul (Var 6) (Var 10)) (Mul (Var 7) (Var 9))))) (Var 3)) (Mul (Add (Add (Mul (Var 0) (Sub (Mul (Var 10) (Var 5)) (Mul (Var 11) (Var 4)))) (Mul (Var 1) (Sub (Mul (Var 11) (Var 3)) (Mul (Var 9) (Var 5))))) (Mul (Var 2) (Sub (Mul (Var 9) (Var 4)) (Mul (Var 10) (Var 3))))) (Var 6))) (Mul (Add (Add (Mul (Var 0) (Sub (Mul (Var 4) (Var 8)) (Mul (Var 5) (Var 7)))) (Mul (Var 1) (Sub (Mul (Var 5) (Var 6)) (Mul (Var 3) (Var 8))))) (Mul (Var 2) (Sub (Mul (Var 3) (Var 7)) (Mul (Var 4) (Var 6))))) (Var 9))) (Mul (Add (Add (Mul (Var 3) (Sub (Mul (Var 7) (Var 11)) (Mul (Var 8) (Var 10)))) (Mul (Var 4) (Sub (Mul (Var 8) (Var 9)) (Mul (Var 6) (Var 11))))) (Mul (Var 5) (Sub (Mul (Var 6) (Var 10)) (Mul (Var 7) (Var 9))))) (Var 0)) refl
+pub cramer_x : (vx vy vz ax ay az bx by bz cx cy cz : ℤ) → ((((((vx *ℤ ((by *ℤ cz) -ℤ (bz *ℤ cy))) +ℤ (vy *ℤ ((bz *ℤ cx) -ℤ (bx *ℤ cz)))) +ℤ (vz *ℤ ((bx *ℤ cy) -ℤ (by *ℤ cx)))) *ℤ ax) +ℤ ((((vx *ℤ ((cy *ℤ az) -ℤ (cz *ℤ ay))) +ℤ (vy *ℤ ((cz *ℤ ax) -ℤ (cx *ℤ az)))) +ℤ (vz *ℤ ((cx *ℤ ay) -ℤ (cy *ℤ ax)))) *ℤ bx)) +ℤ ((((vx *ℤ ((ay *ℤ bz) -ℤ (az *ℤ by))) +ℤ (vy *ℤ ((az *ℤ bx) -ℤ (ax *ℤ bz)))) +ℤ (vz *ℤ ((ax *ℤ by) -ℤ (ay *ℤ bx)))) *ℤ cx)) ≡ ((((((by *ℤ cz) -ℤ (bz *ℤ cy)) *ℤ ax) +ℤ (((bz *ℤ cx) -ℤ (bx *ℤ cz)) *ℤ ay)) +ℤ (((bx *ℤ cy) -ℤ (by *ℤ cx)) *ℤ az)) *ℤ vx)
+cramer_x vx vy vz ax ay az bx by bz cx cy cz = ring (vx ∷ vy ∷ vz ∷ ax ∷ ay ∷ az ∷ bx ∷ by ∷ bz ∷ cx ∷ cy ∷ cz ∷ []) (Add (Add (Mul (Add (Add (Mul (Var 0) (Sub (Mul (Var 7) (Var 11)) (Mul (Var 8) (Var 10)))) (Mul (Var 1) (Sub (Mul (Var 8) (Var 9)) (Mul (Var 6) (Var 11))))) (Mul (Var 2) (Sub (Mul (Var 6) (Var 10)) (Mul (Var 7) (Var 9))))) (Var 3)) (Mul (Add (Add (Mul (Var 0) (Sub (Mul (Var 10) (Var 5)) (Mul (Var 11) (Var 4)))) (Mul (Var 1) (Sub (Mul (Var 11) (Var 3)) (Mul (Var 9) (Var 5))))) (Mul (Var 2) (Sub (Mul (Var 9) (Var 4)) (Mul (Var 10) (Var 3))))) (Var 6))) (Mul (Add (Add (Mul (Var 0) (Sub (Mul (Var 4) (Var 8)) (Mul (Var 5) (Var 7)))) (Mul (Var 1) (Sub (Mul (Var 5) (Var 6)) (Mul (Var 3) (Var 8))))) (Mul (Var 2) (Sub (Mul (Var 3) (Var 7)) (Mul (Var 4) (Var 6))))) (Var 9))) (Mul (Add (Add (Mul (Sub (Mul (Var 7) (Var 11)) (Mul (Var 8) (Var 10))) (Var 3)) (Mul (Sub (Mul (Var 8) (Var 9)) (Mul (Var 6) (Var 11))) (Var 4))) (Mul (Sub (Mul (Var 6) (Var 10)) (Mul (Var 7) (Var 9))) (Var 5))) (Var 0)) refl
 
-pub cramer_y : (vx vy vz ax ay az bx by bz cx cy cz : ℤ) → ((((((vx *ℤ ((by *ℤ cz) -ℤ (bz *ℤ cy))) +ℤ (vy *ℤ ((bz *ℤ cx) -ℤ (bx *ℤ cz)))) +ℤ (vz *ℤ ((bx *ℤ cy) -ℤ (by *ℤ cx)))) *ℤ ay) +ℤ ((((vx *ℤ ((cy *ℤ az) -ℤ (cz *ℤ ay))) +ℤ (vy *ℤ ((cz *ℤ ax) -ℤ (cx *ℤ az)))) +ℤ (vz *ℤ ((cx *ℤ ay) -ℤ (cy *ℤ ax)))) *ℤ by)) +ℤ ((((vx *ℤ ((ay *ℤ bz) -ℤ (az *ℤ by))) +ℤ (vy *ℤ ((az *ℤ bx) -ℤ (ax *ℤ bz)))) +ℤ (vz *ℤ ((ax *ℤ by) -ℤ (ay *ℤ bx)))) *ℤ cy)) ≡ ((((ax *ℤ ((by *ℤ cz) -ℤ (bz *ℤ cy))) +ℤ (ay *ℤ ((bz *ℤ cx) -ℤ (bx *ℤ cz)))) +ℤ (az *ℤ ((bx *ℤ cy) -ℤ (by *ℤ cx)))) *ℤ vy)
-cramer_y vx vy vz ax ay az bx by bz cx cy cz = ring (vx ∷ vy ∷ vz ∷ ax ∷ ay ∷ az ∷ bx ∷ by ∷ bz ∷ cx ∷ cy ∷ cz ∷ []) (Add (Add (Mul (Add (Add (Mul (Var 0) (Sub (Mul (Var 7) (Var 11)) (Mul (Var 8) (Var 10)))) (Mul (Var 1) (Sub (Mul (Var 8) (Var 9)) (Mul (Var 6) (Var 11))))) (Mul (Var 2) (Sub (Mul (Var 6) (Var 10)) (Mul (Var 7) (Var 9))))) (Var 4)) (Mul (Add (Add (Mul (Var 0) (Sub (Mul (Var 10) (Var 5)) (Mul (Var 11) (Var 4)))) (Mul (Var 1) (Sub (Mul (Var 11) (Var 3)) (Mul (Var 9) (Var 5))))) (Mul (Var 2) (Sub (Mul (Var 9) (Var 4)) (Mul (Var 10) (Var 3))))) (Var 7))) (Mul (Add (Add (Mul (Var 0) (Sub (Mul (Var 4) (Var 8)) (Mul (Var 5) (Var 7)))) (Mul (Var 1) (Sub (Mul (Var 5) (Var 6)) (Mul (Var 3) (Var 8))))) (Mul (Var 2) (Sub (Mul (Var 3) (Var 7)) (Mul (Var 4) (Var 6))))) (Var 10))) (Mul (Add (Add (Mul (Var 3) (Sub (Mul (Var 7) (Var 11)) (Mul (Var 8) (Var 10)))) (Mul (Var 4) (Sub (Mul (Var 8) (Var 9)) (Mul (Var 6) (Var 11))))) (Mul (Var 5) (Sub (Mul (Var 6) (Var 10)) (Mul (Var 7) (Var 9))))) (Var 1)) refl
+pub cramer_y : (vx vy vz ax ay az bx by bz cx cy cz : ℤ) → ((((((vx *ℤ ((by *ℤ cz) -ℤ (bz *ℤ cy))) +ℤ (vy *ℤ ((bz *ℤ cx) -ℤ (bx *ℤ cz)))) +ℤ (vz *ℤ ((bx *ℤ cy) -ℤ (by *ℤ cx)))) *ℤ ay) +ℤ ((((vx *ℤ ((cy *ℤ az) -ℤ (cz *ℤ ay))) +ℤ (vy *ℤ ((cz *ℤ ax) -ℤ (cx *ℤ az)))) +ℤ (vz *ℤ ((cx *ℤ ay) -ℤ (cy *ℤ ax)))) *ℤ by)) +ℤ ((((vx *ℤ ((ay *ℤ bz) -ℤ (az *ℤ by))) +ℤ (vy *ℤ ((az *ℤ bx) -ℤ (ax *ℤ bz)))) +ℤ (vz *ℤ ((ax *ℤ by) -ℤ (ay *ℤ bx)))) *ℤ cy)) ≡ ((((((by *ℤ cz) -ℤ (bz *ℤ cy)) *ℤ ax) +ℤ (((bz *ℤ cx) -ℤ (bx *ℤ cz)) *ℤ ay)) +ℤ (((bx *ℤ cy) -ℤ (by *ℤ cx)) *ℤ az)) *ℤ vy)
+cramer_y vx vy vz ax ay az bx by bz cx cy cz = ring (vx ∷ vy ∷ vz ∷ ax ∷ ay ∷ az ∷ bx ∷ by ∷ bz ∷ cx ∷ cy ∷ cz ∷ []) (Add (Add (Mul (Add (Add (Mul (Var 0) (Sub (Mul (Var 7) (Var 11)) (Mul (Var 8) (Var 10)))) (Mul (Var 1) (Sub (Mul (Var 8) (Var 9)) (Mul (Var 6) (Var 11))))) (Mul (Var 2) (Sub (Mul (Var 6) (Var 10)) (Mul (Var 7) (Var 9))))) (Var 4)) (Mul (Add (Add (Mul (Var 0) (Sub (Mul (Var 10) (Var 5)) (Mul (Var 11) (Var 4)))) (Mul (Var 1) (Sub (Mul (Var 11) (Var 3)) (Mul (Var 9) (Var 5))))) (Mul (Var 2) (Sub (Mul (Var 9) (Var 4)) (Mul (Var 10) (Var 3))))) (Var 7))) (Mul (Add (Add (Mul (Var 0) (Sub (Mul (Var 4) (Var 8)) (Mul (Var 5) (Var 7)))) (Mul (Var 1) (Sub (Mul (Var 5) (Var 6)) (Mul (Var 3) (Var 8))))) (Mul (Var 2) (Sub (Mul (Var 3) (Var 7)) (Mul (Var 4) (Var 6))))) (Var 10))) (Mul (Add (Add (Mul (Sub (Mul (Var 7) (Var 11)) (Mul (Var 8) (Var 10))) (Var 3)) (Mul (Sub (Mul (Var 8) (Var 9)) (Mul (Var 6) (Var 11))) (Var 4))) (Mul (Sub (Mul (Var 6) (Var 10)) (Mul (Var 7) (Var 9))) (Var 5))) (Var 1)) refl
 
-pub cramer_z : (vx vy vz ax ay az bx by bz cx cy cz : ℤ) → ((((((vx *ℤ ((by *ℤ cz) -ℤ (bz *ℤ cy))) +ℤ (vy *ℤ ((bz *ℤ cx) -ℤ (bx *ℤ cz)))) +ℤ (vz *ℤ ((bx *ℤ cy) -ℤ (by *ℤ cx)))) *ℤ az) +ℤ ((((vx *ℤ ((cy *ℤ az) -ℤ (cz *ℤ ay))) +ℤ (vy *ℤ ((cz *ℤ ax) -ℤ (cx *ℤ az)))) +ℤ (vz *ℤ ((cx *ℤ ay) -ℤ (cy *ℤ ax)))) *ℤ bz)) +ℤ ((((vx *ℤ ((ay *ℤ bz) -ℤ (az *ℤ by))) +ℤ (vy *ℤ ((az *ℤ bx) -ℤ (ax *ℤ bz)))) +ℤ (vz *ℤ ((ax *ℤ by) -ℤ (ay *ℤ bx)))) *ℤ cz)) ≡ ((((ax *ℤ ((by *ℤ cz) -ℤ (bz *ℤ cy))) +ℤ (ay *ℤ ((bz *ℤ cx) -ℤ (bx *ℤ cz)))) +ℤ (az *ℤ ((bx *ℤ cy) -ℤ (by *ℤ cx)))) *ℤ vz)
-cramer_z vx vy vz ax ay az bx by bz cx cy cz = ring (vx ∷ vy ∷ vz ∷ ax ∷ ay ∷ az ∷ bx ∷ by ∷ bz ∷ cx ∷ cy ∷ cz ∷ []) (Add (Add (Mul (Add (Add (Mul (Var 0) (Sub (Mul (Var 7) (Var 11)) (Mul (Var 8) (Var 10)))) (Mul (Var 1) (Sub (Mul (Var 8) (Var 9)) (Mul (Var 6) (Var 11))))) (Mul (Var 2) (Sub (Mul (Var 6) (Var 10)) (Mul (Var 7) (Var 9))))) (Var 5)) (Mul (Add (Add (Mul (Var 0) (Sub (Mul (Var 10) (Var 5)) (Mul (Var 11) (Var 4)))) (Mul (Var 1) (Sub (Mul (Var 11) (Var 3)) (Mul (Var 9) (Var 5))))) (Mul (Var 2) (Sub (Mul (Var 9) (Var 4)) (Mul (Var 10) (Var 3))))) (Var 8))) (Mul (Add (Add (Mul (Var 0) (Sub (Mul (Var 4) (Var 8)) (Mul (Var 5) (Var 7)))) (Mul (Var 1) (Sub (Mul (Var 5) (Var 6)) (Mul (Var 3) (Var 8))))) (Mul (Var 2) (Sub (Mul (Var 3) (Var 7)) (Mul (Var 4) (Var 6))))) (Var 11))) (Mul (Add (Add (Mul (Var 3) (Sub (Mul (Var 7) (Var 11)) (Mul (Var 8) (Var 10)))) (Mul (Var 4) (Sub (Mul (Var 8) (Var 9)) (Mul (Var 6) (Var 11))))) (Mul (Var 5) (Sub (Mul (Var 6) (Var 10)) (Mul (Var 7) (Var 9))))) (Var 2)) refl
+pub cramer_z : (vx vy vz ax ay az bx by bz cx cy cz : ℤ) → ((((((vx *ℤ ((by *ℤ cz) -ℤ (bz *ℤ cy))) +ℤ (vy *ℤ ((bz *ℤ cx) -ℤ (bx *ℤ cz)))) +ℤ (vz *ℤ ((bx *ℤ cy) -ℤ (by *ℤ cx)))) *ℤ az) +ℤ ((((vx *ℤ ((cy *ℤ az) -ℤ (cz *ℤ ay))) +ℤ (vy *ℤ ((cz *ℤ ax) -ℤ (cx *ℤ az)))) +ℤ (vz *ℤ ((cx *ℤ ay) -ℤ (cy *ℤ ax)))) *ℤ bz)) +ℤ ((((vx *ℤ ((ay *ℤ bz) -ℤ (az *ℤ by))) +ℤ (vy *ℤ ((az *ℤ bx) -ℤ (ax *ℤ bz)))) +ℤ (vz *ℤ ((ax *ℤ by) -ℤ (ay *ℤ bx)))) *ℤ cz)) ≡ ((((((by *ℤ cz) -ℤ (bz *ℤ cy)) *ℤ ax) +ℤ (((bz *ℤ cx) -ℤ (bx *ℤ cz)) *ℤ ay)) +ℤ (((bx *ℤ cy) -ℤ (by *ℤ cx)) *ℤ az)) *ℤ vz)
+cramer_z vx vy vz ax ay az bx by bz cx cy cz = ring (vx ∷ vy ∷ vz ∷ ax ∷ ay ∷ az ∷ bx ∷ by ∷ bz ∷ cx ∷ cy ∷ cz ∷ []) (Add (Add (Mul (Add (Add (Mul (Var 0) (Sub (Mul (Var 7) (Var 11)) (Mul (Var 8) (Var 10)))) (Mul (Var 1) (Sub (Mul (Var 8) (Var 9)) (Mul (Var 6) (Var 11))))) (Mul (Var 2) (Sub (Mul (Var 6) (Var 10)) (Mul (Var 7) (Var 9))))) (Var 5)) (Mul (Add (Add (Mul (Var 0) (Sub (Mul (Var 10) (Var 5)) (Mul (Var 11) (Var 4)))) (Mul (Var 1) (Sub (Mul (Var 11) (Var 3)) (Mul (Var 9) (Var 5))))) (Mul (Var 2) (Sub (Mul (Var 9) (Var 4)) (Mul (Var 10) (Var 3))))) (Var 8))) (Mul (Add (Add (Mul (Var 0) (Sub (Mul (Var 4) (Var 8)) (Mul (Var 5) (Var 7)))) (Mul (Var 1) (Sub (Mul (Var 5) (Var 6)) (Mul (Var 3) (Var 8))))) (Mul (Var 2) (Sub (Mul (Var 3) (Var 7)) (Mul (Var 4) (Var 6))))) (Var 11))) (Mul (Add (Add (Mul (Sub (Mul (Var 7) (Var 11)) (Mul (Var 8) (Var 10))) (Var 3)) (Mul (Sub (Mul (Var 8) (Var 9)) (Mul (Var 6) (Var 11))) (Var 4))) (Mul (Sub (Mul (Var 6) (Var 10)) (Mul (Var 7) (Var 9))) (Var 5))) (Var 2)) refl
 
 pub same_radius : (r u v w : ℤ) → (((u *ℤ r) +ℤ (v *ℤ r)) +ℤ (w *ℤ r)) ≡ (r *ℤ ((u +ℤ v) +ℤ w))
 same_radius r u v w = ring (r ∷ u ∷ v ∷ w ∷ []) (Add (Add (Mul (Var 1) (Var 0)) (Mul (Var 2) (Var 0))) (Mul (Var 3) (Var 0))) (Mul (Var 0) (Add (Add (Var 1) (Var 2)) (Var 3))) refl

@@ -1,4 +1,4 @@
-pub mod Sized
+mod Stored
 pub mod SlideCerts
 pub mod Slide
 pub mod FootCerts
@@ -9,10 +9,10 @@ pub mod EdgeCerts
 pub mod Edges
 pub mod CornerCerts
 pub mod Rims
+pub mod Planes
 pub mod Triangles
 pub mod PlaceCerts
 pub mod Places
-pub mod Boxes
 pub mod GapCerts
 pub mod Gaps
 pub mod ShadowCerts

@@ -1,8 +1,9 @@
+-- Polynomial facts behind the cutter's solid and the sphere about its centre; written by tools/certificates.py from tools/certificates/mill_contact_ball_place.spec.
 use Rattle.std.proofs.Common.{◌≡◌, [], ◌∷◌, refl}
 use lib.IntN.{ℤ, pos, ◌+ℤ◌, ◌-ℤ◌, ◌*ℤ◌}
 use lib.Signed.{◌<ℤ◌, ◌≤ℤ◌}
 use Rattle.mill_base.proofs.Ring.{Var, Num, Add, Sub, Mul, Neg, ring}
-use Rattle.mill_base.proofs.Cert.{Le, Lt, Eq, Hyp, TimesEq, Sq, Plus, Times, refute, prove_lt_by}
+use Rattle.mill_base.proofs.Cert.{Le, Lt, Eq, Hyp, TimesEq, Sq, Lit, Plus, Times, prove_lt_by}
 
 pub shifted : (u v w a b c t : ℤ) → (((pos 1) *ℤ (((u *ℤ a) +ℤ (v *ℤ b)) +ℤ (w *ℤ c))) -ℤ (((u +ℤ v) +ℤ w) *ℤ t)) ≡ (((u *ℤ (a -ℤ t)) +ℤ (v *ℤ (b -ℤ t))) +ℤ (w *ℤ (c -ℤ t)))
 shifted u v w a b c t = ring (u ∷ v ∷ w ∷ a ∷ b ∷ c ∷ t ∷ []) (Sub (Mul (Num (pos 1)) (Add (Add (Mul (Var 0) (Var 3)) (Mul (Var 1) (Var 4))) (Mul (Var 2) (Var 5)))) (Mul (Add (Add (Var 0) (Var 1)) (Var 2)) (Var 6))) (Add (Add (Mul (Var 0) (Sub (Var 3) (Var 6))) (Mul (Var 1) (Sub (Var 4) (Var 6)))) (Mul (Var 2) (Sub (Var 5) (Var 6)))) refl
@@ -30,18 +31,10 @@ level_back X Y N x y z n r eX eY eN low up h = prove_lt_by (X ∷ Y ∷ N ∷ x 
 pub some_weight : (x y z u v w r : ℤ) → (pos 0) ≤ℤ u → (pos 0) ≤ℤ v → (pos 0) ≤ℤ w → (((x *ℤ x) +ℤ (y *ℤ y)) +ℤ (z *ℤ z)) <ℤ ((r *ℤ r) *ℤ (((u +ℤ v) +ℤ w) *ℤ ((u +ℤ v) +ℤ w))) → (pos 0) <ℤ ((u +ℤ v) +ℤ w)
 some_weight x y z u v w r hu hv hw h = prove_lt_by (x ∷ y ∷ z ∷ u ∷ v ∷ w ∷ r ∷ []) (Le (Num (pos 0)) (Var 3) ∷ Le (Num (pos 0)) (Var 4) ∷ Le (Num (pos 0)) (Var 5) ∷ Lt (Add (Add (Mul (Var 0) (Var 0)) (Mul (Var 1) (Var 1))) (Mul (Var 2) (Var 2))) (Mul (Mul (Var 6) (Var 6)) (Mul (Add (Add (Var 3) (Var 4)) (Var 5)) (Add (Add (Var 3) (Var 4)) (Var 5)))) ∷ []) (Num (pos 0)) (Add (Add (Var 3) (Var 4)) (Var 5)) (Plus (Hyp 4) (Plus (Sq (Var 0)) (Plus (Sq (Var 1)) (Plus (Sq (Var 2)) (Plus (Times (Times (Hyp 0) (Hyp 1)) (Sq (Var 6))) (Plus (Times (Times (Hyp 0) (Hyp 2)) (Sq (Var 6))) (Times (Times (Hyp 0) (Hyp 3)) (Sq (Var 6))))))))) 0 (hu, (hv, (hw, (h, tt)))) refl
 
--- vars x y z q; hyp h: (x*x+y*y)+z*z < q; goal x*x+y*y < q; square z
-pub beside_x : (x y z q : ℤ) → (((x *ℤ x) +ℤ (y *ℤ y)) +ℤ (z *ℤ z)) <ℤ q → ((x *ℤ x) +ℤ (y *ℤ y)) <ℤ q
-beside_x x y z q h = prove_lt_by (x ∷ y ∷ z ∷ q ∷ []) (Lt (Add (Add (Mul (Var 0) (Var 0)) (Mul (Var 1) (Var 1))) (Mul (Var 2) (Var 2))) (Var 3) ∷ []) (Add (Mul (Var 0) (Var 0)) (Mul (Var 1) (Var 1))) (Var 3) (Plus (Hyp 0) (Plus (Hyp 1) (Sq (Var 2)))) 0 (h, tt) refl
+-- vars z r n; hyp hr: 0 < r; hyp hn: 0 < n; hyp h: r*n <= z; goal 0 < z; mul hr+ * hn+; mul hr * hn; mul hr * hn+; mul hr+ * hn
+pub over_centre : (z r n : ℤ) → (pos 0) <ℤ r → (pos 0) <ℤ n → (r *ℤ n) ≤ℤ z → (pos 0) <ℤ z
+over_centre z r n hr hn h = prove_lt_by (z ∷ r ∷ n ∷ []) (Lt (Num (pos 0)) (Var 1) ∷ Lt (Num (pos 0)) (Var 2) ∷ Le (Mul (Var 1) (Var 2)) (Var 0) ∷ []) (Num (pos 0)) (Var 0) (Plus (Hyp 0) (Plus (Hyp 1) (Plus (Hyp 2) (Plus (Hyp 3) (Times (Hyp 1) (Hyp 2)))))) 0 (hr, (hn, (h, tt))) refl
 
--- vars x y z q; hyp h: (x*x+y*y)+z*z < q; goal y*y+x*x < q; square z
-pub beside_y : (x y z q : ℤ) → (((x *ℤ x) +ℤ (y *ℤ y)) +ℤ (z *ℤ z)) <ℤ q → ((y *ℤ y) +ℤ (x *ℤ x)) <ℤ q
-beside_y x y z q h = prove_lt_by (x ∷ y ∷ z ∷ q ∷ []) (Lt (Add (Add (Mul (Var 0) (Var 0)) (Mul (Var 1) (Var 1))) (Mul (Var 2) (Var 2))) (Var 3) ∷ []) (Add (Mul (Var 1) (Var 1)) (Mul (Var 0) (Var 0))) (Var 3) (Plus (Hyp 0) (Plus (Hyp 1) (Sq (Var 2)))) 0 (h, tt) refl
-
--- vars x y z q; hyp h: (x*x+y*y)+z*z < q; goal z*z+x*x < q; square y
-pub beside_z : (x y z q : ℤ) → (((x *ℤ x) +ℤ (y *ℤ y)) +ℤ (z *ℤ z)) <ℤ q → ((z *ℤ z) +ℤ (x *ℤ x)) <ℤ q
-beside_z x y z q h = prove_lt_by (x ∷ y ∷ z ∷ q ∷ []) (Lt (Add (Add (Mul (Var 0) (Var 0)) (Mul (Var 1) (Var 1))) (Mul (Var 2) (Var 2))) (Var 3) ∷ []) (Add (Mul (Var 2) (Var 2)) (Mul (Var 0) (Var 0))) (Var 3) (Plus (Hyp 0) (Plus (Hyp 1) (Sq (Var 1)))) 0 (h, tt) refl
-
--- vars z r n; hyp hr: 0 <= r; hyp hn: 0 <= n; hyp low: z <= 0-r*n; hyp up: 0 < z; goal false; mul hr * hn
-pub under_level : (z r n : ℤ) → (pos 0) ≤ℤ r → (pos 0) ≤ℤ n → z ≤ℤ ((pos 0) -ℤ (r *ℤ n)) → (pos 0) <ℤ z → ⊥
-under_level z r n hr hn low up = refute (z ∷ r ∷ n ∷ []) (Le (Num (pos 0)) (Var 1) ∷ Le (Num (pos 0)) (Var 2) ∷ Le (Var 0) (Sub (Num (pos 0)) (Mul (Var 1) (Var 2))) ∷ Lt (Num (pos 0)) (Var 0) ∷ []) (Plus (Hyp 2) (Plus (Hyp 3) (Times (Hyp 0) (Hyp 1)))) 0 (hr, (hn, (low, (up, tt)))) refl
+-- vars x y z r n; hyp hr: 0 < r; hyp hn: 0 < n; hyp h: (x*x+y*y)+(z-r*n)*(z-r*n) < (r*r)*(n*n); goal 0 < z; square x; square y; square z; mul goal * hr+ * hn+
+pub in_sphere : (x y z r n : ℤ) → (pos 0) <ℤ r → (pos 0) <ℤ n → (((x *ℤ x) +ℤ (y *ℤ y)) +ℤ ((z -ℤ (r *ℤ n)) *ℤ (z -ℤ (r *ℤ n)))) <ℤ ((r *ℤ r) *ℤ (n *ℤ n)) → (pos 0) <ℤ z
+in_sphere x y z r n hr hn h = prove_lt_by (x ∷ y ∷ z ∷ r ∷ n ∷ []) (Lt (Num (pos 0)) (Var 3) ∷ Lt (Num (pos 0)) (Var 4) ∷ Lt (Add (Add (Mul (Var 0) (Var 0)) (Mul (Var 1) (Var 1))) (Mul (Sub (Var 2) (Mul (Var 3) (Var 4))) (Sub (Var 2) (Mul (Var 3) (Var 4))))) (Mul (Mul (Var 3) (Var 3)) (Mul (Var 4) (Var 4))) ∷ []) (Num (pos 0)) (Var 2) (Plus (Hyp 3) (Plus (Sq (Var 0)) (Plus (Sq (Var 1)) (Plus (Sq (Var 2)) (Times (Lit 2) (Times (Times (Hyp 0) (Plus (Hyp 1) (Lit 1))) (Plus (Hyp 2) (Lit 1)))))))) 0 (hr, (hn, (h, tt))) refl

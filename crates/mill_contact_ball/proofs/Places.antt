@@ -5,11 +5,11 @@ use lib.Signed.{◌<ℤ◌, ◌≤ℤ◌}
 use Rattle.std.proofs.lemmas.Int.{ints}
 use Rattle.mill_base.specs.declared.points.Pt3.{Pt3}
 use Rattle.mill_base.specs.declared.points.Tri.{Tri}
-use Rattle.mill_base.specs.declared.cutter.Cutter.TheVariants.{Ball}
+use Rattle.mill_base.specs.declared.cutter.Cutter.TheVariants.{Flat, Ball}
 use Rattle.mill_base.specs.Cutters.{InBall}
 use Rattle.mill_base.specs.Points.{plus, times, minus}
 use Rattle.mill_base.specs.Contact.{Touches}
-use Rattle.mill_base.proofs.Integers.{one-mul-ℤ}
+use Rattle.mill_base.proofs.Integers.{one-mul-ℤ, mul_pos-ℤ}
 use Rattle.mill_base.proofs.Exit.{split_lt}
 use Rattle.mill_geom.specs.declared.offset.Offset.{Offset}
 use Rattle.mill_geom.specs.Offsets.{mean3, IsOffset}
@@ -17,7 +17,7 @@ use Rattle.mill_geom.specs.Contacts.{TouchesTriangle}
 use Rattle.mill_geom.proofs.LevelCerts.{near_same}
 use Rattle.mill_contact_ball.specs.Centres.{centre_of}
 use Rattle.mill_contact_ball.specs.Spheres.{InSphere, MeetsSphere, MeetsBall}
-use Rattle.mill_contact_ball.proofs.PlaceCerts.{shifted, raised, sphere_there, sphere_near, sphere_back, level_back, some_weight}
+use Rattle.mill_contact_ball.proofs.PlaceCerts.{shifted, raised, sphere_there, sphere_near, sphere_back, level_back, some_weight, over_centre as over_tip, in_sphere}
 
 -- one coordinate of a weighted sum, from the corners' and from the offsets'
 spot : (p n t u v w a b c x y z : ℤ) → p ≡ (u *ℤ a +ℤ v *ℤ b) +ℤ w *ℤ c → n ≡ (u +ℤ v) +ℤ w → x ≡ a -ℤ t → y ≡ b -ℤ t → z ≡ c -ℤ t
@@ -100,7 +100,7 @@ pub ball_place : (r : ℤ) (tri : Tri) (tip : Pt3) (a b c : Offset) → IsOffset
 ball_place r tri tip a b c oa ob oc (inl t) = sphere_place r tri tip a b c oa ob oc t
 ball_place r tri tip a b c oa ob oc (inr t) = cylinder_place r tri tip a b c oa ob oc t
 
--- and back
+-- the weights of the point that the cutter holds are those of one that the sphere or the cylinder holds
 pub place_ball : (r : ℤ) (tri : Tri) (tip : Pt3) (a b c : Offset) → IsOffset a tri.a (centre_of r tip) → IsOffset b tri.b (centre_of r tip) → IsOffset c tri.c (centre_of r tip)
     → Touches (Ball r) (pos 1) tip tri → MeetsBall r a b c
 place_ball r tri tip a b c oa ob oc t =
@@ -136,3 +136,25 @@ place_ball r tri tip a b c oa ob oc t =
         })
       ]
     ]
+
+-- what a ball holds, the flat cutter of its radius holds
+pub in_cylinder : (r : ℤ) (tri : Tri) (tip : Pt3) → (pos 1) ≤ℤ r → Touches (Ball r) (pos 1) tip tri → Touches (Flat r) (pos 1) tip tri
+in_cylinder r tri tip hr t =
+    let d = minus (times (pos 1) t.p) (times t.n tip) in
+    let some = over_one r hr in
+    let time = mul_pos-ℤ (pos 1) t.n one t.point.some in
+    record {
+      n = t.n;
+      p = t.p;
+      point = t.point;
+      inside = record {
+        near = t.inside.near;
+        over = elim t.inside.over [ inl high ↦ over_tip d.z r (pos 1 *ℤ t.n) some time high | inr deep ↦ in_sphere d.x d.y d.z r (pos 1 *ℤ t.n) some time deep ];
+      };
+    }
+  where
+    one : (pos 0) <ℤ pos 1
+    one = omega (arith, ints)
+
+    over_one : (r : ℤ) → (pos 1) ≤ℤ r → (pos 0) <ℤ r
+    over_one r h = omega (arith, ints)

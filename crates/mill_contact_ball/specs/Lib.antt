@@ -1,3 +1,5 @@
+pub mod Widths
 pub mod Centres
 pub mod Vectors
+pub mod Planes
 pub mod Spheres

@@ -1,16 +1,16 @@
 -- Points of edges and triangles in the open sphere of radius r about the origin, each by its weights.
-use Rattle.std.specs.Prelude.{◌⊎◌, ◌^◌, ℤ, pos, ◌+ℤ◌, ◌-ℤ◌, ◌*ℤ◌, ◌<ℤ◌, ◌≤ℤ◌}
+use Rattle.std.specs.Prelude.{◌⊎◌, ℤ, pos, ◌+ℤ◌, ◌*ℤ◌, ◌<ℤ◌, ◌≤ℤ◌}
 use Rattle.mill_base.specs.Numbers.{Within, square, lesser}
 use Rattle.mill_base.specs.declared.points.Pt3.{Pt3}
 use Rattle.mill_geom.specs.declared.offset.Offset.{Offset}
-use Rattle.mill_geom.specs.Offsets.{mean2, mean3, AllFrom, AllTo}
+use Rattle.mill_geom.specs.Offsets.{mean2, mean3}
 use Rattle.mill_geom.specs.Contacts.{TouchesTriangle}
 use Rattle.mill_geom.specs.Sides.{slid_by}
 use Rattle.mill_geom.specs.Gaps.{highest_of, box_gap_of}
-use Rattle.mill_contact_ball.specs.declared.vector.Vector.{Vector}
 use Rattle.mill_contact_ball.specs.declared.weights.EdgeWeights.{EdgeWeights}
 use Rattle.mill_contact_ball.specs.declared.weights.Weights.{Weights}
-use Rattle.mill_contact_ball.specs.Vectors.{form_of, dot_of}
+use Rattle.mill_contact_ball.specs.Widths.{most_end_weight, most_size}
+use Rattle.mill_contact_ball.specs.Vectors.{form_of}
 
 -- the offset d over the denominator n is nearer to the origin than r
 pub record InSphere (r n : ℤ) (d : Pt3) : Type 0 where
@@ -49,7 +49,7 @@ pub record RimClear (r : ℤ) (a b c : Offset) : Type 0 where
 abbrev pub MeetsBall : ℤ → Offset → Offset → Offset → Type 0
 MeetsBall r a b c = MeetsSphere r a b c ⊎ TouchesTriangle r a b c
 
--- the same with the centre t further along x
+-- with the centre t further along x, some point of the triangle is in the sphere or in the cylinder over its centre
 abbrev pub MeetsAt : ℤ → Offset → Offset → Offset → ℤ → Type 0
 MeetsAt r a b c t = MeetsBall r (slid_by t a) (slid_by t b) (slid_by t c)
 
@@ -59,15 +59,15 @@ pub record IsLow (a h b : ℤ) (s : EdgeWeights) : Type 0 where
   pub v_ok : (pos 0) ≤ℤ s.v
   pub below : ((a *ℤ (s.u *ℤ s.u) +ℤ pos 2 *ℤ (h *ℤ (s.u *ℤ s.v))) +ℤ b *ℤ (s.v *ℤ s.v)) <ℤ pos 0
 
--- the weights are small
+-- the weights of an edge's ends are within the greatest magnitude, and those of a triangle's corners
 pub record EdgeWeightsInRange (s : EdgeWeights) : Type 0 where
-  pub u_ok : Within (2 ^ 41) s.u
-  pub v_ok : Within (2 ^ 41) s.v
+  pub u_ok : Within most_end_weight s.u
+  pub v_ok : Within most_end_weight s.v
 
 pub record WeightsInRange (s : Weights) : Type 0 where
-  pub u_ok : Within (2 ^ 84) s.u
-  pub v_ok : Within (2 ^ 84) s.v
-  pub w_ok : Within (2 ^ 84) s.w
+  pub u_ok : Within most_size s.u
+  pub v_ok : Within most_size s.v
+  pub w_ok : Within most_size s.w
 
 -- the offset's image on the plane through the origin across x
 abbrev pub flat_of : Offset → Offset
@@ -76,14 +76,6 @@ flat_of p = record { x = pos 0; y = p.y; z = p.z }
 -- the x of the point with these weights, over its denominator
 abbrev pub x_of : Weights → Offset → Offset → Offset → ℤ
 x_of s a b c = (s.u *ℤ a.x +ℤ s.v *ℤ b.x) +ℤ s.w *ℤ c.x
-
--- the upright boxes of the triangle and of the cutter overlap
-pub record IsBoxNear (r : ℤ) (a b c : Offset) : Type 0 where
-  pub z_to : ¬ AllTo (pos 0 -ℤ r) a.z b.z c.z
-  pub x_from : ¬ AllFrom r a.x b.x c.x
-  pub x_to : ¬ AllTo (pos 0 -ℤ r) a.x b.x c.x
-  pub y_from : ¬ AllFrom r a.y b.y c.y
-  pub y_to : ¬ AllTo (pos 0 -ℤ r) a.y b.y c.y
 
 -- the upright box of the triangle, drawn down without end, comes nearer to the origin than r
 abbrev pub IsBoxClose : ℤ → Offset → Offset → Offset → Type 0
@@ -94,9 +86,3 @@ pub record CornersOut (r : ℤ) (a b c : Offset) : Type 0 where
   pub first : (pos 0) ≤ℤ form_of r a a
   pub second : (pos 0) ≤ℤ form_of r b b
   pub third : (pos 0) ≤ℤ form_of r c c
-
--- the foot of the origin on a plane lies in the triangle: its weights, by the normal and the corners' cross products, aren't negative
-pub record HasFoot (n bc ca ab : Vector) : Type 0 where
-  pub first : (pos 0) ≤ℤ dot_of n bc
-  pub second : (pos 0) ≤ℤ dot_of n ca
-  pub third : (pos 0) ≤ℤ dot_of n ab

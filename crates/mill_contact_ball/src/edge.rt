@@ -1,7 +1,9 @@
-ghost use Rattle.std.specs.Prelude.{◌≡◌, ◌^◌, ◌↔◌, ◌*ℤ◌, ◌<ℤ◌, ◌≤ℤ◌, pos, false, IsTrue, IfSome, None};
+ghost use Rattle.std.specs.Prelude.{◌≡◌, ◌↔◌, ◌*ℤ◌, ◌<ℤ◌, ◌≤ℤ◌, pos, false, IsTrue, IfSome, None};
 ghost use Rattle.mill_base.specs.Numbers.{Within};
+ghost use Rattle.mill_geom.specs.Widths.{widest};
 ghost use Rattle.mill_geom.specs.Offsets.{OffsetInRange};
 ghost use Rattle.mill_geom.specs.Forms.{PairHits};
+ghost use Rattle.mill_contact_ball.specs.Widths.{most_form};
 ghost use Rattle.mill_contact_ball.specs.Vectors.{form_of};
 ghost use Rattle.mill_contact_ball.specs.Spheres.{
   IsLow,
@@ -22,18 +24,18 @@ use mill_geom::Offset;
 fn form(p: Offset, q: Offset, radius: i64) -> i64
     requires p_ok { OffsetInRange p }
     requires q_ok { OffsetInRange q }
-    requires r_ok { Within 16384 radius }
+    requires r_ok { Within widest radius }
     ensures value { result ≡ form_of radius p q }
-    ensures bound { Within (2 ^ 40) result }
+    ensures bound { Within most_form result }
 {
     p.x * q.x + p.y * q.y + p.z * q.z - radius * radius
 }
 
 /// Whether `a * b` is less than the square of `h`.
 fn is_minor_negative(a: i64, h: i64, b: i64) -> bool
-    requires a_ok { Within (2 ^ 40) a }
-    requires h_ok { Within (2 ^ 40) h }
-    requires b_ok { Within (2 ^ 40) b }
+    requires a_ok { Within most_form a }
+    requires h_ok { Within most_form h }
+    requires b_ok { Within most_form b }
     ensures { IsTrue result ↔ ((a *ℤ b) <ℤ (h *ℤ h)) }
 {
     (a as i128) * (b as i128) < (h as i128) * (h as i128)
@@ -41,9 +43,9 @@ fn is_minor_negative(a: i64, h: i64, b: i64) -> bool
 
 /// Weights at which `a * u * u + 2 * h * u * v + b * v * v` is negative.
 fn low_weights(a: i64, h: i64, b: i64) -> Option<EdgeWeights>
-    requires a_ok { Within (2 ^ 40) a }
-    requires h_ok { Within (2 ^ 40) h }
-    requires b_ok { Within (2 ^ 40) b }
+    requires a_ok { Within most_form a }
+    requires h_ok { Within most_form h }
+    requires b_ok { Within most_form b }
     ensures found { IfSome result (λ s. IsLow a h b s) }
     ensures range { IfSome result (λ s. EdgeWeightsInRange s) }
     ensures none { result ≡ None → ¬ PairHits a h b }
@@ -67,7 +69,7 @@ fn low_weights(a: i64, h: i64, b: i64) -> Option<EdgeWeights>
 fn edge_spot(p: Offset, q: Offset, radius: i64) -> Option<EdgeWeights>
     requires p_ok { OffsetInRange p }
     requires q_ok { OffsetInRange q }
-    requires r_ok { Within 16384 radius }
+    requires r_ok { Within widest radius }
     ensures found { IfSome result (λ s. IsEdgeSpot radius p q s) }
     ensures range { IfSome result (λ s. EdgeWeightsInRange s) }
     ensures none { result ≡ None → ¬ EdgeMeets radius p q }
@@ -80,7 +82,7 @@ pub fn rim_spot(a: Offset, b: Offset, c: Offset, radius: i64) -> Option<Weights>
     requires a_ok { OffsetInRange a }
     requires b_ok { OffsetInRange b }
     requires c_ok { OffsetInRange c }
-    requires r_ok { Within 16384 radius }
+    requires r_ok { Within widest radius }
     ensures found { IfSome result (λ s. IsSpot radius a b c s) }
     ensures range { IfSome result (λ s. WeightsInRange s) }
     ensures none { result ≡ None → RimClear radius a b c }
@@ -110,7 +112,7 @@ pub fn rim_spot(a: Offset, b: Offset, c: Offset, radius: i64) -> Option<Weights>
 /// Whether the corner is nearer to the origin than the radius.
 fn is_corner_in(p: Offset, radius: i64) -> bool
     requires p_ok { OffsetInRange p }
-    requires r_ok { Within 16384 radius }
+    requires r_ok { Within widest radius }
     ensures yes { IsTrue result → form_of radius p p <ℤ pos 0 }
     ensures no { result ≡ false → pos 0 ≤ℤ form_of radius p p }
 {
@@ -122,7 +124,7 @@ pub fn has_corner_in(a: Offset, b: Offset, c: Offset, radius: i64) -> bool
     requires a_ok { OffsetInRange a }
     requires b_ok { OffsetInRange b }
     requires c_ok { OffsetInRange c }
-    requires r_ok { Within 16384 radius }
+    requires r_ok { Within widest radius }
     ensures yes { IsTrue result → MeetsSphere radius a b c }
     ensures no { result ≡ false → CornersOut radius a b c }
 {
@@ -139,7 +141,7 @@ pub fn has_corner_in(a: Offset, b: Offset, c: Offset, radius: i64) -> bool
 fn dips(p: Offset, q: Offset, radius: i64) -> bool
     requires p_ok { OffsetInRange p }
     requires q_ok { OffsetInRange q }
-    requires r_ok { Within 16384 radius }
+    requires r_ok { Within widest radius }
     requires p_out { pos 0 ≤ℤ form_of radius p p }
     requires q_out { pos 0 ≤ℤ form_of radius q q }
     ensures yes { IsTrue result → EdgeMeets radius p q }
@@ -158,7 +160,7 @@ pub fn meets_rim(a: Offset, b: Offset, c: Offset, radius: i64) -> bool
     requires a_ok { OffsetInRange a }
     requires b_ok { OffsetInRange b }
     requires c_ok { OffsetInRange c }
-    requires r_ok { Within 16384 radius }
+    requires r_ok { Within widest radius }
     requires out { CornersOut radius a b c }
     ensures yes { IsTrue result → MeetsSphere radius a b c }
     ensures no { result ≡ false → RimClear radius a b c }

@@ -1,6 +1,7 @@
-ghost use Rattle.std.specs.Prelude.{◌≡◌, ◌^◌, ◌↔◌, ◌+ℤ◌, ◌*ℤ◌, ◌<ℤ◌, pos, false, IsTrue};
+ghost use Rattle.std.specs.Prelude.{◌≡◌, ◌↔◌, ◌+ℤ◌, ◌*ℤ◌, ◌<ℤ◌, pos, false, IsTrue};
 ghost use Rattle.mill_base.specs.Numbers.{Within, lesser};
-ghost use Rattle.mill_geom.specs.Offsets.{OffsetInRange, farthest};
+ghost use Rattle.mill_geom.specs.Widths.{farthest, most_area, widest};
+ghost use Rattle.mill_geom.specs.Offsets.{OffsetInRange};
 ghost use Rattle.mill_contact_ball.specs.Spheres.{IsBoxClose, MeetsBall};
 
 use mill_geom::{Offset, box_gap, highest};
@@ -18,8 +19,8 @@ fn nearest_height(top: i64) -> i64
 /// origin than the radius.
 fn is_close(height: i64, gap: i64, radius: i64) -> bool
     requires height_ok { Within farthest height }
-    requires gap_ok { Within (2 ^ 39) gap }
-    requires r_ok { Within 16384 radius }
+    requires gap_ok { Within most_area gap }
+    requires r_ok { Within widest radius }
     ensures { IsTrue result ↔ ((height *ℤ height +ℤ gap) <ℤ (radius *ℤ radius)) }
 {
     height * height + gap < radius * radius
@@ -31,7 +32,7 @@ pub fn is_box_close(a: Offset, b: Offset, c: Offset, radius: i64) -> bool
     requires a_ok { OffsetInRange a }
     requires b_ok { OffsetInRange b }
     requires c_ok { OffsetInRange c }
-    requires r_ok { Within 16384 radius }
+    requires r_ok { Within widest radius }
     ensures value { IsTrue result ↔ IsBoxClose radius a b c }
     ensures far { result ≡ false → ¬ MeetsBall radius a b c }
 {

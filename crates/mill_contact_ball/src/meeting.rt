@@ -1,7 +1,9 @@
-ghost use Rattle.std.specs.Prelude.{◌≡◌, ◌^◌, ◌<ℤ◌, pos, false, IsTrue};
+ghost use Rattle.std.specs.Prelude.{◌≡◌, ◌<ℤ◌, pos, false, IsTrue};
 ghost use Rattle.mill_base.specs.Numbers.{Within};
+ghost use Rattle.mill_geom.specs.Widths.{widest};
 ghost use Rattle.mill_geom.specs.Offsets.{OffsetInRange};
 ghost use Rattle.mill_geom.specs.Sides.{IsOnSide};
+ghost use Rattle.mill_contact_ball.specs.Widths.{most_place};
 ghost use Rattle.mill_contact_ball.specs.Spheres.{MeetsBall, MeetsAt, WeightsInRange, flat_of, x_of};
 
 use crate::edge::has_corner_in;
@@ -15,7 +17,7 @@ pub fn meets_ball(a: Offset, b: Offset, c: Offset, radius: i64) -> bool
     requires a_ok { OffsetInRange a }
     requires b_ok { OffsetInRange b }
     requires c_ok { OffsetInRange c }
-    requires r_ok { Within 16384 radius }
+    requires r_ok { Within widest radius }
     requires r_least { pos 0 <ℤ radius }
     ensures yes { IsTrue result → MeetsBall radius a b c }
     ensures no { result ≡ false → ¬ MeetsBall radius a b c }
@@ -49,7 +51,7 @@ fn weighed_x(s: Weights, a: Offset, b: Offset, c: Offset) -> i128
     requires b_ok { OffsetInRange b }
     requires c_ok { OffsetInRange c }
     ensures value { result ≡ x_of s a b c }
-    ensures bound { Within (2 ^ 105) result }
+    ensures bound { Within most_place result }
 {
     s.u * a.x as i128 + s.v * b.x as i128 + s.w * c.x as i128
 }
@@ -62,7 +64,7 @@ pub fn side_of_ball(a: Offset, b: Offset, c: Offset, radius: i64) -> Side
     requires a_ok { OffsetInRange a }
     requires b_ok { OffsetInRange b }
     requires c_ok { OffsetInRange c }
-    requires r_ok { Within 16384 radius }
+    requires r_ok { Within widest radius }
     requires r_least { pos 0 <ℤ radius }
     requires apart { ¬ MeetsBall radius a b c }
     ensures { IsOnSide result (MeetsAt radius a b c) }

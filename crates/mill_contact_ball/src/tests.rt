@@ -1,4 +1,7 @@
-ghost use Rattle.mill_base.specs.Ranges.{IsInTextRange, TriInTextRange};
+ghost use Rattle.std.specs.Prelude.{◌≤ℤ◌, pos};
+ghost use Rattle.mill_base.specs.Numbers.{Within};
+ghost use Rattle.mill_base.specs.Ranges.{IsInRange, TriInRange};
+ghost use Rattle.mill_base.specs.declared.limits.TheConstants.{LOWEST_TIP, MAX_COORDINATE};
 ghost use Rattle.mill_geom.specs.Offsets.{IsCentre};
 
 use crate::{is_inside, touch};
@@ -15,7 +18,7 @@ const MORE: Touch = Touch::Apart(Side::More);
 const NEVER: Touch = Touch::Apart(Side::Never);
 
 fn at(x: i16, y: i16, z: i16) -> Pt3
-    ensures corner { IsInTextRange result }
+    ensures corner { IsInRange result }
     ensures centre { IsCentre result }
 {
     Pt3 {
@@ -27,14 +30,14 @@ fn at(x: i16, y: i16, z: i16) -> Pt3
 
 /// Whether a ball of radius 100 has the triangle inside.
 fn holds(tri: &Tri, tip: (i16, i16, i16)) -> bool
-    requires { TriInTextRange tri.now }
+    requires { TriInRange tri.now }
 {
     is_inside(tri, Cutter::Ball { radius: 100 }, at(tip.0, tip.1, tip.2))
 }
 
 /// How the triangle lies to a ball of radius 100 along X and along Y.
 fn lies(tri: &Tri, tip: (i16, i16, i16)) -> (Touch, Touch)
-    requires { TriInTextRange tri.now }
+    requires { TriInRange tri.now }
 {
     let cutter = Cutter::Ball { radius: 100 };
     let tip = at(tip.0, tip.1, tip.2);
@@ -70,7 +73,7 @@ fn edge_over_the_centre(rt: HostRuntime) -> Result<(), Fail> {
     Ok(())
 }
 
-// The same edge at half the radius over the tip, where the sphere counts: 86^2 + 50^2 < 100^2 < 87^2 + 50^2.
+// A level edge at half the radius over the tip, where the sphere counts: 86^2 + 50^2 < 100^2 < 87^2 + 50^2.
 #[test]
 fn edge_beside_the_sphere(rt: HostRuntime) -> Result<(), Fail> {
     let tri = Tri {
@@ -231,5 +234,81 @@ fn inside_or_not(rt: HostRuntime) -> Result<(), Fail> {
     ] {
         assert_eq!(rt; holds(&tri, tip), wanted);
     }
+    Ok(())
+}
+
+fn corner(x: i32, y: i32, z: i32) -> Pt3
+    requires x_ok { Within MAX_COORDINATE x }
+    requires y_ok { Within MAX_COORDINATE y }
+    requires z_ok { Within MAX_COORDINATE z }
+    ensures { IsInRange result }
+{
+    Pt3 { x, y, z }
+}
+
+fn tip_at(x: i32, y: i32, z: i32) -> Pt3
+    requires x_ok { Within MAX_COORDINATE x }
+    requires y_ok { Within MAX_COORDINATE y }
+    requires z_from { LOWEST_TIP ≤ℤ z }
+    requires z_to { z ≤ℤ pos MAX_COORDINATE }
+    ensures { IsCentre result }
+{
+    Pt3 { x, y, z }
+}
+
+// A slope of 45 degrees through the whole range. It is free where (h + R) / sqrt(2) is at least R:
+// from R * (sqrt(2) - 1) on, which is 4142.1 for R = 10000.
+#[test]
+fn greatest_slope(rt: HostRuntime) -> Result<(), Fail> {
+    let tri = Tri {
+        a: corner(-524287, -524287, -524287),
+        b: corner(524287, -524287, 524287),
+        c: corner(0, 524287, 0),
+    };
+    let ball = Cutter::Ball { radius: 10000 };
+    assert!(rt; is_inside(&tri, ball, tip_at(0, 0, 4142)));
+    assert!(rt; !is_inside(&tri, ball, tip_at(0, 0, 4143)));
+    assert_eq!(rt; touch(&tri, ball, tip_at(0, 0, 4142), Axis::X), INSIDE);
+    assert_eq!(rt; touch(&tri, ball, tip_at(0, 0, 4143), Axis::X), MORE);
+    assert_eq!(rt; touch(&tri, ball, tip_at(0, 0, 4143), Axis::Y), NEVER);
+    Ok(())
+}
+
+// The highest edge, beside the cylinder of the widest cutter at its lowest tip.
+#[test]
+fn highest_edge(rt: HostRuntime) -> Result<(), Fail> {
+    let tri = Tri {
+        a: corner(-524287, 11024, 524287),
+        b: corner(524287, 11024, 524287),
+        c: corner(524287, 11024, 524287),
+    };
+    let ball = Cutter::Ball { radius: 11024 };
+    assert!(rt; is_inside(&tri, ball, tip_at(0, 1, -545000)));
+    assert!(rt; !is_inside(&tri, ball, tip_at(0, 0, -545000)));
+    assert_eq!(rt; touch(&tri, ball, tip_at(0, 0, -545000), Axis::X), NEVER);
+    assert_eq!(rt; touch(&tri, ball, tip_at(0, 0, -545000), Axis::Y), MORE);
+    Ok(())
+}
+
+// The lowest edge, at the sphere of the widest cutter: 11024 is 13 * 848, the edge is 5 * 848 beside
+// the tip and 848 over it, and so 12 * 848 under the centre.
+#[test]
+fn lowest_edge(rt: HostRuntime) -> Result<(), Fail> {
+    let tri = Tri {
+        a: corner(-524287, -524287, -524287),
+        b: corner(524287, -524287, -524287),
+        c: corner(524287, -524287, -524287),
+    };
+    let ball = Cutter::Ball { radius: 11024 };
+    assert!(rt; is_inside(&tri, ball, tip_at(0, -520047, -525136)));
+    assert!(rt; !is_inside(&tri, ball, tip_at(0, -520047, -525135)));
+    assert_eq!(rt;
+        touch(&tri, ball, tip_at(0, -520047, -525135), Axis::X),
+        NEVER
+    );
+    assert_eq!(rt;
+        touch(&tri, ball, tip_at(0, -520047, -525135), Axis::Y),
+        LESS
+    );
     Ok(())
 }

@@ -1,4 +1,5 @@
 pub mod Sizes
+pub mod Stored
 pub mod PartCerts
 pub mod ZoneCerts
 pub mod WholeCerts

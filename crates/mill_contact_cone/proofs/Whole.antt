@@ -242,7 +242,7 @@ free_clear k a b c g free = record {
   ca = λ t. free.ca (segment_edge k c a g.cone g.c_is g.a_is t);
 }
 
--- with some corner over that height
+-- with some corner over the height of the rim
 missed_over : (k : Cone) (a b c : Corner) → Corners k a b c → EdgesFree k a b c → (IsPierced (plain a) (plain b) (plain c) → ⊥) → (OnLevel k.radius (lifted a) (lifted b) (lifted c) → ⊥) → TouchesCone k a b c → ⊥
 missed_over k a b c g free axis level t = by (split_lt (pos 0) ((t.u *ℤ a.over +ℤ t.v *ℤ b.over) +ℤ t.w *ℤ c.over))
   where
@@ -283,7 +283,7 @@ missed_under k a b c g free axis ha hb hc t =
     (low_hit k a b c (k.run *ℤ a.z) (k.run *ℤ b.z) (k.run *ℤ c.z) t.u t.v t.w g.cone t.inside.steep (weak _ t.inside.over)
     (scaled_time k.run (mean3 t.u t.v t.w (plain a) (plain b) (plain c)).z _ (scaled_sum t.u t.v t.w k.run a.z b.z c.z) (run_positive k g.cone) (weak _ t.inside.over))))
 
--- with the edges free, the axis not through the triangle over the tip and no near point at that height, there is no touch
+-- with the edges free, the axis not through the triangle over the tip and no near point at the height of the rim, there is no touch
 pub cone_missed : (k : Cone) (a b c : Corner) → Corners k a b c → EdgesFree k a b c → (IsPierced (plain a) (plain b) (plain c) → ⊥)
     → (IsOver (lifted a) (lifted b) (lifted c) → EdgesClear k.radius (lifted a) (lifted b) (lifted c) → OnLevel k.radius (lifted a) (lifted b) (lifted c) → ⊥) → TouchesCone k a b c → ⊥
 cone_missed k a b c g free axis level t = by (split_lt (pos 0) a.over) (split_lt (pos 0) b.over) (split_lt (pos 0) c.over)

@@ -83,7 +83,7 @@ lower_part k p q f from back to i s e eu ev t = record {
   negative = steep_pair p.x p.y p.z q.x q.y q.z k.rise k.run f.a f.h f.b t.u t.v i.a_is i.h_is i.b_is t.steep;
 }
 
--- where some point is under that height, the two blends are apart
+-- where some point is under the height of the rim, the two blends are apart
 pub lower_apart : (k : Cone) (p q : Corner) (from back to : Blend) → IsCone k → IsCornerOf k p → IsCornerOf k q → IsStart p.z q.z from → IsStart (pos 0 -ℤ q.over) (pos 0 -ℤ p.over) back → to.u ≡ back.v → to.v ≡ back.u
     → (pos 0) <ℤ q.z → (q.over ≤ℤ pos 0) ⊎ (p.over <ℤ pos 0) → (pos 0) <ℤ turn_of from to
 lower_apart k p q from back to c ep eq s e eu ev hq under = start_apart p.z q.z from to.u to.v s (ahead e under) (turned_height to.u to.v back.u back.v p.z q.z eu ev (height e under))
@@ -113,7 +113,7 @@ lower_apart k p q from back to c ep eq s e eu ev hq under = start_apart p.z q.z 
 
 -- ---- the zones are the cutter's
 
--- at or over that height, what is in the cylinder is in the cutter
+-- at or over the height of the rim, what is in the cylinder is in the cutter
 pub upper_inside : (k : Cone) (n : ℤ) (d : Pt3) → IsCone k → (pos 0) ≤ℤ n → apart d <ℤ (square k.radius *ℤ square n) → (k.rise *ℤ (k.radius *ℤ n)) ≤ℤ (k.run *ℤ d.z) → InCone k.radius k.rise k.run n d
 upper_inside k n d c hn near level =
     let some = some_of d.x d.y n k.radius hn near in
@@ -190,7 +190,7 @@ edge_under k p q h l t = clash _ (low_pair t.u t.v p.z q.z t.u_ok t.v_ok (throug
 pub edge_low : (k : Cone) (p q : Corner) → IsCone k → IsCornerOf k p → IsCornerOf k q → p.z ≤ℤ q.z → q.over ≤ℤ pos 0 → (HitsLower k p q → ⊥) → TouchesEdge k p q → ⊥
 edge_low k p q c ep eq h l n t = n (edge_lower k p q t (low_pair t.u t.v p.over q.over t.u_ok t.v_ok (through p.over q.over (ordered k p q c ep eq h) l) l))
 
--- all of it at or over that height
+-- all of it at or over the height of the rim
 pub edge_high : (k : Cone) (p q : Corner) → (pos 0) ≤ℤ p.over → (pos 0) <ℤ q.over → (HitsUpper k p q → ⊥) → TouchesEdge k p q → ⊥
 edge_high k p q hp hq n t = n (edge_upper k p q t (high_pair t.u t.v p.over q.over t.u_ok t.v_ok hp (weak _ hq)))
 
@@ -201,7 +201,7 @@ edge_both k p q m n t = elim (split_lt (t.u *ℤ p.over +ℤ t.v *ℤ q.over) (p
     below : (x : ℤ) → x <ℤ pos 0 → x ≤ℤ pos 0
     below x h = omega (arith, ints)
 
--- the same numbers
+-- a point is inside at numbers that are equal to those at which it is
 pub same_inside : (r a b n m x y z f g h : ℤ) → n ≡ m → x ≡ f → y ≡ g → z ≡ h → InCone r a b n (record { x = x; y = y; z = z }) → InCone r a b m (record { x = f; y = g; z = h })
 same_inside r a b n m x y z f g h en ex ey ez i = rw (en, ex, ey, ez) at i
 

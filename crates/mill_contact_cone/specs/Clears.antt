@@ -8,10 +8,11 @@ use Rattle.mill_contact_cone.specs.declared.corner.Corner.{Corner}
 abbrev pub apart_of : Corner → ℤ
 apart_of p = square p.x +ℤ square p.y
 
--- a square of a distance from the axis times that of the rise, and the square of a height times that of the run: over the tip a point is over the wall where the first is less
+-- a square of a distance from the axis times that of the rise
 abbrev pub across_of : Cone → ℤ → ℤ
 across_of k gap = (k.rise *ℤ k.rise) *ℤ gap
 
+-- the square of a height times that of the run: a point over the tip is over the wall where the square of its distance from the axis, times that of the rise, is less
 abbrev pub upward_of : Cone → ℤ → ℤ
 upward_of k z = (k.run *ℤ k.run) *ℤ (z *ℤ z)
 

@@ -1,3 +1,4 @@
+pub mod Widths
 pub mod Cones
 pub mod Quadratics
 pub mod Positions

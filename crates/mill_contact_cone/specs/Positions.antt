@@ -27,16 +27,17 @@ ConeAt k a b c t = TouchesCone k (slid t a) (slid t b) (slid t c)
 abbrev pub flattened : Corner → Corner
 flattened p = record { x = pos 0; y = p.y; z = p.z; over = p.over }
 
--- some point of the segment comes into the cutter at some position along x, and is before the tip, or behind it
+-- some point of the segment comes into the cutter at some position along x, and is before the tip
 pub record SeenLess (k : Cone) (p q : Corner) : Type 0 where
   pub seen : TouchesEdge k (flattened p) (flattened q)
   pub less : (seen.u *ℤ p.x +ℤ seen.v *ℤ q.x) <ℤ pos 0
 
+-- some point of the segment comes into the cutter at some position along x, and is behind the tip
 pub record SeenMore (k : Cone) (p q : Corner) : Type 0 where
   pub seen : TouchesEdge k (flattened p) (flattened q)
   pub more : (pos 0) <ℤ (seen.u *ℤ p.x +ℤ seen.v *ℤ q.x)
 
--- such a point is on this side of the tip
+-- some point of the segment comes into the cutter at some position along x, and is on this side of the tip
 abbrev pub IsSeenOn : Side → Cone → Corner → Corner → Type 0
 IsSeenOn Less k p q = SeenLess k p q
 IsSeenOn More k p q = SeenMore k p q
@@ -47,7 +48,7 @@ pub record HoldsBefore (f g x w : ℤ) : Type 0 where
   pub first : (pos 0) <ℤ f
   pub middle : (w *ℤ f -ℤ x *ℤ g) ≤ℤ pos 0
 
--- that is so of one of the four quantities that are positive exactly on what comes into the cutter
+-- one of the four quantities that are positive exactly on what comes into the cutter is positive at the first end, and not between the ends at the tip's x
 abbrev pub IsBefore : Cone → Corner → Corner → Type 0
 IsBefore k p q = (HoldsBefore (k.radius -ℤ p.y) (k.radius -ℤ q.y) p.x q.x ⊎ HoldsBefore (k.radius +ℤ p.y) (k.radius +ℤ q.y) p.x q.x)
     ⊎ (HoldsBefore (k.run *ℤ p.z -ℤ k.rise *ℤ p.y) (k.run *ℤ q.z -ℤ k.rise *ℤ q.y) p.x q.x ⊎ HoldsBefore (k.run *ℤ p.z +ℤ k.rise *ℤ p.y) (k.run *ℤ q.z +ℤ k.rise *ℤ q.y) p.x q.x)

@@ -1,6 +1,7 @@
 -- The forms that decide whether a segment comes into the cone cutter, and the part of the segment on which each decides.
-use Rattle.std.specs.Prelude.{◌≡◌, ◌⊎◌, ◌^◌, ℤ, pos, ◌+ℤ◌, ◌-ℤ◌, ◌*ℤ◌, ◌<ℤ◌, ◌≤ℤ◌}
+use Rattle.std.specs.Prelude.{◌≡◌, ◌⊎◌, ℤ, pos, ◌+ℤ◌, ◌-ℤ◌, ◌*ℤ◌, ◌<ℤ◌, ◌≤ℤ◌}
 use Rattle.mill_base.specs.Numbers.{Within}
+use Rattle.mill_contact_cone.specs.Widths.{most_over, most_cone_form}
 use Rattle.mill_contact_cone.specs.declared.corner.Cone.{Cone}
 use Rattle.mill_contact_cone.specs.declared.corner.Corner.{Corner}
 use Rattle.mill_contact_cone.specs.declared.quadratic.Form.{Form}
@@ -8,14 +9,14 @@ use Rattle.mill_contact_cone.specs.declared.quadratic.Blend.{Blend}
 
 -- the three numbers of a form are small
 pub record FormInRange (f : Form) : Type 0 where
-  pub a_ok : Within (2 ^ 53) f.a
-  pub h_ok : Within (2 ^ 53) f.h
-  pub b_ok : Within (2 ^ 53) f.b
+  pub a_ok : Within most_cone_form f.a
+  pub h_ok : Within most_cone_form f.h
+  pub b_ok : Within most_cone_form f.b
 
 -- the weights of a blend are small, and not negative
 pub record BlendInRange (p : Blend) : Type 0 where
-  pub u_ok : Within (2 ^ 26) p.u
-  pub v_ok : Within (2 ^ 26) p.v
+  pub u_ok : Within most_over p.u
+  pub v_ok : Within most_over p.v
   pub u_least : (pos 0) ≤ℤ p.u
   pub v_least : (pos 0) ≤ℤ p.v
 
@@ -41,19 +42,21 @@ pub record HitsBetween (f : Form) (from to : Blend) : Type 0 where
   pub before : (pos 0) ≤ℤ (u *ℤ to.v -ℤ v *ℤ to.u)
   pub negative : value_of f u v <ℤ pos 0
 
--- the products of corners whose sign decides over the height at which the cone reaches its radius, and under it
+-- the product of corners whose sign decides over the height of the rim
 abbrev pub upper_of : Cone → Corner → Corner → ℤ
 upper_of k p q = (p.x *ℤ q.x +ℤ p.y *ℤ q.y) -ℤ k.radius *ℤ k.radius
 
+-- the product of corners whose sign decides under the height of the rim
 abbrev pub lower_of : Cone → Corner → Corner → ℤ
 lower_of k p q = k.rise *ℤ k.rise *ℤ (p.x *ℤ q.x +ℤ p.y *ℤ q.y) -ℤ k.run *ℤ k.run *ℤ (p.z *ℤ q.z)
 
--- the form of a segment's two ends
+-- the form of a segment's two ends that decides over the height of the rim
 pub record IsUpperForm (k : Cone) (p q : Corner) (f : Form) : Type 0 where
   pub a_is : f.a ≡ upper_of k p p
   pub h_is : f.h ≡ upper_of k p q
   pub b_is : f.b ≡ upper_of k q q
 
+-- the form of a segment's two ends that decides under the height of the rim
 pub record IsLowerForm (k : Cone) (p q : Corner) (f : Form) : Type 0 where
   pub a_is : f.a ≡ lower_of k p p
   pub h_is : f.h ≡ lower_of k p q

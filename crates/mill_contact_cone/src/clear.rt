@@ -1,6 +1,7 @@
-ghost use Rattle.std.specs.Prelude.{◌≡◌, ◌^◌, ◌+ℤ◌, ◌*ℤ◌, false, IsTrue};
+ghost use Rattle.std.specs.Prelude.{◌≡◌, ◌*◌, ◌*ℤ◌, false, IsTrue};
 ghost use Rattle.mill_base.specs.Numbers.{Within};
-ghost use Rattle.mill_geom.specs.Offsets.{farthest};
+ghost use Rattle.mill_geom.specs.Widths.{farthest, widest, most_area};
+ghost use Rattle.mill_contact_cone.specs.Widths.{most_steep};
 ghost use Rattle.mill_contact_cone.specs.Cones.{IsCone, CornerInRange, TouchesCone};
 ghost use Rattle.mill_contact_cone.specs.Clears.{apart_of, across_of, upward_of, HoldsCorner};
 
@@ -11,7 +12,7 @@ use mill_geom::{box_gap, highest};
 fn radius_square(cone: Cone) -> i64
     requires cone_ok { IsCone cone }
     ensures value { result ≡ cone.radius *ℤ cone.radius }
-    ensures bound { Within (2 ^ 27) result }
+    ensures bound { Within (widest * widest) result }
 {
     cone.radius * cone.radius
 }
@@ -20,17 +21,17 @@ fn radius_square(cone: Cone) -> i64
 fn apart(p: Corner) -> i64
     requires p_ok { CornerInRange p }
     ensures value { result ≡ apart_of p }
-    ensures bound { Within (2 ^ 39) result }
+    ensures bound { Within most_area result }
 {
     p.x * p.x + p.y * p.y
 }
 
 /// The square of a distance from the axis, times that of the rise.
 fn across(gap: i64, cone: Cone) -> i64
-    requires gap_ok { Within (2 ^ 39) gap }
+    requires gap_ok { Within most_area gap }
     requires cone_ok { IsCone cone }
     ensures value { result ≡ across_of cone gap }
-    ensures bound { Within (2 ^ 53) result }
+    ensures bound { Within most_steep result }
 {
     cone.rise * cone.rise * gap
 }
@@ -40,7 +41,7 @@ fn upward(z: i64, cone: Cone) -> i64
     requires z_ok { Within farthest z }
     requires cone_ok { IsCone cone }
     ensures value { result ≡ upward_of cone z }
-    ensures bound { Within (2 ^ 53) result }
+    ensures bound { Within most_steep result }
 {
     cone.run * cone.run * (z * z)
 }

@@ -1,7 +1,8 @@
 ghost use Rattle.std.specs.Prelude.{◌≡◌, pos, false, IsTrue};
-ghost use Rattle.mill_base.specs.Ranges.{TriInTextRange};
+ghost use Rattle.mill_base.specs.Ranges.{TriInRange};
 ghost use Rattle.mill_base.specs.Contact.{Touches};
 ghost use Rattle.mill_base.specs.Sizes.{HasRadius, IsSlope, IsWideCutter};
+ghost use Rattle.mill_base.specs.declared.limits.TheConstants.{MAX_WIDE_RADIUS};
 ghost use Rattle.mill_base.specs.declared.cutter.Cutter.TheVariants.{Cone as ConeCutter};
 ghost use Rattle.mill_geom.specs.Offsets.{IsCentre};
 ghost use Rattle.mill_geom.specs.Sides.{IsTouch, along};
@@ -59,7 +60,8 @@ fn touches_cone(a: Corner, b: Corner, c: Corner, cone: Cone) -> bool
     touches_on_level(a, b, c, cone)
 }
 
-/// The same answer, from the box and the corners alone wherever they show it.
+/// Whether some point of the triangle is strictly inside the cone cutter, from the box and the corners
+/// alone wherever they show it.
 fn has_inside(a: Corner, b: Corner, c: Corner, cone: Cone) -> bool
     requires a_ok { CornerInRange a }
     requires b_ok { CornerInRange b }
@@ -102,7 +104,7 @@ fn touch_along_x(a: Corner, b: Corner, c: Corner, cone: Cone) -> Touch
 
 /// How the triangle lies to the cone cutter with its tip at `tip`, for positions along `axis`.
 fn touch_cone(tri: &Tri, cone: Cone, tip: Pt3, axis: Axis) -> Touch
-    requires tri_ok { TriInTextRange tri.now }
+    requires tri_ok { TriInRange tri.now }
     requires cone_ok { IsCone cone }
     requires tip_ok { IsCentre tip }
     ensures { IsTouch result (λ t. Touches (ConeCutter cone.radius cone.rise cone.run) (pos 1) (along axis tip t) tri.now) }
@@ -115,7 +117,7 @@ fn touch_cone(tri: &Tri, cone: Cone, tip: Pt3, axis: Axis) -> Touch
 
 /// The numbers of a cone cutter.
 fn cone_of(radius: i32, rise: i32, run: i32) -> Cone
-    requires radius_ok { HasRadius radius (pos 11024) }
+    requires radius_ok { HasRadius radius MAX_WIDE_RADIUS }
     requires slope_ok { IsSlope rise run }
     ensures radius { result.radius ≡ radius }
     ensures rise { result.rise ≡ rise }
@@ -131,7 +133,7 @@ fn cone_of(radius: i32, rise: i32, run: i32) -> Cone
 
 /// Whether some point of the triangle is strictly inside the cone cutter with its tip at `tip`.
 fn is_inside_cone(tri: &Tri, cone: Cone, tip: Pt3) -> bool
-    requires tri_ok { TriInTextRange tri.now }
+    requires tri_ok { TriInRange tri.now }
     requires cone_ok { IsCone cone }
     requires tip_ok { IsCentre tip }
     ensures yes { IsTrue result → Touches (ConeCutter cone.radius cone.rise cone.run) (pos 1) tip tri.now }
@@ -149,7 +151,7 @@ fn is_inside_cone(tri: &Tri, cone: Cone, tip: Pt3) -> bool
 /// 64-bit operations answer for a triangle whose box is clear of the cutter, and for one of which a
 /// corner is inside.
 pub fn is_inside(tri: &Tri, cutter: Cutter, tip: Pt3) -> bool
-    requires tri_ok { TriInTextRange tri.now }
+    requires tri_ok { TriInRange tri.now }
     requires cutter_ok { IsWideCutter cutter }
     requires shape_ok { IsConical cutter }
     requires tip_ok { IsCentre tip }
@@ -170,7 +172,7 @@ pub fn is_inside(tri: &Tri, cutter: Cutter, tip: Pt3) -> bool
 ///
 /// The cutter is a cone. Lengths are in units of 0.01 mm. Corners may be equal or collinear.
 pub fn touch(tri: &Tri, cutter: Cutter, tip: Pt3, axis: Axis) -> Touch
-    requires tri_ok { TriInTextRange tri.now }
+    requires tri_ok { TriInRange tri.now }
     requires cutter_ok { IsWideCutter cutter }
     requires shape_ok { IsConical cutter }
     requires tip_ok { IsCentre tip }

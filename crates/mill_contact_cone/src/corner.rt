@@ -1,14 +1,17 @@
-ghost use Rattle.std.specs.Prelude.{◌≡◌, ◌^◌, ◌-ℤ◌};
+ghost use Rattle.std.specs.Prelude.{◌≡◌, ◌-ℤ◌};
 ghost use Rattle.mill_base.specs.Numbers.{Within};
-ghost use Rattle.mill_base.specs.Ranges.{IsInTextRange};
-ghost use Rattle.mill_geom.specs.Offsets.{OffsetInRange, IsCentre, farthest};
+ghost use Rattle.mill_base.specs.Ranges.{IsInRange};
+ghost use Rattle.mill_geom.specs.Offsets.{OffsetInRange, IsCentre};
+ghost use Rattle.mill_geom.specs.Widths.{farthest};
+ghost use Rattle.mill_contact_cone.specs.Widths.{most_over};
 ghost use Rattle.mill_contact_cone.specs.Cones.{IsCone, over_of, IsCornerOf, plain, CornerInRange};
 ghost use Rattle.mill_contact_cone.specs.Positions.{IsAlong};
 
 use mill_base::Pt3;
 use mill_geom::{Axis, Offset, offset_from};
 
-/// A cone that rises by `rise` over each `run` until it reaches its radius, in units of 0.01 mm.
+/// A cone that rises by `rise` over each `run` until it reaches its radius at its rim, in units of
+/// 0.01 mm.
 #[derive(Clone, Copy, Debug, PartialEq, Eq)]
 pub struct Cone {
     pub radius: i64,
@@ -17,7 +20,7 @@ pub struct Cone {
 }
 
 /// How far a corner of a triangle is from the tip, and, times the run, how far it is over the
-/// height at which the cone reaches its radius.
+/// height of the rim.
 #[derive(Clone, Copy, Debug, PartialEq, Eq)]
 pub struct Corner {
     pub x: i64,
@@ -26,19 +29,19 @@ pub struct Corner {
     pub over: i64,
 }
 
-/// How far the height `z` is over that at which the cone reaches its radius, times the run.
+/// How far the height `z` is over that of the rim, times the run.
 fn over(z: i64, cone: Cone) -> i64
     requires z_ok { Within farthest z }
     requires cone_ok { IsCone cone }
     ensures value { result ≡ over_of cone z }
-    ensures bound { Within (2 ^ 26) result }
+    ensures bound { Within most_over result }
 {
     cone.run * z - cone.rise * cone.radius
 }
 
 /// The corner at `point`, from the tip, with `axis` for x.
 pub fn corner_from(point: Pt3, tip: Pt3, axis: Axis, cone: Cone) -> Corner
-    requires point_ok { IsInTextRange point }
+    requires point_ok { IsInRange point }
     requires tip_ok { IsCentre tip }
     requires cone_ok { IsCone cone }
     ensures place { IsAlong axis result point tip }

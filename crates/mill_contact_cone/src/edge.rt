@@ -1,5 +1,6 @@
-ghost use Rattle.std.specs.Prelude.{◌≡◌, ◌⊎◌, ◌^◌, ◌<ℤ◌, ◌≤ℤ◌, pos, false, IsTrue};
+ghost use Rattle.std.specs.Prelude.{◌≡◌, ◌⊎◌, ◌<ℤ◌, ◌≤ℤ◌, pos, false, IsTrue};
 ghost use Rattle.mill_base.specs.Numbers.{Within};
+ghost use Rattle.mill_contact_cone.specs.Widths.{most_over, most_cone_form};
 ghost use Rattle.mill_contact_cone.specs.Cones.{IsCone, IsCornerOf, CornerInRange, TouchesEdge, HitsUpper, HitsLower};
 ghost use Rattle.mill_contact_cone.specs.Quadratics.{FormInRange, BlendInRange, IsUpperForm, IsLowerForm, upper_of, lower_of, IsStart};
 
@@ -12,7 +13,7 @@ pub fn upper_product(p: Corner, q: Corner, cone: Cone) -> i64
     requires q_ok { CornerInRange q }
     requires cone_ok { IsCone cone }
     ensures value { result ≡ upper_of cone p q }
-    ensures bound { Within (2 ^ 53) result }
+    ensures bound { Within most_cone_form result }
 {
     p.x * q.x + p.y * q.y - cone.radius * cone.radius
 }
@@ -24,13 +25,13 @@ fn lower_product(p: Corner, q: Corner, cone: Cone) -> i64
     requires q_ok { CornerInRange q }
     requires cone_ok { IsCone cone }
     ensures value { result ≡ lower_of cone p q }
-    ensures bound { Within (2 ^ 53) result }
+    ensures bound { Within most_cone_form result }
 {
     let across = p.x * q.x + p.y * q.y;
     cone.rise * cone.rise * across - cone.run * cone.run * (p.z * q.z)
 }
 
-/// The form that decides over the height at which the cone reaches its radius.
+/// The form that decides over the height of the rim.
 fn upper_form(p: Corner, q: Corner, cone: Cone) -> Form
     requires p_ok { CornerInRange p }
     requires q_ok { CornerInRange q }
@@ -44,7 +45,7 @@ fn upper_form(p: Corner, q: Corner, cone: Cone) -> Form
     Form { a, h, b }
 }
 
-/// The form that decides under that height.
+/// The form that decides under the height of the rim.
 fn lower_form(p: Corner, q: Corner, cone: Cone) -> Form
     requires p_ok { CornerInRange p }
     requires q_ok { CornerInRange q }
@@ -60,8 +61,8 @@ fn lower_form(p: Corner, q: Corner, cone: Cone) -> Form
 
 /// Where a quantity that is `f` at the first end and `g` at the last begins not to be negative.
 fn start(f: i64, g: i64) -> Blend
-    requires f_ok { Within (2 ^ 26) f }
-    requires g_ok { Within (2 ^ 26) g }
+    requires f_ok { Within most_over f }
+    requires g_ok { Within most_over g }
     requires g_least { pos 0 ≤ℤ g }
     ensures place { IsStart f g result }
     ensures range { BlendInRange result }
@@ -72,7 +73,7 @@ fn start(f: i64, g: i64) -> Blend
     Blend { u: g, v: -f }
 }
 
-/// The same point, from the other end of the segment.
+/// A point of a segment, as one of the segment with its ends swapped.
 fn turned(p: Blend) -> Blend
     requires p_ok { BlendInRange p }
     ensures u { result.u ≡ p.v }
@@ -92,7 +93,7 @@ fn last() -> Blend
 }
 
 /// Whether a point of the segment is inside the cutter's cylinder, where the last end is over the
-/// height at which the cone reaches its radius.
+/// height of the rim.
 fn hits_upper(p: Corner, q: Corner, cone: Cone) -> bool
     requires p_ok { CornerInRange p }
     requires q_ok { CornerInRange q }
@@ -107,7 +108,7 @@ fn hits_upper(p: Corner, q: Corner, cone: Cone) -> bool
 }
 
 /// Whether a point of the segment is inside the cutter's cone, where the last end is over the tip
-/// and not under the first, and some point is under the height at which the cone reaches its radius.
+/// and not under the first, and some point is under the height of the rim.
 fn hits_lower(p: Corner, q: Corner, cone: Cone) -> bool
     requires p_ok { CornerInRange p }
     requires q_ok { CornerInRange q }
@@ -126,7 +127,8 @@ fn hits_lower(p: Corner, q: Corner, cone: Cone) -> bool
     hits_between(form, from, turned(back))
 }
 
-/// The test of a segment whose last end isn't lower than its first.
+/// Whether some point of the segment is strictly inside the cone cutter, where its last end isn't
+/// lower than its first.
 fn touches_rising(p: Corner, q: Corner, cone: Cone) -> bool
     requires p_ok { CornerInRange p }
     requires q_ok { CornerInRange q }

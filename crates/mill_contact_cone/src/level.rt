@@ -1,15 +1,16 @@
-ghost use Rattle.std.specs.Prelude.{◌≡◌, ◌^◌, ◌<ℤ◌, pos, false, IsTrue};
+ghost use Rattle.std.specs.Prelude.{◌≡◌, ◌<ℤ◌, pos, false, IsTrue};
 ghost use Rattle.mill_base.specs.Numbers.{Within};
 ghost use Rattle.mill_geom.specs.Forms.{level_form_of, mixed_form_of, IsAlone, IsOver};
 ghost use Rattle.mill_geom.specs.Contacts.{TouchesTriangle, OnLevel, EdgesClear};
+ghost use Rattle.mill_contact_cone.specs.Widths.{most_over, most_cone_form, most_cone_mixed_form};
 ghost use Rattle.mill_contact_cone.specs.Cones.{IsCone, CornerInRange, lifted};
 
 use crate::corner::{Cone, Corner};
 use crate::edge::upper_product;
 use crate::plane::is_line_near;
 
-/// Whether the corner `p` is on one side of the height at which the cone reaches its radius, and
-/// the others on the other side or on it.
+/// Whether the corner `p` is on one side of the height of the rim, and the others on the other side
+/// or on it.
 fn is_alone(p: Corner, q: Corner, s: Corner) -> bool
     requires p_ok { CornerInRange p }
     requires q_ok { CornerInRange q }
@@ -32,18 +33,18 @@ fn is_alone(p: Corner, q: Corner, s: Corner) -> bool
     s.over > 0
 }
 
-/// The form of the two points in which the edges from `p` come to that height, from the forms and
-/// heights of the corners.
+/// The form of the two points in which the edges from `p` come to the height of the rim, from the
+/// forms of the corners and how far they are over it.
 fn mixed_form(pp: i64, pq: i64, ps: i64, qs: i64, p: i64, q: i64, s: i64) -> i128
-    requires pp_ok { Within (2 ^ 53) pp }
-    requires pq_ok { Within (2 ^ 53) pq }
-    requires ps_ok { Within (2 ^ 53) ps }
-    requires qs_ok { Within (2 ^ 53) qs }
-    requires p_ok { Within (2 ^ 26) p }
-    requires q_ok { Within (2 ^ 26) q }
-    requires s_ok { Within (2 ^ 26) s }
+    requires pp_ok { Within most_cone_form pp }
+    requires pq_ok { Within most_cone_form pq }
+    requires ps_ok { Within most_cone_form ps }
+    requires qs_ok { Within most_cone_form qs }
+    requires p_ok { Within most_over p }
+    requires q_ok { Within most_over q }
+    requires s_ok { Within most_over s }
     ensures value { result ≡ mixed_form_of pp pq ps qs p q s }
-    ensures bound { Within (2 ^ 108) result }
+    ensures bound { Within most_cone_mixed_form result }
 {
     let first = (p * p) as i128 * qs as i128;
     let second = (p * s) as i128 * pq as i128;
@@ -52,14 +53,14 @@ fn mixed_form(pp: i64, pq: i64, ps: i64, qs: i64, p: i64, q: i64, s: i64) -> i12
     first - second - third + last
 }
 
-/// The form of the two points in which the edges from `p` come to that height.
+/// The form of the two points in which the edges from `p` come to the height of the rim.
 fn level_form(p: Corner, q: Corner, s: Corner, cone: Cone) -> i128
     requires p_ok { CornerInRange p }
     requires q_ok { CornerInRange q }
     requires s_ok { CornerInRange s }
     requires cone_ok { IsCone cone }
     ensures value { result ≡ level_form_of cone.radius (lifted p) (lifted q) (lifted s) }
-    ensures bound { Within (2 ^ 108) result }
+    ensures bound { Within most_cone_mixed_form result }
 {
     let pp = upper_product(p, p, cone);
     let pq = upper_product(p, q, cone);
@@ -68,8 +69,8 @@ fn level_form(p: Corner, q: Corner, s: Corner, cone: Cone) -> i128
     mixed_form(pp, pq, ps, qs, p.over, q.over, s.over)
 }
 
-/// Whether the triangle's points at that height come nearer to the axis than the radius between the
-/// two edges from `p`, where these keep off it.
+/// Whether the triangle's points at the height of the rim come nearer to the axis than the radius
+/// between the two edges from `p`, where these keep off it.
 fn crosses(p: Corner, q: Corner, s: Corner, cone: Cone) -> bool
     requires p_ok { CornerInRange p }
     requires q_ok { CornerInRange q }
@@ -85,8 +86,8 @@ fn crosses(p: Corner, q: Corner, s: Corner, cone: Cone) -> bool
     is_line_near(p, q, s, cone.radius)
 }
 
-/// Whether some point of the triangle at the height at which the cone reaches its radius is nearer
-/// to the axis than the radius, where the edges keep off it and some corner is higher.
+/// Whether some point of the triangle at the height of the rim is nearer to the axis than the
+/// radius, where the edges keep off it and some corner is higher.
 pub fn touches_on_level(a: Corner, b: Corner, c: Corner, cone: Cone) -> bool
     requires a_ok { CornerInRange a }
     requires b_ok { CornerInRange b }

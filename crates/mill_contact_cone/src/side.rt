@@ -1,7 +1,8 @@
-ghost use Rattle.std.specs.Prelude.{◌≡◌, ◌^◌, ◌+ℤ◌, ◌-ℤ◌, ◌*ℤ◌, ◌<ℤ◌, pos, false, IsTrue};
+ghost use Rattle.std.specs.Prelude.{◌≡◌, ◌+ℤ◌, ◌-ℤ◌, ◌*ℤ◌, ◌<ℤ◌, pos, false, IsTrue};
 ghost use Rattle.mill_base.specs.Numbers.{Within};
-ghost use Rattle.mill_geom.specs.Offsets.{farthest};
 ghost use Rattle.mill_geom.specs.Sides.{IsOnSide};
+ghost use Rattle.mill_geom.specs.Widths.{farthest};
+ghost use Rattle.mill_contact_cone.specs.Widths.{most_bound};
 ghost use Rattle.mill_contact_cone.specs.Cones.{IsCone, IsCornerOf, CornerInRange, TouchesEdge, TouchesCone};
 ghost use Rattle.mill_contact_cone.specs.Positions.{ConeAt, flattened as flattened_of, IsSeenOn, HoldsBefore, IsBefore};
 
@@ -39,8 +40,8 @@ fn is_seen(p: Corner, q: Corner, cone: Cone) -> bool
 /// Whether a quantity that is `f` at the end at `x`, before the tip, and `g` at the end at `w`,
 /// behind it, is positive at the first end, and isn't at the point between them at the tip's x.
 fn holds_before(f: i64, g: i64, x: i64, w: i64) -> bool
-    requires f_ok { Within (2 ^ 27) f }
-    requires g_ok { Within (2 ^ 27) g }
+    requires f_ok { Within most_bound f }
+    requires g_ok { Within most_bound g }
     requires x_ok { Within farthest x }
     requires w_ok { Within farthest w }
     ensures yes { IsTrue result → HoldsBefore f g x w }
@@ -52,40 +53,42 @@ fn holds_before(f: i64, g: i64, x: i64, w: i64) -> bool
     w * f <= x * g
 }
 
-/// How far the corner is from the cylinder's side at the greater y, and at the lesser.
+/// How far the corner is from the cylinder's side at the greater y.
 fn from_right(p: Corner, cone: Cone) -> i64
     requires p_ok { CornerInRange p }
     requires cone_ok { IsCone cone }
     ensures value { result ≡ cone.radius -ℤ p.y }
-    ensures bound { Within (2 ^ 27) result }
+    ensures bound { Within most_bound result }
 {
     cone.radius - p.y
 }
 
+/// How far the corner is from the cylinder's side at the lesser y.
 fn from_left(p: Corner, cone: Cone) -> i64
     requires p_ok { CornerInRange p }
     requires cone_ok { IsCone cone }
     ensures value { result ≡ cone.radius +ℤ p.y }
-    ensures bound { Within (2 ^ 27) result }
+    ensures bound { Within most_bound result }
 {
     cone.radius + p.y
 }
 
-/// How far the corner is over the cone's wall at the greater y, and at the lesser, times the run.
+/// How far the corner is over the cone's wall at the greater y, times the run.
 fn over_right(p: Corner, cone: Cone) -> i64
     requires p_ok { CornerInRange p }
     requires cone_ok { IsCone cone }
     ensures value { result ≡ cone.run *ℤ p.z -ℤ cone.rise *ℤ p.y }
-    ensures bound { Within (2 ^ 27) result }
+    ensures bound { Within most_bound result }
 {
     cone.run * p.z - cone.rise * p.y
 }
 
+/// How far the corner is over the cone's wall at the lesser y, times the run.
 fn over_left(p: Corner, cone: Cone) -> i64
     requires p_ok { CornerInRange p }
     requires cone_ok { IsCone cone }
     ensures value { result ≡ cone.run *ℤ p.z +ℤ cone.rise *ℤ p.y }
-    ensures bound { Within (2 ^ 27) result }
+    ensures bound { Within most_bound result }
 {
     cone.run * p.z + cone.rise * p.y
 }

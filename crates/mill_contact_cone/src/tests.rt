@@ -1,10 +1,12 @@
-ghost use Rattle.mill_base.specs.Ranges.{IsInTextRange, TriInTextRange};
+ghost use Rattle.mill_base.specs.Ranges.{IsInRange, TriInRange};
 ghost use Rattle.mill_geom.specs.Offsets.{IsCentre};
 
 use crate::{is_inside, touch};
 use mill_base::{Cutter, Pt3, Tri};
 use mill_geom::{Axis, Side, Touch};
 use std::test::Fail;
+
+mod limits;
 
 const INSIDE: Touch = Touch::Inside;
 
@@ -15,7 +17,7 @@ const MORE: Touch = Touch::Apart(Side::More);
 const NEVER: Touch = Touch::Apart(Side::Never);
 
 fn at(x: i16, y: i16, z: i16) -> Pt3
-    ensures corner { IsInTextRange result }
+    ensures corner { IsInRange result }
     ensures centre { IsCentre result }
 {
     Pt3 {
@@ -27,7 +29,7 @@ fn at(x: i16, y: i16, z: i16) -> Pt3
 
 // A triangle of three equal corners.
 fn point(x: i16, y: i16, z: i16) -> Tri
-    ensures { TriInTextRange result }
+    ensures { TriInRange result }
 {
     Tri {
         a: at(x, y, z),
@@ -38,7 +40,7 @@ fn point(x: i16, y: i16, z: i16) -> Tri
 
 /// How the triangle lies along X and along Y to a cone of radius 100 that rises by 1 over 1.
 fn lies(tri: &Tri, tip: (i16, i16, i16)) -> (Touch, Touch)
-    requires { TriInTextRange tri.now }
+    requires { TriInRange tri.now }
 {
     let cone = Cutter::Cone {
         radius: 100,
@@ -54,7 +56,7 @@ fn lies(tri: &Tri, tip: (i16, i16, i16)) -> (Touch, Touch)
 
 /// Whether some point of the triangle is inside that cone with its tip at the origin.
 fn holds(tri: &Tri) -> bool
-    requires { TriInTextRange tri.now }
+    requires { TriInRange tri.now }
 {
     lies(tri, (0, 0, 0)) == (INSIDE, INSIDE)
 }

@@ -1,5 +1,5 @@
 -- The box of a triangle's corners bounds how near to the axis and how high its points are.
-use Rattle.std.proofs.Common.{◌≡◌, inl, inr, ◌^◌, ◌≤◌, refl, ◌∙◌, w64, arith}
+use Rattle.std.proofs.Common.{◌≡◌, inl, inr, ◌≤◌, refl, ◌∙◌, w64, arith}
 use Rattle.std.specs.Int.{int_max}
 use lib.IntN.{ℤ, pos, ◌+ℤ◌, ◌-ℤ◌, ◌*ℤ◌, nat_abs}
 use lib.Signed.{◌<ℤ◌, ◌≤ℤ◌}
@@ -7,6 +7,7 @@ use Rattle.std.proofs.lemmas.Int.{ints}
 use Rattle.mill_base.specs.Numbers.{square, lesser, greater}
 use Rattle.mill_base.proofs.Exit.{split_lt}
 use Rattle.mill_base.proofs.Machine.{stored, kept}
+use Rattle.mill_geom.specs.Widths.{most_area, farthest}
 use Rattle.mill_geom.specs.declared.offset.Offset.{Offset}
 use Rattle.mill_geom.specs.Offsets.{mean3, OffsetInRange}
 use Rattle.mill_geom.specs.Gaps.{gap_of, box_gap_of, highest_of, AllApart, AllUpTo}
@@ -17,33 +18,33 @@ use Rattle.mill_geom.proofs.GapCerts.{beyond, beyond_back, gap_is_zero, both_gap
 most_is : (a b : ℤ) → int_max a b ≡ greater a b
 most_is a b = grind (arith, ints)
 
-opposite_small : (x : ℤ) → nat_abs x ≤ 524288 → nat_abs (pos 0 -ℤ x) ≤ 524288
+opposite_small : (x : ℤ) → nat_abs x ≤ farthest → nat_abs (pos 0 -ℤ x) ≤ farthest
 opposite_small x h = omega (arith, ints)
 
-most_small : (a b m : ℤ) → nat_abs a ≤ 524288 → nat_abs b ≤ 524288 → m ≡ greater a b → nat_abs m ≤ 524288
+most_small : (a b m : ℤ) → nat_abs a ≤ farthest → nat_abs b ≤ farthest → m ≡ greater a b → nat_abs m ≤ farthest
 most_small a b m ha hb e = grind (ha, hb, e, arith, ints)
 
-zero_small : nat_abs (pos 0) ≤ 524288
+zero_small : nat_abs (pos 0) ≤ farthest
 zero_small = omega arith
 
 -- the stored number is the value, and small
 pub record IsStored (n value : ℤ) : Type 0 where
   pub is : stored w64 n ≡ value
-  pub small : nat_abs (stored w64 n) ≤ 524288
+  pub small : nat_abs (stored w64 n) ≤ farthest
 
-is_stored : (n value : ℤ) → n ≡ value → nat_abs n ≤ 524288 → IsStored n value
-is_stored n value e h = record { is = kept w64 n 524288 h refl ∙ e; small = rw (kept w64 n 524288 h refl) h }
+is_stored : (n value : ℤ) → n ≡ value → nat_abs n ≤ farthest → IsStored n value
+is_stored n value e h = record { is = kept w64 n farthest h refl ∙ e; small = rw (kept w64 n farthest h refl) h }
 
-pub gap_stored : (a b c low high m n : ℤ) → nat_abs a ≤ 524288 → nat_abs b ≤ 524288 → nat_abs c ≤ 524288 → nat_abs low ≤ 524288 → nat_abs high ≤ 524288
+pub gap_stored : (a b c low high m n : ℤ) → nat_abs a ≤ farthest → nat_abs b ≤ farthest → nat_abs c ≤ farthest → nat_abs low ≤ farthest → nat_abs high ≤ farthest
     → low ≡ lesser (stored w64 a) (lesser (stored w64 b) (stored w64 c)) → high ≡ greater (stored w64 a) (greater (stored w64 b) (stored w64 c))
     → m ≡ int_max (stored w64 low) (stored w64 (pos 0 -ℤ stored w64 high)) → n ≡ int_max (stored w64 m) (pos 0) → IsStored n (gap_of a b c)
 gap_stored a b c low high m n ha hb hc hl hh el eh em en =
-    let low_is : low ≡ lesser a (lesser b c) = rw (kept w64 a 524288 ha refl, kept w64 b 524288 hb refl, kept w64 c 524288 hc refl) at el in
-    let high_is : high ≡ greater a (greater b c) = rw (kept w64 a 524288 ha refl, kept w64 b 524288 hb refl, kept w64 c 524288 hc refl) at eh in
-    let m_max : m ≡ int_max low (pos 0 -ℤ high) = rw (kept w64 low 524288 hl refl, kept w64 high 524288 hh refl, kept w64 (pos 0 -ℤ high) 524288 (opposite_small high hh) refl) at em in
+    let low_is : low ≡ lesser a (lesser b c) = rw (kept w64 a farthest ha refl, kept w64 b farthest hb refl, kept w64 c farthest hc refl) at el in
+    let high_is : high ≡ greater a (greater b c) = rw (kept w64 a farthest ha refl, kept w64 b farthest hb refl, kept w64 c farthest hc refl) at eh in
+    let m_max : m ≡ int_max low (pos 0 -ℤ high) = rw (kept w64 low farthest hl refl, kept w64 high farthest hh refl, kept w64 (pos 0 -ℤ high) farthest (opposite_small high hh) refl) at em in
     let m_is : m ≡ greater low (pos 0 -ℤ high) = m_max ∙ most_is low (pos 0 -ℤ high) in
     let m_ok = most_small low (pos 0 -ℤ high) m hl (opposite_small high hh) m_is in
-    let n_max : n ≡ int_max m (pos 0) = rw (kept w64 m 524288 m_ok refl) at en in
+    let n_max : n ≡ int_max m (pos 0) = rw (kept w64 m farthest m_ok refl) at en in
     let n_is : n ≡ greater m (pos 0) = n_max ∙ most_is m (pos 0) in
     is_stored n (gap_of a b c) (n_is ∙ rw (m_is, low_is, high_is) refl) (most_small m (pos 0) n m_ok zero_small n_is)
 
@@ -90,14 +91,14 @@ box_apart a b c u v w hu hv hw =
     (gap_apart a.x b.x c.x u v w hu hv hw) (gap_apart a.y b.y c.y u v w hu hv hw)
 
 -- the sum of the squares of two stored gaps
-pub squares_stored : (a b c : Offset) (x y n : ℤ) → nat_abs x ≤ 524288 → nat_abs y ≤ 524288 → nat_abs n ≤ 2 ^ 39
+pub squares_stored : (a b c : Offset) (x y n : ℤ) → nat_abs x ≤ farthest → nat_abs y ≤ farthest → nat_abs n ≤ most_area
     → x ≡ gap_of (stored w64 a.x) (stored w64 b.x) (stored w64 c.x) → y ≡ gap_of (stored w64 a.y) (stored w64 b.y) (stored w64 c.y)
     → n ≡ square (stored w64 x) +ℤ square (stored w64 y) → OffsetInRange a → OffsetInRange b → OffsetInRange c → stored w64 n ≡ box_gap_of a b c
 squares_stored a b c x y n hx hy hn ex ey en ra rb rc =
-    let x_is : x ≡ gap_of a.x b.x c.x = rw (kept w64 a.x 524288 ra.x_ok.within refl, kept w64 b.x 524288 rb.x_ok.within refl, kept w64 c.x 524288 rc.x_ok.within refl) at ex in
-    let y_is : y ≡ gap_of a.y b.y c.y = rw (kept w64 a.y 524288 ra.y_ok.within refl, kept w64 b.y 524288 rb.y_ok.within refl, kept w64 c.y 524288 rc.y_ok.within refl) at ey in
-    let n_is : n ≡ square x +ℤ square y = rw (kept w64 x 524288 hx refl, kept w64 y 524288 hy refl) at en in
-    kept w64 n (2 ^ 39) hn refl ∙ n_is ∙ rw (x_is, y_is) refl
+    let x_is : x ≡ gap_of a.x b.x c.x = rw (kept w64 a.x farthest ra.x_ok.within refl, kept w64 b.x farthest rb.x_ok.within refl, kept w64 c.x farthest rc.x_ok.within refl) at ex in
+    let y_is : y ≡ gap_of a.y b.y c.y = rw (kept w64 a.y farthest ra.y_ok.within refl, kept w64 b.y farthest rb.y_ok.within refl, kept w64 c.y farthest rc.y_ok.within refl) at ey in
+    let n_is : n ≡ square x +ℤ square y = rw (kept w64 x farthest hx refl, kept w64 y farthest hy refl) at en in
+    kept w64 n most_area hn refl ∙ n_is ∙ rw (x_is, y_is) refl
 
 pub gap_up : (a b c : Offset) → (pos 0) ≤ℤ box_gap_of a b c
 gap_up a b c = squares (gap_of a.x b.x c.x) (gap_of a.y b.y c.y)

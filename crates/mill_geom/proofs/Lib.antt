@@ -1,3 +1,4 @@
+pub mod Kept
 pub mod Pair
 pub mod SegmentCerts
 pub mod Segments

@@ -1,3 +1,4 @@
+pub mod Widths
 pub mod Offsets
 pub mod Forms
 pub mod Contacts

@@ -1,12 +1,10 @@
 -- Offsets of a triangle's corners from a centre, and their weighted sums.
-use Rattle.std.specs.Prelude.{◌≡◌, ℕ, ℤ, ◌+ℤ◌, ◌-ℤ◌, ◌*ℤ◌, ◌≤ℤ◌}
+use Rattle.std.specs.Prelude.{◌≡◌, ℤ, pos, ◌+ℤ◌, ◌-ℤ◌, ◌*ℤ◌, ◌≤ℤ◌}
 use Rattle.mill_base.specs.Numbers.{Within}
+use Rattle.mill_base.specs.declared.limits.TheConstants.{MAX_COORDINATE, LOWEST_TIP}
 use Rattle.mill_base.specs.declared.points.Pt3.{Pt3}
+use Rattle.mill_geom.specs.Widths.{farthest}
 use Rattle.mill_geom.specs.declared.offset.Offset.{Offset}
-
--- the greatest magnitude of an offset's coordinate
-abbrev pub farthest : ℕ
-farthest = 524288
 
 -- each coordinate of the offset is within the greatest magnitude
 pub record OffsetInRange (p : Offset) : Type 0 where
@@ -42,8 +40,9 @@ pub record AllTo (bound a b c : ℤ) : Type 0 where
   pub second : b ≤ℤ bound
   pub third : c ≤ℤ bound
 
--- each coordinate of a centre is within 160,000
+-- the centre is as low as the lowest tip at most, and otherwise in the range that calls take
 pub record IsCentre (p : Pt3) : Type 0 where
-  pub x_ok : Within 160000 p.x
-  pub y_ok : Within 160000 p.y
-  pub z_ok : Within 160000 p.z
+  pub x_ok : Within MAX_COORDINATE p.x
+  pub y_ok : Within MAX_COORDINATE p.y
+  pub z_from : LOWEST_TIP ≤ℤ p.z
+  pub z_to : p.z ≤ℤ pos MAX_COORDINATE

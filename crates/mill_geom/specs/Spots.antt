@@ -1,6 +1,7 @@
 -- Points of a triangle on the level or over it, each over a whole denominator.
-use Rattle.std.specs.Prelude.{◌≡◌, ◌^◌, ℤ, pos, ◌+ℤ◌, ◌-ℤ◌, ◌*ℤ◌, ◌<ℤ◌, ◌≤ℤ◌}
+use Rattle.std.specs.Prelude.{◌≡◌, ℤ, pos, ◌+ℤ◌, ◌-ℤ◌, ◌*ℤ◌, ◌<ℤ◌, ◌≤ℤ◌}
 use Rattle.mill_base.specs.Numbers.{Within}
+use Rattle.mill_geom.specs.Widths.{most_area, most_fall}
 use Rattle.mill_geom.specs.declared.offset.Offset.{Offset}
 use Rattle.mill_geom.specs.declared.spot.Spot.{Spot}
 use Rattle.mill_geom.specs.Offsets.{mean3}
@@ -21,9 +22,9 @@ pub record IsSpot (a b c : Offset) (s : Spot) : Type 0 where
 
 -- the coordinates and the denominator of a spot are small
 pub record SpotInRange (s : Spot) : Type 0 where
-  pub x_ok : Within (2 ^ 39) s.x
-  pub y_ok : Within (2 ^ 39) s.y
-  pub n_ok : Within (2 ^ 20) s.n
+  pub x_ok : Within most_area s.x
+  pub y_ok : Within most_area s.y
+  pub n_ok : Within most_fall s.n
 
 -- the spot is one of the triangle's, and its y is less than r
 pub record IsBelow (r : ℤ) (a b c : Offset) (s : Spot) : Type 0 where

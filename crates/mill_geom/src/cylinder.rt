@@ -1,6 +1,7 @@
 ghost use Rattle.std.specs.Prelude.{◌≡◌, ◌-ℤ◌, ◌<ℤ◌, pos, false, IsTrue, IfSome, None};
 ghost use Rattle.mill_base.specs.Numbers.{Within};
-ghost use Rattle.mill_geom.specs.Offsets.{OffsetInRange, farthest, AllFrom, AllTo};
+ghost use Rattle.mill_geom.specs.Widths.{farthest, widest};
+ghost use Rattle.mill_geom.specs.Offsets.{OffsetInRange, AllFrom, AllTo};
 ghost use Rattle.mill_geom.specs.Sides.{IsOnSide, TouchesAt, IsBoxNear};
 
 use crate::offset::Offset;
@@ -12,7 +13,7 @@ pub(crate) fn all_from(a: i64, b: i64, c: i64, bound: i64) -> bool
     requires a_ok { Within farthest a }
     requires b_ok { Within farthest b }
     requires c_ok { Within farthest c }
-    requires bound_ok { Within 16384 bound }
+    requires bound_ok { Within widest bound }
     ensures yes { IsTrue result → AllFrom bound a b c }
     ensures no { result ≡ false → ¬ AllFrom bound a b c }
 {
@@ -30,7 +31,7 @@ pub(crate) fn all_to(a: i64, b: i64, c: i64, bound: i64) -> bool
     requires a_ok { Within farthest a }
     requires b_ok { Within farthest b }
     requires c_ok { Within farthest c }
-    requires bound_ok { Within 16384 bound }
+    requires bound_ok { Within widest bound }
     ensures yes { IsTrue result → AllTo (pos 0 -ℤ bound) a b c }
     ensures no { result ≡ false → ¬ AllTo (pos 0 -ℤ bound) a b c }
 {
@@ -51,7 +52,7 @@ pub fn box_side(a: Offset, b: Offset, c: Offset, radius: i64) -> Option<Side>
     requires a_ok { OffsetInRange a }
     requires b_ok { OffsetInRange b }
     requires c_ok { OffsetInRange c }
-    requires r_ok { Within 16384 radius }
+    requires r_ok { Within widest radius }
     requires r_least { pos 0 <ℤ radius }
     ensures apart { IfSome result (λ side. IsOnSide side (TouchesAt radius a b c)) }
     ensures near { result ≡ None → IsBoxNear radius a b c }

@@ -1,6 +1,7 @@
 ghost use Rattle.std.specs.Prelude.{◌≡◌, ◌^◌, ◌+ℤ◌, ◌≤ℤ◌, pos};
 ghost use Rattle.mill_base.specs.Numbers.{Within, square, lesser, greater};
-ghost use Rattle.mill_geom.specs.Offsets.{OffsetInRange, farthest};
+ghost use Rattle.mill_geom.specs.Widths.{most_area, farthest};
+ghost use Rattle.mill_geom.specs.Offsets.{OffsetInRange};
 ghost use Rattle.mill_geom.specs.Gaps.{gap_of, box_gap_of, highest_of, AllApart, AllUpTo};
 
 use crate::offset::Offset;
@@ -46,7 +47,7 @@ fn square_sum(x: i64, y: i64) -> i64
     requires x_ok { Within farthest x }
     requires y_ok { Within farthest y }
     ensures value { result ≡ square x +ℤ square y }
-    ensures bound { Within (2 ^ 39) result }
+    ensures bound { Within most_area result }
 {
     x * x + y * y
 }
@@ -60,7 +61,7 @@ pub fn box_gap(a: Offset, b: Offset, c: Offset) -> i64
     ensures value { result ≡ box_gap_of a b c }
     ensures apart { AllApart result a b c }
     ensures least { pos 0 ≤ℤ result }
-    ensures bound { Within (2 ^ 39) result }
+    ensures bound { Within most_area result }
 {
     square_sum(gap(a.x, b.x, c.x), gap(a.y, b.y, c.y))
 }

@@ -1,6 +1,7 @@
 ghost use Rattle.std.specs.Prelude.{◌≡◌, ◌^◌, ◌↔◌, ◌<ℤ◌, pos, false, IsTrue};
 ghost use Rattle.mill_base.specs.Numbers.{Within};
-ghost use Rattle.mill_geom.specs.Offsets.{OffsetInRange, farthest};
+ghost use Rattle.mill_geom.specs.Widths.{most_form, most_mixed_form, farthest, widest};
+ghost use Rattle.mill_geom.specs.Offsets.{OffsetInRange};
 ghost use Rattle.mill_geom.specs.Forms.{level_form_of, mixed_form_of, IsAlone, IsOver};
 ghost use Rattle.mill_geom.specs.Contacts.{TouchesTriangle, OnLevel, EdgesClear};
 
@@ -34,15 +35,15 @@ fn is_alone(p: Offset, q: Offset, s: Offset) -> bool
 /// The form of the two points in which the edges from `p` meet the level, from the forms and
 /// heights of the corners.
 fn mixed_form(pp: i128, pq: i128, ps: i128, qs: i128, p: i64, q: i64, s: i64) -> i128
-    requires pp_ok { Within (2 ^ 40) pp }
-    requires pq_ok { Within (2 ^ 40) pq }
-    requires ps_ok { Within (2 ^ 40) ps }
-    requires qs_ok { Within (2 ^ 40) qs }
+    requires pp_ok { Within most_form pp }
+    requires pq_ok { Within most_form pq }
+    requires ps_ok { Within most_form ps }
+    requires qs_ok { Within most_form qs }
     requires p_ok { Within farthest p }
     requires q_ok { Within farthest q }
     requires s_ok { Within farthest s }
     ensures value { result ≡ mixed_form_of pp pq ps qs p q s }
-    ensures bound { Within (2 ^ 81) result }
+    ensures bound { Within most_mixed_form result }
 {
     let p = p as i128;
     let q = q as i128;
@@ -55,9 +56,9 @@ fn level_form(p: Offset, q: Offset, s: Offset, radius: i64) -> i128
     requires p_ok { OffsetInRange p }
     requires q_ok { OffsetInRange q }
     requires s_ok { OffsetInRange s }
-    requires r_ok { Within 16384 radius }
+    requires r_ok { Within widest radius }
     ensures value { result ≡ level_form_of radius p q s }
-    ensures bound { Within (2 ^ 81) result }
+    ensures bound { Within most_mixed_form result }
 {
     let pp = form(p, p, radius);
     let pq = form(p, q, radius);
@@ -72,7 +73,7 @@ fn crosses(p: Offset, q: Offset, s: Offset, radius: i64) -> bool
     requires p_ok { OffsetInRange p }
     requires q_ok { OffsetInRange q }
     requires s_ok { OffsetInRange s }
-    requires r_ok { Within 16384 radius }
+    requires r_ok { Within widest radius }
     requires r_least { pos 0 <ℤ radius }
     requires alone { IsAlone p q s }
     ensures yes { IsTrue result → TouchesTriangle radius p q s }
@@ -90,7 +91,7 @@ pub fn touches_on_level(a: Offset, b: Offset, c: Offset, radius: i64) -> bool
     requires a_ok { OffsetInRange a }
     requires b_ok { OffsetInRange b }
     requires c_ok { OffsetInRange c }
-    requires r_ok { Within 16384 radius }
+    requires r_ok { Within widest radius }
     requires r_least { pos 0 <ℤ radius }
     ensures yes { IsTrue result → TouchesTriangle radius a b c }
     ensures no { result ≡ false → IsOver a b c → EdgesClear radius a b c → ¬ OnLevel radius a b c }

@@ -1,5 +1,6 @@
 ghost use Rattle.std.specs.Prelude.{◌≡◌, ◌^◌, ◌↔◌, IsTrue};
 ghost use Rattle.mill_base.specs.Numbers.{Within};
+ghost use Rattle.mill_geom.specs.Widths.{most_area, most_slope, most_volume, widest};
 ghost use Rattle.mill_geom.specs.Offsets.{OffsetInRange};
 ghost use Rattle.mill_geom.specs.Forms.{cross_of, volume_of, slope_x_of, slope_y_of, IsLineNear};
 
@@ -10,7 +11,7 @@ pub fn cross(p: Offset, q: Offset) -> i64
     requires p_ok { OffsetInRange p }
     requires q_ok { OffsetInRange q }
     ensures value { result ≡ cross_of p q }
-    ensures bound { Within (2 ^ 39) result }
+    ensures bound { Within most_area result }
 {
     p.x * q.y - p.y * q.x
 }
@@ -21,7 +22,7 @@ pub fn volume(a: Offset, b: Offset, c: Offset) -> i64
     requires b_ok { OffsetInRange b }
     requires c_ok { OffsetInRange c }
     ensures value { result ≡ volume_of a b c }
-    ensures bound { Within (2 ^ 60) result }
+    ensures bound { Within most_volume result }
 {
     (b.x * c.y - b.y * c.x) * a.z + (c.x * a.y - c.y * a.x) * b.z + (a.x * b.y - a.y * b.x) * c.z
 }
@@ -32,7 +33,7 @@ pub fn slope_x(a: Offset, b: Offset, c: Offset) -> i64
     requires b_ok { OffsetInRange b }
     requires c_ok { OffsetInRange c }
     ensures value { result ≡ slope_x_of a b c }
-    ensures bound { Within (2 ^ 41) result }
+    ensures bound { Within most_slope result }
 {
     a.z * (c.x - b.x) + b.z * (a.x - c.x) + c.z * (b.x - a.x)
 }
@@ -43,7 +44,7 @@ pub fn slope_y(a: Offset, b: Offset, c: Offset) -> i64
     requires b_ok { OffsetInRange b }
     requires c_ok { OffsetInRange c }
     ensures value { result ≡ slope_y_of a b c }
-    ensures bound { Within (2 ^ 41) result }
+    ensures bound { Within most_slope result }
 {
     a.z * (c.y - b.y) + b.z * (a.y - c.y) + c.z * (b.y - a.y)
 }
@@ -53,7 +54,7 @@ pub fn is_line_near(a: Offset, b: Offset, c: Offset, radius: i64) -> bool
     requires a_ok { OffsetInRange a }
     requires b_ok { OffsetInRange b }
     requires c_ok { OffsetInRange c }
-    requires r_ok { Within 16384 radius }
+    requires r_ok { Within widest radius }
     ensures { IsTrue result ↔ IsLineNear radius a b c }
 {
     let volume = volume(a, b, c) as i128;

@@ -1,7 +1,9 @@
 ghost use Rattle.std.specs.Prelude.{◌≡◌, ◌<ℤ◌, ◌≤ℤ◌, pos, false, IsTrue};
 ghost use Rattle.mill_base.specs.Numbers.{Within};
-ghost use Rattle.mill_base.specs.Ranges.{TriInTextRange};
+ghost use Rattle.mill_base.specs.Ranges.{TriInRange};
 ghost use Rattle.mill_base.specs.Sizes.{HasRadius};
+ghost use Rattle.mill_base.specs.declared.limits.TheConstants.{MAX_WIDE_RADIUS};
+ghost use Rattle.mill_geom.specs.Widths.{widest};
 ghost use Rattle.mill_geom.specs.Contacts.{TouchesTriangle};
 ghost use Rattle.mill_geom.specs.Offsets.{OffsetInRange, IsCentre};
 ghost use Rattle.mill_geom.specs.Reaches.{
@@ -39,7 +41,7 @@ fn raised(p: Offset) -> Offset
 /// Whether the corner isn't under the level, and is nearer to the axis than the radius.
 fn reaches_corner(p: Offset, radius: i64) -> bool
     requires p_ok { OffsetInRange p }
-    requires r_ok { Within 16384 radius }
+    requires r_ok { Within widest radius }
     ensures yes { IsTrue result → ReachesCorner radius p }
     ensures no { result ≡ false → ¬ ReachesCorner radius p }
 {
@@ -54,7 +56,7 @@ fn reaches_corner(p: Offset, radius: i64) -> bool
 fn reaches_segment(p: Offset, q: Offset, radius: i64) -> bool
     requires p_ok { OffsetInRange p }
     requires q_ok { OffsetInRange q }
-    requires r_ok { Within 16384 radius }
+    requires r_ok { Within widest radius }
     requires p_under { p.z ≤ℤ pos 0 }
     requires q_under { q.z ≤ℤ pos 0 }
     ensures yes { IsTrue result → ReachesSegment radius p q }
@@ -74,7 +76,7 @@ fn reaches_under(a: Offset, b: Offset, c: Offset, radius: i64) -> bool
     requires a_ok { OffsetInRange a }
     requires b_ok { OffsetInRange b }
     requires c_ok { OffsetInRange c }
-    requires r_ok { Within 16384 radius }
+    requires r_ok { Within widest radius }
     requires r_least { pos 0 <ℤ radius }
     requires under { AllUnder a b c }
     ensures yes { IsTrue result → ReachesTriangle radius a b c }
@@ -98,7 +100,7 @@ fn reaches_triangle(a: Offset, b: Offset, c: Offset, radius: i64) -> bool
     requires a_ok { OffsetInRange a }
     requires b_ok { OffsetInRange b }
     requires c_ok { OffsetInRange c }
-    requires r_ok { Within 16384 radius }
+    requires r_ok { Within widest radius }
     requires r_least { pos 0 <ℤ radius }
     ensures yes { IsTrue result → ReachesTriangle radius a b c }
     ensures no { result ≡ false → ¬ ReachesTriangle radius a b c }
@@ -114,7 +116,7 @@ fn is_beside(a: Offset, b: Offset, c: Offset, radius: i64) -> bool
     requires a_ok { OffsetInRange a }
     requires b_ok { OffsetInRange b }
     requires c_ok { OffsetInRange c }
-    requires r_ok { Within 16384 radius }
+    requires r_ok { Within widest radius }
     requires r_least { pos 0 ≤ℤ radius }
     ensures { IsTrue result → ¬ TouchesTriangle radius a b c }
 {
@@ -135,8 +137,8 @@ fn is_beside(a: Offset, b: Offset, c: Offset, radius: i64) -> bool
 ///
 /// Corners may be equal or collinear. The test of the boxes looks at no height.
 pub fn reaches_cylinder(tri: &Tri, radius: i32, centre: Pt3) -> bool
-    requires tri_ok { TriInTextRange tri.now }
-    requires radius_ok { HasRadius radius (pos 11024) }
+    requires tri_ok { TriInRange tri.now }
+    requires radius_ok { HasRadius radius MAX_WIDE_RADIUS }
     requires centre_ok { IsCentre centre }
     ensures yes { IsTrue result → Reaches radius centre tri.now }
     ensures no { result ≡ false → ¬ Reaches radius centre tri.now }

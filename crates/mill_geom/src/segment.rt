@@ -1,6 +1,7 @@
 ghost use Rattle.std.specs.Prelude.{◌≡◌, ◌^◌, ◌↔◌, ◌<ℤ◌, pos, IsTrue};
 ghost use Rattle.mill_base.specs.Numbers.{Within};
-ghost use Rattle.mill_geom.specs.Offsets.{OffsetInRange, farthest};
+ghost use Rattle.mill_geom.specs.Widths.{most_form, farthest, widest};
+ghost use Rattle.mill_geom.specs.Offsets.{OffsetInRange};
 ghost use Rattle.mill_geom.specs.Forms.{form_of, PairHits, cut_mid_of, cut_end_of};
 ghost use Rattle.mill_geom.specs.Contacts.{TouchesSegment};
 
@@ -10,18 +11,18 @@ use crate::offset::Offset;
 pub fn form(p: Offset, q: Offset, radius: i64) -> i128
     requires p_ok { OffsetInRange p }
     requires q_ok { OffsetInRange q }
-    requires r_ok { Within 16384 radius }
+    requires r_ok { Within widest radius }
     ensures value { result ≡ form_of radius p q }
-    ensures bound { Within (2 ^ 40) result }
+    ensures bound { Within most_form result }
 {
     p.x as i128 * q.x as i128 + p.y as i128 * q.y as i128 - radius as i128 * radius as i128
 }
 
 /// Whether `a * u * u + 2 * h * u * v + b * v * v` is negative at some `u` and `v` that aren't.
 fn pair_hits(a: i128, h: i128, b: i128) -> bool
-    requires a_ok { Within (2 ^ 62) a }
-    requires h_ok { Within (2 ^ 62) h }
-    requires b_ok { Within (2 ^ 62) b }
+    requires a_ok { Within most_form a }
+    requires h_ok { Within most_form h }
+    requires b_ok { Within most_form b }
     ensures { IsTrue result ↔ PairHits a h b }
 {
     if a < 0 {
@@ -38,8 +39,8 @@ fn pair_hits(a: i128, h: i128, b: i128) -> bool
 
 /// The form of an end at the height `z` and the point on the level before the end at `w`.
 fn cut_mid(a: i128, h: i128, z: i64, w: i64) -> i128
-    requires a_ok { Within (2 ^ 40) a }
-    requires h_ok { Within (2 ^ 40) h }
+    requires a_ok { Within most_form a }
+    requires h_ok { Within most_form h }
     requires z_ok { Within farthest z }
     requires w_ok { Within farthest w }
     ensures { result ≡ cut_mid_of a h z w }
@@ -49,9 +50,9 @@ fn cut_mid(a: i128, h: i128, z: i64, w: i64) -> i128
 
 /// The form of the point on the level between ends at the heights `z` and `w`.
 fn cut_end(a: i128, h: i128, b: i128, z: i64, w: i64) -> i128
-    requires a_ok { Within (2 ^ 40) a }
-    requires h_ok { Within (2 ^ 40) h }
-    requires b_ok { Within (2 ^ 40) b }
+    requires a_ok { Within most_form a }
+    requires h_ok { Within most_form h }
+    requires b_ok { Within most_form b }
     requires z_ok { Within farthest z }
     requires w_ok { Within farthest w }
     ensures { result ≡ cut_end_of a h b z w }
@@ -65,7 +66,7 @@ fn cut_end(a: i128, h: i128, b: i128, z: i64, w: i64) -> i128
 fn touches_across(p: Offset, q: Offset, radius: i64) -> bool
     requires p_ok { OffsetInRange p }
     requires q_ok { OffsetInRange q }
-    requires r_ok { Within 16384 radius }
+    requires r_ok { Within widest radius }
     requires up { pos 0 <ℤ p.z }
     requires down { q.z <ℤ pos 0 }
     ensures { IsTrue result ↔ TouchesSegment radius p q }
@@ -89,7 +90,7 @@ fn touches_across(p: Offset, q: Offset, radius: i64) -> bool
 pub fn touches_segment(p: Offset, q: Offset, radius: i64) -> bool
     requires p_ok { OffsetInRange p }
     requires q_ok { OffsetInRange q }
-    requires r_ok { Within 16384 radius }
+    requires r_ok { Within widest radius }
     ensures { IsTrue result ↔ TouchesSegment radius p q }
 {
     if p.z > 0 {

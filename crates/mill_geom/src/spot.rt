@@ -1,6 +1,7 @@
 ghost use Rattle.std.specs.Prelude.{◌≡◌, ◌^◌, ◌-ℤ◌, ◌<ℤ◌, pos, false, IsTrue, IfSome, None};
 ghost use Rattle.mill_base.specs.Numbers.{Within};
-ghost use Rattle.mill_geom.specs.Offsets.{OffsetInRange, farthest};
+ghost use Rattle.mill_geom.specs.Widths.{most_area, most_fall, farthest, widest};
+ghost use Rattle.mill_geom.specs.Offsets.{OffsetInRange};
 ghost use Rattle.mill_geom.specs.Spots.{SpotInRange, IsBelow, AllBeyond, LowCorner, LowCrossing, crossing_of};
 
 use crate::offset::Offset;
@@ -16,7 +17,7 @@ pub struct Spot {
 /// Whether the corner is on the level or over it, and its y is less than the radius.
 fn is_low_corner(p: Offset, radius: i64) -> bool
     requires p_ok { OffsetInRange p }
-    requires r_ok { Within 16384 radius }
+    requires r_ok { Within widest radius }
     ensures yes { IsTrue result → LowCorner radius p }
     ensures no { result ≡ false → ¬ LowCorner radius p }
 {
@@ -34,7 +35,7 @@ fn crossing(z: i64, w: i64, f: i64, g: i64) -> i64
     requires f_ok { Within farthest f }
     requires g_ok { Within farthest g }
     ensures value { result ≡ crossing_of z w f g }
-    ensures bound { Within (2 ^ 39) result }
+    ensures bound { Within most_area result }
 {
     (0 - w) * f + z * g
 }
@@ -44,7 +45,7 @@ fn fall(z: i64, w: i64) -> i64
     requires z_ok { Within farthest z }
     requires w_ok { Within farthest w }
     ensures value { result ≡ z -ℤ w }
-    ensures bound { Within (2 ^ 20) result }
+    ensures bound { Within most_fall result }
 {
     z - w
 }
@@ -54,7 +55,7 @@ fn fall(z: i64, w: i64) -> i64
 fn is_low_crossing(p: Offset, q: Offset, radius: i64) -> bool
     requires p_ok { OffsetInRange p }
     requires q_ok { OffsetInRange q }
-    requires r_ok { Within 16384 radius }
+    requires r_ok { Within widest radius }
     ensures yes { IsTrue result → LowCrossing radius p q }
     ensures no { result ≡ false → ¬ LowCrossing radius p q }
 {
@@ -104,7 +105,7 @@ pub fn spot_below(a: Offset, b: Offset, c: Offset, radius: i64) -> Option<Spot>
     requires a_ok { OffsetInRange a }
     requires b_ok { OffsetInRange b }
     requires c_ok { OffsetInRange c }
-    requires r_ok { Within 16384 radius }
+    requires r_ok { Within widest radius }
     ensures found { IfSome result (λ s. IsBelow radius a b c s) }
     ensures none { result ≡ None → AllBeyond radius a b c }
 {

@@ -1,5 +1,6 @@
 ghost use Rattle.std.specs.Prelude.{◌≡◌, ◌^◌, ◌-ℤ◌, ◌+ℤ◌, ◌*ℤ◌, ◌<ℤ◌, ◌≤ℤ◌, pos, false, IsTrue};
 ghost use Rattle.mill_base.specs.Numbers.{Within};
+ghost use Rattle.mill_geom.specs.Widths.{most_mixed_place, widest};
 ghost use Rattle.mill_geom.specs.Offsets.{OffsetInRange};
 ghost use Rattle.mill_geom.specs.Contacts.{TouchesTriangle};
 ghost use Rattle.mill_geom.specs.Spots.{SpotInRange};
@@ -14,7 +15,7 @@ use crate::turn::mirrored;
 /// Whether the spot's y is greater than minus the radius.
 fn is_above(spot: Spot, radius: i64) -> bool
     requires spot_ok { SpotInRange spot }
-    requires r_ok { Within 16384 radius }
+    requires r_ok { Within widest radius }
     ensures yes { IsTrue result → (pos 0 -ℤ radius *ℤ spot.n) <ℤ spot.y }
     ensures no { result ≡ false → spot.y ≤ℤ (pos 0 -ℤ radius *ℤ spot.n) }
 {
@@ -26,7 +27,7 @@ fn mixed_x(low: Spot, high: Spot) -> i128
     requires low_ok { SpotInRange low }
     requires high_ok { SpotInRange high }
     ensures value { result ≡ (pos 0 -ℤ high.y) *ℤ low.x +ℤ (pos 0 -ℤ low.y) *ℤ high.x }
-    ensures bound { Within (2 ^ 80) result }
+    ensures bound { Within most_mixed_place result }
 {
     (0 - high.y as i128) * low.x as i128 + (0 - low.y as i128) * high.x as i128
 }
@@ -36,12 +37,12 @@ fn mixed_x(low: Spot, high: Spot) -> i128
 fn between_x(low: Spot, high: Spot, radius: i64) -> i128
     requires low_ok { SpotInRange low }
     requires high_ok { SpotInRange high }
-    requires r_ok { Within 16384 radius }
+    requires r_ok { Within widest radius }
     requires r_least { pos 0 <ℤ radius }
     requires low_under { IsUnder radius low }
     requires high_under { IsUnder radius high }
     ensures between { IsBetween radius low high result }
-    ensures bound { Within (2 ^ 80) result }
+    ensures bound { Within most_mixed_place result }
 {
     if is_above(low, radius) {
         return low.x as i128;
@@ -62,7 +63,7 @@ pub fn side(a: Offset, b: Offset, c: Offset, radius: i64) -> Side
     requires a_ok { OffsetInRange a }
     requires b_ok { OffsetInRange b }
     requires c_ok { OffsetInRange c }
-    requires r_ok { Within 16384 radius }
+    requires r_ok { Within widest radius }
     requires r_least { pos 0 <ℤ radius }
     requires apart { ¬ TouchesTriangle radius a b c }
     ensures { IsOnSide result (TouchesAt radius a b c) }

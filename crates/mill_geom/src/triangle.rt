@@ -1,5 +1,6 @@
 ghost use Rattle.std.specs.Prelude.{◌≡◌, ◌^◌, ◌<ℤ◌, pos, false, IsTrue};
 ghost use Rattle.mill_base.specs.Numbers.{Within};
+ghost use Rattle.mill_geom.specs.Widths.{most_area, most_volume, widest};
 ghost use Rattle.mill_geom.specs.Offsets.{OffsetInRange};
 ghost use Rattle.mill_geom.specs.Forms.{AllUp, AllDown, IsOver, IsPierced};
 ghost use Rattle.mill_geom.specs.Contacts.{TouchesTriangle, EdgesClear};
@@ -31,7 +32,7 @@ fn touches_edge(a: Offset, b: Offset, c: Offset, radius: i64) -> bool
     requires a_ok { OffsetInRange a }
     requires b_ok { OffsetInRange b }
     requires c_ok { OffsetInRange c }
-    requires r_ok { Within 16384 radius }
+    requires r_ok { Within widest radius }
     ensures yes { IsTrue result → TouchesTriangle radius a b c }
     ensures no { result ≡ false → EdgesClear radius a b c }
 {
@@ -46,10 +47,10 @@ fn touches_edge(a: Offset, b: Offset, c: Offset, radius: i64) -> bool
 
 /// Whether three areas aren't negative and a volume is positive.
 fn all_up(i: i64, j: i64, k: i64, volume: i64) -> bool
-    requires i_ok { Within (2 ^ 39) i }
-    requires j_ok { Within (2 ^ 39) j }
-    requires k_ok { Within (2 ^ 39) k }
-    requires volume_ok { Within (2 ^ 60) volume }
+    requires i_ok { Within most_area i }
+    requires j_ok { Within most_area j }
+    requires k_ok { Within most_area k }
+    requires volume_ok { Within most_volume volume }
     ensures yes { IsTrue result → AllUp i j k volume }
     ensures no { result ≡ false → ¬ AllUp i j k volume }
 {
@@ -67,10 +68,10 @@ fn all_up(i: i64, j: i64, k: i64, volume: i64) -> bool
 
 /// Whether three areas aren't positive and a volume is negative.
 fn all_down(i: i64, j: i64, k: i64, volume: i64) -> bool
-    requires i_ok { Within (2 ^ 39) i }
-    requires j_ok { Within (2 ^ 39) j }
-    requires k_ok { Within (2 ^ 39) k }
-    requires volume_ok { Within (2 ^ 60) volume }
+    requires i_ok { Within most_area i }
+    requires j_ok { Within most_area j }
+    requires k_ok { Within most_area k }
+    requires volume_ok { Within most_volume volume }
     ensures yes { IsTrue result → AllDown i j k volume }
     ensures no { result ≡ false → ¬ AllDown i j k volume }
 {
@@ -109,7 +110,7 @@ pub fn touches_triangle(a: Offset, b: Offset, c: Offset, radius: i64) -> bool
     requires a_ok { OffsetInRange a }
     requires b_ok { OffsetInRange b }
     requires c_ok { OffsetInRange c }
-    requires r_ok { Within 16384 radius }
+    requires r_ok { Within widest radius }
     requires r_least { pos 0 <ℤ radius }
     ensures yes { IsTrue result → TouchesTriangle radius a b c }
     ensures no { result ≡ false → ¬ TouchesTriangle radius a b c }

@@ -1,3 +1,4 @@
+-- Written by tools/certificates.py from tools/certificates/mill_part_ColumnCerts.spec.
 -- Polynomial facts behind the lemmas on triangles over a column.
 use Rattle.std.proofs.Common.{◌≡◌, [], ◌∷◌, refl}
 use lib.IntN.{ℤ, pos, negsuc, ◌+ℤ◌, ◌-ℤ◌, ◌*ℤ◌}

@@ -8,10 +8,10 @@ use Rattle.std.specs.Int.{int_max}
 use lib.IntN.{ℤ, pos, negsuc, nat_abs, ◌+ℤ◌, ◌-ℤ◌, ◌*ℤ◌}
 use lib.Signed.{◌<ℤ◌, ◌≤ℤ◌, le_z, lt_z}
 use Rattle.mill_base.specs.Numbers.{Within, square}
-use Rattle.mill_base.specs.declared.limits.TheConstants.{MAX_TEXT_COORDINATE}
+use Rattle.mill_base.specs.declared.limits.TheConstants.{MAX_COORDINATE}
 use Rattle.mill_base.specs.Points.{IsPointOf, plus, times, point_at, highest}
 use Rattle.mill_base.specs.Covers.{IsBeside, HasPointOver, Covered}
-use Rattle.mill_base.specs.Ranges.{TriInTextRange, TrisInTextRange}
+use Rattle.mill_base.specs.Ranges.{TriInRange, TrisInRange}
 use Rattle.mill_base.specs.declared.points.Pt3.{Pt3}
 use Rattle.mill_base.specs.declared.points.Tri.{Tri}
 use Rattle.mill_base.proofs.Exit.{split_lt}
@@ -114,10 +114,10 @@ under_highest tri band x y h over =
     mean_under k.u k.v k.w tri.a.z tri.b.z tri.c.z (highest tri) h k.u_ok k.v_ok k.w_ok (subst (λ t. (pos 0) <ℤ t) k.weights k.some) c.0 c.1 c.2
     (weights_high tri over.n h over.p k over.high)
 
-pub in_range : (tri : Tri) (band x y h : ℤ) → TriInTextRange tri → CoversColumn tri band x y h → h ≤ℤ pos 131071
+pub in_range : (tri : Tri) (band x y h : ℤ) → TriInRange tri → CoversColumn tri band x y h → h ≤ℤ pos 524287
 in_range tri band x y h ok over =
     let k = over.point in
-    mean_under k.u k.v k.w tri.a.z tri.b.z tri.c.z (pos 131071) h k.u_ok k.v_ok k.w_ok (subst (λ t. (pos 0) <ℤ t) k.weights k.some)
+    mean_under k.u k.v k.w tri.a.z tri.b.z tri.c.z (pos 524287) h k.u_ok k.v_ok k.w_ok (subst (λ t. (pos 0) <ℤ t) k.weights k.some)
     (coordinate_bounds tri.a.z ok.a_ok.z_ok).1 (coordinate_bounds tri.b.z ok.b_ok.z_ok).1 (coordinate_bounds tri.c.z ok.c_ok.z_ok).1
     (weights_high tri over.n h over.p k over.high)
 
@@ -134,10 +134,10 @@ none_after part band x y h k end before over =
     All-contains (λ t. ¬ CoversColumn t band x y h) part over.tri (subst (All (λ t. ¬ CoversColumn t band x y h)) (take_all k part end) before) over.member
     (covers_of_point part band x y h over)
 
-pub none_too_high : (part : List Tri) (band x y h : ℤ) → TrisInTextRange part → (pos 131071) <ℤ h → ¬ HasPointOver part band x y h
+pub none_too_high : (part : List Tri) (band x y h : ℤ) → TrisInRange part → (pos 524287) <ℤ h → ¬ HasPointOver part band x y h
 none_too_high part band x y h ok high over = apart h (in_range over.tri band x y h (ok over.tri over.member) (covers_of_point part band x y h over)) high
   where
-    apart : (h : ℤ) → h ≤ℤ pos 131071 → (pos 131071) <ℤ h → ⊥
+    apart : (h : ℤ) → h ≤ℤ pos 524287 → (pos 524287) <ℤ h → ⊥
     apart h a b = omega (arith, ints, a, b)
 
 -- height is the greatest that the floor and the first k triangles cover
@@ -183,20 +183,20 @@ exact_after part floor band x y k height end before h = (under, λ le. covered_b
     under (inr over) = All-contains (λ t. (h : ℤ) → CoversColumn t band x y h → h ≤ℤ height) part over.tri all over.member h (covers_of_point part band x y h over)
 
 -- a covered height that isn't under the floor is in range
-pub covered_bound : (part : List Tri) (floor band x y height : ℤ) → TrisInTextRange part → Within MAX_TEXT_COORDINATE floor → floor ≤ℤ height → Covered part floor band x y height → Within MAX_TEXT_COORDINATE height
+pub covered_bound : (part : List Tri) (floor band x y height : ℤ) → TrisInRange part → Within MAX_COORDINATE floor → floor ≤ℤ height → Covered part floor band x y height → Within MAX_COORDINATE height
 covered_bound part floor band x y height ok floor_ok kept reached = by reached
   where
-    bounds : (f z : ℤ) → (negsuc 131070 ≤ℤ f) × (f ≤ℤ pos 131071) → f ≤ℤ z → z ≤ℤ pos 131071 → Within MAX_TEXT_COORDINATE z
+    bounds : (f z : ℤ) → (negsuc 524286 ≤ℤ f) × (f ≤ℤ pos 524287) → f ≤ℤ z → z ≤ℤ pos 524287 → Within MAX_COORDINATE z
     bounds f z b k m = let l = b.0 in record { within = omega (arith, ints) }
 
-    low : (f z : ℤ) → (negsuc 131070 ≤ℤ f) × (f ≤ℤ pos 131071) → z ≤ℤ f → z ≤ℤ pos 131071
+    low : (f z : ℤ) → (negsuc 524286 ≤ℤ f) × (f ≤ℤ pos 524287) → z ≤ℤ f → z ≤ℤ pos 524287
     low f z b k = let l = b.1 in omega (arith, ints)
 
-    by : Covered part floor band x y height → Within MAX_TEXT_COORDINATE height
+    by : Covered part floor band x y height → Within MAX_COORDINATE height
     by (inl le) = bounds floor height (coordinate_bounds floor floor_ok) kept (low floor height (coordinate_bounds floor floor_ok) le)
     by (inr over) = bounds floor height (coordinate_bounds floor floor_ok) kept (in_range over.tri band x y height (ok over.tri over.member) (covers_of_point part band x y height over))
 
-pub bound_after : (part : List Tri) (floor band x y : ℤ) (k : ℕ) (height : ℤ) → TrisInTextRange part → Within MAX_TEXT_COORDINATE floor → CoversBefore part floor band x y k height → Within MAX_TEXT_COORDINATE height
+pub bound_after : (part : List Tri) (floor band x y : ℤ) (k : ℕ) (height : ℤ) → TrisInRange part → Within MAX_COORDINATE floor → CoversBefore part floor band x y k height → Within MAX_COORDINATE height
 bound_after part floor band x y k height ok floor_ok before = covered_bound part floor band x y height ok floor_ok before.kept before.reached
 
 -- one triangle's step, by the numbers that the program compares
@@ -238,16 +238,16 @@ under_missed tri band x y missed h none over = elim (split_lt h missed) [ inl le
 
 -- the triangle covers the column at low, which isn't under start, and not over high
 pub record IsHalved (tri : Tri) (band x y start low high : ℤ) : Type 0 where
-  pub low_ok : Within MAX_TEXT_COORDINATE low
-  pub high_ok : Within MAX_TEXT_COORDINATE high
+  pub low_ok : Within MAX_COORDINATE low
+  pub high_ok : Within MAX_COORDINATE high
   pub kept : start ≤ℤ low
   pub reached : CoversColumn tri band x y low
   pub highest : (h : ℤ) → CoversColumn tri band x y h → h ≤ℤ high
 
-pub between : (low high z : ℤ) → Within MAX_TEXT_COORDINATE low → Within MAX_TEXT_COORDINATE high → low ≤ℤ z → z ≤ℤ high → Within MAX_TEXT_COORDINATE z
+pub between : (low high z : ℤ) → Within MAX_COORDINATE low → Within MAX_COORDINATE high → low ≤ℤ z → z ≤ℤ high → Within MAX_COORDINATE z
 between low high z lo hi over under = inside low high z (coordinate_bounds low lo) (coordinate_bounds high hi) over under
   where
-    inside : (low high z : ℤ) → (negsuc 131070 ≤ℤ low) × (low ≤ℤ pos 131071) → (negsuc 131070 ≤ℤ high) × (high ≤ℤ pos 131071) → low ≤ℤ z → z ≤ℤ high → Within MAX_TEXT_COORDINATE z
+    inside : (low high z : ℤ) → (negsuc 524286 ≤ℤ low) × (low ≤ℤ pos 524287) → (negsuc 524286 ≤ℤ high) × (high ≤ℤ pos 524287) → low ≤ℤ z → z ≤ℤ high → Within MAX_COORDINATE z
     inside low high z lo hi over under = let a = lo.0 in let b = hi.1 in record { within = omega (arith, ints) }
 
 pub raised_low : (tri : Tri) (band x y start low high middle : ℤ) → IsHalved tri band x y start low high → low <ℤ middle → middle ≤ℤ high → CoversColumn tri band x y middle
@@ -299,13 +299,13 @@ pub weaker : (a b : ℤ) → a <ℤ b → a ≤ℤ b
 weaker a b h = omega (arith, ints)
 
 -- the heights that the search goes over are in range
-pub highest_ok : (tri : Tri) → TriInTextRange tri → Within MAX_TEXT_COORDINATE (highest tri)
+pub highest_ok : (tri : Tri) → TriInRange tri → Within MAX_COORDINATE (highest tri)
 highest_ok tri ok = elim (highest_is tri) [
-  | inl a ↦ subst (Within MAX_TEXT_COORDINATE) a ok.a_ok.z_ok
-  | inr e ↦ elim e [ inl b ↦ subst (Within MAX_TEXT_COORDINATE) b ok.b_ok.z_ok | inr c ↦ subst (Within MAX_TEXT_COORDINATE) c ok.c_ok.z_ok ]
+  | inl a ↦ subst (Within MAX_COORDINATE) a ok.a_ok.z_ok
+  | inr e ↦ elim e [ inl b ↦ subst (Within MAX_COORDINATE) b ok.b_ok.z_ok | inr c ↦ subst (Within MAX_COORDINATE) c ok.c_ok.z_ok ]
 ]
 
-pub next_ok : (tri : Tri) (height : ℤ) → TriInTextRange tri → Within MAX_TEXT_COORDINATE height → height <ℤ highest tri → Within MAX_TEXT_COORDINATE (height +ℤ pos 1)
+pub next_ok : (tri : Tri) (height : ℤ) → TriInRange tri → Within MAX_COORDINATE height → height <ℤ highest tri → Within MAX_COORDINATE (height +ℤ pos 1)
 next_ok tri height ok height_ok over = between height (highest tri) (height +ℤ pos 1) height_ok (highest_ok tri ok) (more height) (still height (highest tri) over)
   where
     more : (a : ℤ) → a ≤ℤ (a +ℤ pos 1)
@@ -330,9 +330,9 @@ pub covered_by_point : (part : List Tri) (floor band x y h : ℤ) (r : Bool) →
 covered_by_point part floor band x y h true over there none = (λ t. inr (there t), λ _. refl)
 covered_by_point part floor band x y h false over there none = (λ t. absurd (false≢true t), λ c. elim c [ inl low ↦ absurd (isnt_at_most h floor over low) | inr point ↦ absurd (none refl point) ])
 
-pub too_high : (part : List Tri) (floor band x y h : ℤ) → TrisInTextRange part → le_z h floor ≡ false → lt_z (pos 131071) h ≡ true → IsTrue false ↔ Covered part floor band x y h
+pub too_high : (part : List Tri) (floor band x y h : ℤ) → TrisInRange part → le_z h floor ≡ false → lt_z (pos 524287) h ≡ true → IsTrue false ↔ Covered part floor band x y h
 too_high part floor band x y h ok over high =
     covered_by_point part floor band x y h false over (λ t. absurd (false≢true t)) (λ _. none_too_high part band x y h ok (higher h high))
   where
-    higher : (h : ℤ) → lt_z (pos 131071) h ≡ true → (pos 131071) <ℤ h
+    higher : (h : ℤ) → lt_z (pos 524287) h ≡ true → (pos 524287) <ℤ h
     higher h e = omega (arith, ints)

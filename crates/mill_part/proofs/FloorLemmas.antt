@@ -5,7 +5,7 @@ use Rattle.std.specs.Int.{int_div_euclid}
 use lib.IntN.{ℤ, pos, negsuc, ◌+ℤ◌, ◌*ℤ◌, nat_abs}
 use lib.Signed.{◌<ℤ◌, ◌≤ℤ◌}
 use Rattle.mill_base.proofs.Integers.{mul-add-ℤ}
-use Rattle.mill_base.specs.declared.limits.TheConstants.{MAX_TEXT_COORDINATE}
+use Rattle.mill_base.specs.declared.limits.TheConstants.{MAX_COORDINATE}
 use Rattle.mill_base.specs.declared.points.Tri.{Tri}
 use Rattle.mill_part.specs.Columns.{IsFloor, Reaches, weigh}
 use Rattle.mill_part.proofs.ColumnCerts.{floor_greatest, floor_most, floor_least}
@@ -29,13 +29,13 @@ floor_is (negsuc a) (pos d) some =
     }
 floor_is n (negsuc d) some = absurd (omega (arith, ints))
 
-pub floor_in_range : (n d q : ℤ) → (pos 0) <ℤ d → (negsuc 131070 *ℤ d) ≤ℤ n → n ≤ℤ (pos MAX_TEXT_COORDINATE *ℤ d) → IsFloor n d q → nat_abs q ≤ 131071
+pub floor_in_range : (n d q : ℤ) → (pos 0) <ℤ d → (negsuc 524286 *ℤ d) ≤ℤ n → n ≤ℤ (pos MAX_COORDINATE *ℤ d) → IsFloor n d q → nat_abs q ≤ 524287
 floor_in_range n d q some least most f =
-    let under : q ≤ℤ pos 131071 = floor_most n d q (pos 131071) some most f.below in
-    let over : negsuc 131070 ≤ℤ q = floor_least n d q (negsuc 131070) some least f.next in
+    let under : q ≤ℤ pos 524287 = floor_most n d q (pos 524287) some most f.below in
+    let over : negsuc 524286 ≤ℤ q = floor_least n d q (negsuc 524286) some least f.next in
     in_range q under over
   where
-    in_range : (q : ℤ) → q ≤ℤ pos 131071 → negsuc 131070 ≤ℤ q → nat_abs q ≤ 131071
+    in_range : (q : ℤ) → q ≤ℤ pos 524287 → negsuc 524286 ≤ℤ q → nat_abs q ≤ 524287
     in_range q under over = omega (arith, ints)
 
 -- the rounded mean is the greatest whole number that these weights reach

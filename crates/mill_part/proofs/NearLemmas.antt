@@ -9,6 +9,7 @@ use Rattle.mill_base.specs.declared.points.Pt3.{Pt3}
 use Rattle.mill_base.specs.declared.points.Tri.{Tri}
 use Rattle.mill_base.proofs.Integers.{mul_nonneg-ℤ}
 use Rattle.mill_cells.specs.Boxes.{Meet, box_of}
+use Rattle.mill_cells.proofs.Meeting.{Overlap, overlapping_meet, least_of_three, greatest_of_three, ends_in_order}
 use Rattle.mill_part.specs.Columns.{CoversColumn, square_about, weigh}
 use Rattle.mill_part.proofs.NearCerts.{mean_reaches_up, mean_reaches_down, nearer_up, nearer_down}
 
@@ -47,53 +48,22 @@ beside_y band x y n p least some (inr near) =
     let turned = swapped ((p.x -ℤ n *ℤ x) *ℤ (p.x -ℤ n *ℤ x)) ((p.y -ℤ n *ℤ y) *ℤ (p.y -ℤ n *ℤ y)) ((n *ℤ band) *ℤ (n *ℤ band)) near in
     record { up = nearer_up (p.y -ℤ n *ℤ y) (p.x -ℤ n *ℤ x) n band least some turned; down = nearer_down (p.y -ℤ n *ℤ y) (p.x -ℤ n *ℤ x) n band least some turned }
 
--- two stretches with ends the right way round that neither end before the other begins
-record Overlap (low high from to : ℤ) : Type 0 where
-  first : low ≤ℤ high
-  second : from ≤ℤ to
-  up : low ≤ℤ to
-  down : from ≤ℤ high
-
 -- along one axis: the stretch of three places, of which a mean is within r of x, and the stretch about x
 overlap : (u v w a b c x r : ℤ) → (pos 0) ≤ℤ u → (pos 0) ≤ℤ v → (pos 0) ≤ℤ w → (pos 0) <ℤ ((u +ℤ v) +ℤ w) → (pos 0) ≤ℤ r
     → IsUpTo (((u +ℤ v) +ℤ w) *ℤ r) (weigh u v w a b c -ℤ ((u +ℤ v) +ℤ w) *ℤ x)
     → Overlap (lesser a (lesser b c)) (greater a (greater b c)) (x -ℤ r) (x +ℤ r)
 overlap u v w a b c x r hu hv hw some least near =
-    let l = lows a b c in
-    let h = highs a b c in
+    let l = least_of_three a b c in
+    let h = greatest_of_three a b c in
     record {
-      first = ordered a b c;
+      first = ends_in_order a b c;
       second = wide x r least;
       up = mean_reaches_up u v w a b c x r (lesser a (lesser b c)) hu hv hw some l.0 l.1 l.2 near.up;
       down = mean_reaches_down u v w a b c x r (greater a (greater b c)) hu hv hw some h.0 h.1 h.2 near.down;
     }
   where
-    lows : (a b c : ℤ) → (lesser a (lesser b c) ≤ℤ a) × (lesser a (lesser b c) ≤ℤ b) × (lesser a (lesser b c) ≤ℤ c)
-    lows a b c = grind (arith, ints)
-
-    highs : (a b c : ℤ) → (a ≤ℤ greater a (greater b c)) × (b ≤ℤ greater a (greater b c)) × (c ≤ℤ greater a (greater b c))
-    highs a b c = grind (arith, ints)
-
-    ordered : (a b c : ℤ) → lesser a (lesser b c) ≤ℤ greater a (greater b c)
-    ordered a b c = grind (arith, ints)
-
     wide : (x r : ℤ) → (pos 0) ≤ℤ r → (x -ℤ r) ≤ℤ (x +ℤ r)
     wide x r h = omega (arith, ints)
-
--- the greater one of their beginnings is in both
-record IsCommonTo (low high from to at : ℤ) : Type 0 where
-  right : low ≤ℤ at
-  left : at ≤ℤ high
-  right_too : from ≤ℤ at
-  left_too : at ≤ℤ to
-
-common : (low high from to : ℤ) → Overlap low high from to → IsCommonTo low high from to (greater low from)
-common low high from to o =
-    let a = o.first in
-    let b = o.second in
-    let c = o.up in
-    let d = o.down in
-    record { right = grind (arith, ints); left = grind (arith, ints); right_too = grind (arith, ints); left_too = grind (arith, ints) }
 
 -- a point's offset, by its weights
 by_weights : (u v w a b c p n x r : ℤ) → n ≡ (u +ℤ v) +ℤ w → p ≡ weigh u v w a b c → IsUpTo (n *ℤ r) (p -ℤ n *ℤ x)
@@ -107,11 +77,6 @@ covering_meets tri band x y h least over =
     let some = subst (λ t. (pos 0) <ℤ t) k.weights k.some in
     let near_x = by_weights k.u k.v k.w tri.a.x tri.b.x tri.c.x over.p.x over.n x band k.weights (ap (λ (q : Pt3). q.x) k.place) (beside_x band x y over.n over.p least k.some over.beside) in
     let near_y = by_weights k.u k.v k.w tri.a.y tri.b.y tri.c.y over.p.y over.n y band k.weights (ap (λ (q : Pt3). q.y) k.place) (beside_y band x y over.n over.p least k.some over.beside) in
-    let cx = common _ _ _ _ (overlap k.u k.v k.w tri.a.x tri.b.x tri.c.x x band k.u_ok k.v_ok k.w_ok some least near_x) in
-    let cy = common _ _ _ _ (overlap k.u k.v k.w tri.a.y tri.b.y tri.c.y y band k.u_ok k.v_ok k.w_ok some least near_y) in
-    record {
-      x = greater (box_of tri).x0 (x -ℤ band);
-      y = greater (box_of tri).y0 (y -ℤ band);
-      in_first = record { right = cx.right; left = cx.left; over = cy.right; under = cy.left };
-      in_second = record { right = cx.right_too; left = cx.left_too; over = cy.right_too; under = cy.left_too };
-    }
+    overlapping_meet (box_of tri) (square_about band x y)
+    (overlap k.u k.v k.w tri.a.x tri.b.x tri.c.x x band k.u_ok k.v_ok k.w_ok some least near_x)
+    (overlap k.u k.v k.w tri.a.y tri.b.y tri.c.y y band k.u_ok k.v_ok k.w_ok some least near_y)

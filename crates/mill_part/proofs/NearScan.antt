@@ -8,10 +8,10 @@ use Rattle.std.proofs.lemmas.List.Elements.{Contains-get_or}
 use lib.IntN.{ℤ, pos, ◌-ℤ◌}
 use lib.Signed.{◌≤ℤ◌}
 use Rattle.mill_base.specs.Numbers.{Within}
-use Rattle.mill_base.specs.declared.limits.TheConstants.{MAX_TEXT_COORDINATE}
+use Rattle.mill_base.specs.declared.limits.TheConstants.{MAX_COORDINATE}
 use Rattle.mill_base.specs.Points.{point_at, highest}
 use Rattle.mill_base.specs.Covers.{Covered, HasPointOver}
-use Rattle.mill_base.specs.Ranges.{TrisInTextRange}
+use Rattle.mill_base.specs.Ranges.{TrisInRange}
 use Rattle.mill_base.specs.declared.points.Tri.{Tri}
 use Rattle.mill_base.specs.declared.points.Box2.{Box2}
 use Rattle.mill_cells.specs.Ahead.{Ahead, Comes, NoneComes, AreDealt}
@@ -105,7 +105,7 @@ scan_ends part d floor band x y near later height least none s h = (under, λ le
         let near_it = is_near_by part d band x y h m.0 m.1 least covers in
         deals_last (IsNearBy part band x y) (IsLow part d band x y height) height near later none (λ j le. low_top part d band x y height near.tops j s.tops le) s.dealt m.0 near_it m.1 h covers
 
-pub scan_bound : (part : List Tri) (d : Tri) (floor band x y : ℤ) (near : Ahead) (height : ℤ) → TrisInTextRange part → Within MAX_TEXT_COORDINATE floor → CoversSoFar part d floor band x y near height → Within MAX_TEXT_COORDINATE height
+pub scan_bound : (part : List Tri) (d : Tri) (floor band x y : ℤ) (near : Ahead) (height : ℤ) → TrisInRange part → Within MAX_COORDINATE floor → CoversSoFar part d floor band x y near height → Within MAX_COORDINATE height
 scan_bound part d floor band x y near height ok floor_ok s = covered_bound part floor band x y height ok floor_ok s.kept s.reached
 
 -- a triangle doesn't cover the height

@@ -3,12 +3,12 @@ use Rattle.std.specs.Prelude.{◌<◌, ◌^◌, ℤ, List, [], ◌∷◌, length
 use Rattle.std.specs.Option.{option_map_or}
 use Rattle.mill_base.specs.Numbers.{greater}
 use Rattle.mill_base.specs.Points.{highest}
-use Rattle.mill_base.specs.Ranges.{TrisInTextRange}
+use Rattle.mill_base.specs.Ranges.{TrisInRange}
 use Rattle.mill_base.specs.declared.points.Tri.{Tri}
 
 -- each coordinate is in range, and the triangles can be numbered by 32 bits
 pub record IsPartList (tris : List Tri) : Type 0 where
-  pub in_range : TrisInTextRange tris
+  pub in_range : TrisInRange tris
   pub count : length tris < 2 ^ 32
 
 -- the greatest height of any corner; none without triangles

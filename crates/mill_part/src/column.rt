@@ -1,7 +1,7 @@
 ghost use Rattle.std.specs.Prelude.{◌≡◌, ◌^◌, ◌↔◌, ◌+ℤ◌, ◌≤ℤ◌, ◌<ℤ◌, pos, IsTrue};
 ghost use Rattle.mill_base.specs.Numbers.{Within};
-ghost use Rattle.mill_base.specs.declared.limits.TheConstants.{MAX_TEXT_COORDINATE};
-ghost use Rattle.mill_base.specs.Ranges.{IsInTextRange, TriInTextRange};
+ghost use Rattle.mill_base.specs.declared.limits.TheConstants.{MAX_COORDINATE};
+ghost use Rattle.mill_base.specs.Ranges.{IsInRange, TriInRange};
 ghost use Rattle.mill_part.specs.Columns.{AreApart, AreOver, AreUnder, IsFloor, IsGreatest, Reaches, StandsOver, turn_of, weigh};
 
 use crate::line::line_height;
@@ -11,9 +11,9 @@ use mill_base::{Pt3, Tri};
 /// The greatest whole height at which the triangle stands over the column (x, y), exactly; none
 /// where no point of it stands there.
 pub fn height_over(tri: &Tri, x: i32, y: i32) -> Option<i32>
-    requires tri_ok { TriInTextRange tri.now }
-    requires x_ok { Within MAX_TEXT_COORDINATE x }
-    requires y_ok { Within MAX_TEXT_COORDINATE y }
+    requires tri_ok { TriInRange tri.now }
+    requires x_ok { Within MAX_COORDINATE x }
+    requires y_ok { Within MAX_COORDINATE y }
     ensures { IsGreatest (StandsOver tri.now x y) result }
 {
     if are_apart(tri.a.x, tri.b.x, tri.c.x, x) {
@@ -59,14 +59,15 @@ fn are_under(a: i32, b: i32, c: i32, at: i32) -> bool
     c < at
 }
 
-/// The same as `height_over`, without the early answer for triangles that lie to one side.
+/// The greatest whole height at which the triangle stands over the column, for any triangle, also one
+/// that lies to one side of it.
 ///
 /// The weights of the point over the column are as the areas that the column makes with the
 /// opposite edges, seen from above. They say nothing where all three are 0.
 fn near_height(tri: &Tri, x: i32, y: i32) -> Option<i32>
-    requires tri_ok { TriInTextRange tri.now }
-    requires x_ok { Within MAX_TEXT_COORDINATE x }
-    requires y_ok { Within MAX_TEXT_COORDINATE y }
+    requires tri_ok { TriInRange tri.now }
+    requires x_ok { Within MAX_COORDINATE x }
+    requires y_ok { Within MAX_COORDINATE y }
     ensures { IsGreatest (StandsOver tri.now x y) result }
 {
     let u = turn(&tri.b, &tri.c, x, y);
@@ -91,22 +92,22 @@ fn near_height(tri: &Tri, x: i32, y: i32) -> Option<i32>
 /// Twice the area between the column and two corners, seen from above; positive where they turn
 /// left.
 fn turn(p: &Pt3, q: &Pt3, x: i32, y: i32) -> i64
-    requires p_ok { IsInTextRange p.now }
-    requires q_ok { IsInTextRange q.now }
-    requires x_ok { Within MAX_TEXT_COORDINATE x }
-    requires y_ok { Within MAX_TEXT_COORDINATE y }
+    requires p_ok { IsInRange p.now }
+    requires q_ok { IsInRange q.now }
+    requires x_ok { Within MAX_COORDINATE x }
+    requires y_ok { Within MAX_COORDINATE y }
     ensures value { result ≡ turn_of p.now q.now x y }
-    ensures bound { Within (2 ^ 37) result }
+    ensures bound { Within (2 ^ 41) result }
 {
     area(offset(p.x, x), offset(q.y, y)) - area(offset(p.y, y), offset(q.x, x))
 }
 
 /// The greatest whole height of the point with these weights; none where a weight is negative.
 fn face_height(tri: &Tri, u: i64, v: i64, w: i64) -> Option<i32>
-    requires tri_ok { TriInTextRange tri.now }
-    requires u_ok { Within (2 ^ 37) u }
-    requires v_ok { Within (2 ^ 37) v }
-    requires w_ok { Within (2 ^ 37) w }
+    requires tri_ok { TriInRange tri.now }
+    requires u_ok { Within (2 ^ 41) u }
+    requires v_ok { Within (2 ^ 41) v }
+    requires w_ok { Within (2 ^ 41) w }
     requires some { (pos 0) <ℤ ((u +ℤ v) +ℤ w) }
     ensures { IsGreatest (Reaches tri.now u v w) result }
 {
@@ -122,12 +123,12 @@ fn face_height(tri: &Tri, u: i64, v: i64, w: i64) -> Option<i32>
     Some(mean_height(tri, u, v, w))
 }
 
-/// The same, where no weight is negative.
+/// The greatest whole height of the point with these weights, none of which is negative.
 fn mean_height(tri: &Tri, u: i64, v: i64, w: i64) -> i32
-    requires tri_ok { TriInTextRange tri.now }
-    requires u_ok { Within (2 ^ 37) u }
-    requires v_ok { Within (2 ^ 37) v }
-    requires w_ok { Within (2 ^ 37) w }
+    requires tri_ok { TriInRange tri.now }
+    requires u_ok { Within (2 ^ 41) u }
+    requires v_ok { Within (2 ^ 41) v }
+    requires w_ok { Within (2 ^ 41) w }
     requires some { (pos 0) <ℤ ((u +ℤ v) +ℤ w) }
     requires u_least { (pos 0) ≤ℤ u }
     requires v_least { (pos 0) ≤ℤ v }

@@ -1,7 +1,7 @@
 ghost use Rattle.std.specs.Prelude.{◌≡◌, ◌^◌, ◌↔◌, ◌*ℤ◌, ◌-ℤ◌, ◌≤ℤ◌, ◌<ℤ◌, pos, IsTrue};
 ghost use Rattle.mill_base.specs.Numbers.{Within};
-ghost use Rattle.mill_base.specs.declared.limits.TheConstants.{MAX_TEXT_COORDINATE};
-ghost use Rattle.mill_base.specs.Ranges.{IsInTextRange, TriInTextRange};
+ghost use Rattle.mill_base.specs.declared.limits.TheConstants.{MAX_COORDINATE};
+ghost use Rattle.mill_base.specs.Ranges.{IsInRange, TriInRange};
 ghost use Rattle.mill_part.specs.Columns.{IsFloor, IsGreatest, IsUpright, StandsOver, turn_of};
 
 use crate::whole::{floor_height, offset, weighted};
@@ -13,16 +13,16 @@ use mill_base::{Pt3, Tri};
 struct Place {
     at: i64,
     z: i32,
-    ghost at_ok: { Within (2 ^ 18) at },
-    ghost z_ok: { Within MAX_TEXT_COORDINATE z },
+    ghost at_ok: { Within (2 ^ 20) at },
+    ghost z_ok: { Within MAX_COORDINATE z },
 }
 
 /// The greatest whole height at which the triangle stands over the column (x, y), where from above
 /// it is seen as a line through the column or as a point.
 pub fn line_height(tri: &Tri, x: i32, y: i32) -> Option<i32>
-    requires tri_ok { TriInTextRange tri.now }
-    requires x_ok { Within MAX_TEXT_COORDINATE x }
-    requires y_ok { Within MAX_TEXT_COORDINATE y }
+    requires tri_ok { TriInRange tri.now }
+    requires x_ok { Within MAX_COORDINATE x }
+    requires y_ok { Within MAX_COORDINATE y }
     requires bc { turn_of tri.now.b tri.now.c x y ≡ pos 0 }
     requires ca { turn_of tri.now.c tri.now.a x y ≡ pos 0 }
     requires ab { turn_of tri.now.a tri.now.b x y ≡ pos 0 }
@@ -49,8 +49,8 @@ fn is_upright(tri: &Tri, x: i32) -> bool
 
 /// The place of a corner along x, and along y.
 fn along_x(p: &Pt3, x: i32) -> Place
-    requires p_ok { IsInTextRange p.now }
-    requires x_ok { Within MAX_TEXT_COORDINATE x }
+    requires p_ok { IsInRange p.now }
+    requires x_ok { Within MAX_COORDINATE x }
     ensures at { result.at ≡ p.now.x -ℤ x }
     ensures z { result.z ≡ p.now.z }
 {
@@ -61,8 +61,8 @@ fn along_x(p: &Pt3, x: i32) -> Place
 }
 
 fn along_y(p: &Pt3, y: i32) -> Place
-    requires p_ok { IsInTextRange p.now }
-    requires y_ok { Within MAX_TEXT_COORDINATE y }
+    requires p_ok { IsInRange p.now }
+    requires y_ok { Within MAX_COORDINATE y }
     ensures at { result.at ≡ p.now.y -ℤ y }
     ensures z { result.z ≡ p.now.z }
 {
@@ -85,7 +85,8 @@ impl Place {
         self.rising_height(other)
     }
 
-    /// The same, where `other` doesn't lie before this place.
+    /// The greatest whole height over the column of the edge to `other`, which doesn't lie before this
+    /// place.
     fn rising_height(self, other: Place) -> Option<i32>
         requires { self.at ≤ℤ other.at }
         ensures { IsGreatest (EdgeOver self other) result }
@@ -102,7 +103,8 @@ impl Place {
         Some(self.height_between(other))
     }
 
-    /// The same, where the column lies between the two places, and these aren't both on it.
+    /// The greatest whole height over the column of the edge to `other`, where the column lies between
+    /// the two places, and these aren't both on it.
     fn height_between(self, other: Place) -> i32
         requires self_ok { self.at ≤ℤ pos 0 }
         requires other_ok { pos 0 ≤ℤ other.at }

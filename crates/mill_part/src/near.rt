@@ -1,8 +1,8 @@
 ghost use Rattle.std.specs.Prelude.{◌≡◌, ◌⊎◌, ◌↔◌, ℤ, pos, false, ◌≤ℤ◌, ◌<ℤ◌, IsTrue};
 ghost use Rattle.mill_base.specs.Numbers.{Within};
-ghost use Rattle.mill_base.specs.declared.limits.TheConstants.{MAX_TEXT_COORDINATE};
+ghost use Rattle.mill_base.specs.declared.limits.TheConstants.{MAX_COORDINATE, MAX_RADIUS};
 ghost use Rattle.mill_base.specs.Points.{highest as highest_of};
-ghost use Rattle.mill_base.specs.Ranges.{TriInTextRange};
+ghost use Rattle.mill_base.specs.Ranges.{TriInRange};
 
 use crate::column::height_over;
 use mill_base::{Box2, Pt3, Tri};
@@ -17,8 +17,8 @@ pub fn highest(tri: &Tri) -> i32
 
 /// The whole number halfway between two, rounded up.
 fn halfway(low: i32, high: i32) -> i32
-    requires low_ok { Within MAX_TEXT_COORDINATE low }
-    requires high_ok { Within MAX_TEXT_COORDINATE high }
+    requires low_ok { Within MAX_COORDINATE low }
+    requires high_ok { Within MAX_COORDINATE high }
     requires apart { low <ℤ high }
     ensures over { low <ℤ result }
     ensures under { result ≤ℤ high }
@@ -32,10 +32,10 @@ pub struct Column {
     pub x: i32,
     pub y: i32,
     pub band: i32,
-    ghost x_ok: { Within MAX_TEXT_COORDINATE x },
-    ghost y_ok: { Within MAX_TEXT_COORDINATE y },
+    ghost x_ok: { Within MAX_COORDINATE x },
+    ghost y_ok: { Within MAX_COORDINATE y },
     ghost band_least: { pos 0 ≤ℤ band },
-    ghost band_most: { band ≤ℤ pos 10000 },
+    ghost band_most: { band ≤ℤ MAX_RADIUS },
 }
 
 impl Column {
@@ -55,8 +55,8 @@ impl Column {
 
     /// Whether some point of the triangle at least as high as `height` covers the column.
     pub fn is_covered(self, tri: &Tri, height: i32) -> bool
-        requires tri_ok { TriInTextRange tri.now }
-        requires height_ok { Within MAX_TEXT_COORDINATE height }
+        requires tri_ok { TriInRange tri.now }
+        requires height_ok { Within MAX_COORDINATE height }
         ensures yes { IsTrue result → CoversColumn tri.now self.band self.x self.y height }
         ensures no { result ≡ false → ¬ CoversColumn tri.now self.band self.x self.y height }
     {
@@ -69,9 +69,10 @@ impl Column {
         self.is_near(tri, height)
     }
 
-    /// The same, where only points on the column cover it.
+    /// Whether some point of the triangle at least as high as `height` is on the column, which is all
+    /// that a band of 0 asks for.
     fn is_under(self, tri: &Tri, height: i32) -> bool
-        requires tri_ok { TriInTextRange tri.now }
+        requires tri_ok { TriInRange tri.now }
         requires none { self.band ≡ pos 0 }
         ensures yes { IsTrue result → CoversColumn tri.now self.band self.x self.y height }
         ensures no { result ≡ false → ¬ CoversColumn tri.now self.band self.x self.y height }
@@ -82,10 +83,11 @@ impl Column {
         }
     }
 
-    /// The same, where those nearer than `band` do, of which those on the column are some.
+    /// Whether some point of the triangle at least as high as `height` is nearer to the column than
+    /// `band`, of which those on the column are some.
     fn is_near(self, tri: &Tri, height: i32) -> bool
-        requires tri_ok { TriInTextRange tri.now }
-        requires height_ok { Within MAX_TEXT_COORDINATE height }
+        requires tri_ok { TriInRange tri.now }
+        requires height_ok { Within MAX_COORDINATE height }
         requires some { pos 0 <ℤ self.band }
         ensures yes { IsTrue result → CoversColumn tri.now self.band self.x self.y height }
         ensures no { result ≡ false → ¬ CoversColumn tri.now self.band self.x self.y height }
@@ -104,8 +106,8 @@ impl Column {
     /// A triangle whose highest corner isn't over `height` can't raise it, and isn't looked at
     /// further.
     pub fn raised(self, height: i32, tri: &Tri) -> i32
-        requires tri_ok { TriInTextRange tri.now }
-        requires height_ok { Within MAX_TEXT_COORDINATE height }
+        requires tri_ok { TriInRange tri.now }
+        requires height_ok { Within MAX_COORDINATE height }
         ensures kept { height ≤ℤ result }
         ensures reached { (result ≡ height) ⊎ CoversColumn tri.now self.band self.x self.y result }
         ensures highest { (h : ℤ)
@@ -121,9 +123,10 @@ impl Column {
         self.raised_near(height, tri)
     }
 
-    /// The same, where only points on the column cover it.
+    /// The height raised to the triangle's points on the column, which alone cover it where the band is
+    /// 0.
     fn raised_under(self, height: i32, tri: &Tri) -> i32
-        requires tri_ok { TriInTextRange tri.now }
+        requires tri_ok { TriInRange tri.now }
         requires none { self.band ≡ pos 0 }
         ensures kept { height ≤ℤ result }
         ensures reached { (result ≡ height) ⊎ CoversColumn tri.now self.band self.x self.y result }
@@ -137,10 +140,11 @@ impl Column {
         }
     }
 
-    /// The same, where those nearer than `band` do, for a triangle that rises over `height`.
+    /// The height raised to the points of a triangle nearer to the column than `band`, for a triangle
+    /// that rises over `height`.
     fn raised_near(self, height: i32, tri: &Tri) -> i32
-        requires tri_ok { TriInTextRange tri.now }
-        requires height_ok { Within MAX_TEXT_COORDINATE height }
+        requires tri_ok { TriInRange tri.now }
+        requires height_ok { Within MAX_COORDINATE height }
         requires over { height <ℤ highest_of tri.now }
         requires some { pos 0 <ℤ self.band }
         ensures kept { height ≤ℤ result }
@@ -163,9 +167,9 @@ impl Column {
     /// The greatest whole height at which the triangle covers the column, found by halving: it does
     /// at `covered`, and not over `top`.
     fn highest_near(self, tri: &Tri, covered: i32, top: i32) -> i32
-        requires tri_ok { TriInTextRange tri.now }
-        requires covered_ok { Within MAX_TEXT_COORDINATE covered }
-        requires top_ok { Within MAX_TEXT_COORDINATE top }
+        requires tri_ok { TriInRange tri.now }
+        requires covered_ok { Within MAX_COORDINATE covered }
+        requires top_ok { Within MAX_COORDINATE top }
         requires some { pos 0 <ℤ self.band }
         requires there { CoversColumn tri.now self.band self.x self.y covered }
         requires under { (h : ℤ) → CoversColumn tri.now self.band self.x self.y h → h ≤ℤ top }

@@ -1,20 +1,20 @@
 ghost use Rattle.std.specs.Prelude.{◌≡◌, ◌↔◌, ◌<◌, ◌^◌, ℤ, pos, false, ◌≤ℤ◌, length, IfSome, IsNone, IsTrue};
 ghost use Rattle.mill_base.specs.Covers.{Covered, HasPointOver};
 ghost use Rattle.mill_base.specs.Numbers.{Within};
-ghost use Rattle.mill_base.specs.declared.limits.TheConstants.{MAX_TEXT_COORDINATE};
-ghost use Rattle.mill_base.specs.Ranges.{TrisInTextRange};
+ghost use Rattle.mill_base.specs.declared.limits.TheConstants.{MAX_COORDINATE, MAX_RADIUS};
+ghost use Rattle.mill_base.specs.Ranges.{TrisInRange};
 ghost use Rattle.mill_cells.specs.Sorted.{sorted_of};
 ghost use Rattle.mill_part.specs.Parts.{top_of};
 
 use crate::near::{Column, highest};
-use mill_base::Tri;
+use mill_base::{MAX_COORDINATE, Tri};
 use mill_cells::Cells;
 use std::marker::Model;
 
 /// The part to be cut: the triangles of its surface, in the order in which they were given.
 ///
-/// Each coordinate's magnitude is at most 131,071 units of 0.01 mm, and there are fewer than 2^32
-/// triangles, so that a `u32` numbers them.
+/// Each coordinate's magnitude is at most `MAX_COORDINATE` units of 0.01 mm, and there are fewer than
+/// 2^32 triangles, so that a `u32` numbers them.
 #[derive(Drop)]
 pub struct Part {
     triangles: Vec<Tri>,
@@ -35,12 +35,12 @@ impl Model for Part {
 }
 
 impl Part {
-    ghost use Rattle.mill_base.specs.Ranges.{TrisInTextRange};
+    ghost use Rattle.mill_base.specs.Ranges.{TrisInRange};
     ghost use Rattle.mill_part.specs.Tops.{IsTop};
 
     /// The part of these triangles.
     pub fn new(tris: Vec<Tri>) -> Part
-        requires in_range { TrisInTextRange tris.items }
+        requires in_range { TrisInRange tris.items }
         requires count { length tris.items < 2 ^ 32 }
         ensures { result ≡ tris.items }
     {
@@ -54,7 +54,7 @@ impl Part {
     /// The triangles.
     pub fn tris(&self) -> &[Tri]
         ensures list { result.now ≡ self.now }
-        ensures in_range { TrisInTextRange self.now }
+        ensures in_range { TrisInRange self.now }
         ensures count { length self.now < 2 ^ 32 }
     {
         &self.triangles
@@ -73,29 +73,29 @@ impl Part {
     /// Whether the floor, or a point of the part at least as high as `height`, covers the column
     /// (x, y) at that height, exactly: a point on the column does, and one nearer to it than `band`.
     ///
-    /// `height` is any; the magnitudes of `floor`, `x` and `y` are at most 131,071, and `band` is from
-    /// 0 to 10,000, all in units of 0.01 mm.
+    /// `height` is any; the magnitudes of `floor`, `x` and `y` are at most `MAX_COORDINATE`, and `band`
+    /// is from 0 to `MAX_RADIUS`, all in units of 0.01 mm.
     pub fn covered(&self, floor: i32, x: i32, y: i32, height: i32, band: i32) -> bool
-        requires floor_ok { Within MAX_TEXT_COORDINATE floor }
-        requires x_ok { Within MAX_TEXT_COORDINATE x }
-        requires y_ok { Within MAX_TEXT_COORDINATE y }
+        requires floor_ok { Within MAX_COORDINATE floor }
+        requires x_ok { Within MAX_COORDINATE x }
+        requires y_ok { Within MAX_COORDINATE y }
         requires band_least { pos 0 ≤ℤ band }
-        requires band_most { band ≤ℤ pos 10000 }
+        requires band_most { band ≤ℤ MAX_RADIUS }
         ensures { IsTrue result ↔ Covered self.now floor band x y height }
     {
         let tris = self.tris();
         if height <= floor {
             return true;
         }
-        if height > 131_071 {
+        if height > MAX_COORDINATE as i32 {
             return false;
         }
         has_point_over(tris, Column { x, y, band }, height)
     }
 
-    /// The same as `covered`, by a look at only those triangles whose boxes are near the column and
-    /// that come up to the height, until one covers it. `cells` finds them, and is made of the part's
-    /// triangles.
+    /// Whether the column (x, y) is covered at that height, as `covered` tells, by a look at only those
+    /// triangles whose boxes are near the column and that come up to the height, until one covers it.
+    /// `cells` finds them, and is made of the part's triangles.
     ///
     /// It is for many columns: for one alone, making the cells is more work than the looks that they
     /// save.
@@ -109,18 +109,18 @@ impl Part {
         band: i32,
     ) -> bool
         requires cells_ok { cells.now ≡ sorted_of self.now }
-        requires floor_ok { Within MAX_TEXT_COORDINATE floor }
-        requires x_ok { Within MAX_TEXT_COORDINATE x }
-        requires y_ok { Within MAX_TEXT_COORDINATE y }
+        requires floor_ok { Within MAX_COORDINATE floor }
+        requires x_ok { Within MAX_COORDINATE x }
+        requires y_ok { Within MAX_COORDINATE y }
         requires band_least { pos 0 ≤ℤ band }
-        requires band_most { band ≤ℤ pos 10000 }
+        requires band_most { band ≤ℤ MAX_RADIUS }
         ensures { IsTrue result ↔ Covered self.now floor band x y height }
     {
         let tris = self.tris();
         if floor >= height {
             return true;
         }
-        if height > 131_071 {
+        if height > MAX_COORDINATE as i32 {
             return false;
         }
         has_near_point_over(tris, cells, Column { x, y, band }, height)
@@ -130,15 +130,15 @@ impl Part {
     /// exactly, in units of 0.01 mm: a point on the column does, and one nearer to it than `band`.
     ///
     /// It is the floor where no point of the part does. The magnitudes of `floor`, `x` and `y` are at
-    /// most 131,071, and `band` is from 0 to 10,000.
+    /// most `MAX_COORDINATE`, and `band` is from 0 to `MAX_RADIUS`.
     pub fn covered_height(&self, floor: i32, x: i32, y: i32, band: i32) -> i32
-        requires floor_ok { Within MAX_TEXT_COORDINATE floor }
-        requires x_ok { Within MAX_TEXT_COORDINATE x }
-        requires y_ok { Within MAX_TEXT_COORDINATE y }
+        requires floor_ok { Within MAX_COORDINATE floor }
+        requires x_ok { Within MAX_COORDINATE x }
+        requires y_ok { Within MAX_COORDINATE y }
         requires band_least { pos 0 ≤ℤ band }
-        requires band_most { band ≤ℤ pos 10000 }
+        requires band_most { band ≤ℤ MAX_RADIUS }
         ensures exact { (h : ℤ) → Covered self.now floor band x y h ↔ (h ≤ℤ result) }
-        ensures bound { Within MAX_TEXT_COORDINATE result }
+        ensures bound { Within MAX_COORDINATE result }
     {
         let column = Column { x, y, band };
         let mut height = floor;
@@ -148,20 +148,21 @@ impl Part {
         height
     }
 
-    /// The same as `covered_height`, by a look at only those triangles whose boxes are near the
-    /// column. `cells` finds them, and is made of the part's triangles.
+    /// The greatest whole height of the column (x, y) that is covered, as `covered_height` gives it,
+    /// by a look at only those triangles whose boxes are near the column. `cells` finds them, and is
+    /// made of the part's triangles.
     ///
     /// It is for many columns: for one alone, making the cells is more work than the looks that they
     /// save.
     pub fn covered_height_near(&self, cells: &Cells, floor: i32, x: i32, y: i32, band: i32) -> i32
         requires cells_ok { cells.now ≡ sorted_of self.now }
-        requires floor_ok { Within MAX_TEXT_COORDINATE floor }
-        requires x_ok { Within MAX_TEXT_COORDINATE x }
-        requires y_ok { Within MAX_TEXT_COORDINATE y }
+        requires floor_ok { Within MAX_COORDINATE floor }
+        requires x_ok { Within MAX_COORDINATE x }
+        requires y_ok { Within MAX_COORDINATE y }
         requires band_least { pos 0 ≤ℤ band }
-        requires band_most { band ≤ℤ pos 10000 }
+        requires band_most { band ≤ℤ MAX_RADIUS }
         ensures exact { (h : ℤ) → Covered self.now floor band x y h ↔ (h ≤ℤ result) }
-        ensures bound { Within MAX_TEXT_COORDINATE result }
+        ensures bound { Within MAX_COORDINATE result }
     {
         let tris = self.tris();
         let column = Column { x, y, band };
@@ -187,8 +188,8 @@ fn greatest_height(tris: &[Tri]) -> Option<i32>
 
 /// Whether a point of the triangles at least as high as `height` covers the column.
 fn has_point_over(tris: &[Tri], column: Column, height: i32) -> bool
-    requires in_range { TrisInTextRange tris.now }
-    requires height_ok { Within MAX_TEXT_COORDINATE height }
+    requires in_range { TrisInRange tris.now }
+    requires height_ok { Within MAX_COORDINATE height }
     ensures yes { IsTrue result → HasPointOver tris.now column.band column.x column.y height }
     ensures no { result ≡ false
         → ¬ HasPointOver tris.now column.band column.x column.y height }
@@ -201,13 +202,14 @@ fn has_point_over(tris: &[Tri], column: Column, height: i32) -> bool
     false
 }
 
-/// The same, by a look at the triangles near the column, which `cells` finds.
+/// Whether a point of the triangles at least as high as `height` covers the column, by a look at those
+/// near the column, which `cells` finds.
 ///
 /// A triangle comes up to a height if its top is over the next lower one.
 fn has_near_point_over(tris: &[Tri], cells: &Cells, column: Column, height: i32) -> bool
-    requires in_range { TrisInTextRange tris.now }
+    requires in_range { TrisInRange tris.now }
     requires cells_ok { cells.now ≡ sorted_of tris.now }
-    requires height_ok { Within MAX_TEXT_COORDINATE height }
+    requires height_ok { Within MAX_COORDINATE height }
     ensures yes { IsTrue result → HasPointOver tris.now column.band column.x column.y height }
     ensures no { result ≡ false
         → ¬ HasPointOver tris.now column.band column.x column.y height }

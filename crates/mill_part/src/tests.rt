@@ -1,10 +1,10 @@
 ghost use Rattle.std.specs.Prelude.{IsTrue, ◌<◌, ◌^◌, ◌≤ℤ◌, pos, length};
 ghost use Rattle.mill_base.specs.Numbers.{Within};
-ghost use Rattle.mill_base.specs.declared.limits.TheConstants.{MAX_TEXT_COORDINATE};
-ghost use Rattle.mill_base.specs.Ranges.{IsInTextRange, TriInTextRange};
+ghost use Rattle.mill_base.specs.declared.limits.TheConstants.{MAX_COORDINATE, MAX_RADIUS};
+ghost use Rattle.mill_base.specs.Ranges.{IsInRange, TriInRange};
 
-use super::{Part, covered_below};
-use mill_base::{Pt3, Tri};
+use super::{Part, SortedPart, covered_below};
+use mill_base::{MAX_COORDINATE, MAX_RADIUS, Pt3, Tri};
 use mill_cells::Cells;
 use std::process::Abort;
 use std::test::Fail;
@@ -30,16 +30,13 @@ fn tri(a: (i32, i32, i32), b: (i32, i32, i32), c: (i32, i32, i32)) -> Tri {
 }
 
 fn fits(number: i32) -> bool
-    ensures { IsTrue result → Within MAX_TEXT_COORDINATE number }
+    ensures { IsTrue result → Within MAX_COORDINATE number }
 {
-    if number < -131_071 {
-        return false;
-    }
-    number <= 131_071
+    number.unsigned_abs() <= MAX_COORDINATE
 }
 
 fn point_fits(point: &Pt3) -> bool
-    ensures { IsTrue result → IsInTextRange point.now }
+    ensures { IsTrue result → IsInRange point.now }
 {
     if !fits(point.x) {
         return false;
@@ -51,7 +48,7 @@ fn point_fits(point: &Pt3) -> bool
 }
 
 fn tri_fits(tri: &Tri) -> bool
-    ensures { IsTrue result → TriInTextRange tri.now }
+    ensures { IsTrue result → TriInRange tri.now }
 {
     if !point_fits(&tri.a) {
         return false;
@@ -104,19 +101,18 @@ fn covers_columns(rt: HostRuntime) -> Result<(), Fail> {
 }
 
 fn is_band(band: i32) -> bool
-    ensures { IsTrue result → (pos 0 ≤ℤ band) × (band ≤ℤ pos 10000) }
+    ensures { IsTrue result → (pos 0 ≤ℤ band) × (band ≤ℤ MAX_RADIUS) }
 {
     if band < 0 {
         return false;
     }
-    band <= 10_000
+    band <= MAX_RADIUS
 }
 
 #[test]
 fn covers_heights(rt: HostRuntime) -> Result<(), Fail> {
     let plate = plate(&rt)?;
-    let size = Cells::size_for(plate.tris());
-    let cells = Cells::new(rt.alloc(), plate.tris(), size)?;
+    let sorted = SortedPart::new(rt.alloc(), &plate)?;
     let table = [
         (100, 100, 200, 0, true),
         (100, 100, 201, 0, false),
@@ -137,9 +133,10 @@ fn covers_heights(rt: HostRuntime) -> Result<(), Fail> {
         assert!(rt; fits(x));
         assert!(rt; fits(y));
         assert!(rt; is_band(band));
-        let got = plate.covered(0, x, y, height, band);
+        let part = sorted.part();
+        let got = part.covered(0, x, y, height, band);
         assert_eq!(rt; got, want, "{x}, {y}, {height}, {band}");
-        let near = plate.covered_near(&cells, 0, x, y, height, band);
+        let near = part.covered_near(sorted.cells(), 0, x, y, height, band);
         assert_eq!(rt; near, want, "{x}, {y}, {height}, {band}");
     }
     Ok(())
@@ -237,7 +234,7 @@ fn covers_by_near_triangles(rt: HostRuntime) -> Result<(), Fail> {
         (-600, -800, 1000, 0),
         (-600, -800, 1001, 200),
         (100_000, 5, 10_000, 0),
-        (-131_071, 131_071, 10_000, 0),
+        (-524_287, 524_287, 10_000, 0),
     ];
     for (x, y, band, want) in table {
         assert!(rt; fits(x));

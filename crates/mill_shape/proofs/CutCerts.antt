@@ -1,4 +1,4 @@
--- Polynomial facts behind the greatest height that a cutter leaves; each is written by tools/certificates.py from the lines above it.
+-- Polynomial facts behind the greatest height that a cutter leaves; written by tools/certificates.py from tools/certificates/mill_shape_CutCerts.spec.
 use Rattle.std.proofs.Common.{[], ◌∷◌, refl}
 use lib.IntN.{ℤ, pos, ◌+ℤ◌, ◌-ℤ◌, ◌*ℤ◌}
 use lib.Signed.{◌<ℤ◌, ◌≤ℤ◌}
@@ -24,10 +24,6 @@ ball_held s r c z h high low = prove_lt_by (s ∷ r ∷ c ∷ z ∷ []) (Lt (Mul
 -- vars t b f z; hyp h: t < (b*b)*((f+1)*(f+1)); hyp hf: 0 <= f; hyp high: f < z; goal t < (b*b)*(z*z); mul high * high * sq(b); mul high * hf * sq(b); mul high * sq(b)
 pub wall_held : (t b f z : ℤ) → t <ℤ ((b *ℤ b) *ℤ ((f +ℤ (pos 1)) *ℤ (f +ℤ (pos 1)))) → (pos 0) ≤ℤ f → f <ℤ z → t <ℤ ((b *ℤ b) *ℤ (z *ℤ z))
 wall_held t b f z h hf high = prove_lt_by (t ∷ b ∷ f ∷ z ∷ []) (Lt (Var 0) (Mul (Mul (Var 1) (Var 1)) (Mul (Add (Var 2) (Num (pos 1))) (Add (Var 2) (Num (pos 1))))) ∷ Le (Num (pos 0)) (Var 2) ∷ Lt (Var 2) (Var 3) ∷ []) (Var 0) (Mul (Mul (Var 1) (Var 1)) (Mul (Var 3) (Var 3))) (Plus (Hyp 0) (Plus (Hyp 1) (Plus (Times (Times (Hyp 3) (Hyp 3)) (Sq (Var 1))) (Plus (Times (Lit 2) (Times (Times (Hyp 3) (Hyp 2)) (Sq (Var 1)))) (Times (Lit 2) (Times (Hyp 3) (Sq (Var 1)))))))) 0 (h, (hf, (high, tt))) refl
-
--- vars a s; hyp ha: a <= 10000; hyp hs: 0 <= s; hyp most: s <= 121528576; goal a*s <= 1215285760000; mul ha * hs; mul ha * most
-pub wall_small : (a s : ℤ) → a ≤ℤ (pos 10000) → (pos 0) ≤ℤ s → s ≤ℤ (pos 121528576) → (a *ℤ s) ≤ℤ (pos 1215285760000)
-wall_small a s ha hs most = prove_le_by (a ∷ s ∷ []) (Le (Var 0) (Num (pos 10000)) ∷ Le (Num (pos 0)) (Var 1) ∷ Le (Var 1) (Num (pos 121528576)) ∷ []) (Mul (Var 0) (Var 1)) (Num (pos 1215285760000)) (Plus (Hyp 0) (Plus (Times (Lit 10000) (Hyp 3)) (Times (Hyp 1) (Hyp 2)))) 0 (ha, (hs, (most, tt))) refl
 
 -- vars f b p t; hyp hb: 0 <= b; hyp h: p*b <= t; hyp root: f*f <= p; goal b*(f*f) <= t; mul hb * root
 pub wall_low : (f b p t : ℤ) → (pos 0) ≤ℤ b → (p *ℤ b) ≤ℤ t → (f *ℤ f) ≤ℤ p → (b *ℤ (f *ℤ f)) ≤ℤ t

@@ -1,8 +1,8 @@
 -- The height that a cutter cuts a column to is the greatest whole height that isn't strictly inside it.
 use Rattle.std.specs.Prelude.{◌≡◌, ℕ, zero, suc, ◌+◌, ◌-◌, ◌*◌, ◌/◌, ◌^◌, ◌<◌, ◌≤◌, Bool, true, false, if◌then◌else◌, ℤ, pos, ◌+ℤ◌, ◌-ℤ◌, ◌*ℤ◌, ◌<ℤ◌, ◌≤ℤ◌, nat_abs, int_lt, Some, None}
 use Rattle.std.proofs.Common.{inl, inr, refl, subst, arith}
-use Rattle.std.proofs.Math.Nat.{div-mul-le_self, lt-mul-div-succ, div-le_self}
-use Rattle.std.proofs.lemmas.Int.{ints}
+use Rattle.std.proofs.Math.Nat.{mul-le-mul, div-mul-le_self, lt-mul-div-succ, div-le_self}
+use Rattle.std.proofs.lemmas.Int.{ints, unsigned_abs-mul}
 use Rattle.mill_base.proofs.Exit.{split_lt}
 use Rattle.mill_base.proofs.Integers.{one-mul-ℤ, sq-ℤ, mul_nonneg-ℤ, mul_pos-ℤ}
 use Rattle.mill_base.proofs.Squares.{sq_mono}
@@ -11,11 +11,13 @@ use Rattle.mill_base.specs.Points.{point_at}
 use Rattle.mill_base.specs.Cutters.{Inside}
 use Rattle.mill_base.specs.Contact.{Holds}
 use Rattle.mill_base.specs.Sizes.{radius_of, surface, is_within, cut_height_of, HasRadius, IsCutterUpTo, IsWideCutter, IsCutHeight}
+use Rattle.mill_base.specs.declared.limits.TheConstants.{MAX_WIDE_RADIUS}
 use Rattle.mill_base.specs.declared.points.Pt3.{Pt3}
 use Rattle.mill_base.specs.declared.cutter.Cutter.{Cutter}
 use Rattle.mill_base.specs.declared.cutter.Cutter.TheVariants.{Flat, Ball, Cone}
-use Rattle.mill_shape.proofs.CutCerts.{unit_near, ball_high_free, ball_deep_free, ball_held, wall_held, wall_small, wall_low, wall_high}
+use Rattle.mill_shape.proofs.CutCerts.{unit_near, ball_high_free, ball_deep_free, ball_held, wall_held, wall_low, wall_high}
 use Rattle.mill_shape.specs.Roots.{IsFloorRoot, IsCeilRoot}
+use Rattle.mill_shape.specs.Widths.{greatest_area}
 use Rattle.mill_shape.proofs.RootLemmas.{floor_root_is, ceil_root_is}
 
 -- over (x, y) from the tip, h is the greatest whole height that isn't strictly inside the cutter
@@ -66,15 +68,15 @@ natural z h = omega (arith, ints)
 natural_below : (z : ℤ) (m : ℕ) → z ≤ℤ pos m → (pos 0) ≤ℤ z → nat_abs z ≤ m
 natural_below z m most least = omega (arith, ints)
 
--- the square of a distance isn't negative, and that of a radius is at most 11024 * 11024, which is 121528576
+-- the square of a distance isn't negative, and that of a radius is at most that of the greatest
 apart_least : (x y : ℤ) → (pos 0) ≤ℤ apart_at x y
 apart_least x y = from _ _ (sq-ℤ x) (sq-ℤ y)
   where
     from : (a b : ℤ) → (pos 0) ≤ℤ a → (pos 0) ≤ℤ b → (pos 0) ≤ℤ (a +ℤ b)
     from a b h k = omega (arith, ints)
 
-radius_most : (r : ℤ) → HasRadius r (pos 11024) → square r ≤ℤ pos 121528576
-radius_most r h = sq_mono r (pos 11024) (let least = h.least in omega (arith, ints)) h.within
+radius_most : (r : ℤ) → HasRadius r MAX_WIDE_RADIUS → square r ≤ℤ pos greatest_area
+radius_most r h = sq_mono r MAX_WIDE_RADIUS (let least = h.least in omega (arith, ints)) h.within
 
 -- what is left of the squared radius is small enough for a root
 left_small : (s q : ℤ) (m : ℕ) → (pos 0) ≤ℤ s → s <ℤ q → q ≤ℤ pos m → ((pos 0) <ℤ (q -ℤ s)) × (nat_abs (q -ℤ s) ≤ m)
@@ -101,9 +103,9 @@ root_least left n (suc c) e some h = rw (← e) (from (rw (back c) at h))
     from : c * c < n → square (pos (suc c) -ℤ pos 1) <ℤ pos n
     from k = rw (back_z c) (omega (arith, ints))
 
-ball_root : (r x y : ℤ) (n c : ℕ) → HasRadius r (pos 11024) → apart_at x y <ℤ square r → n ≡ nat_abs (square r -ℤ apart_at x y) → IsCeilRoot n c → IsSurface (Ball r) x y (r -ℤ pos c)
+ball_root : (r x y : ℤ) (n c : ℕ) → HasRadius r MAX_WIDE_RADIUS → apart_at x y <ℤ square r → n ≡ nat_abs (square r -ℤ apart_at x y) → IsCeilRoot n c → IsSurface (Ball r) x y (r -ℤ pos c)
 ball_root r x y n c size near e root =
-    let left = left_small (apart_at x y) (square r) 121528576 (apart_least x y) near (radius_most r size) in
+    let left = left_small (apart_at x y) (square r) greatest_area (apart_least x y) near (radius_most r size) in
     let is_left = left_is (square r -ℤ apart_at x y) left.0 n e in
     let some = root_some n c is_left.0 root in
     ball_surface r x y (pos c) near (one_most c some) (root_reaches _ n c is_left.1 root.reaches) (root_least _ n c is_left.1 some (root.least some))
@@ -136,24 +138,24 @@ cone_root r a b x y m n f near em en some root =
     above : (q f : ℕ) → q < (f + 1) * (f + 1) → pos q <ℤ ((pos f +ℤ pos 1) *ℤ (pos f +ℤ pos 1))
     above q f h = omega (arith, ints)
 
--- the numbers whose roots are taken are under 2 ^ 64: the wall's is at most 10000 * 11024 * 11024
-left_fits : (r x y : ℤ) → HasRadius r (pos 11024) → apart_at x y <ℤ square r → nat_abs (square r -ℤ apart_at x y) < 2 ^ 64
-left_fits r x y size near = let most = (left_small (apart_at x y) (square r) 121528576 (apart_least x y) near (radius_most r size)).1 in omega arith
+-- the numbers whose roots are taken are under 2 ^ 64: the wall's is at most 100 * 100 times the greatest radius's square
+left_fits : (r x y : ℤ) → HasRadius r MAX_WIDE_RADIUS → apart_at x y <ℤ square r → nat_abs (square r -ℤ apart_at x y) < 2 ^ 64
+left_fits r x y size near = let most = (left_small (apart_at x y) (square r) greatest_area (apart_least x y) near (radius_most r size)).1 in omega arith
 
 wall_least : (a x y : ℤ) → (pos 0) ≤ℤ (square a *ℤ apart_at x y)
 wall_least a x y = mul_nonneg-ℤ (square a) (apart_at x y) (sq-ℤ a) (apart_least x y)
 
-slope_most : (a : ℤ) → (pos 1) ≤ℤ a → a ≤ℤ pos 100 → square a ≤ℤ pos 10000
+slope_most : (a : ℤ) → (pos 1) ≤ℤ a → a ≤ℤ pos 100 → square a ≤ℤ pos (100 * 100)
 slope_most a least most = sq_mono a (pos 100) (omega (arith, ints)) most
 
-wall_most : (r a x y : ℤ) → HasRadius r (pos 11024) → square a ≤ℤ pos 10000 → apart_at x y <ℤ square r → nat_abs (square a *ℤ apart_at x y) ≤ 1215285760000
+wall_most : (r a x y : ℤ) → HasRadius r MAX_WIDE_RADIUS → square a ≤ℤ pos (100 * 100) → apart_at x y <ℤ square r → nat_abs (square a *ℤ apart_at x y) ≤ 100 * 100 * greatest_area
 wall_most r a x y size slope near =
-    natural_below (square a *ℤ apart_at x y) 1215285760000 (wall_small (square a) (apart_at x y) slope (apart_least x y) (under _ _ near (radius_most r size))) (wall_least a x y)
+    rw (unsigned_abs-mul (square a) (apart_at x y)) (mul-le-mul (natural_below (square a) (100 * 100) slope (sq-ℤ a)) (natural_below (apart_at x y) greatest_area (under _ _ near (radius_most r size)) (apart_least x y)))
   where
-    under : (s q : ℤ) → s <ℤ q → q ≤ℤ pos 121528576 → s ≤ℤ pos 121528576
+    under : (s q : ℤ) → s <ℤ q → q ≤ℤ pos greatest_area → s ≤ℤ pos greatest_area
     under s q h k = omega (arith, ints)
 
-wall_fits : (m n : ℕ) → m ≤ 1215285760000 → m / n < 2 ^ 64
+wall_fits : (m n : ℕ) → m ≤ 100 * 100 * greatest_area → m / n < 2 ^ 64
 wall_fits m n h = let less = div-le_self m n in omega arith
 
 run_some : (b : ℤ) → (pos 1) ≤ℤ b → 0 < nat_abs (square b)
@@ -206,13 +208,13 @@ cut_height_is_greatest cutter tip x y h size e =
     subst (λ t. IsCutHeight cutter tip x y t) some.1 (surface_cuts cutter tip x y (surface cutter (apart_at (x -ℤ tip.x) (y -ℤ tip.y))) (surface_is cutter (x -ℤ tip.x) (y -ℤ tip.y) size near))
 
 -- a cutter within a lesser limit is one within the greatest
-radius_is_wide : (r limit : ℤ) → limit ≤ℤ pos 11024 → HasRadius r limit → HasRadius r (pos 11024)
+radius_is_wide : (r limit : ℤ) → limit ≤ℤ MAX_WIDE_RADIUS → HasRadius r limit → HasRadius r MAX_WIDE_RADIUS
 radius_is_wide r limit most size = record { least = size.least; within = from size.within }
   where
-    from : r ≤ℤ limit → r ≤ℤ pos 11024
+    from : r ≤ℤ limit → r ≤ℤ MAX_WIDE_RADIUS
     from h = omega (arith, ints)
 
-pub cutter_is_wide : (cutter : Cutter) (limit : ℤ) → limit ≤ℤ pos 11024 → IsCutterUpTo limit cutter → IsWideCutter cutter
+pub cutter_is_wide : (cutter : Cutter) (limit : ℤ) → limit ≤ℤ MAX_WIDE_RADIUS → IsCutterUpTo limit cutter → IsWideCutter cutter
 cutter_is_wide (Flat r) limit most size = radius_is_wide r limit most size
 cutter_is_wide (Ball r) limit most size = radius_is_wide r limit most size
 cutter_is_wide (Cone r a b) limit most size = (radius_is_wide r limit most size.0, size.1)

@@ -1,4 +1,4 @@
--- Polynomial facts behind the tests of what is inside a cutter; each is written by tools/certificates.py from the lines above it.
+-- Polynomial facts behind the tests of what is inside a cutter; written by tools/certificates.py from tools/certificates/mill_shape_InsideCerts.spec.
 use Rattle.std.proofs.Common.{◌≡◌, [], ◌∷◌, refl}
 use lib.IntN.{ℤ, ◌+ℤ◌, ◌-ℤ◌, ◌*ℤ◌}
 use lib.Signed.{◌<ℤ◌}

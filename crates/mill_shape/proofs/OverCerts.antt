@@ -1,4 +1,4 @@
--- Polynomial facts behind the law that a cutter holds what is straight over a point that it holds; each is written by tools/certificates.py from the lines above it.
+-- Polynomial facts behind the law that a cutter holds what is straight over a point that it holds; written by tools/certificates.py from tools/certificates/mill_shape_OverCerts.spec.
 use Rattle.std.proofs.Common.{◌≡◌, [], ◌∷◌, refl}
 use lib.IntN.{ℤ, pos, ◌+ℤ◌, ◌-ℤ◌, ◌*ℤ◌}
 use lib.Signed.{◌<ℤ◌, ◌≤ℤ◌}

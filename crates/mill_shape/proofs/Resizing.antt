@@ -9,6 +9,7 @@ use Rattle.std.proofs.lemmas.Int.{ints}
 use Rattle.mill_base.proofs.Divisions.{ceil_div_is}
 use Rattle.mill_base.specs.Numbers.{ceil_div}
 use Rattle.mill_base.specs.Sizes.{radius_of, with_radius, outer, HasRadius, IsSlope, IsCutter, IsWideCutter}
+use Rattle.mill_base.specs.declared.limits.TheConstants.{MAX_RADIUS, MAX_WIDE_RADIUS, MAX_REACH}
 use Rattle.mill_base.specs.declared.cutter.Cutter.{Cutter}
 use Rattle.mill_base.specs.declared.cutter.Cutter.TheVariants.{Flat, Ball, Cone}
 
@@ -34,8 +35,8 @@ under x a b d h s e = elim (cases_lt d (16 * x + 1)) [
     same : (n : ℕ) → n ≤ n
     same n = omega arith
 
-pub rise_most : (reach rise run : ℤ) (d : ℕ) → (pos 0) ≤ℤ reach → reach ≤ℤ pos 1024 → IsSlope rise run → d ≡ div_ceil (nat_abs reach * nat_abs rise) (nat_abs run)
-    → (d ≤ 16384) × (pos d ≤ℤ (pos 16 *ℤ reach))
+pub rise_most : (reach rise run : ℤ) (d : ℕ) → (pos 0) ≤ℤ reach → reach ≤ℤ pos MAX_REACH → IsSlope rise run → d ≡ div_ceil (nat_abs reach * nat_abs rise) (nat_abs run)
+    → (d ≤ 16 * MAX_REACH) × (pos d ≤ℤ (pos 16 *ℤ reach))
 rise_most reach rise run d h l s e =
     let least = s.run in
     let steep = s.steepest in
@@ -44,13 +45,13 @@ rise_most reach rise run d h l s e =
     (omega (arith, ints), omega (arith, ints))
 
 -- the radius of a widened cutter, and of a narrowed one, is in range
-wider_radius : (r reach : ℤ) → HasRadius r (pos 10000) → (pos 0) ≤ℤ reach → reach ≤ℤ pos 1024 → HasRadius (r +ℤ reach) (pos 11024)
+wider_radius : (r reach : ℤ) → HasRadius r MAX_RADIUS → (pos 0) ≤ℤ reach → reach ≤ℤ pos MAX_REACH → HasRadius (r +ℤ reach) MAX_WIDE_RADIUS
 wider_radius r reach h l m = let least = h.least in let most = h.within in record { least = omega (arith, ints); within = omega (arith, ints) }
 
-narrower_radius : (r : ℤ) → HasRadius r (pos 10000) → (pos 1) <ℤ r → HasRadius (r -ℤ pos 1) (pos 10000)
+narrower_radius : (r : ℤ) → HasRadius r MAX_RADIUS → (pos 1) <ℤ r → HasRadius (r -ℤ pos 1) MAX_RADIUS
 narrower_radius r h l = let least = h.least in let most = h.within in record { least = omega (arith, ints); within = omega (arith, ints) }
 
-pub wide : (cutter wider : Cutter) (reach : ℤ) → IsCutter cutter → (pos 0) ≤ℤ reach → reach ≤ℤ pos 1024 → wider ≡ outer cutter reach → IsWideCutter wider
+pub wide : (cutter wider : Cutter) (reach : ℤ) → IsCutter cutter → (pos 0) ≤ℤ reach → reach ≤ℤ pos MAX_REACH → wider ≡ outer cutter reach → IsWideCutter wider
 wide (Flat r) wider reach h l m e = rw e (wider_radius r reach h l m)
 wide (Ball r) wider reach h l m e = rw e (wider_radius r reach h l m)
 wide (Cone r a b) wider reach h l m e = rw e (wider_radius r reach h.0 l m, h.1)

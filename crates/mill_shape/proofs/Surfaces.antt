@@ -5,10 +5,12 @@ use Rattle.std.proofs.Math.Nat.{mul-le-mul, div-le_self}
 use Rattle.std.proofs.lemmas.Int.{ints, unsigned_abs-mul}
 use Rattle.mill_base.specs.Numbers.{square, floor_root_of, ceil_root_of}
 use Rattle.mill_base.specs.Sizes.{radius_of, surface, is_within, cut_height_of, HasRadius, IsSlope, IsWideCutter}
+use Rattle.mill_base.specs.declared.limits.TheConstants.{MAX_WIDE_RADIUS}
 use Rattle.mill_base.specs.declared.points.Pt3.{Pt3}
 use Rattle.mill_base.specs.declared.cutter.Cutter.{Cutter}
 use Rattle.mill_base.specs.declared.cutter.Cutter.TheVariants.{Flat, Ball, Cone}
 use Rattle.mill_shape.specs.Roots.{IsFloorRoot, IsCeilRoot}
+use Rattle.mill_shape.specs.Widths.{greatest_radius, greatest_area}
 use Rattle.mill_shape.proofs.RootLemmas.{floor_root_agrees, ceil_root_agrees}
 
 -- a square is that of the magnitude
@@ -28,14 +30,14 @@ left_is r s near = from (square r) (nat_abs r * nat_abs r) (natural_square r) ne
     from q p e h = rw (← e) (omega (arith, ints))
 
 -- the ball's rise and the cone's, in natural numbers and in integers
-pub ball_value : (r : ℤ) (s rise : ℕ) → HasRadius r (pos 11024) → s < nat_abs r * nat_abs r → rise ≤ nat_abs r → IsCeilRoot (nat_abs r * nat_abs r - s) (nat_abs r - rise) → pos rise ≡ surface (Ball r) (pos s)
+pub ball_value : (r : ℤ) (s rise : ℕ) → HasRadius r MAX_WIDE_RADIUS → s < nat_abs r * nat_abs r → rise ≤ nat_abs r → IsCeilRoot (nat_abs r * nat_abs r - s) (nat_abs r - rise) → pos rise ≡ surface (Ball r) (pos s)
 ball_value r s rise size near under root = from r (nat_abs r - rise) (ceil_root_of (nat_abs (square r -ℤ pos s))) under size.least refl (agrees ∙ ap ceil_root_of (sym (left_is r s near)))
   where
-    most : nat_abs r ≤ 11024
+    most : nat_abs r ≤ greatest_radius
     most = let least = size.least in let within = size.within in omega (arith, ints)
 
     fits : nat_abs r * nat_abs r - s < 2 ^ 64
-    fits = let small = square_small (nat_abs r) 11024 most in omega arith
+    fits = let small = square_small (nat_abs r) greatest_radius most in omega arith
 
     agrees : nat_abs r - rise ≡ ceil_root_of (nat_abs r * nat_abs r - s)
     agrees = ceil_root_agrees (nat_abs r * nat_abs r - s) (nat_abs r - rise) fits root
@@ -47,7 +49,7 @@ ball_value r s rise size near under root = from r (nat_abs r - rise) (ceil_root_
 wall_is : (a : ℤ) (s : ℕ) → nat_abs (square a *ℤ pos s) ≡ nat_abs a * nat_abs a * s
 wall_is a s = unsigned_abs-mul (square a) (pos s) ∙ ap (λ t. t * s) (unsigned_abs-mul a a)
 
-pub cone_value : (r a b : ℤ) (s rise : ℕ) → IsSlope a b → s < 121528576 → IsFloorRoot (nat_abs a * nat_abs a * s / (nat_abs b * nat_abs b)) rise → pos rise ≡ surface (Cone r a b) (pos s)
+pub cone_value : (r a b : ℤ) (s rise : ℕ) → IsSlope a b → s < greatest_area → IsFloorRoot (nat_abs a * nat_abs a * s / (nat_abs b * nat_abs b)) rise → pos rise ≡ surface (Cone r a b) (pos s)
 cone_value r a b s rise slope near root = ap pos (floor_root_agrees quotient rise fits root ∙ ap floor_root_of same)
   where
     quotient : ℕ
@@ -62,8 +64,8 @@ cone_value r a b s rise slope near root = ap pos (floor_root_agrees quotient ris
     fits : quotient < 2 ^ 64
     fits =
         let small = square_small (nat_abs a) 100 most in
-        let near_most : s ≤ 121528576 = omega arith in
-        let wall : nat_abs a * nat_abs a * s ≤ 100 * 100 * 121528576 = mul-le-mul small near_most in
+        let near_most : s ≤ greatest_area = omega arith in
+        let wall : nat_abs a * nat_abs a * s ≤ 100 * 100 * greatest_area = mul-le-mul small near_most in
         let less = div-le_self (nat_abs a * nat_abs a * s) (nat_abs b * nat_abs b) in
         omega arith
 
@@ -113,11 +115,11 @@ cut_some cutter tip x y s h e near f =
     (less_test (square (x -ℤ tip.x) +ℤ square (y -ℤ tip.y)) (square (radius_of cutter)) (rw e at near))
 
 -- the radius of a cutter in range
-pub radius_in_range : (cutter : Cutter) → IsWideCutter cutter → HasRadius (radius_of cutter) (pos 11024)
+pub radius_in_range : (cutter : Cutter) → IsWideCutter cutter → HasRadius (radius_of cutter) MAX_WIDE_RADIUS
 radius_in_range (Flat r) size = size
 radius_in_range (Ball r) size = size
 radius_in_range (Cone r a b) size = size.0
 
 -- a distance within the radius is small enough for the cone's products
-pub distance_small : (r : ℤ) (s : ℕ) → HasRadius r (pos 11024) → s < nat_abs r * nat_abs r → s < 121528576
-distance_small r s size near = let small = square_small (nat_abs r) 11024 (let least = size.least in let within = size.within in omega (arith, ints)) in omega arith
+pub distance_small : (r : ℤ) (s : ℕ) → HasRadius r MAX_WIDE_RADIUS → s < nat_abs r * nat_abs r → s < greatest_area
+distance_small r s size near = let small = square_small (nat_abs r) greatest_radius (let least = size.least in let within = size.within in omega (arith, ints)) in omega arith

@@ -1,8 +1,9 @@
-ghost use Rattle.std.specs.Prelude.{◌≡◌, ◌+◌, ◌-◌, ◌*◌, ◌^◌, ◌<◌, ◌≤◌, ◌/◌, ◌+ℤ◌, ◌-ℤ◌, ◌≤ℤ◌, pos, neg_ℤ, nat_abs, IfSome, IfNone, MatchOption};
+ghost use Rattle.std.specs.Prelude.{◌≡◌, ◌+◌, ◌-◌, ◌*◌, ◌<◌, ◌≤◌, ◌/◌, ◌+ℤ◌, ◌-ℤ◌, ◌≤ℤ◌, pos, nat_abs, IfSome, IfNone, MatchOption};
 ghost use Rattle.mill_base.specs.Numbers.{square as square_of, Within};
-ghost use Rattle.mill_base.specs.declared.limits.TheConstants.{MAX_TEXT_COORDINATE};
+ghost use Rattle.mill_base.specs.declared.limits.TheConstants.{LOWEST_TIP, MAX_COORDINATE};
 ghost use Rattle.mill_base.specs.Sizes.{radius_of, surface as surface_of, IsWideCutter, IsCutHeight, cut_height_of};
 ghost use Rattle.mill_shape.specs.Roots.{IsFloorRoot, IsCeilRoot};
+ghost use Rattle.mill_shape.specs.Widths.{greatest_radius, greatest_area, rise_width};
 
 use mill_base::{Cutter, Pt3, ceil_root, floor_root};
 
@@ -10,15 +11,16 @@ use mill_base::{Cutter, Pt3, ceil_root, floor_root};
 /// whole height there that isn't strictly inside the cutter. There is none exactly where the column
 /// isn't strictly within the radius.
 ///
-/// All lengths are in units of 0.01 mm.
+/// All lengths are in units of 0.01 mm. The tip may stand up to 16 over the greatest coordinate: so
+/// far a narrowed cutter is raised.
 pub fn cut_height(cutter: Cutter, tip: Pt3, x: i32, y: i32) -> Option<i32>
     requires cutter_ok { IsWideCutter cutter }
-    requires tip_x_ok { Within MAX_TEXT_COORDINATE tip.x }
-    requires tip_y_ok { Within MAX_TEXT_COORDINATE tip.y }
-    requires tip_z_least { neg_ℤ (pos 160000) ≤ℤ tip.z }
-    requires tip_z_most { tip.z ≤ℤ pos (131071 + 16) }
-    requires x_ok { Within MAX_TEXT_COORDINATE x }
-    requires y_ok { Within MAX_TEXT_COORDINATE y }
+    requires tip_x_ok { Within MAX_COORDINATE tip.x }
+    requires tip_y_ok { Within MAX_COORDINATE tip.y }
+    requires tip_z_least { LOWEST_TIP ≤ℤ tip.z }
+    requires tip_z_most { tip.z ≤ℤ pos (MAX_COORDINATE + 16) }
+    requires x_ok { Within MAX_COORDINATE x }
+    requires y_ok { Within MAX_COORDINATE y }
     ensures value { result ≡ cut_height_of cutter tip x y }
     ensures greatest { IfSome result (IsCutHeight cutter tip x y) }
     ensures none { IfNone result (square_of (radius_of cutter) ≤ℤ (square_of (x -ℤ tip.x) +ℤ square_of (y -ℤ tip.y))) }
@@ -33,7 +35,7 @@ pub fn cut_height(cutter: Cutter, tip: Pt3, x: i32, y: i32) -> Option<i32>
 
 /// The square of a distance, by its lengths in x and y, if it is less than the square of the radius.
 fn square_within(radius: u32, dx: u32, dy: u32) -> Option<u64>
-    requires { radius ≤ 11024 }
+    requires { radius ≤ greatest_radius }
     ensures { MatchOption result (radius * radius ≤ dx * dx + dy * dy) (λ s. (s ≡ dx * dx + dy * dy) × (s < radius * radius)) }
 {
     if dx >= radius {
@@ -52,9 +54,9 @@ fn square_within(radius: u32, dx: u32, dy: u32) -> Option<u64>
 
 /// The square of a length within the greatest radius.
 fn square(length: u32) -> u64
-    requires { length ≤ 11024 }
+    requires { length ≤ greatest_radius }
     ensures value { result ≡ length * length }
-    ensures bound { result ≤ 11024 * 11024 }
+    ensures bound { result ≤ greatest_area }
 {
     u64::from(length) * u64::from(length)
 }
@@ -66,7 +68,7 @@ fn surface(cutter: Cutter, distance: u64) -> i32
     requires near { distance < nat_abs (radius_of cutter) * nat_abs (radius_of cutter) }
     ensures value { result ≡ surface_of cutter (pos distance) }
     ensures least { pos 0 ≤ℤ result }
-    ensures most { result ≤ℤ pos (2 ^ 21) }
+    ensures most { result ≤ℤ pos rise_width }
 {
     match cutter {
         Cutter::Flat { .. } => 0,
@@ -81,7 +83,7 @@ fn surface(cutter: Cutter, distance: u64) -> i32
 
 /// The rise of a ball's surface: what the root of the rest of the squared radius leaves of the radius.
 fn ball_surface(radius: u32, distance: u64) -> u64
-    requires radius_ok { radius ≤ 11024 }
+    requires radius_ok { radius ≤ greatest_radius }
     requires near { distance < radius * radius }
     ensures root { IsCeilRoot (radius * radius - distance) (radius - result) }
     ensures bound { result ≤ radius }
@@ -94,9 +96,9 @@ fn cone_surface(rise: u32, run: u32, distance: u64) -> u64
     requires rise_ok { rise ≤ 100 }
     requires run_least { 0 < run }
     requires run_ok { run ≤ 100 }
-    requires near { distance < 11024 * 11024 }
+    requires near { distance < greatest_area }
     ensures root { IsFloorRoot (rise * rise * distance / (run * run)) result }
-    ensures bound { result ≤ 2 ^ 21 }
+    ensures bound { result ≤ rise_width }
 {
     floor_root(square(rise) * distance / square(run))
 }
@@ -124,5 +126,33 @@ mod tests {
         let flat = Cutter::Flat { radius: 100 };
         assert_eq!(rt; cut_height(flat, tip, 99, 0), Some(0));
         assert_eq!(rt; cut_height(flat, tip, 100, 0), None);
+    }
+
+    // 11024 is 13 * 848, and 5, 12 and 13 are the sides of a right triangle.
+    #[test]
+    fn heights_at_the_limits(rt: HostRuntime) {
+        let lowest = Pt3 {
+            x: -524287,
+            y: -524287,
+            z: -545000,
+        };
+        let ball = Cutter::Ball { radius: 11024 };
+        let near = 5 * 848 - 524287;
+        assert_eq!(rt; cut_height(ball, lowest, near, -524287), Some(-544152));
+        assert_eq!(rt; cut_height(ball, lowest, 524287, 524287), None);
+
+        let highest = Pt3 {
+            x: 524287,
+            y: 524287,
+            z: 524303,
+        };
+        let cone = Cutter::Cone {
+            radius: 11024,
+            rise: 100,
+            run: 7,
+        };
+        let near = 524287 - 7 * 1574;
+        assert_eq!(rt; cut_height(cone, highest, 524287, near), Some(681703));
+        assert_eq!(rt; cut_height(cone, highest, 524287, -524287), None);
     }
 }

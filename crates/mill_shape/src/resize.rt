@@ -1,6 +1,7 @@
 ghost use Rattle.std.specs.Prelude.{◌≡◌, ◌*◌, ◌+ℤ◌, ◌*ℤ◌, ◌<ℤ◌, ◌≤ℤ◌, pos, nat_abs, None, Some, MatchOption, IfNone, IfSome};
 ghost use Rattle.mill_base.specs.Numbers.{ceil_div};
 ghost use Rattle.mill_base.specs.Sizes.{radius_of, with_radius, shift as shift_of, outer, inner, IsCutter, IsSlope, IsWideCutter};
+ghost use Rattle.mill_base.specs.declared.limits.TheConstants.{MAX_REACH};
 
 use mill_base::Cutter;
 
@@ -9,12 +10,12 @@ use mill_base::Cutter;
 pub fn widen(cutter: Cutter, reach: i32) -> (Cutter, i32)
     requires cutter_ok { IsCutter cutter }
     requires reach_least { pos 0 ≤ℤ reach }
-    requires reach_most { reach ≤ℤ pos 1024 }
+    requires reach_most { reach ≤ℤ pos MAX_REACH }
     ensures cutter { result.0 ≡ outer cutter reach }
     ensures lowered { result.1 ≡ shift_of cutter reach }
     ensures wide { IsWideCutter result.0 }
     ensures lowered_least { pos 0 ≤ℤ result.1 }
-    ensures lowered_most { result.1 ≤ℤ pos 16384 }
+    ensures lowered_most { result.1 ≤ℤ pos (16 * MAX_REACH) }
 {
     (
         with_radius_of(cutter, cutter.radius() + reach),
@@ -55,7 +56,7 @@ fn with_radius_of(cutter: Cutter, radius: i32) -> Cutter
 fn shift(cutter: Cutter, reach: i32) -> i32
     requires cutter_ok { IsCutter cutter }
     requires reach_least { pos 0 ≤ℤ reach }
-    requires reach_most { reach ≤ℤ pos 1024 }
+    requires reach_most { reach ≤ℤ pos MAX_REACH }
     ensures value { result ≡ shift_of cutter reach }
     ensures least { pos 0 ≤ℤ result }
     ensures most { result ≤ℤ (pos 16 *ℤ reach) }
@@ -71,7 +72,7 @@ fn shift(cutter: Cutter, reach: i32) -> i32
 fn rise_over(reach: i32, rise: i32, run: i32) -> i32
     requires slope_ok { IsSlope rise run }
     requires reach_least { pos 0 ≤ℤ reach }
-    requires reach_most { reach ≤ℤ pos 1024 }
+    requires reach_most { reach ≤ℤ pos MAX_REACH }
     ensures value { result ≡ ceil_div (reach *ℤ rise) (nat_abs run) }
     ensures least { pos 0 ≤ℤ result }
     ensures most { result ≤ℤ (pos 16 *ℤ reach) }
@@ -101,6 +102,23 @@ mod tests {
         };
         assert_eq!(rt; widen(cone, 5), (wider, 8));
         assert_eq!(rt; widen(cone, 0), (cone, 0));
+
+        let greatest = Cutter::Ball { radius: 10000 };
+        assert_eq!(rt;
+            widen(greatest, 1024),
+            (Cutter::Ball { radius: 11024 }, 1024)
+        );
+        let steepest = Cutter::Cone {
+            radius: 10000,
+            rise: 16,
+            run: 1,
+        };
+        let wider = Cutter::Cone {
+            radius: 11024,
+            rise: 16,
+            run: 1,
+        };
+        assert_eq!(rt; widen(steepest, 1024), (wider, 16384));
     }
 
     #[test]

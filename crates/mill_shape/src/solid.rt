@@ -1,22 +1,24 @@
-ghost use Rattle.std.specs.Prelude.{◌≡◌, ◌^◌, ◌↔◌, ◌+ℤ◌, ◌-ℤ◌, ◌*ℤ◌, ◌≤ℤ◌, ◌<ℤ◌, pos, false, IsTrue};
+ghost use Rattle.std.specs.Prelude.{◌≡◌, ◌↔◌, ◌+ℤ◌, ◌-ℤ◌, ◌*ℤ◌, ◌≤ℤ◌, ◌<ℤ◌, pos, false, IsTrue};
 ghost use Rattle.mill_base.specs.Cutters.{Inside, InFlat, InBall, InCone};
 ghost use Rattle.mill_base.specs.Numbers.{square as square_of, Within};
 ghost use Rattle.mill_base.specs.Points.{point_at};
 ghost use Rattle.mill_base.specs.Sizes.{HasRadius, IsSlope, IsWideCutter};
+ghost use Rattle.mill_base.specs.declared.limits.TheConstants.{MAX_WIDE_RADIUS};
 ghost use Rattle.mill_shape.specs.Offsets.{offset_of};
+ghost use Rattle.mill_shape.specs.Widths.{greatest_denominator, greatest_numerator, length_width};
 
-use crate::arithmetic::{reach, square_length, times_square};
-use mill_base::{Cutter, square, square_sum};
+use crate::arithmetic::{reach, square, square_length, square_sum, times_square};
+use mill_base::Cutter;
 
 /// Whether a point is strictly inside the cutter: the point at the offset `d` over the denominator
 /// `n` from the tip, which is `d[0] / n`, `d[1] / n` and `d[2] / n` units in x, y and z.
 pub fn inside(cutter: Cutter, n: i64, d: [i64; 3]) -> bool
     requires cutter_ok { IsWideCutter cutter }
     requires n_least { pos 1 ≤ℤ n }
-    requires n_most { n ≤ℤ pos (2 ^ 18) }
-    requires x_ok { Within (2 ^ 38) (offset_of d).x }
-    requires y_ok { Within (2 ^ 38) (offset_of d).y }
-    requires z_ok { Within (2 ^ 38) (offset_of d).z }
+    requires n_most { n ≤ℤ pos greatest_denominator }
+    requires x_ok { Within greatest_numerator (offset_of d).x }
+    requires y_ok { Within greatest_numerator (offset_of d).y }
+    requires z_ok { Within greatest_numerator (offset_of d).z }
     ensures { IsTrue result ↔ Inside cutter n (offset_of d) }
 {
     let [x, y, z] = d;
@@ -29,11 +31,11 @@ pub fn inside(cutter: Cutter, n: i64, d: [i64; 3]) -> bool
 
 /// Whether the offset (x, y) over `n` is nearer to the axis than the radius.
 fn is_near(radius: i32, n: i64, x: i64, y: i64) -> bool
-    requires radius_ok { HasRadius radius (pos 11024) }
+    requires radius_ok { HasRadius radius MAX_WIDE_RADIUS }
     requires n_least { pos 1 ≤ℤ n }
-    requires n_most { n ≤ℤ pos (2 ^ 18) }
-    requires x_ok { Within (2 ^ 38) x }
-    requires y_ok { Within (2 ^ 38) y }
+    requires n_most { n ≤ℤ pos greatest_denominator }
+    requires x_ok { Within greatest_numerator x }
+    requires y_ok { Within greatest_numerator y }
     ensures yes { IsTrue result → (square_of x +ℤ square_of y) <ℤ (square_of radius *ℤ square_of n) }
     ensures no { result ≡ false → (square_of radius *ℤ square_of n) ≤ℤ (square_of x +ℤ square_of y) }
 {
@@ -42,11 +44,11 @@ fn is_near(radius: i32, n: i64, x: i64, y: i64) -> bool
 
 /// Whether the offset is over the tip's plane and nearer to the axis than the radius.
 fn in_flat(radius: i32, n: i64, x: i64, y: i64, z: i64) -> bool
-    requires radius_ok { HasRadius radius (pos 11024) }
+    requires radius_ok { HasRadius radius MAX_WIDE_RADIUS }
     requires n_least { pos 1 ≤ℤ n }
-    requires n_most { n ≤ℤ pos (2 ^ 18) }
-    requires x_ok { Within (2 ^ 38) x }
-    requires y_ok { Within (2 ^ 38) y }
+    requires n_most { n ≤ℤ pos greatest_denominator }
+    requires x_ok { Within greatest_numerator x }
+    requires y_ok { Within greatest_numerator y }
     ensures yes { IsTrue result → InFlat radius n (point_at x y z) }
     ensures no { result ≡ false → ¬ InFlat radius n (point_at x y z) }
 {
@@ -59,12 +61,12 @@ fn in_flat(radius: i32, n: i64, x: i64, y: i64, z: i64) -> bool
 /// Whether the offset is nearer to the axis than the radius and over the sphere's centre, or in the
 /// sphere, which stands on the tip.
 fn in_ball(radius: i32, n: i64, x: i64, y: i64, z: i64) -> bool
-    requires radius_ok { HasRadius radius (pos 11024) }
+    requires radius_ok { HasRadius radius MAX_WIDE_RADIUS }
     requires n_least { pos 1 ≤ℤ n }
-    requires n_most { n ≤ℤ pos (2 ^ 18) }
-    requires x_ok { Within (2 ^ 38) x }
-    requires y_ok { Within (2 ^ 38) y }
-    requires z_ok { Within (2 ^ 38) z }
+    requires n_most { n ≤ℤ pos greatest_denominator }
+    requires x_ok { Within greatest_numerator x }
+    requires y_ok { Within greatest_numerator y }
+    requires z_ok { Within greatest_numerator z }
     ensures yes { IsTrue result → InBall radius n (point_at x y z) }
     ensures no { result ≡ false → ¬ InBall radius n (point_at x y z) }
 {
@@ -77,24 +79,24 @@ fn in_ball(radius: i32, n: i64, x: i64, y: i64, z: i64) -> bool
 
 /// How far the height `z` over `n` is over the sphere's centre.
 fn over_centre(radius: i32, n: i64, z: i64) -> i64
-    requires radius_ok { HasRadius radius (pos 11024) }
+    requires radius_ok { HasRadius radius MAX_WIDE_RADIUS }
     requires n_least { pos 1 ≤ℤ n }
-    requires n_most { n ≤ℤ pos (2 ^ 18) }
-    requires z_ok { Within (2 ^ 38) z }
+    requires n_most { n ≤ℤ pos greatest_denominator }
+    requires z_ok { Within greatest_numerator z }
     ensures value { result ≡ z -ℤ radius *ℤ n }
-    ensures bound { Within (2 ^ 39) result }
+    ensures bound { Within length_width result }
 {
     z - reach(radius, n)
 }
 
 /// Whether the offset (x, y, z) over `n` from the sphere's centre is shorter than the radius.
 fn in_sphere(radius: i32, n: i64, x: i64, y: i64, z: i64) -> bool
-    requires radius_ok { HasRadius radius (pos 11024) }
+    requires radius_ok { HasRadius radius MAX_WIDE_RADIUS }
     requires n_least { pos 1 ≤ℤ n }
-    requires n_most { n ≤ℤ pos (2 ^ 18) }
-    requires x_ok { Within (2 ^ 38) x }
-    requires y_ok { Within (2 ^ 38) y }
-    requires z_ok { Within (2 ^ 39) z }
+    requires n_most { n ≤ℤ pos greatest_denominator }
+    requires x_ok { Within greatest_numerator x }
+    requires y_ok { Within greatest_numerator y }
+    requires z_ok { Within length_width z }
     ensures yes { IsTrue result → ((square_of x +ℤ square_of y) +ℤ square_of z) <ℤ (square_of radius *ℤ square_of n) }
     ensures no { result ≡ false → (square_of radius *ℤ square_of n) ≤ℤ ((square_of x +ℤ square_of y) +ℤ square_of z) }
 {
@@ -104,9 +106,9 @@ fn in_sphere(radius: i32, n: i64, x: i64, y: i64, z: i64) -> bool
 /// Whether the offset is over the cone's wall, which rises by `rise` over each `run`.
 fn is_over_wall(rise: i32, run: i32, x: i64, y: i64, z: i64) -> bool
     requires slope_ok { IsSlope rise run }
-    requires x_ok { Within (2 ^ 38) x }
-    requires y_ok { Within (2 ^ 38) y }
-    requires z_ok { Within (2 ^ 38) z }
+    requires x_ok { Within greatest_numerator x }
+    requires y_ok { Within greatest_numerator y }
+    requires z_ok { Within greatest_numerator z }
     ensures yes { IsTrue result → (square_of rise *ℤ (square_of x +ℤ square_of y)) <ℤ (square_of run *ℤ square_of z) }
     ensures no { result ≡ false → (square_of run *ℤ square_of z) ≤ℤ (square_of rise *ℤ (square_of x +ℤ square_of y)) }
 {
@@ -115,13 +117,13 @@ fn is_over_wall(rise: i32, run: i32, x: i64, y: i64, z: i64) -> bool
 
 /// Whether the offset is over the cone's wall and nearer to the axis than the radius.
 fn in_cone(radius: i32, rise: i32, run: i32, n: i64, x: i64, y: i64, z: i64) -> bool
-    requires radius_ok { HasRadius radius (pos 11024) }
+    requires radius_ok { HasRadius radius MAX_WIDE_RADIUS }
     requires slope_ok { IsSlope rise run }
     requires n_least { pos 1 ≤ℤ n }
-    requires n_most { n ≤ℤ pos (2 ^ 18) }
-    requires x_ok { Within (2 ^ 38) x }
-    requires y_ok { Within (2 ^ 38) y }
-    requires z_ok { Within (2 ^ 38) z }
+    requires n_most { n ≤ℤ pos greatest_denominator }
+    requires x_ok { Within greatest_numerator x }
+    requires y_ok { Within greatest_numerator y }
+    requires z_ok { Within greatest_numerator z }
     ensures yes { IsTrue result → InCone radius rise run n (point_at x y z) }
     ensures no { result ≡ false → ¬ InCone radius rise run n (point_at x y z) }
 {
@@ -158,5 +160,31 @@ mod tests {
         assert!(rt; inside(cone, 1, [0, 2, 2]));
         assert!(rt; !inside(cone, 1, [0, 100, 500]));
         assert!(rt; inside(cone, 1, [0, 99, 500]));
+    }
+
+    // The greatest radius over the greatest denominator is 11024 * 2^20 = 11559501824, which is
+    // 13 * 889192448; 5, 12 and 13 are the sides of a right triangle.
+    #[test]
+    fn greatest_numbers(rt: HostRuntime) {
+        let n = 1 << 20;
+        let most = 1 << 42;
+        let flat = Cutter::Flat { radius: 11024 };
+        assert!(rt; !inside(flat, n, [4445962240, -10670309376, most]));
+        assert!(rt; inside(flat, n, [4445962239, -10670309376, most]));
+        assert!(rt; !inside(flat, n, [-most, -most, most]));
+
+        let ball = Cutter::Ball { radius: 11024 };
+        assert!(rt; !inside(ball, n, [4445962240, 0, 889192448]));
+        assert!(rt; inside(ball, n, [4445962240, 0, 889192449]));
+        assert!(rt; !inside(ball, n, [most, most, -most]));
+
+        let cone = Cutter::Cone {
+            radius: 11024,
+            rise: 100,
+            run: 7,
+        };
+        assert!(rt; !inside(cone, n, [0, -11559501821, 165135740300]));
+        assert!(rt; inside(cone, n, [0, -11559501821, 165135740301]));
+        assert!(rt; !inside(cone, n, [most, -most, most]));
     }
 }

@@ -1,4 +1,4 @@
-ghost use Rattle.mill_base.specs.Ranges.{IsInTextRange};
+ghost use Rattle.mill_base.specs.Ranges.{IsInRange};
 ghost use Rattle.mill_geom.specs.Offsets.{IsCentre};
 
 use super::reaches_cylinder;
@@ -6,7 +6,7 @@ use mill_base::{Pt3, Tri};
 use std::test::Fail;
 
 fn at(x: i16, y: i16, z: i16) -> Pt3
-    ensures corner { IsInTextRange result }
+    ensures corner { IsInRange result }
     ensures centre { IsCentre result }
 {
     Pt3 {

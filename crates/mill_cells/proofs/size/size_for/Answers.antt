@@ -33,7 +33,7 @@ pub returns-clause-fits : goal.returns-clause-fits
 returns-clause-fits c = greatest_fits c.args.tris.now c.requires.in_range
 
 pub returns-clause-least : goal.returns-clause-least
-returns-clause-least c = least_power c.args.tris.now 18 (λ k less. c.loop-doublings.invariant k (omega arith))
+returns-clause-least c = least_power c.args.tris.now 20 (λ k less. c.loop-doublings.invariant k (omega arith))
 
 pub returns-clause-works : goal.returns-clause-works
-returns-clause-works c = λ size le. works_on c.args.tris.now (2 ^ 18) size (omega arith) (greatest_fits c.args.tris.now c.requires.in_range) le
+returns-clause-works c = λ size le. works_on c.args.tris.now (2 ^ 20) size (omega arith) (greatest_fits c.args.tris.now c.requires.in_range) le

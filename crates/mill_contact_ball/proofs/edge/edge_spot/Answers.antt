@@ -1,8 +1,8 @@
-use Rattle.std.proofs.Common.{◌≡◌, ◌^◌, refl, w64, Option, Some, None, IfSome}
+use Rattle.std.proofs.Common.{◌≡◌, Option, Some, None, IfSome}
 use lib.IntN.{ℤ}
 use Rattle.mill_geom.specs.declared.offset.Offset.{Offset}
 use Rattle.mill_geom.specs.Forms.{PairHits}
-use Rattle.mill_base.proofs.Machine.{kept}
+use Rattle.mill_contact_ball.proofs.Stored.{radius_kept, form_kept}
 use Rattle.mill_contact_ball.specs.declared.weights.EdgeWeights.{EdgeWeights}
 use Rattle.mill_contact_ball.specs.Vectors.{form_of}
 use Rattle.mill_contact_ball.specs.Spheres.{IsLow, IsEdgeSpot, EdgeMeets}
@@ -18,18 +18,18 @@ misses r p q a h b ea eh eb n = no_low r p q (rw (ea, eh, eb) at n)
 
 pub returns-clause-found : goal.returns-clause-found
 returns-clause-found c =
-    let r = kept w64 c.args.radius 16384 c.requires.r_ok.within refl in
-    let ka = kept w64 c.form.result (2 ^ 40) c.form.ensures.bound.within refl in
-    let kh = kept w64 c.form-2.result (2 ^ 40) c.form-2.ensures.bound.within refl in
-    let kb = kept w64 c.form-3.result (2 ^ 40) c.form-3.ensures.bound.within refl in
+    let r = radius_kept _ c.requires.r_ok in
+    let ka = form_kept _ c.form.ensures.bound in
+    let kh = form_kept _ c.form-2.ensures.bound in
+    let kb = form_kept _ c.form-3.ensures.bound in
     spots c.args.radius c.args.p c.args.q c.form.result c.form-2.result c.form-3.result c.low_weights.result (rw r at c.form.ensures.value) (rw r at c.form-2.ensures.value) (rw r at c.form-3.ensures.value)
     (rw (ka, kh, kb) at c.low_weights.ensures.found)
 
 pub returns-clause-none : goal.returns-clause-none
 returns-clause-none c = λ h.
-    let r = kept w64 c.args.radius 16384 c.requires.r_ok.within refl in
-    let ka = kept w64 c.form.result (2 ^ 40) c.form.ensures.bound.within refl in
-    let kh = kept w64 c.form-2.result (2 ^ 40) c.form-2.ensures.bound.within refl in
-    let kb = kept w64 c.form-3.result (2 ^ 40) c.form-3.ensures.bound.within refl in
+    let r = radius_kept _ c.requires.r_ok in
+    let ka = form_kept _ c.form.ensures.bound in
+    let kh = form_kept _ c.form-2.ensures.bound in
+    let kb = form_kept _ c.form-3.ensures.bound in
     misses c.args.radius c.args.p c.args.q c.form.result c.form-2.result c.form-3.result (rw r at c.form.ensures.value) (rw r at c.form-2.ensures.value) (rw r at c.form-3.ensures.value)
     (rw (ka, kh, kb) at (c.low_weights.ensures.none h))

@@ -1,16 +1,18 @@
-use Rattle.std.proofs.Common.{ℕ, ◌^◌, List, [], ◌∷◌, refl, w64}
+use Rattle.std.proofs.Common.{ℕ, List, [], ◌∷◌, refl, w64}
 use mir.Syntax.{w128}
 use lib.IntN.{ℤ}
 use Rattle.mill_geom.specs.Offsets.{OffsetInRange}
 use Rattle.mill_geom.specs.declared.offset.Offset.{Offset}
 use Rattle.mill_base.proofs.Range.{Bounded}
 use Rattle.mill_base.proofs.Machine.{X, Read, Cast, Sum, Prod, exact, sum_fits, prod_fits, stays}
+use Rattle.mill_geom.specs.Widths.{farthest}
+use Rattle.mill_contact_ball.specs.Widths.{most_size, most_place}
 use Rattle.mill_contact_ball.specs.declared.weights.Weights.{Weights}
 use Rattle.mill_contact_ball.specs.Spheres.{WeightsInRange}
 use Rattle.mill_contact_ball.proofs.meeting.weighed_x.Goals as goal
 
 abbrev bs : List ℕ
-bs = 2 ^ 84 ∷ 524288 ∷ 2 ^ 84 ∷ 524288 ∷ 2 ^ 84 ∷ 524288 ∷ []
+bs = most_size ∷ farthest ∷ most_size ∷ farthest ∷ most_size ∷ farthest ∷ []
 
 abbrev ρ : Weights → Offset → Offset → Offset → List ℤ
 ρ s a b c = s.u ∷ a.x ∷ s.v ∷ b.x ∷ s.w ∷ c.x ∷ []
@@ -46,4 +48,4 @@ pub returns-clause-value : goal.returns-clause-value
 returns-clause-value c = exact (ρ c.args.s c.args.a c.args.b c.args.c) bs (Sum w128 (Sum w128 first second) third) (in_range _ _ _ _ c.requires.s_ok c.requires.a_ok c.requires.b_ok c.requires.c_ok) refl
 
 pub returns-clause-bound : goal.returns-clause-bound
-returns-clause-bound c = record { within = stays (ρ c.args.s c.args.a c.args.b c.args.c) bs (Sum w128 (Sum w128 first second) third) (2 ^ 105) (in_range _ _ _ _ c.requires.s_ok c.requires.a_ok c.requires.b_ok c.requires.c_ok) refl }
+returns-clause-bound c = record { within = stays (ρ c.args.s c.args.a c.args.b c.args.c) bs (Sum w128 (Sum w128 first second) third) most_place (in_range _ _ _ _ c.requires.s_ok c.requires.a_ok c.requires.b_ok c.requires.c_ok) refl }

@@ -1,6 +1,7 @@
-use Rattle.std.proofs.Common.{ℕ, ◌^◌, List, [], ◌∷◌, refl, w64}
+use Rattle.std.proofs.Common.{ℕ, List, [], ◌∷◌, refl, w64}
 use mir.Syntax.{w128}
 use lib.IntN.{ℤ}
+use Rattle.mill_contact_ball.specs.Widths.{most_normal, most_size}
 use Rattle.mill_contact_ball.specs.declared.vector.Vector.{Vector}
 use Rattle.mill_contact_ball.specs.Vectors.{VectorWithin}
 use Rattle.mill_base.proofs.Range.{Bounded}
@@ -11,12 +12,12 @@ abbrev wide : ℕ → X
 wide i = Cast w128 (Read w64 i)
 
 abbrev bs : List ℕ
-bs = 2 ^ 41 ∷ 2 ^ 41 ∷ 2 ^ 41 ∷ 2 ^ 41 ∷ 2 ^ 41 ∷ 2 ^ 41 ∷ []
+bs = most_normal ∷ most_normal ∷ most_normal ∷ most_normal ∷ most_normal ∷ most_normal ∷ []
 
 abbrev ρ : Vector → Vector → List ℤ
 ρ v w = v.x ∷ w.x ∷ v.y ∷ w.y ∷ v.z ∷ w.z ∷ []
 
-in_range : (v : Vector) (w : Vector) → VectorWithin (2 ^ 41) v → VectorWithin (2 ^ 41) w → Bounded (ρ v w) bs
+in_range : (v : Vector) (w : Vector) → VectorWithin most_normal v → VectorWithin most_normal w → Bounded (ρ v w) bs
 in_range v w hv hw = (hv.x_ok.within, (hw.x_ok.within, (hv.y_ok.within, (hw.y_ok.within, (hv.z_ok.within, (hw.z_ok.within, tt))))))
 
 abbrev xx : X
@@ -38,4 +39,4 @@ pub returns-clause-value : goal.returns-clause-value
 returns-clause-value c = exact (ρ c.args.v c.args.w) bs (Sum w128 (Sum w128 xx yy) zz) (in_range _ _ c.requires.v_ok c.requires.w_ok) refl
 
 pub returns-clause-bound : goal.returns-clause-bound
-returns-clause-bound c = record { within = stays (ρ c.args.v c.args.w) bs (Sum w128 (Sum w128 xx yy) zz) (2 ^ 84) (in_range _ _ c.requires.v_ok c.requires.w_ok) refl }
+returns-clause-bound c = record { within = stays (ρ c.args.v c.args.w) bs (Sum w128 (Sum w128 xx yy) zz) most_size (in_range _ _ c.requires.v_ok c.requires.w_ok) refl }

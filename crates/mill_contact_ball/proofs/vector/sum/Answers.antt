@@ -1,18 +1,20 @@
-use Rattle.std.proofs.Common.{◌≡◌, ◌≤◌, ◌^◌, [], ◌∷◌, refl, w64}
+use Rattle.std.proofs.Common.{◌≡◌, ◌≤◌, [], ◌∷◌, refl, w64}
 use lib.IntN.{ℤ, ◌+ℤ◌, nat_abs}
 use Rattle.mill_base.specs.Numbers.{Within}
 use Rattle.mill_base.proofs.Machine.{X, Read, Sum, run, exact, stays}
+use Rattle.mill_geom.specs.Widths.{most_area}
+use Rattle.mill_contact_ball.specs.Widths.{most_normal}
 use Rattle.mill_contact_ball.proofs.vector.sum.Goals as goal
 
 -- the sum of three small numbers, as the code computes it
 abbrev three : X
 three = Sum w64 (Sum w64 (Read w64 0) (Read w64 1)) (Read w64 2)
 
-value : (a b c : ℤ) → Within (2 ^ 39) a → Within (2 ^ 39) b → Within (2 ^ 39) c → run (a ∷ b ∷ c ∷ []) three ≡ (a +ℤ b) +ℤ c
-value a b c ha hb hc = exact (a ∷ b ∷ c ∷ []) (2 ^ 39 ∷ 2 ^ 39 ∷ 2 ^ 39 ∷ []) three (ha.within, (hb.within, (hc.within, tt))) refl
+value : (a b c : ℤ) → Within most_area a → Within most_area b → Within most_area c → run (a ∷ b ∷ c ∷ []) three ≡ (a +ℤ b) +ℤ c
+value a b c ha hb hc = exact (a ∷ b ∷ c ∷ []) (most_area ∷ most_area ∷ most_area ∷ []) three (ha.within, (hb.within, (hc.within, tt))) refl
 
-small : (a b c : ℤ) → Within (2 ^ 39) a → Within (2 ^ 39) b → Within (2 ^ 39) c → nat_abs (run (a ∷ b ∷ c ∷ []) three) ≤ 2 ^ 41
-small a b c ha hb hc = stays (a ∷ b ∷ c ∷ []) (2 ^ 39 ∷ 2 ^ 39 ∷ 2 ^ 39 ∷ []) three (2 ^ 41) (ha.within, (hb.within, (hc.within, tt))) refl
+small : (a b c : ℤ) → Within most_area a → Within most_area b → Within most_area c → nat_abs (run (a ∷ b ∷ c ∷ []) three) ≤ most_normal
+small a b c ha hb hc = stays (a ∷ b ∷ c ∷ []) (most_area ∷ most_area ∷ most_area ∷ []) three most_normal (ha.within, (hb.within, (hc.within, tt))) refl
 
 pub returns-clause-value : goal.returns-clause-value
 returns-clause-value c =

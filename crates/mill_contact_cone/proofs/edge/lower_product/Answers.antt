@@ -1,11 +1,13 @@
-use Rattle.std.proofs.Common.{ℕ, ◌^◌, List, [], ◌∷◌, refl, w64}
+use Rattle.std.proofs.Common.{ℕ, List, [], ◌∷◌, refl, w64}
 use Rattle.mill_base.proofs.Machine.{Read, Sum, Diff, Prod, exact, stays, sum_fits, diff_fits, prod_fits}
 use Rattle.mill_contact_cone.proofs.Sizes.{rise_within, run_within}
+use Rattle.mill_geom.specs.Widths.{farthest}
+use Rattle.mill_contact_cone.specs.Widths.{steepest, most_cone_form}
 use Rattle.mill_contact_cone.proofs.edge.lower_product.Goals as goal
 
 -- how far each number is from 0
 bounds : List ℕ
-bounds = 524288 ∷ 524288 ∷ 524288 ∷ 524288 ∷ 524288 ∷ 524288 ∷ 100 ∷ 100 ∷ []
+bounds = farthest ∷ farthest ∷ farthest ∷ farthest ∷ farthest ∷ farthest ∷ steepest ∷ steepest ∷ []
 
 pub overflow_mul-across : goal.overflow_mul-across
 unfolding bounds
@@ -49,4 +51,4 @@ returns-clause-value c = exact (c.args.p.x ∷ c.args.q.x ∷ c.args.p.y ∷ c.a
 
 pub returns-clause-bound : goal.returns-clause-bound
 unfolding bounds
-returns-clause-bound c = record { within = stays (c.args.p.x ∷ c.args.q.x ∷ c.args.p.y ∷ c.args.q.y ∷ c.args.p.z ∷ c.args.q.z ∷ c.args.cone.rise ∷ c.args.cone.run ∷ []) bounds (Diff w64 (Prod w64 (Prod w64 (Read w64 6) (Read w64 6)) (Sum w64 (Prod w64 (Read w64 0) (Read w64 1)) (Prod w64 (Read w64 2) (Read w64 3)))) (Prod w64 (Prod w64 (Read w64 7) (Read w64 7)) (Prod w64 (Read w64 4) (Read w64 5)))) (2 ^ 53) (c.requires.p_ok.x_ok.within, (c.requires.q_ok.x_ok.within, (c.requires.p_ok.y_ok.within, (c.requires.q_ok.y_ok.within, (c.requires.p_ok.z_ok.within, (c.requires.q_ok.z_ok.within, (rise_within c.args.cone c.requires.cone_ok, (run_within c.args.cone c.requires.cone_ok, tt)))))))) refl }
+returns-clause-bound c = record { within = stays (c.args.p.x ∷ c.args.q.x ∷ c.args.p.y ∷ c.args.q.y ∷ c.args.p.z ∷ c.args.q.z ∷ c.args.cone.rise ∷ c.args.cone.run ∷ []) bounds (Diff w64 (Prod w64 (Prod w64 (Read w64 6) (Read w64 6)) (Sum w64 (Prod w64 (Read w64 0) (Read w64 1)) (Prod w64 (Read w64 2) (Read w64 3)))) (Prod w64 (Prod w64 (Read w64 7) (Read w64 7)) (Prod w64 (Read w64 4) (Read w64 5)))) most_cone_form (c.requires.p_ok.x_ok.within, (c.requires.q_ok.x_ok.within, (c.requires.p_ok.y_ok.within, (c.requires.q_ok.y_ok.within, (c.requires.p_ok.z_ok.within, (c.requires.q_ok.z_ok.within, (rise_within c.args.cone c.requires.cone_ok, (run_within c.args.cone c.requires.cone_ok, tt)))))))) refl }

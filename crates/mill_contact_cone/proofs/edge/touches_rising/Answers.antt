@@ -1,13 +1,12 @@
-use Rattle.std.proofs.Common.{◌^◌, inr, refl, arith, w64}
+use Rattle.std.proofs.Common.{inr, arith}
 use Rattle.std.proofs.lemmas.Int.{ints}
-use Rattle.mill_base.proofs.Machine.{kept}
 use Rattle.mill_contact_cone.proofs.Zones.{upper_edge, lower_edge, edge_under, edge_low, edge_high, edge_both}
+use Rattle.mill_contact_cone.proofs.Stored.{z_kept, over_kept}
 use Rattle.mill_contact_cone.proofs.edge.touches_rising.Goals as goal
 
 pub returns-then-q-le0-clause-no : goal.returns-then-q-le0-clause-no
 returns-then-q-le0-clause-no c = λ h t.
-    let q_kept = kept w64 c.args.q.z 524288 c.requires.q_ok.z_ok.within refl in
-    let q_down = rw q_kept at c.if-q-le0.true in
+    let q_down = rw (z_kept c.args.q c.requires.q_ok) at c.if-q-le0.true in
     edge_under c.args.cone c.args.p c.args.q c.requires.rising (omega (arith, ints)) t
 
 pub returns-then-q-le0-2-clause-yes : goal.returns-then-q-le0-2-clause-yes
@@ -15,8 +14,7 @@ returns-then-q-le0-2-clause-yes c = λ h. lower_edge c.args.cone c.args.p c.args
 
 pub returns-then-q-le0-2-clause-no : goal.returns-then-q-le0-2-clause-no
 returns-then-q-le0-2-clause-no c = λ h t.
-    let q_kept = kept w64 c.args.q.over (2 ^ 26) c.requires.q_ok.over_ok.within refl in
-    let q_low = rw q_kept at c.if-q-le0-2.true in
+    let q_low = rw (over_kept c.args.q c.requires.q_ok) at c.if-q-le0-2.true in
     edge_low c.args.cone c.args.p c.args.q c.requires.cone_ok c.requires.p_is c.requires.q_is c.requires.rising (omega (arith, ints)) (c.hits_lower.ensures.no h) t
 
 pub returns-then-hits_upper-clause-yes : goal.returns-then-hits_upper-clause-yes
@@ -24,10 +22,8 @@ returns-then-hits_upper-clause-yes c = λ h. upper_edge c.args.cone c.args.p c.a
 
 pub returns-then-p-ge0-clause-no : goal.returns-then-p-ge0-clause-no
 returns-then-p-ge0-clause-no c = λ h t.
-    let p_kept = kept w64 c.args.p.over (2 ^ 26) c.requires.p_ok.over_ok.within refl in
-    let q_kept = kept w64 c.args.q.over (2 ^ 26) c.requires.q_ok.over_ok.within refl in
-    let p_high = rw p_kept at c.if-p-ge0.true in
-    let q_high = rw q_kept at c.if-q-le0-2.false in
+    let p_high = rw (over_kept c.args.p c.requires.p_ok) at c.if-p-ge0.true in
+    let q_high = rw (over_kept c.args.q c.requires.q_ok) at c.if-q-le0-2.false in
     edge_high c.args.cone c.args.p c.args.q (omega (arith, ints)) (omega (arith, ints)) (c.hits_upper.ensures.no c.if-hits_upper.false) t
 
 pub returns-clause-yes : goal.returns-clause-yes
@@ -38,6 +34,5 @@ returns-clause-no c = λ h t. edge_both c.args.cone c.args.p c.args.q (c.hits_up
 
 pub hits_lower-requires-2-clause-under : goal.hits_lower-requires-2-clause-under
 hits_lower-requires-2-clause-under c =
-    let p_kept = kept w64 c.args.p.over (2 ^ 26) c.requires.p_ok.over_ok.within refl in
-    let p_low = rw p_kept at c.if-p-ge0.false in
+    let p_low = rw (over_kept c.args.p c.requires.p_ok) at c.if-p-ge0.false in
     inr (omega (arith, ints))

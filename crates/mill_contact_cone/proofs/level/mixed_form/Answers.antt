@@ -1,11 +1,12 @@
-use Rattle.std.proofs.Common.{ℕ, ◌^◌, List, [], ◌∷◌, refl, w64}
+use Rattle.std.proofs.Common.{ℕ, List, [], ◌∷◌, refl, w64}
 use mir.Syntax.{w128}
 use Rattle.mill_base.proofs.Machine.{Read, Cast, Sum, Diff, Prod, exact, stays, sum_fits, diff_fits, prod_fits}
+use Rattle.mill_contact_cone.specs.Widths.{most_over, most_cone_form, most_cone_mixed_form}
 use Rattle.mill_contact_cone.proofs.level.mixed_form.Goals as goal
 
 -- how far each number is from 0
 bounds : List ℕ
-bounds = 2 ^ 53 ∷ 2 ^ 53 ∷ 2 ^ 53 ∷ 2 ^ 53 ∷ 2 ^ 26 ∷ 2 ^ 26 ∷ 2 ^ 26 ∷ []
+bounds = most_cone_form ∷ most_cone_form ∷ most_cone_form ∷ most_cone_form ∷ most_over ∷ most_over ∷ most_over ∷ []
 
 pub overflow_mul-first : goal.overflow_mul-first
 unfolding bounds
@@ -57,4 +58,4 @@ returns-clause-value c = exact (c.args.pp ∷ c.args.pq ∷ c.args.ps ∷ c.args
 
 pub returns-clause-bound : goal.returns-clause-bound
 unfolding bounds
-returns-clause-bound c = record { within = stays (c.args.pp ∷ c.args.pq ∷ c.args.ps ∷ c.args.qs ∷ c.args.p ∷ c.args.q ∷ c.args.s ∷ []) bounds (Sum w128 (Diff w128 (Diff w128 (Prod w128 (Cast w128 (Prod w64 (Read w64 4) (Read w64 4))) (Cast w128 (Read w64 3))) (Prod w128 (Cast w128 (Prod w64 (Read w64 4) (Read w64 6))) (Cast w128 (Read w64 1)))) (Prod w128 (Cast w128 (Prod w64 (Read w64 4) (Read w64 5))) (Cast w128 (Read w64 2)))) (Prod w128 (Cast w128 (Prod w64 (Read w64 5) (Read w64 6))) (Cast w128 (Read w64 0)))) (2 ^ 108) (c.requires.pp_ok.within, (c.requires.pq_ok.within, (c.requires.ps_ok.within, (c.requires.qs_ok.within, (c.requires.p_ok.within, (c.requires.q_ok.within, (c.requires.s_ok.within, tt))))))) refl }
+returns-clause-bound c = record { within = stays (c.args.pp ∷ c.args.pq ∷ c.args.ps ∷ c.args.qs ∷ c.args.p ∷ c.args.q ∷ c.args.s ∷ []) bounds (Sum w128 (Diff w128 (Diff w128 (Prod w128 (Cast w128 (Prod w64 (Read w64 4) (Read w64 4))) (Cast w128 (Read w64 3))) (Prod w128 (Cast w128 (Prod w64 (Read w64 4) (Read w64 6))) (Cast w128 (Read w64 1)))) (Prod w128 (Cast w128 (Prod w64 (Read w64 4) (Read w64 5))) (Cast w128 (Read w64 2)))) (Prod w128 (Cast w128 (Prod w64 (Read w64 5) (Read w64 6))) (Cast w128 (Read w64 0)))) most_cone_mixed_form (c.requires.pp_ok.within, (c.requires.pq_ok.within, (c.requires.ps_ok.within, (c.requires.qs_ok.within, (c.requires.p_ok.within, (c.requires.q_ok.within, (c.requires.s_ok.within, tt))))))) refl }

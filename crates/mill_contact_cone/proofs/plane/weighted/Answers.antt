@@ -1,11 +1,13 @@
-use Rattle.std.proofs.Common.{ℕ, ◌^◌, List, [], ◌∷◌, refl, w64}
+use Rattle.std.proofs.Common.{ℕ, List, [], ◌∷◌, refl, w64}
 use mir.Syntax.{w128}
 use Rattle.mill_base.proofs.Machine.{Read, Cast, Sum, Prod, exact, stays, sum_fits, prod_fits}
+use Rattle.mill_geom.specs.Widths.{most_area}
+use Rattle.mill_contact_cone.specs.Widths.{most_over, most_lifted_volume}
 use Rattle.mill_contact_cone.proofs.plane.weighted.Goals as goal
 
 -- how far each number is from 0
 bounds : List ℕ
-bounds = 2 ^ 39 ∷ 2 ^ 39 ∷ 2 ^ 39 ∷ 2 ^ 26 ∷ 2 ^ 26 ∷ 2 ^ 26 ∷ []
+bounds = most_area ∷ most_area ∷ most_area ∷ most_over ∷ most_over ∷ most_over ∷ []
 
 pub overflow_mul-result : goal.overflow_mul-result
 unfolding bounds
@@ -33,4 +35,4 @@ returns-clause-value c = exact (c.args.i ∷ c.args.j ∷ c.args.k ∷ c.args.x 
 
 pub returns-clause-bound : goal.returns-clause-bound
 unfolding bounds
-returns-clause-bound c = record { within = stays (c.args.i ∷ c.args.j ∷ c.args.k ∷ c.args.x ∷ c.args.y ∷ c.args.z ∷ []) bounds (Sum w128 (Sum w128 (Prod w128 (Cast w128 (Read w64 0)) (Cast w128 (Read w64 3))) (Prod w128 (Cast w128 (Read w64 1)) (Cast w128 (Read w64 4)))) (Prod w128 (Cast w128 (Read w64 2)) (Cast w128 (Read w64 5)))) (2 ^ 67) (c.requires.i_ok.within, (c.requires.j_ok.within, (c.requires.k_ok.within, (c.requires.x_ok.within, (c.requires.y_ok.within, (c.requires.z_ok.within, tt)))))) refl }
+returns-clause-bound c = record { within = stays (c.args.i ∷ c.args.j ∷ c.args.k ∷ c.args.x ∷ c.args.y ∷ c.args.z ∷ []) bounds (Sum w128 (Sum w128 (Prod w128 (Cast w128 (Read w64 0)) (Cast w128 (Read w64 3))) (Prod w128 (Cast w128 (Read w64 1)) (Cast w128 (Read w64 4)))) (Prod w128 (Cast w128 (Read w64 2)) (Cast w128 (Read w64 5)))) most_lifted_volume (c.requires.i_ok.within, (c.requires.j_ok.within, (c.requires.k_ok.within, (c.requires.x_ok.within, (c.requires.y_ok.within, (c.requires.z_ok.within, tt)))))) refl }

@@ -1,11 +1,12 @@
-use Rattle.std.proofs.Common.{ℕ, ◌^◌, List, [], ◌∷◌, refl, w64}
+use Rattle.std.proofs.Common.{ℕ, List, [], ◌∷◌, refl, w64}
 use mir.Syntax.{w128}
 use Rattle.mill_base.proofs.Machine.{Read, Cast, Sum, Prod, exact, stays, sum_fits, prod_fits}
+use Rattle.mill_contact_cone.specs.Widths.{most_over, most_cone_form, most_cone_mixed_form}
 use Rattle.mill_contact_cone.proofs.quadratic.polar.Goals as goal
 
 -- how far each number is from 0
 bounds : List ℕ
-bounds = 2 ^ 26 ∷ 2 ^ 26 ∷ 2 ^ 26 ∷ 2 ^ 26 ∷ 2 ^ 53 ∷ 2 ^ 53 ∷ 2 ^ 53 ∷ []
+bounds = most_over ∷ most_over ∷ most_over ∷ most_over ∷ most_cone_form ∷ most_cone_form ∷ most_cone_form ∷ []
 
 pub overflow_mul-first : goal.overflow_mul-first
 unfolding bounds
@@ -53,4 +54,4 @@ returns-clause-value c = exact (c.args.p.u ∷ c.args.p.v ∷ c.args.q.u ∷ c.a
 
 pub returns-clause-bound : goal.returns-clause-bound
 unfolding bounds
-returns-clause-bound c = record { within = stays (c.args.p.u ∷ c.args.p.v ∷ c.args.q.u ∷ c.args.q.v ∷ c.args.form.a ∷ c.args.form.h ∷ c.args.form.b ∷ []) bounds (Sum w128 (Sum w128 (Prod w128 (Cast w128 (Prod w64 (Read w64 0) (Read w64 2))) (Cast w128 (Read w64 4))) (Prod w128 (Cast w128 (Sum w64 (Prod w64 (Read w64 0) (Read w64 3)) (Prod w64 (Read w64 1) (Read w64 2)))) (Cast w128 (Read w64 5)))) (Prod w128 (Cast w128 (Prod w64 (Read w64 1) (Read w64 3))) (Cast w128 (Read w64 6)))) (2 ^ 108) (c.requires.p_ok.u_ok.within, (c.requires.p_ok.v_ok.within, (c.requires.q_ok.u_ok.within, (c.requires.q_ok.v_ok.within, (c.requires.form_ok.a_ok.within, (c.requires.form_ok.h_ok.within, (c.requires.form_ok.b_ok.within, tt))))))) refl }
+returns-clause-bound c = record { within = stays (c.args.p.u ∷ c.args.p.v ∷ c.args.q.u ∷ c.args.q.v ∷ c.args.form.a ∷ c.args.form.h ∷ c.args.form.b ∷ []) bounds (Sum w128 (Sum w128 (Prod w128 (Cast w128 (Prod w64 (Read w64 0) (Read w64 2))) (Cast w128 (Read w64 4))) (Prod w128 (Cast w128 (Sum w64 (Prod w64 (Read w64 0) (Read w64 3)) (Prod w64 (Read w64 1) (Read w64 2)))) (Cast w128 (Read w64 5)))) (Prod w128 (Cast w128 (Prod w64 (Read w64 1) (Read w64 3))) (Cast w128 (Read w64 6)))) most_cone_mixed_form (c.requires.p_ok.u_ok.within, (c.requires.p_ok.v_ok.within, (c.requires.q_ok.u_ok.within, (c.requires.q_ok.v_ok.within, (c.requires.form_ok.a_ok.within, (c.requires.form_ok.h_ok.within, (c.requires.form_ok.b_ok.within, tt))))))) refl }

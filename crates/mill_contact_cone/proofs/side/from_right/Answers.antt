@@ -1,11 +1,13 @@
-use Rattle.std.proofs.Common.{ℕ, ◌^◌, List, [], ◌∷◌, refl, w64}
+use Rattle.std.proofs.Common.{ℕ, List, [], ◌∷◌, refl, w64}
 use Rattle.mill_base.proofs.Machine.{Read, Diff, exact, stays, diff_fits}
 use Rattle.mill_contact_cone.proofs.Sizes.{radius_within}
+use Rattle.mill_geom.specs.Widths.{farthest, widest}
+use Rattle.mill_contact_cone.specs.Widths.{most_bound}
 use Rattle.mill_contact_cone.proofs.side.from_right.Goals as goal
 
 -- how far each number is from 0
 bounds : List ℕ
-bounds = 524288 ∷ 11024 ∷ []
+bounds = farthest ∷ widest ∷ []
 
 pub overflow_sub-result : goal.overflow_sub-result
 unfolding bounds
@@ -17,4 +19,4 @@ returns-clause-value c = exact (c.args.p.y ∷ c.args.cone.radius ∷ []) bounds
 
 pub returns-clause-bound : goal.returns-clause-bound
 unfolding bounds
-returns-clause-bound c = record { within = stays (c.args.p.y ∷ c.args.cone.radius ∷ []) bounds (Diff w64 (Read w64 1) (Read w64 0)) (2 ^ 27) (c.requires.p_ok.y_ok.within, (radius_within c.args.cone c.requires.cone_ok, tt)) refl }
+returns-clause-bound c = record { within = stays (c.args.p.y ∷ c.args.cone.radius ∷ []) bounds (Diff w64 (Read w64 1) (Read w64 0)) most_bound (c.requires.p_ok.y_ok.within, (radius_within c.args.cone c.requires.cone_ok, tt)) refl }

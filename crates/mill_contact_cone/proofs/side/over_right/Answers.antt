@@ -1,11 +1,13 @@
-use Rattle.std.proofs.Common.{ℕ, ◌^◌, List, [], ◌∷◌, refl, w64}
+use Rattle.std.proofs.Common.{ℕ, List, [], ◌∷◌, refl, w64}
 use Rattle.mill_base.proofs.Machine.{Read, Diff, Prod, exact, stays, diff_fits, prod_fits}
 use Rattle.mill_contact_cone.proofs.Sizes.{rise_within, run_within}
+use Rattle.mill_geom.specs.Widths.{farthest}
+use Rattle.mill_contact_cone.specs.Widths.{steepest, most_bound}
 use Rattle.mill_contact_cone.proofs.side.over_right.Goals as goal
 
 -- how far each number is from 0
 bounds : List ℕ
-bounds = 524288 ∷ 524288 ∷ 100 ∷ 100 ∷ []
+bounds = farthest ∷ farthest ∷ steepest ∷ steepest ∷ []
 
 pub overflow_mul-result : goal.overflow_mul-result
 unfolding bounds
@@ -25,4 +27,4 @@ returns-clause-value c = exact (c.args.p.z ∷ c.args.p.y ∷ c.args.cone.rise �
 
 pub returns-clause-bound : goal.returns-clause-bound
 unfolding bounds
-returns-clause-bound c = record { within = stays (c.args.p.z ∷ c.args.p.y ∷ c.args.cone.rise ∷ c.args.cone.run ∷ []) bounds (Diff w64 (Prod w64 (Read w64 3) (Read w64 0)) (Prod w64 (Read w64 2) (Read w64 1))) (2 ^ 27) (c.requires.p_ok.z_ok.within, (c.requires.p_ok.y_ok.within, (rise_within c.args.cone c.requires.cone_ok, (run_within c.args.cone c.requires.cone_ok, tt)))) refl }
+returns-clause-bound c = record { within = stays (c.args.p.z ∷ c.args.p.y ∷ c.args.cone.rise ∷ c.args.cone.run ∷ []) bounds (Diff w64 (Prod w64 (Read w64 3) (Read w64 0)) (Prod w64 (Read w64 2) (Read w64 1))) most_bound (c.requires.p_ok.z_ok.within, (c.requires.p_ok.y_ok.within, (rise_within c.args.cone c.requires.cone_ok, (run_within c.args.cone c.requires.cone_ok, tt)))) refl }

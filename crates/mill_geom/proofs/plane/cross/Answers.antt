@@ -1,10 +1,11 @@
-use Rattle.std.proofs.Common.{ℕ, ◌^◌, List, [], ◌∷◌, refl, w64}
+use Rattle.std.proofs.Common.{ℕ, List, [], ◌∷◌, refl, w64}
 use Rattle.mill_base.proofs.Machine.{Read, Diff, Prod, exact, stays, diff_fits, prod_fits}
+use Rattle.mill_geom.specs.Widths.{most_area, farthest}
 use Rattle.mill_geom.proofs.plane.cross.Goals as goal
 
 -- how far each number is from 0
 bounds : List ℕ
-bounds = 524288 ∷ 524288 ∷ 524288 ∷ 524288 ∷ []
+bounds = farthest ∷ farthest ∷ farthest ∷ farthest ∷ []
 
 pub overflow_mul-result : goal.overflow_mul-result
 unfolding bounds
@@ -24,4 +25,4 @@ returns-clause-value c = exact (c.args.p.x ∷ c.args.p.y ∷ c.args.q.x ∷ c.a
 
 pub returns-clause-bound : goal.returns-clause-bound
 unfolding bounds
-returns-clause-bound c = record { within = stays (c.args.p.x ∷ c.args.p.y ∷ c.args.q.x ∷ c.args.q.y ∷ []) bounds (Diff w64 (Prod w64 (Read w64 0) (Read w64 3)) (Prod w64 (Read w64 1) (Read w64 2))) (2 ^ 39) (c.requires.p_ok.x_ok.within, (c.requires.p_ok.y_ok.within, (c.requires.q_ok.x_ok.within, (c.requires.q_ok.y_ok.within, tt)))) refl }
+returns-clause-bound c = record { within = stays (c.args.p.x ∷ c.args.p.y ∷ c.args.q.x ∷ c.args.q.y ∷ []) bounds (Diff w64 (Prod w64 (Read w64 0) (Read w64 3)) (Prod w64 (Read w64 1) (Read w64 2))) most_area (c.requires.p_ok.x_ok.within, (c.requires.p_ok.y_ok.within, (c.requires.q_ok.x_ok.within, (c.requires.q_ok.y_ok.within, tt)))) refl }

@@ -1,12 +1,13 @@
-use Rattle.std.proofs.Common.{ℕ, ◌^◌, List, [], ◌∷◌, refl, w64}
+use Rattle.std.proofs.Common.{ℕ, List, [], ◌∷◌, refl, w64}
 use mir.Syntax.{w128}
 use Rattle.mill_base.proofs.Machine.{Read, Cast, Sum, Prod, sum_fits, prod_fits, less}
+use Rattle.mill_geom.specs.Widths.{most_slope, most_volume, widest}
 use Rattle.mill_geom.proofs.Signs.{near_as}
 use Rattle.mill_geom.proofs.plane.is_line_near.Goals as goal
 
 -- how far each number is from 0
 bounds : List ℕ
-bounds = 2 ^ 60 ∷ 2 ^ 41 ∷ 2 ^ 41 ∷ 16384 ∷ []
+bounds = most_volume ∷ most_slope ∷ most_slope ∷ widest ∷ []
 
 pub overflow_mul-result : goal.overflow_mul-result
 unfolding bounds

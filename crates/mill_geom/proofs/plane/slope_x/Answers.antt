@@ -1,10 +1,11 @@
-use Rattle.std.proofs.Common.{ℕ, ◌^◌, List, [], ◌∷◌, refl, w64}
+use Rattle.std.proofs.Common.{ℕ, List, [], ◌∷◌, refl, w64}
 use Rattle.mill_base.proofs.Machine.{Read, Sum, Diff, Prod, exact, stays, sum_fits, diff_fits, prod_fits}
+use Rattle.mill_geom.specs.Widths.{most_slope, farthest}
 use Rattle.mill_geom.proofs.plane.slope_x.Goals as goal
 
 -- how far each number is from 0
 bounds : List ℕ
-bounds = 524288 ∷ 524288 ∷ 524288 ∷ 524288 ∷ 524288 ∷ 524288 ∷ 524288 ∷ 524288 ∷ 524288 ∷ []
+bounds = farthest ∷ farthest ∷ farthest ∷ farthest ∷ farthest ∷ farthest ∷ farthest ∷ farthest ∷ farthest ∷ []
 
 pub overflow_sub-result : goal.overflow_sub-result
 unfolding bounds
@@ -44,4 +45,4 @@ returns-clause-value c = exact (c.args.a.x ∷ c.args.a.y ∷ c.args.a.z ∷ c.a
 
 pub returns-clause-bound : goal.returns-clause-bound
 unfolding bounds
-returns-clause-bound c = record { within = stays (c.args.a.x ∷ c.args.a.y ∷ c.args.a.z ∷ c.args.b.x ∷ c.args.b.y ∷ c.args.b.z ∷ c.args.c.x ∷ c.args.c.y ∷ c.args.c.z ∷ []) bounds (Sum w64 (Sum w64 (Prod w64 (Read w64 2) (Diff w64 (Read w64 6) (Read w64 3))) (Prod w64 (Read w64 5) (Diff w64 (Read w64 0) (Read w64 6)))) (Prod w64 (Read w64 8) (Diff w64 (Read w64 3) (Read w64 0)))) (2 ^ 41) (c.requires.a_ok.x_ok.within, (c.requires.a_ok.y_ok.within, (c.requires.a_ok.z_ok.within, (c.requires.b_ok.x_ok.within, (c.requires.b_ok.y_ok.within, (c.requires.b_ok.z_ok.within, (c.requires.c_ok.x_ok.within, (c.requires.c_ok.y_ok.within, (c.requires.c_ok.z_ok.within, tt))))))))) refl }
+returns-clause-bound c = record { within = stays (c.args.a.x ∷ c.args.a.y ∷ c.args.a.z ∷ c.args.b.x ∷ c.args.b.y ∷ c.args.b.z ∷ c.args.c.x ∷ c.args.c.y ∷ c.args.c.z ∷ []) bounds (Sum w64 (Sum w64 (Prod w64 (Read w64 2) (Diff w64 (Read w64 6) (Read w64 3))) (Prod w64 (Read w64 5) (Diff w64 (Read w64 0) (Read w64 6)))) (Prod w64 (Read w64 8) (Diff w64 (Read w64 3) (Read w64 0)))) most_slope (c.requires.a_ok.x_ok.within, (c.requires.a_ok.y_ok.within, (c.requires.a_ok.z_ok.within, (c.requires.b_ok.x_ok.within, (c.requires.b_ok.y_ok.within, (c.requires.b_ok.z_ok.within, (c.requires.c_ok.x_ok.within, (c.requires.c_ok.y_ok.within, (c.requires.c_ok.z_ok.within, tt))))))))) refl }

@@ -1,7 +1,8 @@
-use Rattle.std.proofs.Common.{ℕ, ◌^◌, List, [], ◌∷◌, refl, w64}
+use Rattle.std.proofs.Common.{ℕ, List, [], ◌∷◌, refl, w64}
 use mir.Syntax.{w128}
 use lib.IntN.{ℤ}
 use Rattle.mill_base.specs.Numbers.{Within}
+use Rattle.mill_geom.specs.Widths.{most_form, farthest, widest}
 use Rattle.mill_geom.specs.Offsets.{OffsetInRange}
 use Rattle.mill_geom.specs.declared.offset.Offset.{Offset}
 use Rattle.mill_base.proofs.Range.{Bounded}
@@ -12,12 +13,12 @@ abbrev wide : ℕ → X
 wide i = Cast w128 (Read w64 i)
 
 abbrev bs : List ℕ
-bs = 524288 ∷ 524288 ∷ 524288 ∷ 524288 ∷ 16384 ∷ []
+bs = farthest ∷ farthest ∷ farthest ∷ farthest ∷ widest ∷ []
 
 abbrev ρ : Offset → Offset → ℤ → List ℤ
 ρ p q r = p.x ∷ q.x ∷ p.y ∷ q.y ∷ r ∷ []
 
-in_range : (p q : Offset) (r : ℤ) → OffsetInRange p → OffsetInRange q → Within 16384 r → Bounded (ρ p q r) bs
+in_range : (p q : Offset) (r : ℤ) → OffsetInRange p → OffsetInRange q → Within widest r → Bounded (ρ p q r) bs
 in_range p q r hp hq hr = (hp.x_ok.within, (hq.x_ok.within, (hp.y_ok.within, (hq.y_ok.within, (hr.within, tt)))))
 
 abbrev xx : X
@@ -39,4 +40,4 @@ pub returns-clause-value : goal.returns-clause-value
 returns-clause-value c = exact (ρ c.args.p c.args.q c.args.radius) bs (Diff w128 (Sum w128 xx yy) rr) (in_range _ _ _ c.requires.p_ok c.requires.q_ok c.requires.r_ok) refl
 
 pub returns-clause-bound : goal.returns-clause-bound
-returns-clause-bound c = record { within = stays (ρ c.args.p c.args.q c.args.radius) bs (Diff w128 (Sum w128 xx yy) rr) (2 ^ 40) (in_range _ _ _ c.requires.p_ok c.requires.q_ok c.requires.r_ok) refl }
+returns-clause-bound c = record { within = stays (ρ c.args.p c.args.q c.args.radius) bs (Diff w128 (Sum w128 xx yy) rr) most_form (in_range _ _ _ c.requires.p_ok c.requires.q_ok c.requires.r_ok) refl }

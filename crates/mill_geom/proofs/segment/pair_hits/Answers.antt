@@ -1,8 +1,9 @@
-use Rattle.std.proofs.Common.{◌^◌, ◌↔◌, inl, inr, [], ◌∷◌, refl, arith}
+use Rattle.std.proofs.Common.{◌↔◌, inl, inr, [], ◌∷◌, refl, arith}
 use mir.Syntax.{w128}
 use lib.IntN.{ℤ, pos, ◌*ℤ◌}
 use lib.Signed.{◌<ℤ◌, ◌≤ℤ◌}
 use Rattle.std.proofs.lemmas.Int.{ints}
+use Rattle.mill_geom.specs.Widths.{most_form}
 use Rattle.mill_geom.specs.Forms.{PairHits}
 use Rattle.mill_base.proofs.Machine.{Read, Prod, less}
 use Rattle.mill_geom.proofs.segment.pair_hits.Goals as goal
@@ -14,5 +15,5 @@ third a h b na nb hh t =
 
 pub returns : goal.returns
 returns c =
-    let k = less (c.args.a ∷ c.args.h ∷ c.args.b ∷ []) (2 ^ 62 ∷ 2 ^ 62 ∷ 2 ^ 62 ∷ []) (Prod w128 (Read w128 0) (Read w128 2)) (Prod w128 (Read w128 1) (Read w128 1)) (c.requires.a_ok.within, (c.requires.h_ok.within, (c.requires.b_ok.within, tt))) refl in
+    let k = less (c.args.a ∷ c.args.h ∷ c.args.b ∷ []) (most_form ∷ most_form ∷ most_form ∷ []) (Prod w128 (Read w128 0) (Read w128 2)) (Prod w128 (Read w128 1) (Read w128 1)) (c.requires.a_ok.within, (c.requires.h_ok.within, (c.requires.b_ok.within, tt))) refl in
     third c.args.a c.args.h c.args.b (omega (arith, ints)) (omega (arith, ints)) (omega (arith, ints)) k

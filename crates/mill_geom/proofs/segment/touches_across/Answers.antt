@@ -1,7 +1,8 @@
-use Rattle.std.proofs.Common.{◌^◌, [], ◌∷◌, refl, w64}
+use Rattle.std.proofs.Common.{[], ◌∷◌, refl, w64}
 use mir.Syntax.{w128}
 use lib.IntN.{ℤ, pos}
 use Rattle.mill_base.proofs.Machine.{Read, Prod, prod_fits}
+use Rattle.mill_geom.specs.Widths.{most_form, farthest, widest}
 use Rattle.mill_geom.specs.Forms.{form_of, cut_mid_of, cut_end_of}
 use Rattle.mill_geom.specs.Contacts.{TouchesSegment}
 use Rattle.mill_geom.proofs.segment.touches_across.Goals as goal
@@ -38,30 +39,30 @@ last_test a h b e m na ne lm = (λ x. inr (inr (lm, x)), λ x. elim x [ inl y �
 
 pub returns-then-a-lt0 : goal.returns-then-a-lt0
 returns-then-a-lt0 c =
-    let kr = kept w64 c.args.radius 16384 c.requires.r_ok.within refl in
+    let kr = kept w64 c.args.radius widest c.requires.r_ok.within refl in
     let ea = rw kr at c.form-a.ensures.value in
     (λ _. first_alone c.args.radius c.args.p c.args.q c.form-a.result c.requires.up c.requires.down ea (omega (arith, ints)), λ _. refl)
 
 pub returns-then-cut_end-lt0 : goal.returns-then-cut_end-lt0
 returns-then-cut_end-lt0 c =
-    let kr = kept w64 c.args.radius 16384 c.requires.r_ok.within refl in
-    let ka = kept w128 c.form-a.result (2 ^ 40) c.form-a.ensures.bound.within refl in
-    let kh = kept w128 c.form-h.result (2 ^ 40) c.form-h.ensures.bound.within refl in
-    let kb = kept w128 c.form-b.result (2 ^ 40) c.form-b.ensures.bound.within refl in
-    let kz = kept w64 c.args.p.z 524288 c.requires.p_ok.z_ok.within refl in
-    let kw = kept w64 c.args.q.z 524288 c.requires.q_ok.z_ok.within refl in
+    let kr = kept w64 c.args.radius widest c.requires.r_ok.within refl in
+    let ka = kept w128 c.form-a.result most_form c.form-a.ensures.bound.within refl in
+    let kh = kept w128 c.form-h.result most_form c.form-h.ensures.bound.within refl in
+    let kb = kept w128 c.form-b.result most_form c.form-b.ensures.bound.within refl in
+    let kz = kept w64 c.args.p.z farthest c.requires.p_ok.z_ok.within refl in
+    let kw = kept w64 c.args.q.z farthest c.requires.q_ok.z_ok.within refl in
     let ee = rw (ka, kh, kb, kz, kw) at c.cut_end.ensures in
     let t = tests_are c.args.radius c.args.p c.args.q _ _ _ c.cut_end.result _ c.requires.up c.requires.down (rw kr at c.form-a.ensures.value) (rw kr at c.form-h.ensures.value) (rw kr at c.form-b.ensures.value) ee refl in
     (λ _. t.0 (inr (inl (omega (arith, ints)))), λ _. refl)
 
 pub returns-then-cut_mid-ge0 : goal.returns-then-cut_mid-ge0
 returns-then-cut_mid-ge0 c =
-    let kr = kept w64 c.args.radius 16384 c.requires.r_ok.within refl in
-    let ka = kept w128 c.form-a.result (2 ^ 40) c.form-a.ensures.bound.within refl in
-    let kh = kept w128 c.form-h.result (2 ^ 40) c.form-h.ensures.bound.within refl in
-    let kb = kept w128 c.form-b.result (2 ^ 40) c.form-b.ensures.bound.within refl in
-    let kz = kept w64 c.args.p.z 524288 c.requires.p_ok.z_ok.within refl in
-    let kw = kept w64 c.args.q.z 524288 c.requires.q_ok.z_ok.within refl in
+    let kr = kept w64 c.args.radius widest c.requires.r_ok.within refl in
+    let ka = kept w128 c.form-a.result most_form c.form-a.ensures.bound.within refl in
+    let kh = kept w128 c.form-h.result most_form c.form-h.ensures.bound.within refl in
+    let kb = kept w128 c.form-b.result most_form c.form-b.ensures.bound.within refl in
+    let kz = kept w64 c.args.p.z farthest c.requires.p_ok.z_ok.within refl in
+    let kw = kept w64 c.args.q.z farthest c.requires.q_ok.z_ok.within refl in
     let ee = rw (ka, kh, kb, kz, kw) at c.cut_end.ensures in
     let em = rw (ka, kh, kz, kw) at c.cut_mid.ensures in
     let t = tests_are c.args.radius c.args.p c.args.q _ _ _ c.cut_end.result c.cut_mid.result c.requires.up c.requires.down (rw kr at c.form-a.ensures.value) (rw kr at c.form-h.ensures.value) (rw kr at c.form-b.ensures.value) ee em in
@@ -69,23 +70,23 @@ returns-then-cut_mid-ge0 c =
 
 -- src/lib.rt:89:5
 pub overflow_mul-result : goal.overflow_mul-result
-overflow_mul-result c = prod_fits w128 (c.form-a.result ∷ c.form-h.result ∷ c.form-b.result ∷ []) ((2 ^ 40) ∷ (2 ^ 40) ∷ (2 ^ 40) ∷ []) (Read w128 0) (Read w128 2) (c.form-a.ensures.bound.within, (c.form-h.ensures.bound.within, (c.form-b.ensures.bound.within, tt))) refl
+overflow_mul-result c = prod_fits w128 (c.form-a.result ∷ c.form-h.result ∷ c.form-b.result ∷ []) (most_form ∷ most_form ∷ most_form ∷ []) (Read w128 0) (Read w128 2) (c.form-a.ensures.bound.within, (c.form-h.ensures.bound.within, (c.form-b.ensures.bound.within, tt))) refl
 
 -- src/lib.rt:89:13
 pub overflow_mul-result-2 : goal.overflow_mul-result-2
-overflow_mul-result-2 c = prod_fits w128 (c.form-a.result ∷ c.form-h.result ∷ c.form-b.result ∷ []) ((2 ^ 40) ∷ (2 ^ 40) ∷ (2 ^ 40) ∷ []) (Read w128 1) (Read w128 1) (c.form-a.ensures.bound.within, (c.form-h.ensures.bound.within, (c.form-b.ensures.bound.within, tt))) refl
+overflow_mul-result-2 c = prod_fits w128 (c.form-a.result ∷ c.form-h.result ∷ c.form-b.result ∷ []) (most_form ∷ most_form ∷ most_form ∷ []) (Read w128 1) (Read w128 1) (c.form-a.ensures.bound.within, (c.form-h.ensures.bound.within, (c.form-b.ensures.bound.within, tt))) refl
 
 pub returns : goal.returns
 returns c =
-    let kr = kept w64 c.args.radius 16384 c.requires.r_ok.within refl in
-    let ka = kept w128 c.form-a.result (2 ^ 40) c.form-a.ensures.bound.within refl in
-    let kh = kept w128 c.form-h.result (2 ^ 40) c.form-h.ensures.bound.within refl in
-    let kb = kept w128 c.form-b.result (2 ^ 40) c.form-b.ensures.bound.within refl in
-    let kz = kept w64 c.args.p.z 524288 c.requires.p_ok.z_ok.within refl in
-    let kw = kept w64 c.args.q.z 524288 c.requires.q_ok.z_ok.within refl in
+    let kr = kept w64 c.args.radius widest c.requires.r_ok.within refl in
+    let ka = kept w128 c.form-a.result most_form c.form-a.ensures.bound.within refl in
+    let kh = kept w128 c.form-h.result most_form c.form-h.ensures.bound.within refl in
+    let kb = kept w128 c.form-b.result most_form c.form-b.ensures.bound.within refl in
+    let kz = kept w64 c.args.p.z farthest c.requires.p_ok.z_ok.within refl in
+    let kw = kept w64 c.args.q.z farthest c.requires.q_ok.z_ok.within refl in
     let ee = rw (ka, kh, kb, kz, kw) at c.cut_end.ensures in
     let em = rw (ka, kh, kz, kw) at c.cut_mid.ensures in
     let t = tests_are c.args.radius c.args.p c.args.q _ _ _ c.cut_end.result c.cut_mid.result c.requires.up c.requires.down (rw kr at c.form-a.ensures.value) (rw kr at c.form-h.ensures.value) (rw kr at c.form-b.ensures.value) ee em in
-    let k = less (c.form-a.result ∷ c.form-h.result ∷ c.form-b.result ∷ []) ((2 ^ 40) ∷ (2 ^ 40) ∷ (2 ^ 40) ∷ []) (Prod w128 (Read w128 0) (Read w128 2)) (Prod w128 (Read w128 1) (Read w128 1)) (c.form-a.ensures.bound.within, (c.form-h.ensures.bound.within, (c.form-b.ensures.bound.within, tt))) refl in
+    let k = less (c.form-a.result ∷ c.form-h.result ∷ c.form-b.result ∷ []) (most_form ∷ most_form ∷ most_form ∷ []) (Prod w128 (Read w128 0) (Read w128 2)) (Prod w128 (Read w128 1) (Read w128 1)) (c.form-a.ensures.bound.within, (c.form-h.ensures.bound.within, (c.form-b.ensures.bound.within, tt))) refl in
     let l = last_test c.form-a.result c.form-h.result c.form-b.result c.cut_end.result c.cut_mid.result (omega (arith, ints)) (omega (arith, ints)) (omega (arith, ints)) in
     (λ x. t.0 (l.0 (k.0 x)), λ x. k.1 (l.1 (t.1 x)))

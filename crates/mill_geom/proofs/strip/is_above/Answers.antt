@@ -1,13 +1,14 @@
-use Rattle.std.proofs.Common.{ℕ, ◌^◌, List, [], ◌∷◌, ◌∙◌, sym, inl, inr, refl, w64}
+use Rattle.std.proofs.Common.{ℕ, List, [], ◌∷◌, ◌∙◌, sym, inl, inr, refl, w64}
 use lib.IntN.{pos, ◌-ℤ◌, ◌*ℤ◌}
 use Rattle.std.proofs.lemmas.Bool.{false≢true}
 use Rattle.mill_base.proofs.Exit.{split_lt}
 use Rattle.mill_base.proofs.Machine.{Read, Lit, Diff, Prod, less}
+use Rattle.mill_geom.specs.Widths.{most_area, most_fall, widest}
 use Rattle.mill_geom.proofs.strip.is_above.Goals as goal
 
 -- how far each number is from 0
 bounds : List ℕ
-bounds = 2 ^ 39 ∷ 16384 ∷ 2 ^ 20 ∷ []
+bounds = most_area ∷ widest ∷ most_fall ∷ []
 
 pub returns-clause-yes : goal.returns-clause-yes
 unfolding bounds

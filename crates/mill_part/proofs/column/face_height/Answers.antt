@@ -7,9 +7,9 @@ use Rattle.mill_part.proofs.column.face_height.Goals as goal
 
 pub returns : goal.returns
 returns c =
-    let u = kept w64 c.args.u (2 ^ 37) c.requires.u_ok.within refl in
-    let v = kept w64 c.args.v (2 ^ 37) c.requires.v_ok.within refl in
-    let w = kept w64 c.args.w (2 ^ 37) c.requires.w_ok.within refl in
+    let u = kept w64 c.args.u (2 ^ 41) c.requires.u_ok.within refl in
+    let v = kept w64 c.args.v (2 ^ 41) c.requires.v_ok.within refl in
+    let w = kept w64 c.args.w (2 ^ 41) c.requires.w_ok.within refl in
     let uo = rw u at c.if-u-lt0.false in
     let vo = rw v at c.if-v-lt0.false in
     let wo = rw w at c.if-w-lt0.false in

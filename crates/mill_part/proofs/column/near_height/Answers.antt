@@ -7,7 +7,7 @@ use Rattle.mill_part.proofs.FaceLemmas.{face_greatest, face_of, opposite_face_of
 use Rattle.mill_part.proofs.column.near_height.Goals as goal
 
 pub overflow_add-total-2 : goal.overflow_add-total-2
-overflow_add-total-2 c = sum3_fits (2 ^ 37) c.turn-u.result c.turn-v.result c.turn-w.result c.turn-u.ensures.bound c.turn-v.ensures.bound c.turn-w.ensures.bound refl
+overflow_add-total-2 c = sum3_fits (2 ^ 41) c.turn-u.result c.turn-v.result c.turn-w.result c.turn-u.ensures.bound c.turn-v.ensures.bound c.turn-w.ensures.bound refl
 
 pub face_height-requires-clause-some : goal.face_height-requires-clause-some
 face_height-requires-clause-some c =

@@ -12,4 +12,4 @@ returns c =
     let quotient : c.div_euclid.result ≡ int_div_euclid c.args.n c.args.d = rw (to_z-of_z w64 c.args.n c.ranges.n, to_z-of_z w64 c.args.d c.ranges.d) at c.div_euclid.ensures in
     let floor = subst (IsFloor c.args.n c.args.d) (sym quotient) (floor_is c.args.n c.args.d c.requires.some) in
     let small = floor_in_range c.args.n c.args.d c.div_euclid.result c.requires.some c.requires.least c.requires.most floor in
-    rw (kept w64 c.div_euclid.result 131071 small refl, kept w32 c.div_euclid.result 131071 small refl) floor
+    rw (kept w64 c.div_euclid.result 524287 small refl, kept w32 c.div_euclid.result 524287 small refl) floor

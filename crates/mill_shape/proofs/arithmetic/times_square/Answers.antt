@@ -1,12 +1,13 @@
-use Rattle.std.proofs.Common.{◌∙◌, ◌^◌, ℕ, List, [], ◌∷◌, refl}
+use Rattle.std.proofs.Common.{◌∙◌, ℕ, List, [], ◌∷◌, refl}
 use mir.Syntax.{w128}
 use Rattle.mill_base.proofs.Machine.{X, Read, Prod, exact, stays, prod_fits}
+use Rattle.mill_shape.specs.Widths.{sum_width, wall_width}
 use Rattle.mill_shape.proofs.Stored.{widened, widened_within}
 use Rattle.mill_shape.proofs.arithmetic.times_square.Goals as goal
 
 -- how far the factor, read twice, and s are from 0
 bounds : List ℕ
-bounds = 100 ∷ 100 ∷ 2 ^ 81 ∷ []
+bounds = 100 ∷ 100 ∷ sum_width ∷ []
 
 -- the square of the factor, times s
 whole : X
@@ -40,4 +41,4 @@ unfolding bounds whole
 returns-clause-bound c =
     let first = widened_within c.from.result c.args.factor c.from.ensures c.requires.factor_ok in
     let second = widened_within c.from-2.result c.args.factor c.from-2.ensures c.requires.factor_ok in
-    record { within = stays (c.from.result ∷ c.from-2.result ∷ c.args.s ∷ []) bounds whole (2 ^ 95) (first, (second, (c.requires.s_ok.within, tt))) refl }
+    record { within = stays (c.from.result ∷ c.from-2.result ∷ c.args.s ∷ []) bounds whole wall_width (first, (second, (c.requires.s_ok.within, tt))) refl }

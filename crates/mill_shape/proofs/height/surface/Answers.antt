@@ -1,6 +1,7 @@
-use Rattle.std.proofs.Common.{◌≡◌, ◌∙◌, ◌-◌, ◌*◌, ◌/◌, ◌<◌, ◌≤◌, pos}
+use Rattle.std.proofs.Common.{◌≡◌, ◌∙◌, ◌-◌, ◌*◌, ◌/◌, ◌<◌, ◌≤◌}
 use Rattle.std.specs.Prelude.{nat_abs}
 use Rattle.mill_base.specs.Sizes.{HasRadius, IsSlope}
+use Rattle.mill_base.specs.declared.limits.TheConstants.{MAX_WIDE_RADIUS}
 use Rattle.mill_shape.specs.Roots.{IsFloorRoot, IsCeilRoot}
 use Rattle.mill_shape.proofs.Stored.{radius_kept, rise_kept, run_kept, natural_kept, radius_bound}
 use Rattle.mill_shape.proofs.Surfaces.{ball_value, cone_value, distance_small}
@@ -8,7 +9,7 @@ use Rattle.mill_shape.proofs.height.surface.Goals as goal
 
 pub returns-in-Ball-clause-value : goal.returns-in-Ball-clause-value
 returns-in-Ball-clause-value c =
-    let size : HasRadius c.in-Ball.radius (pos 11024) = rw c.in-Ball.is at c.requires.cutter_ok in
+    let size : HasRadius c.in-Ball.radius MAX_WIDE_RADIUS = rw c.in-Ball.is at c.requires.cutter_ok in
     let near : c.args.distance < nat_abs c.in-Ball.radius * nat_abs c.in-Ball.radius = rw c.in-Ball.is at c.requires.near in
     let radius : c.unsigned_abs.result ≡ nat_abs c.in-Ball.radius = rw (radius_kept c.in-Ball.radius size) at c.unsigned_abs.ensures.value in
     let under : c.ball_surface.result ≤ nat_abs c.in-Ball.radius = rw radius at c.ball_surface.ensures.bound in
@@ -17,7 +18,7 @@ returns-in-Ball-clause-value c =
 
 pub returns-in-Cone-clause-value : goal.returns-in-Cone-clause-value
 returns-in-Cone-clause-value c =
-    let sizes : HasRadius c.in-Cone.radius (pos 11024) × IsSlope c.in-Cone.rise c.in-Cone.run' = rw c.in-Cone.is at c.requires.cutter_ok in
+    let sizes : HasRadius c.in-Cone.radius MAX_WIDE_RADIUS × IsSlope c.in-Cone.rise c.in-Cone.run' = rw c.in-Cone.is at c.requires.cutter_ok in
     let near : c.args.distance < nat_abs c.in-Cone.radius * nat_abs c.in-Cone.radius = rw c.in-Cone.is at c.requires.near in
     let rise : c.unsigned_abs-in-Cone.result ≡ nat_abs c.in-Cone.rise = rw (rise_kept c.in-Cone.rise c.in-Cone.run' sizes.1) at c.unsigned_abs-in-Cone.ensures.value in
     let along : c.unsigned_abs-in-Cone-2.result ≡ nat_abs c.in-Cone.run' = rw (run_kept c.in-Cone.rise c.in-Cone.run' sizes.1) at c.unsigned_abs-in-Cone-2.ensures.value in

@@ -3,7 +3,7 @@ use lib.IntN.{pos, ◌+ℤ◌}
 use mir.Syntax.{w32}
 use Rattle.std.proofs.lemmas.Int.{to_z-of_z}
 use Rattle.mill_base.specs.Numbers.{Within}
-use Rattle.mill_base.specs.declared.limits.TheConstants.{MAX_TEXT_COORDINATE}
+use Rattle.mill_base.specs.declared.limits.TheConstants.{MAX_COORDINATE}
 use Rattle.mill_part.proofs.Stored.{coordinate}
 use Rattle.mill_part.proofs.CoverLemmas.{highest_ok, next_ok, none_over_next, under_top}
 use Rattle.mill_part.proofs.near.Column.raised_near.Goals as goal
@@ -16,7 +16,7 @@ returns-then-not-is_near-clause-highest c =
 
 pub is_near-requires-2-clause-height_ok : goal.is_near-requires-2-clause-height_ok
 is_near-requires-2-clause-height_ok c =
-    let top = subst (Within MAX_TEXT_COORDINATE) (sym c.highest-top.ensures) (highest_ok c.args.tri.now c.requires.tri_ok) in
+    let top = subst (Within MAX_COORDINATE) (sym c.highest-top.ensures) (highest_ok c.args.tri.now c.requires.tri_ok) in
     rw (coordinate c.highest-top.result top) top
 
 pub returns-then-is_near-clause-reached : goal.returns-then-is_near-clause-reached
@@ -24,7 +24,7 @@ returns-then-is_near-clause-reached c = inr (c.is_near-2.ensures.yes c.if-is_nea
 
 pub returns-then-is_near-clause-highest : goal.returns-then-is_near-clause-highest
 returns-then-is_near-clause-highest c =
-    let top = subst (Within MAX_TEXT_COORDINATE) (sym c.highest-top.ensures) (highest_ok c.args.tri.now c.requires.tri_ok) in
+    let top = subst (Within MAX_COORDINATE) (sym c.highest-top.ensures) (highest_ok c.args.tri.now c.requires.tri_ok) in
     rw (coordinate c.highest-top.result top) (under_top c.args.tri.now c.args.self.band c.args.self.x c.args.self.y c.highest-top.result c.highest-top.ensures)
 
 pub highest_near-requires-clause-covered_ok : goal.highest_near-requires-clause-covered_ok
@@ -35,7 +35,7 @@ highest_near-requires-clause-covered_ok c =
 
 pub highest_near-requires-clause-top_ok : goal.highest_near-requires-clause-top_ok
 highest_near-requires-clause-top_ok c =
-    let top = subst (Within MAX_TEXT_COORDINATE) (sym c.highest-top.ensures) (highest_ok c.args.tri.now c.requires.tri_ok) in
+    let top = subst (Within MAX_COORDINATE) (sym c.highest-top.ensures) (highest_ok c.args.tri.now c.requires.tri_ok) in
     rw (coordinate c.highest-top.result top) top
 
 pub highest_near-requires-clause-there : goal.highest_near-requires-clause-there
@@ -43,7 +43,7 @@ highest_near-requires-clause-there c = c.is_near.ensures.yes c.if-not-is_near.fa
 
 pub highest_near-requires-clause-under : goal.highest_near-requires-clause-under
 highest_near-requires-clause-under c =
-    let top = subst (Within MAX_TEXT_COORDINATE) (sym c.highest-top.ensures) (highest_ok c.args.tri.now c.requires.tri_ok) in
+    let top = subst (Within MAX_COORDINATE) (sym c.highest-top.ensures) (highest_ok c.args.tri.now c.requires.tri_ok) in
     rw (coordinate c.highest-top.result top) (under_top c.args.tri.now c.args.self.band c.args.self.x c.args.self.y c.highest-top.result c.highest-top.ensures)
 
 pub returns-clause-reached : goal.returns-clause-reached

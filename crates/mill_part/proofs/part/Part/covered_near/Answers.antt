@@ -4,11 +4,11 @@ use Rattle.mill_part.proofs.Stored.{coordinate, band_kept}
 use Rattle.mill_part.proofs.CoverLemmas.{covered_by_point, too_high}
 use Rattle.mill_part.proofs.part.Part.covered_near.Goals as goal
 
-pub returns-then-height-gt131071 : goal.returns-then-height-gt131071
-returns-then-height-gt131071 c =
+pub returns-then-height : goal.returns-then-height
+returns-then-height c =
     let floor = coordinate c.args.floor c.requires.floor_ok in
     let height = to_z-of_z w32 c.args.height c.ranges.height in
-    too_high c.args.self.now c.args.floor c.args.band c.args.x c.args.y c.args.height c.tris-tris.ensures.in_range (rw (height, floor) at c.if-floor-height.false) (rw height at c.if-height-gt131071.true)
+    too_high c.args.self.now c.args.floor c.args.band c.args.x c.args.y c.args.height c.tris-tris.ensures.in_range (rw (height, floor) at c.if-floor-height.false) (rw height at c.if-height.true)
 
 pub returns : goal.returns
 returns c =

@@ -1,0 +1,39 @@
+-- The greatest magnitudes of the numbers that the tests compute with, each from those that it is made of.
+use Rattle.std.specs.Prelude.{ℕ, ◌+◌, ◌*◌, nat_abs}
+use Rattle.mill_base.specs.declared.limits.TheConstants.{MAX_COORDINATE, LOWEST_TIP, MAX_WIDE_RADIUS}
+
+-- of an offset's coordinate: from the highest point that calls take down to the lowest tip
+abbrev pub farthest : ℕ
+farthest = MAX_COORDINATE + nat_abs LOWEST_TIP
+
+-- of a cylinder's radius
+abbrev pub widest : ℕ
+widest = nat_abs MAX_WIDE_RADIUS
+
+-- of a sum of two products of coordinates, as twice an area
+abbrev pub most_area : ℕ
+most_area = 2 * (farthest * farthest)
+
+-- of how far one coordinate is over another
+abbrev pub most_fall : ℕ
+most_fall = 2 * farthest
+
+-- of how steep a plane is: a sum of three products of a coordinate and a fall
+abbrev pub most_slope : ℕ
+most_slope = 3 * (farthest * most_fall)
+
+-- of six times a volume: a sum of three products of an area and a coordinate
+abbrev pub most_volume : ℕ
+most_volume = 3 * (most_area * farthest)
+
+-- of a form of two offsets: an area less the square of the radius
+abbrev pub most_form : ℕ
+most_form = most_area + widest * widest
+
+-- of the form of two points on the level: a sum of four products of a form and two coordinates
+abbrev pub most_mixed_form : ℕ
+most_mixed_form = 4 * (farthest * farthest * most_form)
+
+-- of the x of a sum of two spots: a sum of two products of areas
+abbrev pub most_mixed_place : ℕ
+most_mixed_place = 2 * (most_area * most_area)
