@@ -1,5 +1,4 @@
 pub mod Drops
-pub mod Near
-pub mod Spindles
 pub mod Maps
 pub mod Unique
+pub mod inner
