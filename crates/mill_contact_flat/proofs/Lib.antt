@@ -1,3 +1,2 @@
-pub mod Radius
 pub mod CornerCerts
 pub mod Touched

@@ -9,7 +9,7 @@ use Rattle.mill_geom.specs.Offsets.{mean3}
 use Rattle.mill_geom.specs.Contacts.{TouchesTriangle}
 use Rattle.mill_geom.specs.Gaps.{AllApart, AllUpTo}
 use Rattle.mill_geom.proofs.Corners.{turn_touch}
-use Rattle.mill_contact_flat.specs.Corners.{IsCornerInside}
+use Rattle.mill_contact_flat.specs.Flats.{IsCornerInside}
 use Rattle.mill_contact_flat.proofs.CornerCerts.{corner_near, corner_over, axis_far, under_level}
 
 -- a corner inside is a point of the triangle that is

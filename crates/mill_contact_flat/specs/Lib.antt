@@ -1,1 +1,1 @@
-pub mod Corners
+pub mod Flats

@@ -4,19 +4,21 @@
 //! cylinder, and on mill_base, whose specs/Contact defines a touch. `touch` decides whether some
 //! point of the triangle is strictly inside a flat cutter, and if none is, at which positions along
 //! an axis none is either; mill_geom's specs/Sides says what its answers mean. `is_inside` decides
-//! the first alone, at less cost.
+//! the first alone, at less cost. specs/Flats says which cutters these are.
 #![tactic(auto)]
 
-ghost use Rattle.std.specs.Prelude.{◌≡◌, ◌^◌, ◌↔◌, ◌+ℤ◌, ◌*ℤ◌, ◌<ℤ◌, pos, false, IsTrue};
+ghost use Rattle.std.specs.Prelude.{◌≡◌, ◌↔◌, ◌+ℤ◌, ◌*ℤ◌, ◌<ℤ◌, pos, false, IsTrue};
 ghost use Rattle.mill_base.specs.Contact.{Touches};
 ghost use Rattle.mill_base.specs.Numbers.{Within};
-ghost use Rattle.mill_base.specs.Ranges.{TriInTextRange};
-ghost use Rattle.mill_base.specs.Sizes.{IsWideCutter, radius_of};
+ghost use Rattle.mill_base.specs.Ranges.{TriInRange};
+ghost use Rattle.mill_base.specs.Sizes.{HasRadius, IsWideCutter};
 ghost use Rattle.mill_base.specs.declared.cutter.Cutter.TheVariants.{Flat};
+ghost use Rattle.mill_base.specs.declared.limits.TheConstants.{MAX_WIDE_RADIUS};
+ghost use Rattle.mill_geom.specs.Widths.{widest, most_area};
 ghost use Rattle.mill_geom.specs.Contacts.{TouchesTriangle};
 ghost use Rattle.mill_geom.specs.Offsets.{IsCentre, OffsetInRange};
 ghost use Rattle.mill_geom.specs.Sides.{IsTouch, TouchesAt, along};
-ghost use Rattle.mill_contact_flat.specs.Corners.{IsCornerInside};
+ghost use Rattle.mill_contact_flat.specs.Flats.{IsFlat, IsCornerInside};
 
 use mill_base::{Cutter, Pt3, Tri};
 use mill_geom::{
@@ -31,7 +33,7 @@ fn touch_along_x(a: Offset, b: Offset, c: Offset, radius: i64) -> Touch
     requires a_ok { OffsetInRange a }
     requires b_ok { OffsetInRange b }
     requires c_ok { OffsetInRange c }
-    requires r_ok { Within 16384 radius }
+    requires r_ok { Within widest radius }
     requires r_least { pos 0 <ℤ radius }
     ensures { IsTouch result (TouchesAt radius a b c) }
 {
@@ -44,26 +46,42 @@ fn touch_along_x(a: Offset, b: Offset, c: Offset, radius: i64) -> Touch
     Touch::Apart(side(a, b, c, radius))
 }
 
-/// Whether some point of the triangle is strictly inside the flat cutter of `cutter`'s radius with
-/// its tip at `tip`, and if none is, at which positions of the tip along `axis` none is either.
-///
-/// Lengths are in units of 0.01 mm. Corners may be equal or collinear.
-pub fn touch(tri: &Tri, cutter: Cutter, tip: Pt3, axis: Axis) -> Touch
-    requires tri_ok { TriInTextRange tri.now }
-    requires cutter_ok { IsWideCutter cutter }
+/// How the triangle lies to the flat cutter of `radius` with its tip at `tip`, for positions along
+/// `axis`.
+fn touch_flat(tri: &Tri, radius: i32, tip: Pt3, axis: Axis) -> Touch
+    requires tri_ok { TriInRange tri.now }
+    requires radius_ok { HasRadius radius MAX_WIDE_RADIUS }
     requires tip_ok { IsCentre tip }
-    ensures { IsTouch result (λ t. Touches (Flat (radius_of cutter)) (pos 1) (along axis tip t) tri.now) }
+    ensures { IsTouch result (λ t. Touches (Flat radius) (pos 1) (along axis tip t) tri.now) }
 {
     let a = turned(offset_from(tri.a, tip), axis);
     let b = turned(offset_from(tri.b, tip), axis);
     let c = turned(offset_from(tri.c, tip), axis);
-    touch_along_x(a, b, c, i64::from(cutter.radius()))
+    touch_along_x(a, b, c, i64::from(radius))
+}
+
+/// Whether some point of the triangle is strictly inside the flat cutter with its tip at `tip`, and
+/// if none is, at which positions of the tip along `axis` none is either.
+///
+/// The cutter is a flat. Lengths are in units of 0.01 mm. Corners may be equal or collinear.
+pub fn touch(tri: &Tri, cutter: Cutter, tip: Pt3, axis: Axis) -> Touch
+    requires tri_ok { TriInRange tri.now }
+    requires cutter_ok { IsWideCutter cutter }
+    requires shape_ok { IsFlat cutter }
+    requires tip_ok { IsCentre tip }
+    ensures { IsTouch result (λ t. Touches cutter (pos 1) (along axis tip t) tri.now) }
+{
+    match cutter {
+        Cutter::Flat { radius } => touch_flat(tri, radius, tip, axis),
+        Cutter::Ball { .. } => unreachable!(),
+        Cutter::Cone { .. } => unreachable!(),
+    }
 }
 
 /// Whether the corner is nearer to the axis than the radius.
 fn is_near(p: Offset, radius: i64) -> bool
     requires p_ok { OffsetInRange p }
-    requires r_ok { Within 16384 radius }
+    requires r_ok { Within widest radius }
     ensures { IsTrue result ↔ ((p.x *ℤ p.x +ℤ p.y *ℤ p.y) <ℤ (radius *ℤ radius)) }
 {
     p.x * p.x + p.y * p.y < radius * radius
@@ -72,7 +90,7 @@ fn is_near(p: Offset, radius: i64) -> bool
 /// Whether the corner is nearer to the axis than the radius, and over the level.
 fn is_corner_inside(p: Offset, radius: i64) -> bool
     requires p_ok { OffsetInRange p }
-    requires r_ok { Within 16384 radius }
+    requires r_ok { Within widest radius }
     ensures yes { IsTrue result → IsCornerInside radius p }
     ensures no { result ≡ false → ¬ IsCornerInside radius p }
 {
@@ -88,7 +106,7 @@ fn touches_near(a: Offset, b: Offset, c: Offset, radius: i64) -> bool
     requires a_ok { OffsetInRange a }
     requires b_ok { OffsetInRange b }
     requires c_ok { OffsetInRange c }
-    requires r_ok { Within 16384 radius }
+    requires r_ok { Within widest radius }
     requires r_least { pos 0 <ℤ radius }
     ensures yes { IsTrue result → TouchesTriangle radius a b c }
     ensures no { result ≡ false → ¬ TouchesTriangle radius a b c }
@@ -107,8 +125,8 @@ fn touches_near(a: Offset, b: Offset, c: Offset, radius: i64) -> bool
 
 /// Whether the square of a distance is less than the radius's.
 fn is_less(gap: i64, radius: i64) -> bool
-    requires gap_ok { Within (2 ^ 39) gap }
-    requires r_ok { Within 16384 radius }
+    requires gap_ok { Within most_area gap }
+    requires r_ok { Within widest radius }
     ensures { IsTrue result ↔ (gap <ℤ (radius *ℤ radius)) }
 {
     gap < radius * radius
@@ -120,7 +138,7 @@ fn touches_here(a: Offset, b: Offset, c: Offset, radius: i64) -> bool
     requires a_ok { OffsetInRange a }
     requires b_ok { OffsetInRange b }
     requires c_ok { OffsetInRange c }
-    requires r_ok { Within 16384 radius }
+    requires r_ok { Within widest radius }
     requires r_least { pos 0 <ℤ radius }
     ensures yes { IsTrue result → TouchesTriangle radius a b c }
     ensures no { result ≡ false → ¬ TouchesTriangle radius a b c }
@@ -134,19 +152,35 @@ fn touches_here(a: Offset, b: Offset, c: Offset, radius: i64) -> bool
     touches_near(a, b, c, radius)
 }
 
-/// Whether some point of the triangle is strictly inside the flat cutter of `cutter`'s radius with
-/// its tip at `tip`.
-///
-/// Lengths are in units of 0.01 mm. Corners may be equal or collinear.
-pub fn is_inside(tri: &Tri, cutter: Cutter, tip: Pt3) -> bool
-    requires tri_ok { TriInTextRange tri.now }
-    requires cutter_ok { IsWideCutter cutter }
+/// Whether some point of the triangle is strictly inside the flat cutter of `radius` with its tip at
+/// `tip`.
+fn is_inside_flat(tri: &Tri, radius: i32, tip: Pt3) -> bool
+    requires tri_ok { TriInRange tri.now }
+    requires radius_ok { HasRadius radius MAX_WIDE_RADIUS }
     requires tip_ok { IsCentre tip }
-    ensures yes { IsTrue result → Touches (Flat (radius_of cutter)) (pos 1) tip tri.now }
-    ensures no { result ≡ false → ¬ Touches (Flat (radius_of cutter)) (pos 1) tip tri.now }
+    ensures yes { IsTrue result → Touches (Flat radius) (pos 1) tip tri.now }
+    ensures no { result ≡ false → ¬ Touches (Flat radius) (pos 1) tip tri.now }
 {
     let a = offset_from(tri.a, tip);
     let b = offset_from(tri.b, tip);
     let c = offset_from(tri.c, tip);
-    touches_here(a, b, c, i64::from(cutter.radius()))
+    touches_here(a, b, c, i64::from(radius))
+}
+
+/// Whether some point of the triangle is strictly inside the flat cutter with its tip at `tip`.
+///
+/// The cutter is a flat. Lengths are in units of 0.01 mm. Corners may be equal or collinear.
+pub fn is_inside(tri: &Tri, cutter: Cutter, tip: Pt3) -> bool
+    requires tri_ok { TriInRange tri.now }
+    requires cutter_ok { IsWideCutter cutter }
+    requires shape_ok { IsFlat cutter }
+    requires tip_ok { IsCentre tip }
+    ensures yes { IsTrue result → Touches cutter (pos 1) tip tri.now }
+    ensures no { result ≡ false → ¬ Touches cutter (pos 1) tip tri.now }
+{
+    match cutter {
+        Cutter::Flat { radius } => is_inside_flat(tri, radius, tip),
+        Cutter::Ball { .. } => unreachable!(),
+        Cutter::Cone { .. } => unreachable!(),
+    }
 }

@@ -1,4 +1,4 @@
-ghost use Rattle.mill_base.specs.Ranges.{IsInTextRange, TriInTextRange};
+ghost use Rattle.mill_base.specs.Ranges.{IsInRange, TriInRange};
 ghost use Rattle.mill_geom.specs.Offsets.{IsCentre};
 
 use crate::{is_inside, touch};
@@ -15,7 +15,7 @@ const MORE: Touch = Touch::Apart(Side::More);
 const NEVER: Touch = Touch::Apart(Side::Never);
 
 fn at(x: i16, y: i16, z: i16) -> Pt3
-    ensures corner { IsInTextRange result }
+    ensures corner { IsInRange result }
     ensures centre { IsCentre result }
 {
     Pt3 {
@@ -27,14 +27,14 @@ fn at(x: i16, y: i16, z: i16) -> Pt3
 
 /// Whether a flat of radius 100 has the triangle inside.
 fn holds(tri: &Tri, tip: (i16, i16, i16)) -> bool
-    requires { TriInTextRange tri.now }
+    requires { TriInRange tri.now }
 {
     is_inside(tri, Cutter::Flat { radius: 100 }, at(tip.0, tip.1, tip.2))
 }
 
 /// How the triangle lies to a flat of radius 100 along X and along Y.
 fn lies(tri: &Tri, tip: (i16, i16, i16)) -> (Touch, Touch)
-    requires { TriInTextRange tri.now }
+    requires { TriInRange tri.now }
 {
     let cutter = Cutter::Flat { radius: 100 };
     let tip = at(tip.0, tip.1, tip.2);
@@ -232,5 +232,54 @@ fn inside_or_not(rt: HostRuntime) -> Result<(), Fail> {
     ] {
         assert_eq!(rt; holds(&tri, tip), wanted);
     }
+    Ok(())
+}
+
+// The widest cutter, with its tip as low and as far out as can be, and a triangle as wide as can be.
+#[test]
+fn at_the_limits(rt: HostRuntime) -> Result<(), Fail> {
+    let tri = Tri {
+        a: Pt3 {
+            x: -524_287,
+            y: -524_287,
+            z: 524_287,
+        },
+        b: Pt3 {
+            x: 524_287,
+            y: -524_287,
+            z: -524_287,
+        },
+        c: Pt3 {
+            x: -524_287,
+            y: 524_287,
+            z: 524_287,
+        },
+    };
+    let cutter = Cutter::Flat { radius: 11_024 };
+    let far = Pt3 {
+        x: 524_287,
+        y: 524_287,
+        z: -545_000,
+    };
+    assert_eq!(rt; touch(&tri, cutter, far, Axis::X), LESS);
+    assert_eq!(rt; touch(&tri, cutter, far, Axis::Y), LESS);
+    let near = Pt3 {
+        x: 7795,
+        y: 7795,
+        z: -545_000,
+    };
+    assert!(rt; is_inside(&tri, cutter, near));
+    let beside = Pt3 {
+        x: 7796,
+        y: 7796,
+        z: -545_000,
+    };
+    assert_eq!(rt; touch(&tri, cutter, beside, Axis::X), LESS);
+    let high = Pt3 {
+        x: -524_287,
+        y: 0,
+        z: 524_286,
+    };
+    assert!(rt; is_inside(&tri, cutter, high));
     Ok(())
 }

@@ -12,6 +12,7 @@ use Rattle.mill_geom.specs.declared.offset.Offset.{Offset}
 use Rattle.mill_geom.specs.Offsets.{mean3, OffsetInRange}
 use Rattle.mill_geom.specs.Gaps.{gap_of, box_gap_of, highest_of, AllApart, AllUpTo}
 use Rattle.mill_geom.proofs.GapCerts.{beyond, beyond_back, gap_is_zero, both_gaps, squares, up_to}
+use Rattle.mill_geom.proofs.Kept.{place_kept}
 
 -- ---- the gap as it is computed
 
@@ -95,8 +96,8 @@ pub squares_stored : (a b c : Offset) (x y n : ℤ) → nat_abs x ≤ farthest �
     → x ≡ gap_of (stored w64 a.x) (stored w64 b.x) (stored w64 c.x) → y ≡ gap_of (stored w64 a.y) (stored w64 b.y) (stored w64 c.y)
     → n ≡ square (stored w64 x) +ℤ square (stored w64 y) → OffsetInRange a → OffsetInRange b → OffsetInRange c → stored w64 n ≡ box_gap_of a b c
 squares_stored a b c x y n hx hy hn ex ey en ra rb rc =
-    let x_is : x ≡ gap_of a.x b.x c.x = rw (kept w64 a.x farthest ra.x_ok.within refl, kept w64 b.x farthest rb.x_ok.within refl, kept w64 c.x farthest rc.x_ok.within refl) at ex in
-    let y_is : y ≡ gap_of a.y b.y c.y = rw (kept w64 a.y farthest ra.y_ok.within refl, kept w64 b.y farthest rb.y_ok.within refl, kept w64 c.y farthest rc.y_ok.within refl) at ey in
+    let x_is : x ≡ gap_of a.x b.x c.x = rw (place_kept a.x ra.x_ok, place_kept b.x rb.x_ok, place_kept c.x rc.x_ok) at ex in
+    let y_is : y ≡ gap_of a.y b.y c.y = rw (place_kept a.y ra.y_ok, place_kept b.y rb.y_ok, place_kept c.y rc.y_ok) at ey in
     let n_is : n ≡ square x +ℤ square y = rw (kept w64 x farthest hx refl, kept w64 y farthest hy refl) at en in
     kept w64 n most_area hn refl ∙ n_is ∙ rw (x_is, y_is) refl
 

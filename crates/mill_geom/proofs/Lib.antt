@@ -1,3 +1,5 @@
+pub mod Kept
+pub mod Bounds
 pub mod Pair
 pub mod SegmentCerts
 pub mod Segments
@@ -13,6 +15,7 @@ pub mod Corners
 pub mod LevelLine
 pub mod Touching
 pub mod Signs
+pub mod Volumes
 pub mod PlaceCerts
 pub mod Places
 pub mod SideCerts

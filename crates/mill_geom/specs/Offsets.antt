@@ -3,7 +3,7 @@ use Rattle.std.specs.Prelude.{◌≡◌, ℤ, pos, ◌+ℤ◌, ◌-ℤ◌, ◌*�
 use Rattle.mill_base.specs.Numbers.{Within}
 use Rattle.mill_base.specs.declared.limits.TheConstants.{MAX_COORDINATE, LOWEST_TIP}
 use Rattle.mill_base.specs.declared.points.Pt3.{Pt3}
-use Rattle.mill_geom.specs.Widths.{farthest}
+use Rattle.mill_geom.specs.Widths.{farthest, most_lift}
 use Rattle.mill_geom.specs.declared.offset.Offset.{Offset}
 
 -- each coordinate of the offset is within the greatest magnitude
@@ -11,6 +11,17 @@ pub record OffsetInRange (p : Offset) : Type 0 where
   pub x_ok : Within farthest p.x
   pub y_ok : Within farthest p.y
   pub z_ok : Within farthest p.z
+
+-- x and y are, whatever the height
+pub record PlanInRange (p : Offset) : Type 0 where
+  pub x_ok : Within farthest p.x
+  pub y_ok : Within farthest p.y
+
+-- and the height may be a scaled one
+pub record LiftedInRange (p : Offset) : Type 0 where
+  pub x_ok : Within farthest p.x
+  pub y_ok : Within farthest p.y
+  pub z_ok : Within most_lift p.z
 
 -- the weighted sum u*p + v*q of two offsets, and u*a + v*b + w*c of three
 abbrev pub mean2 : ℤ → ℤ → Offset → Offset → Pt3

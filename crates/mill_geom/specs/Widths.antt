@@ -18,21 +18,28 @@ most_area = 2 * (farthest * farthest)
 abbrev pub most_fall : ℕ
 most_fall = 2 * farthest
 
--- of how steep a plane is: a sum of three products of a coordinate and a fall
-abbrev pub most_slope : ℕ
-most_slope = 3 * (farthest * most_fall)
+-- of a scaled height: of b*z - a*r, where the height z and the radius r are as above and a and b, the rise and run of a cone, are at most 100
+abbrev pub most_lift : ℕ
+most_lift = 100 * farthest + 100 * widest
 
--- of six times a volume: a sum of three products of an area and a coordinate
+-- of how steep a plane is, with scaled heights: a sum of three products of a height and a fall
+abbrev pub most_slope : ℕ
+most_slope = 3 * (most_lift * most_fall)
+
+-- of six times a volume: a sum of three products of an area and a height, a plain one and a scaled one
 abbrev pub most_volume : ℕ
 most_volume = 3 * (most_area * farthest)
+
+abbrev pub most_lifted_volume : ℕ
+most_lifted_volume = 3 * (most_area * most_lift)
 
 -- of a form of two offsets: an area less the square of the radius
 abbrev pub most_form : ℕ
 most_form = most_area + widest * widest
 
--- of the form of two points on the level: a sum of four products of a form and two coordinates
+-- of the form of two points on the level: a sum of four products of a form and two scaled heights
 abbrev pub most_mixed_form : ℕ
-most_mixed_form = 4 * (farthest * farthest * most_form)
+most_mixed_form = 4 * (most_lift * most_lift * most_form)
 
 -- of the x of a sum of two spots: a sum of two products of areas
 abbrev pub most_mixed_place : ℕ

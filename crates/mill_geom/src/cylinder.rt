@@ -9,7 +9,7 @@ use crate::touch::Side;
 use crate::triangle::is_over;
 
 /// Whether all three numbers are at least `bound`.
-pub(crate) fn all_from(a: i64, b: i64, c: i64, bound: i64) -> bool
+pub fn all_from(a: i64, b: i64, c: i64, bound: i64) -> bool
     requires a_ok { Within farthest a }
     requires b_ok { Within farthest b }
     requires c_ok { Within farthest c }
@@ -27,7 +27,7 @@ pub(crate) fn all_from(a: i64, b: i64, c: i64, bound: i64) -> bool
 }
 
 /// Whether all three numbers are at most `-bound`.
-pub(crate) fn all_to(a: i64, b: i64, c: i64, bound: i64) -> bool
+pub fn all_to(a: i64, b: i64, c: i64, bound: i64) -> bool
     requires a_ok { Within farthest a }
     requires b_ok { Within farthest b }
     requires c_ok { Within farthest c }

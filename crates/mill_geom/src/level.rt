@@ -1,7 +1,7 @@
 ghost use Rattle.std.specs.Prelude.{◌≡◌, ◌^◌, ◌↔◌, ◌<ℤ◌, pos, false, IsTrue};
 ghost use Rattle.mill_base.specs.Numbers.{Within};
-ghost use Rattle.mill_geom.specs.Widths.{most_form, most_mixed_form, farthest, widest};
-ghost use Rattle.mill_geom.specs.Offsets.{OffsetInRange};
+ghost use Rattle.mill_geom.specs.Widths.{most_form, most_mixed_form, most_lift, widest};
+ghost use Rattle.mill_geom.specs.Offsets.{LiftedInRange};
 ghost use Rattle.mill_geom.specs.Forms.{level_form_of, mixed_form_of, IsAlone, IsOver};
 ghost use Rattle.mill_geom.specs.Contacts.{TouchesTriangle, OnLevel, EdgesClear};
 
@@ -11,9 +11,9 @@ use crate::segment::form;
 
 /// Whether the corner `p` is on one side of the level, and the others on the other side or on it.
 fn is_alone(p: Offset, q: Offset, s: Offset) -> bool
-    requires p_ok { OffsetInRange p }
-    requires q_ok { OffsetInRange q }
-    requires s_ok { OffsetInRange s }
+    requires p_ok { LiftedInRange p }
+    requires q_ok { LiftedInRange q }
+    requires s_ok { LiftedInRange s }
     ensures yes { IsTrue result → IsAlone p q s }
     ensures no { result ≡ false → ¬ IsAlone p q s }
 {
@@ -39,9 +39,9 @@ fn mixed_form(pp: i128, pq: i128, ps: i128, qs: i128, p: i64, q: i64, s: i64) ->
     requires pq_ok { Within most_form pq }
     requires ps_ok { Within most_form ps }
     requires qs_ok { Within most_form qs }
-    requires p_ok { Within farthest p }
-    requires q_ok { Within farthest q }
-    requires s_ok { Within farthest s }
+    requires p_ok { Within most_lift p }
+    requires q_ok { Within most_lift q }
+    requires s_ok { Within most_lift s }
     ensures value { result ≡ mixed_form_of pp pq ps qs p q s }
     ensures bound { Within most_mixed_form result }
 {
@@ -53,9 +53,9 @@ fn mixed_form(pp: i128, pq: i128, ps: i128, qs: i128, p: i64, q: i64, s: i64) ->
 
 /// The form of the two points in which the edges from `p` meet the level.
 fn level_form(p: Offset, q: Offset, s: Offset, radius: i64) -> i128
-    requires p_ok { OffsetInRange p }
-    requires q_ok { OffsetInRange q }
-    requires s_ok { OffsetInRange s }
+    requires p_ok { LiftedInRange p }
+    requires q_ok { LiftedInRange q }
+    requires s_ok { LiftedInRange s }
     requires r_ok { Within widest radius }
     ensures value { result ≡ level_form_of radius p q s }
     ensures bound { Within most_mixed_form result }
@@ -70,9 +70,9 @@ fn level_form(p: Offset, q: Offset, s: Offset, radius: i64) -> i128
 /// Whether the triangle's points on the level come nearer to the axis than the radius between the
 /// two edges from `p`, where these keep off it.
 fn crosses(p: Offset, q: Offset, s: Offset, radius: i64) -> bool
-    requires p_ok { OffsetInRange p }
-    requires q_ok { OffsetInRange q }
-    requires s_ok { OffsetInRange s }
+    requires p_ok { LiftedInRange p }
+    requires q_ok { LiftedInRange q }
+    requires s_ok { LiftedInRange s }
     requires r_ok { Within widest radius }
     requires r_least { pos 0 <ℤ radius }
     requires alone { IsAlone p q s }
@@ -86,11 +86,11 @@ fn crosses(p: Offset, q: Offset, s: Offset, radius: i64) -> bool
 }
 
 /// Whether some point of the triangle on the level is nearer to the axis than the radius, where the
-/// edges keep off it; then some point over the level is, too.
+/// edges keep off it; then some point over the level is, too. Heights may be scaled ones.
 pub fn touches_on_level(a: Offset, b: Offset, c: Offset, radius: i64) -> bool
-    requires a_ok { OffsetInRange a }
-    requires b_ok { OffsetInRange b }
-    requires c_ok { OffsetInRange c }
+    requires a_ok { LiftedInRange a }
+    requires b_ok { LiftedInRange b }
+    requires c_ok { LiftedInRange c }
     requires r_ok { Within widest radius }
     requires r_least { pos 0 <ℤ radius }
     ensures yes { IsTrue result → TouchesTriangle radius a b c }

@@ -27,13 +27,14 @@ mod touch;
 mod triangle;
 mod turn;
 
-pub use cylinder::box_side;
+pub use cylinder::{all_from, all_to, box_side};
 pub use gap::{box_gap, highest};
+pub use level::touches_on_level;
 pub use offset::{Offset, offset_from};
 pub use reach::reaches_cylinder;
 pub use segment::touches_segment;
 pub use spot::{Spot, spot_below};
 pub use strip::side;
 pub use touch::{Axis, Side, Touch};
-pub use triangle::touches_triangle;
+pub use triangle::{is_pierced, touches_triangle};
 pub use turn::turned;

@@ -1,7 +1,7 @@
 ghost use Rattle.std.specs.Prelude.{◌≡◌, ◌^◌, ◌↔◌, ◌<ℤ◌, pos, IsTrue};
 ghost use Rattle.mill_base.specs.Numbers.{Within};
 ghost use Rattle.mill_geom.specs.Widths.{most_form, farthest, widest};
-ghost use Rattle.mill_geom.specs.Offsets.{OffsetInRange};
+ghost use Rattle.mill_geom.specs.Offsets.{OffsetInRange, PlanInRange};
 ghost use Rattle.mill_geom.specs.Forms.{form_of, PairHits, cut_mid_of, cut_end_of};
 ghost use Rattle.mill_geom.specs.Contacts.{TouchesSegment};
 
@@ -9,8 +9,8 @@ use crate::offset::Offset;
 
 /// The dot product of two offsets in x and y, less the square of the radius.
 pub fn form(p: Offset, q: Offset, radius: i64) -> i128
-    requires p_ok { OffsetInRange p }
-    requires q_ok { OffsetInRange q }
+    requires p_ok { PlanInRange p }
+    requires q_ok { PlanInRange q }
     requires r_ok { Within widest radius }
     ensures value { result ≡ form_of radius p q }
     ensures bound { Within most_form result }

@@ -88,7 +88,7 @@ fn all_down(i: i64, j: i64, k: i64, volume: i64) -> bool
 }
 
 /// Whether the axis meets the triangle over the level.
-fn is_pierced(a: Offset, b: Offset, c: Offset) -> bool
+pub fn is_pierced(a: Offset, b: Offset, c: Offset) -> bool
     requires a_ok { OffsetInRange a }
     requires b_ok { OffsetInRange b }
     requires c_ok { OffsetInRange c }

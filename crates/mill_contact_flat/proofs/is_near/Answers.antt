@@ -1,9 +1,10 @@
 use Rattle.std.proofs.Common.{List, [], ◌∷◌, ℕ, refl, w64}
 use Rattle.mill_base.proofs.Machine.{X, Read, Sum, Prod, less, sum_fits}
+use Rattle.mill_geom.specs.Widths.{farthest, widest}
 use Rattle.mill_contact_flat.proofs.is_near.Goals as goal
 
 abbrev bs : List ℕ
-bs = 524288 ∷ 524288 ∷ 16384 ∷ []
+bs = farthest ∷ farthest ∷ widest ∷ []
 
 abbrev xx : X
 xx = Prod w64 (Read w64 0) (Read w64 0)

@@ -1,31 +1,15 @@
-use Rattle.std.proofs.Common.{◌≡◌, ◌∙◌, refl, w32, w64}
-use Rattle.mill_base.proofs.Machine.{kept}
-use Rattle.mill_base.specs.Sizes.{radius_of}
-use Rattle.mill_geom.proofs.Along.{touch_along}
-use Rattle.mill_contact_flat.proofs.Radius.{radius_fits, radius_some}
+use Rattle.std.proofs.Common.{subst, sym}
+use lib.IntN.{pos}
+use Rattle.mill_base.specs.Contact.{Touches}
+use Rattle.mill_base.specs.Sizes.{IsWideCutter}
+use Rattle.mill_base.specs.declared.cutter.Cutter.{Cutter}
+use Rattle.mill_base.specs.declared.cutter.Cutter.TheVariants.{Flat}
+use Rattle.mill_geom.specs.Sides.{IsTouch, along}
+use Rattle.mill_geom.proofs.Kept.{given_kept}
 use Rattle.mill_contact_flat.proofs.touch.Goals as goal
-
-pub touch_along_x-requires-clause-r_ok : goal.touch_along_x-requires-clause-r_ok
-touch_along_x-requires-clause-r_ok c =
-    let fits = radius_fits c.args.cutter c.requires.cutter_ok in
-    let same : c.from.result ≡ radius_of c.args.cutter = c.from.ensures ∙ (rw c.radius.ensures (kept w32 (radius_of c.args.cutter) 16384 fits refl)) in
-    let r = kept w64 (radius_of c.args.cutter) 16384 fits refl in
-    rw (same, r) (record { within = fits })
-
-pub touch_along_x-requires-clause-r_least : goal.touch_along_x-requires-clause-r_least
-touch_along_x-requires-clause-r_least c =
-    let fits = radius_fits c.args.cutter c.requires.cutter_ok in
-    let same : c.from.result ≡ radius_of c.args.cutter = c.from.ensures ∙ (rw c.radius.ensures (kept w32 (radius_of c.args.cutter) 16384 fits refl)) in
-    let r = kept w64 (radius_of c.args.cutter) 16384 fits refl in
-    rw (same, r) (radius_some c.args.cutter c.requires.cutter_ok)
 
 pub returns : goal.returns
 returns c =
-    let fits = radius_fits c.args.cutter c.requires.cutter_ok in
-    let same : c.from.result ≡ radius_of c.args.cutter = c.from.ensures ∙ (rw c.radius.ensures (kept w32 (radius_of c.args.cutter) 16384 fits refl)) in
-    let r = kept w64 (radius_of c.args.cutter) 16384 fits refl in
-    touch_along c.touch_along_x.result (radius_of c.args.cutter) c.args.tri.now c.args.tip c.args.axis c.offset_from.result c.offset_from-2.result c.offset_from-3.result
-    c.offset_from.ensures.place
-    c.offset_from-2.ensures.place
-    c.offset_from-3.ensures.place
-    (rw (same, r, c.turned-a.ensures.value, c.turned-b.ensures.value, c.turned-c.ensures.value) at c.touch_along_x.ensures)
+    let lies : Cutter → Type 0 = λ k. IsTouch c.touch_flat.result (λ t. Touches k (pos 1) (along c.args.axis c.args.tip t) c.args.tri.now) in
+    let r = given_kept c.in-Flat.radius (subst IsWideCutter c.in-Flat.is c.requires.cutter_ok) in
+    subst lies (sym c.in-Flat.is) (subst (λ z. lies (Flat z)) r c.touch_flat.ensures)

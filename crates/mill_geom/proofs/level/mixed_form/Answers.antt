@@ -1,12 +1,12 @@
 use Rattle.std.proofs.Common.{ℕ, List, [], ◌∷◌, refl, w64}
 use mir.Syntax.{w128}
 use Rattle.mill_base.proofs.Machine.{Read, Cast, Sum, Diff, Prod, exact, stays, sum_fits, diff_fits, prod_fits, cast_fits}
-use Rattle.mill_geom.specs.Widths.{most_form, most_mixed_form, farthest}
+use Rattle.mill_geom.specs.Widths.{most_form, most_mixed_form, most_lift}
 use Rattle.mill_geom.proofs.level.mixed_form.Goals as goal
 
 -- how far each number is from 0
 bounds : List ℕ
-bounds = most_form ∷ most_form ∷ most_form ∷ most_form ∷ farthest ∷ farthest ∷ farthest ∷ []
+bounds = most_form ∷ most_form ∷ most_form ∷ most_form ∷ most_lift ∷ most_lift ∷ most_lift ∷ []
 
 pub overflow_cast-p : goal.overflow_cast-p
 unfolding bounds

@@ -3,7 +3,7 @@ use mir.Syntax.{w128}
 use lib.IntN.{ℤ}
 use Rattle.mill_base.specs.Numbers.{Within}
 use Rattle.mill_geom.specs.Widths.{most_form, farthest, widest}
-use Rattle.mill_geom.specs.Offsets.{OffsetInRange}
+use Rattle.mill_geom.specs.Offsets.{PlanInRange}
 use Rattle.mill_geom.specs.declared.offset.Offset.{Offset}
 use Rattle.mill_base.proofs.Range.{Bounded}
 use Rattle.mill_base.proofs.Machine.{X, Read, Cast, Sum, Diff, Prod, exact, sum_fits, diff_fits, stays}
@@ -18,7 +18,7 @@ bs = farthest ∷ farthest ∷ farthest ∷ farthest ∷ widest ∷ []
 abbrev ρ : Offset → Offset → ℤ → List ℤ
 ρ p q r = p.x ∷ q.x ∷ p.y ∷ q.y ∷ r ∷ []
 
-in_range : (p q : Offset) (r : ℤ) → OffsetInRange p → OffsetInRange q → Within widest r → Bounded (ρ p q r) bs
+in_range : (p q : Offset) (r : ℤ) → PlanInRange p → PlanInRange q → Within widest r → Bounded (ρ p q r) bs
 in_range p q r hp hq hr = (hp.x_ok.within, (hq.x_ok.within, (hp.y_ok.within, (hq.y_ok.within, (hr.within, tt)))))
 
 abbrev xx : X

@@ -1,8 +1,8 @@
-use Rattle.std.proofs.Common.{[], ◌∷◌, refl, w64}
+use Rattle.std.proofs.Common.{[], ◌∷◌, refl}
 use mir.Syntax.{w128}
 use lib.IntN.{ℤ, pos}
 use Rattle.mill_base.proofs.Machine.{Read, Prod, prod_fits}
-use Rattle.mill_geom.specs.Widths.{most_form, farthest, widest}
+use Rattle.mill_geom.specs.Widths.{most_form}
 use Rattle.mill_geom.specs.Forms.{form_of, cut_mid_of, cut_end_of}
 use Rattle.mill_geom.specs.Contacts.{TouchesSegment}
 use Rattle.mill_geom.proofs.segment.touches_across.Goals as goal
@@ -12,8 +12,9 @@ use lib.Signed.{◌<ℤ◌, ◌≤ℤ◌}
 use Rattle.std.proofs.lemmas.Int.{ints}
 use Rattle.std.proofs.lemmas.Bool.{false≢true}
 use Rattle.mill_geom.specs.declared.offset.Offset.{Offset}
-use Rattle.mill_base.proofs.Machine.{kept, less}
+use Rattle.mill_base.proofs.Machine.{less}
 use Rattle.mill_geom.proofs.Segments.{cut_hits, cut_minor}
+use Rattle.mill_geom.proofs.Kept.{radius_kept, place_kept, form_kept}
 
 -- the three tests, over the numbers that the calls gave
 abbrev Tests : ℤ → ℤ → ℤ → ℤ → ℤ → Type 0
@@ -39,30 +40,30 @@ last_test a h b e m na ne lm = (λ x. inr (inr (lm, x)), λ x. elim x [ inl y �
 
 pub returns-then-a-lt0 : goal.returns-then-a-lt0
 returns-then-a-lt0 c =
-    let kr = kept w64 c.args.radius widest c.requires.r_ok.within refl in
+    let kr = radius_kept c.args.radius c.requires.r_ok in
     let ea = rw kr at c.form-a.ensures.value in
     (λ _. first_alone c.args.radius c.args.p c.args.q c.form-a.result c.requires.up c.requires.down ea (omega (arith, ints)), λ _. refl)
 
 pub returns-then-cut_end-lt0 : goal.returns-then-cut_end-lt0
 returns-then-cut_end-lt0 c =
-    let kr = kept w64 c.args.radius widest c.requires.r_ok.within refl in
-    let ka = kept w128 c.form-a.result most_form c.form-a.ensures.bound.within refl in
-    let kh = kept w128 c.form-h.result most_form c.form-h.ensures.bound.within refl in
-    let kb = kept w128 c.form-b.result most_form c.form-b.ensures.bound.within refl in
-    let kz = kept w64 c.args.p.z farthest c.requires.p_ok.z_ok.within refl in
-    let kw = kept w64 c.args.q.z farthest c.requires.q_ok.z_ok.within refl in
+    let kr = radius_kept c.args.radius c.requires.r_ok in
+    let ka = form_kept c.form-a.result c.form-a.ensures.bound in
+    let kh = form_kept c.form-h.result c.form-h.ensures.bound in
+    let kb = form_kept c.form-b.result c.form-b.ensures.bound in
+    let kz = place_kept c.args.p.z c.requires.p_ok.z_ok in
+    let kw = place_kept c.args.q.z c.requires.q_ok.z_ok in
     let ee = rw (ka, kh, kb, kz, kw) at c.cut_end.ensures in
     let t = tests_are c.args.radius c.args.p c.args.q _ _ _ c.cut_end.result _ c.requires.up c.requires.down (rw kr at c.form-a.ensures.value) (rw kr at c.form-h.ensures.value) (rw kr at c.form-b.ensures.value) ee refl in
     (λ _. t.0 (inr (inl (omega (arith, ints)))), λ _. refl)
 
 pub returns-then-cut_mid-ge0 : goal.returns-then-cut_mid-ge0
 returns-then-cut_mid-ge0 c =
-    let kr = kept w64 c.args.radius widest c.requires.r_ok.within refl in
-    let ka = kept w128 c.form-a.result most_form c.form-a.ensures.bound.within refl in
-    let kh = kept w128 c.form-h.result most_form c.form-h.ensures.bound.within refl in
-    let kb = kept w128 c.form-b.result most_form c.form-b.ensures.bound.within refl in
-    let kz = kept w64 c.args.p.z farthest c.requires.p_ok.z_ok.within refl in
-    let kw = kept w64 c.args.q.z farthest c.requires.q_ok.z_ok.within refl in
+    let kr = radius_kept c.args.radius c.requires.r_ok in
+    let ka = form_kept c.form-a.result c.form-a.ensures.bound in
+    let kh = form_kept c.form-h.result c.form-h.ensures.bound in
+    let kb = form_kept c.form-b.result c.form-b.ensures.bound in
+    let kz = place_kept c.args.p.z c.requires.p_ok.z_ok in
+    let kw = place_kept c.args.q.z c.requires.q_ok.z_ok in
     let ee = rw (ka, kh, kb, kz, kw) at c.cut_end.ensures in
     let em = rw (ka, kh, kz, kw) at c.cut_mid.ensures in
     let t = tests_are c.args.radius c.args.p c.args.q _ _ _ c.cut_end.result c.cut_mid.result c.requires.up c.requires.down (rw kr at c.form-a.ensures.value) (rw kr at c.form-h.ensures.value) (rw kr at c.form-b.ensures.value) ee em in
@@ -78,12 +79,12 @@ overflow_mul-result-2 c = prod_fits w128 (c.form-a.result ∷ c.form-h.result �
 
 pub returns : goal.returns
 returns c =
-    let kr = kept w64 c.args.radius widest c.requires.r_ok.within refl in
-    let ka = kept w128 c.form-a.result most_form c.form-a.ensures.bound.within refl in
-    let kh = kept w128 c.form-h.result most_form c.form-h.ensures.bound.within refl in
-    let kb = kept w128 c.form-b.result most_form c.form-b.ensures.bound.within refl in
-    let kz = kept w64 c.args.p.z farthest c.requires.p_ok.z_ok.within refl in
-    let kw = kept w64 c.args.q.z farthest c.requires.q_ok.z_ok.within refl in
+    let kr = radius_kept c.args.radius c.requires.r_ok in
+    let ka = form_kept c.form-a.result c.form-a.ensures.bound in
+    let kh = form_kept c.form-h.result c.form-h.ensures.bound in
+    let kb = form_kept c.form-b.result c.form-b.ensures.bound in
+    let kz = place_kept c.args.p.z c.requires.p_ok.z_ok in
+    let kw = place_kept c.args.q.z c.requires.q_ok.z_ok in
     let ee = rw (ka, kh, kb, kz, kw) at c.cut_end.ensures in
     let em = rw (ka, kh, kz, kw) at c.cut_mid.ensures in
     let t = tests_are c.args.radius c.args.p c.args.q _ _ _ c.cut_end.result c.cut_mid.result c.requires.up c.requires.down (rw kr at c.form-a.ensures.value) (rw kr at c.form-h.ensures.value) (rw kr at c.form-b.ensures.value) ee em in

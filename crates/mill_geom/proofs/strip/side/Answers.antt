@@ -1,11 +1,12 @@
-use Rattle.std.proofs.Common.{refl, arith, w64}
+use Rattle.std.proofs.Common.{refl, arith}
 use mir.Syntax.{w128}
 use Rattle.std.proofs.lemmas.Int.{ints}
 use Rattle.mill_base.proofs.Machine.{kept}
-use Rattle.mill_geom.specs.Widths.{most_mixed_place, widest}
+use Rattle.mill_geom.specs.Widths.{most_mixed_place}
 use Rattle.mill_geom.specs.Sides.{slid_by}
 use Rattle.mill_geom.proofs.Touching.{under_misses}
 use Rattle.mill_geom.proofs.Strips.{beyond_never, mirror_never, between_strip, strip_more, strip_less}
+use Rattle.mill_geom.proofs.Kept.{radius_kept}
 use Rattle.mill_geom.proofs.strip.side.Goals as goal
 
 pub returns-then-not-is_over : goal.returns-then-not-is_over
@@ -13,18 +14,18 @@ returns-then-not-is_over c = λ t v. under_misses c.args.radius (slid_by t c.arg
 
 pub returns-in_default : goal.returns-in_default
 returns-in_default c =
-    let r = kept w64 c.args.radius widest c.requires.r_ok.within refl in
+    let r = radius_kept c.args.radius c.requires.r_ok in
     beyond_never c.args.radius c.args.a c.args.b c.args.c c.requires.r_least (rw r at (c.in_default.ensures.none refl))
 
 pub returns-in_default-spot_below : goal.returns-in_default-spot_below
 returns-in_default-spot_below c =
-    let r = kept w64 c.args.radius widest c.requires.r_ok.within refl in
+    let r = radius_kept c.args.radius c.requires.r_ok in
     mirror_never c.args.radius c.args.a c.args.b c.args.c c.requires.r_least
     (rw (r, c.mirrored.ensures.value, c.mirrored-2.ensures.value, c.mirrored-3.ensures.value) at (c.in_default-spot_below.ensures.none refl))
 
 pub returns-then-between_x-gt0 : goal.returns-then-between_x-gt0
 returns-then-between_x-gt0 c =
-    let r = kept w64 c.args.radius widest c.requires.r_ok.within refl in
+    let r = radius_kept c.args.radius c.requires.r_ok in
     let x = kept w128 c.between_x.result most_mixed_place c.between_x.ensures.bound.within refl in
     let low = rw r at c.in-Some.ensures.found in
     let high = rw (r, c.mirrored.ensures.value, c.mirrored-2.ensures.value, c.mirrored-3.ensures.value) at c.in-Some-spot_below.ensures.found in
@@ -35,7 +36,7 @@ returns-then-between_x-gt0 c =
 
 pub returns : goal.returns
 returns c =
-    let r = kept w64 c.args.radius widest c.requires.r_ok.within refl in
+    let r = radius_kept c.args.radius c.requires.r_ok in
     let x = kept w128 c.between_x.result most_mixed_place c.between_x.ensures.bound.within refl in
     let low = rw r at c.in-Some.ensures.found in
     let high = rw (r, c.mirrored.ensures.value, c.mirrored-2.ensures.value, c.mirrored-3.ensures.value) at c.in-Some-spot_below.ensures.found in
