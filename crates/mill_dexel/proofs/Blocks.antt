@@ -6,9 +6,10 @@ use Rattle.std.proofs.lemmas.Int.{ints}
 use Rattle.std.proofs.Math.Seq.{drop-nil}
 use Rattle.std.proofs.lemmas.List.Sums.{fold-append}
 use Rattle.mill_base.specs.Points.{point_at, point_tri}
-use Rattle.mill_base.specs.Ranges.{MoveInTextRange, MovesInTextRange}
+use Rattle.mill_base.specs.Ranges.{MoveInRange, MovesInRange}
 use Rattle.mill_base.specs.Sizes.{IsCutter, radius_of}
 use Rattle.mill_base.specs.declared.motion.Move.{Move}
+use Rattle.mill_base.specs.declared.limits.TheConstants.{MAX_LAST_REACH}
 use Rattle.mill_job.specs.declared.job.Job.{Job}
 use Rattle.mill_job.specs.Jobs.{IsJob}
 use Rattle.mill_job.specs.Columns.{column_x, column_y}
@@ -146,10 +147,10 @@ turns_end job moves limit old new all = by old.failed
     by (Some fail) same = same
 
 -- a move that stays far away from a row leaves its tops as they are, and where it is a rapid, it passes the row
-far_clears : (job : Job) (r : RowState) (m : Move) → IsCutter job.cutter → MoveInTextRange m → IsBeyond (radius_of job.cutter +ℤ pos 2) m.from.y m.to.y (column_y job r.row) → ClearsRow job r m
+far_clears : (job : Job) (r : RowState) (m : Move) → IsCutter job.cutter → MoveInRange m → IsBeyond (radius_of job.cutter +ℤ pos MAX_LAST_REACH) m.from.y m.to.y (column_y job r.row) → ClearsRow job r m
 far_clears job r m size range beyond rapid = λ i within. by (column_x job i) (column_y job r.row) (top_at r.tops i) beyond
   where
-    by : (x y z : ℤ) → IsBeyond (radius_of job.cutter +ℤ pos 2) m.from.y m.to.y y → PassesPoint job.cutter m (point_at x y z)
+    by : (x y z : ℤ) → IsBeyond (radius_of job.cutter +ℤ pos MAX_LAST_REACH) m.from.y m.to.y y → PassesPoint job.cutter m (point_at x y z)
     by x y z (inl h) = far_passes job.cutter m (point_tri (point_at x y z)) size range (inr (inr (inr (record { a_e = h.first; b_e = h.first; c_e = h.first; a_f = h.second; b_f = h.second; c_f = h.second }))))
     by x y z (inr h) = far_passes job.cutter m (point_tri (point_at x y z)) size range (inr (inr (inl (record { a_e = h.first; b_e = h.first; c_e = h.first; a_f = h.second; b_f = h.second; c_f = h.second }))))
 
@@ -172,7 +173,7 @@ in_band_beyond : (distance y low high : ℤ) (m : Move) → IsInBand low high m 
 in_band_beyond distance y low high m inside (inl h) = let l = h.first in let a = inside.from_low in let b = inside.to_low in inl (record { first = omega (arith, ints); second = omega (arith, ints) })
 in_band_beyond distance y low high m inside (inr h) = let l = h.second in let a = inside.from_high in let b = inside.to_high in inr (record { first = omega (arith, ints); second = omega (arith, ints) })
 
-contained : (moves : List Move) (k : ℕ) → MovesInTextRange moves → k < length moves → MoveInTextRange (move_at moves k)
+contained : (moves : List Move) (k : ℕ) → MovesInRange moves → k < length moves → MoveInRange (move_at moves k)
 contained moves k range there = range (move_at moves k) (k, there, move_read moves k (move_at moves k) there)
 
 -- a row that hasn't failed, before its next move
@@ -189,25 +190,25 @@ run_start job moves r is_row unfailed = record {
     none n = omega arith
 
 -- a row passes over moves that stay far away from it
-module _ (job : Job) (moves : List Move) (old now : RowState) (start : ℕ) (size : IsCutter job.cutter) (range : MovesInTextRange moves) (run : IsRunTo job moves old now start) where
+module _ (job : Job) (moves : List Move) (old now : RowState) (start : ℕ) (size : IsCutter job.cutter) (range : MovesInRange moves) (run : IsRunTo job moves old now start) where
   -- the row, where it is before move k
   abbrev pub passing : ℕ → RowState
   passing k = record now { done = k }
 
   -- one move more
-  past_one : (k : ℕ) → k < length moves → IsBeyond (radius_of job.cutter +ℤ pos 2) (move_at moves k).from.y (move_at moves k).to.y (column_y job now.row) → IsRunTo job moves old (passing k) k
+  past_one : (k : ℕ) → k < length moves → IsBeyond (radius_of job.cutter +ℤ pos MAX_LAST_REACH) (move_at moves k).from.y (move_at moves k).to.y (column_y job now.row) → IsRunTo job moves old (passing k) k
       → IsRunTo job moves old (passing (k + 1)) (k + 1)
   past_one k there far before =
       run_more job moves old (passing k) (passing (k + 1)) k there before (far_clears job (passing k) (move_at moves k) size (contained moves k range there) far)
       (ap (λ (ts : List ℤ). record now { tops = ts; done = k + 1 }) (move_keeps job now.row (move_at moves k) now.tops size (nearer far)))
       (record { there = run.is_row.there; columns = run.is_row.columns; in_stock = run.is_row.in_stock })
     where
-      nearer : {a b y : ℤ} → IsBeyond (radius_of job.cutter +ℤ pos 2) a b y → IsBeyond (radius_of job.cutter) a b y
+      nearer : {a b y : ℤ} → IsBeyond (radius_of job.cutter +ℤ pos MAX_LAST_REACH) a b y → IsBeyond (radius_of job.cutter) a b y
       nearer (inl h) = let l = h.first in let k = h.second in inl (record { first = omega (arith, ints); second = omega (arith, ints) })
       nearer (inr h) = let l = h.first in let k = h.second in inr (record { first = omega (arith, ints); second = omega (arith, ints) })
 
   pub run_past : (more : ℕ) → start + more ≤ length moves
-      → ((k : ℕ) → start ≤ k → k < start + more → IsBeyond (radius_of job.cutter +ℤ pos 2) (move_at moves k).from.y (move_at moves k).to.y (column_y job now.row))
+      → ((k : ℕ) → start ≤ k → k < start + more → IsBeyond (radius_of job.cutter +ℤ pos MAX_LAST_REACH) (move_at moves k).from.y (move_at moves k).to.y (column_y job now.row))
       → IsRunTo job moves old (passing (start + more)) (start + more)
   run_past zero there far =
       let same : start ≡ start + zero = omega arith in
@@ -218,14 +219,14 @@ module _ (job : Job) (moves : List Move) (old now : RowState) (start : ℕ) (siz
       (past_one (start + more) (omega (arith, there)) (far (start + more) (omega arith) (omega arith)) (run_past more (omega (arith, there)) (λ k from to. far k from (omega (arith, to)))))
 
 -- so a row that goes over a band at once went through its turns up to the band's end
-pub over_is_up_to : (job : Job) (moves : List Move) (band : Band) (old new : RowState) → IsJob job → MovesInTextRange moves → IsRowOf job old → old.failed ≡ None → band.«end» ≤ length moves → IsBand moves band
+pub over_is_up_to : (job : Job) (moves : List Move) (band : Band) (old new : RowState) → IsJob job → MovesInRange moves → IsRowOf job old → old.failed ≡ None → band.«end» ≤ length moves → IsBand moves band
     → PassesOver job band old new → IsTurnedUpTo job moves band.«end» old new
 over_is_up_to job moves band old new is_job range is_row unfailed there is_band over =
     subst (IsTurnedUpTo job moves band.«end» old) (sym over.is)
     (subst (λ (k : ℕ). IsTurnedUpTo job moves band.«end» old (record old { done = k })) whole
     (run_ended job moves band.«end» old (record old { done = old.done + (band.«end» - old.done) }) (old.done + (band.«end» - old.done)) (omega (arith, over.onward))
     (run_past job moves old old old.done is_job.cutter_ok range (run_start job moves old is_row unfailed) (band.«end» - old.done) (omega (arith, there, over.onward))
-    (λ k from to. in_band_beyond (radius_of job.cutter +ℤ pos 2) (column_y job old.row) band.low band.high (move_at moves k) (is_band k (omega (arith, from, over.first)) (omega (arith, to, over.onward))) over.beyond))))
+    (λ k from to. in_band_beyond (radius_of job.cutter +ℤ pos MAX_LAST_REACH) (column_y job old.row) band.low band.high (move_at moves k) (is_band k (omega (arith, from, over.first)) (omega (arith, to, over.onward))) over.beyond))))
   where
     whole : old.done + (band.«end» - old.done) ≡ band.«end»
     whole = omega (arith, over.onward)

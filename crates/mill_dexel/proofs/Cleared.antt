@@ -14,6 +14,7 @@ use Rattle.mill_base.specs.Sizes.{IsCutter, radius_of, is_within, cut_height_of}
 use Rattle.mill_base.specs.declared.points.Pt3.{Pt3}
 use Rattle.mill_base.specs.declared.motion.Move.{Move}
 use Rattle.mill_base.specs.declared.cutter.Cutter.{Cutter}
+use Rattle.mill_base.specs.declared.limits.TheConstants.{MAX_RADIUS}
 use Rattle.mill_shape.proofs.CutHeights.{cut_height_is_greatest, cutter_is_wide}
 use Rattle.mill_shape.proofs.Holding.{holds_near, holds_over_tip}
 use Rattle.mill_shape.proofs.Over.{holds_over}
@@ -84,7 +85,7 @@ module _ (cutter : Cutter) (t : Pt3) (x y : ℤ) where
       by None e = free_beside top e
       by (Some h) e =
           greater_is (IsFreeAt cutter t x y) floor (lesser top h) (free_under_tip floor size low)
-          (free_lower (lesser top h) h (lesser_right top h) (cut_height_is_greatest cutter t x y h (cutter_is_wide cutter (pos 10000) (omega (arith, ints)) size) e).free)
+          (free_lower (lesser top h) h (lesser_right top h) (cut_height_is_greatest cutter t x y h (cutter_is_wide cutter MAX_RADIUS (omega (arith, ints)) size) e).free)
 
 -- no cut of a job takes it back
 module _ (job : Job) (t : Pt3) (x y : ℤ) (size : IsCutter job.cutter) (low : job.floor ≤ℤ t.z) where

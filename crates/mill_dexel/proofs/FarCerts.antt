@@ -1,3 +1,4 @@
+-- Polynomial facts behind what stands far from a move; written by tools/certificates.py from tools/certificates/mill_dexel_far.spec.
 use Rattle.std.proofs.Common.{[], ◌∷◌, refl}
 use lib.IntN.{ℤ, pos, ◌+ℤ◌, ◌-ℤ◌, ◌*ℤ◌}
 use lib.Signed.{◌≤ℤ◌}

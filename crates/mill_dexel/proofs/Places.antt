@@ -8,13 +8,14 @@ use lib.Signed.{shr_z}
 use Rattle.mill_base.proofs.Divisions.{half_low, half_high}
 use Rattle.mill_base.proofs.Machine.{Read, Lit, Diff, exact, stored}
 use Rattle.mill_base.specs.Numbers.{floor_div, round_half_up, divides, least_from, Within}
-use Rattle.mill_base.specs.declared.limits.TheConstants.{MAX_TEXT_COORDINATE}
+use Rattle.mill_base.specs.declared.limits.TheConstants.{MAX_COORDINATE, MAX_RADIUS}
 use Rattle.mill_base.specs.Points.{point_at}
 use Rattle.mill_base.specs.Sizes.{IsCutter, HasRadius, inner, shift, radius_of, with_radius}
 use Rattle.mill_base.specs.declared.motion.Move.{Move}
 use Rattle.mill_base.specs.declared.cutter.Cutter.{Cutter}
 use Rattle.mill_base.specs.declared.cutter.Cutter.TheVariants.{Flat, Ball, Cone}
 use Rattle.mill_sweep.specs.Leaves.{length_x, length_y}
+use Rattle.mill_sweep.specs.Widths.{longest, end_depth, farthest_end}
 use Rattle.mill_dexel.specs.declared.sample.Placed.{Placed}
 use Rattle.mill_dexel.specs.Samples.{placed, is_split, split_of, centre_of, is_whole, raised_over, sample_at}
 use Rattle.mill_dexel.proofs.InnerCerts.{nearest_low, nearest_high}
@@ -38,7 +39,7 @@ passed test more start fails = by (test start) fails
 tested : (sample : ℤ) (m : Move) (s length d : ℕ) (b : Bool) → s ≡ nat_abs sample → length ≡ length_x m + length_y m → b ≡ nat_le length (s * 2 ^ d) → b ≡ is_split sample m d
 tested sample m s length d b es el eb = rw (eb, es, el) refl
 
-pub split_found : (sample : ℤ) (m : Move) (s length d : ℕ) (b : Bool) → s ≡ nat_abs sample → length ≡ length_x m + length_y m → b ≡ nat_le length (s * 2 ^ d) → b ≡ true → d < 19
+pub split_found : (sample : ℤ) (m : Move) (s length d : ℕ) (b : Bool) → s ≡ nat_abs sample → length ≡ length_x m + length_y m → b ≡ nat_le length (s * 2 ^ d) → b ≡ true → d < end_depth
     → least_from (is_split sample m) (64 - d) d ≡ split_of sample m → d ≡ split_of sample m
 split_found sample m s length d b es el eb passes less so_far =
     let left : 64 - d ≡ suc (63 - d) = omega arith in
@@ -46,7 +47,7 @@ split_found sample m s length d b es el eb passes less so_far =
     ∙ ap (λ (n : ℕ). least_from (is_split sample m) n d) (sym left)
     ∙ so_far
 
-pub split_passed : (sample : ℤ) (m : Move) (s length d : ℕ) (b : Bool) → s ≡ nat_abs sample → length ≡ length_x m + length_y m → b ≡ nat_le length (s * 2 ^ d) → b ≡ false → d < 19
+pub split_passed : (sample : ℤ) (m : Move) (s length d : ℕ) (b : Bool) → s ≡ nat_abs sample → length ≡ length_x m + length_y m → b ≡ nat_le length (s * 2 ^ d) → b ≡ false → d < end_depth
     → least_from (is_split sample m) (64 - d) d ≡ split_of sample m → least_from (is_split sample m) (64 - (d + 1)) (d + 1) ≡ split_of sample m
 split_passed sample m s length d b es el eb fails less so_far =
     let left : 64 - d ≡ suc (63 - d) = omega arith in
@@ -59,14 +60,14 @@ split_passed sample m s length d b es el eb fails less so_far =
 within_is : (a b : ℕ) → a ≤ b → nat_le a b ≡ true
 within_is a b h = grind arith
 
--- after 19 halvings a move in range is split for every sample
-pub split_last : (sample : ℤ) (m : Move) (length d : ℕ) → (pos 1) ≤ℤ sample → length ≡ length_x m + length_y m → length ≤ 2 ^ 19 → d ≡ 19
-    → least_from (is_split sample m) (64 - d) d ≡ split_of sample m → 19 ≡ split_of sample m
+-- after so many halvings a move in range is split for every sample
+pub split_last : (sample : ℤ) (m : Move) (length d : ℕ) → (pos 1) ≤ℤ sample → length ≡ length_x m + length_y m → length ≤ 2 * longest → d ≡ end_depth
+    → least_from (is_split sample m) (64 - d) d ≡ split_of sample m → end_depth ≡ split_of sample m
 split_last sample m length d least el short e so_far =
-    sym (found (is_split sample m) 44 19 (long (nat_abs sample) (omega (arith, ints)))) ∙ subst (λ (n : ℕ). least_from (is_split sample m) (64 - n) n ≡ split_of sample m) e so_far
+    sym (found (is_split sample m) (63 - end_depth) end_depth (long (nat_abs sample) (omega (arith, ints)))) ∙ subst (λ (n : ℕ). least_from (is_split sample m) (64 - n) n ≡ split_of sample m) e so_far
   where
-    long : (s : ℕ) → 1 ≤ s → nat_le (length_x m + length_y m) (s * 524288) ≡ true
-    long s h = let small : length ≤ 524288 = short in within_is (length_x m + length_y m) (s * 524288) (omega arith)
+    long : (s : ℕ) → 1 ≤ s → nat_le (length_x m + length_y m) (s * 2 ^ end_depth) ≡ true
+    long s h = within_is (length_x m + length_y m) (s * 2 ^ end_depth) (omega arith)
 
 -- a bounded number's quotient is within the bound
 quotient_within : (z : ℤ) (n g : ℕ) → 0 < n → nat_abs z ≤ n * g → nat_abs (floor_div z n) ≤ g
@@ -82,16 +83,16 @@ shift_is (pos a) n = refl
 shift_is (negsuc a) n = refl
 
 -- the quotient that is rounded up, as the code computes it
-pub up_is : (end : ℤ) (d : ℕ) → Within (2 ^ 37) end → shr_z (stored w64 (pos 0 -ℤ stored w64 end)) (2 ^ d) ≡ floor_div (neg_ℤ end) (2 ^ d)
+pub up_is : (end : ℤ) (d : ℕ) → Within (farthest_end) end → shr_z (stored w64 (pos 0 -ℤ stored w64 end)) (2 ^ d) ≡ floor_div (neg_ℤ end) (2 ^ d)
 up_is end d fits =
     shift_is _ (2 ^ d)
-    ∙ ap (λ t. floor_div t (2 ^ d)) (exact (end ∷ []) (2 ^ 37 ∷ []) (Diff w64 (Lit (pos 0)) (Read w64 0)) (fits.within, tt) refl ∙ opposite end)
+    ∙ ap (λ t. floor_div t (2 ^ d)) (exact (end ∷ []) (farthest_end ∷ []) (Diff w64 (Lit (pos 0)) (Read w64 0)) (fits.within, tt) refl ∙ opposite end)
   where
     opposite : (z : ℤ) → pos 0 -ℤ z ≡ neg_ℤ z
     opposite z = omega (arith, ints)
 
-pub up_within : (end : ℤ) (d : ℕ) → nat_abs end ≤ 2 ^ d * MAX_TEXT_COORDINATE → nat_abs (floor_div (neg_ℤ end) (2 ^ d)) ≤ MAX_TEXT_COORDINATE
-up_within end d within = quotient_within (neg_ℤ end) (2 ^ d) MAX_TEXT_COORDINATE (pow_pos d) (turned end within)
+pub up_within : (end : ℤ) (d : ℕ) → nat_abs end ≤ 2 ^ d * MAX_COORDINATE → nat_abs (floor_div (neg_ℤ end) (2 ^ d)) ≤ MAX_COORDINATE
+up_within end d within = quotient_within (neg_ℤ end) (2 ^ d) MAX_COORDINATE (pow_pos d) (turned end within)
   where
     turned : (z : ℤ) {b : ℕ} → nat_abs z ≤ b → nat_abs (neg_ℤ z) ≤ b
     turned z h = omega (arith, ints)
@@ -143,7 +144,7 @@ pub record IsNarrower (cutter n : Cutter) : Type 0 where
   pub size : IsCutter n
   pub radius : radius_of n +ℤ pos 1 ≡ radius_of cutter
 
-narrow_radius : (r : ℤ) → HasRadius r (pos 10000) → (pos 1) <ℤ r → HasRadius (r -ℤ pos 1) (pos 10000)
+narrow_radius : (r : ℤ) → HasRadius r MAX_RADIUS → (pos 1) <ℤ r → HasRadius (r -ℤ pos 1) MAX_RADIUS
 narrow_radius r size more = record { least = omega (arith, ints); within = let most = size.within in omega (arith, ints) }
 
 narrow_size : (cutter : Cutter) → IsCutter cutter → (pos 1) <ℤ radius_of cutter → IsCutter (with_radius cutter (radius_of cutter -ℤ pos 1))

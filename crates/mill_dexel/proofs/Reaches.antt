@@ -13,7 +13,8 @@ use Rattle.mill_base.specs.declared.cutter.Cutter.{Cutter}
 use Rattle.mill_base.specs.declared.cutter.Cutter.TheVariants.{Flat, Ball, Cone}
 use Rattle.mill_base.proofs.Exit.{split_lt}
 use Rattle.mill_base.proofs.Machine.{Read, Lit, Sum, exact, sum_fits, stored}
-use Rattle.mill_base.specs.Ranges.{MoveInTextRange}
+use Rattle.mill_base.specs.Ranges.{MoveInRange}
+use Rattle.mill_base.specs.declared.limits.TheConstants.{MAX_RADIUS, MAX_LAST_REACH}
 use Rattle.mill_base.proofs.Integers.{sq-ℤ}
 use Rattle.mill_shape.proofs.CutHeights.{cut_height_is_greatest, cutter_is_wide}
 use Rattle.mill_shape.proofs.Holding.{holds_over_tip}
@@ -109,7 +110,7 @@ cut_is_over : (s : Placed) (x y h : ℤ) → IsCutter s.cutter → cut_height_of
 cut_is_over s x y h size cut = elim (split_lt h s.tip.z) [
   | inr over ↦ over
   | inl under ↦ absurd (
-      let held = (cut_height_is_greatest s.cutter s.tip x y h (cutter_is_wide s.cutter (pos 10000) (omega (arith, ints)) size) cut).greatest s.tip.z under in
+      let held = (cut_height_is_greatest s.cutter s.tip x y h (cutter_is_wide s.cutter MAX_RADIUS (omega (arith, ints)) size) cut).greatest s.tip.z under in
       let over = holds_over_tip s.cutter (pos 1) s.tip (pos 1) (point_at x y s.tip.z) (radius_least s.cutter size) (omega (arith, ints)) (omega (arith, ints)) held in
       omega (arith, ints))
 ]
@@ -131,16 +132,16 @@ free_keeps s floor x y top size low high =
     over h k = omega (arith, ints)
 
 -- a move passes each point of a column at least the radius and 2 under or over both its ends in x
-pub under_passes : (cutter : Cutter) (m : Move) (x y z : ℤ) → IsCutter cutter → MoveInTextRange m → IsUnderBy (radius_of cutter +ℤ pos 2) m.from.x m.to.x x → PassesPoint cutter m (point_at x y z)
+pub under_passes : (cutter : Cutter) (m : Move) (x y z : ℤ) → IsCutter cutter → MoveInRange m → IsUnderBy (radius_of cutter +ℤ pos MAX_LAST_REACH) m.from.x m.to.x x → PassesPoint cutter m (point_at x y z)
 under_passes cutter m x y z size range h =
     far_passes cutter m (point_tri (point_at x y z)) size range (inr (inl (inr (record { a_e = h.first; b_e = h.first; c_e = h.first; a_f = h.second; b_f = h.second; c_f = h.second }))))
 
-pub over_passes : (cutter : Cutter) (m : Move) (x y z : ℤ) → IsCutter cutter → MoveInTextRange m → IsOverBy (radius_of cutter +ℤ pos 2) m.from.x m.to.x x → PassesPoint cutter m (point_at x y z)
+pub over_passes : (cutter : Cutter) (m : Move) (x y z : ℤ) → IsCutter cutter → MoveInRange m → IsOverBy (radius_of cutter +ℤ pos MAX_LAST_REACH) m.from.x m.to.x x → PassesPoint cutter m (point_at x y z)
 over_passes cutter m x y z size range h =
     far_passes cutter m (point_tri (point_at x y z)) size range (inr (inl (inl (record { a_e = h.first; b_e = h.first; c_e = h.first; a_f = h.second; b_f = h.second; c_f = h.second }))))
 
 -- a job's cutter has a radius up to 10,000
-pub radius_most : (cutter : Cutter) → IsCutter cutter → radius_of cutter ≤ℤ pos 10000
+pub radius_most : (cutter : Cutter) → IsCutter cutter → radius_of cutter ≤ℤ MAX_RADIUS
 radius_most (Flat r) h = h.within
 radius_most (Ball r) h = h.within
 radius_most (Cone r a b) h = h.0.within
@@ -148,11 +149,11 @@ radius_most (Cone r a b) h = h.0.within
 radius_small : (cutter : Cutter) (r : ℤ) → IsCutter cutter → r ≡ radius_of cutter → nat_abs r ≤ 10000
 radius_small cutter r size e = rw e (small (radius_of cutter) (radius_least cutter size) (radius_most cutter size))
   where
-    small : (q : ℤ) → (pos 1) ≤ℤ q → q ≤ℤ pos 10000 → nat_abs q ≤ 10000
+    small : (q : ℤ) → (pos 1) ≤ℤ q → q ≤ℤ MAX_RADIUS → nat_abs q ≤ 10000
     small q least most = omega (arith, ints)
 
 -- the distance beyond which a move passes, as the code has it
-pub passes_beyond : (cutter : Cutter) (r : ℤ) → IsCutter cutter → r ≡ radius_of cutter → stored w32 (stored w32 r +ℤ pos 2) ≡ radius_of cutter +ℤ pos 2
+pub passes_beyond : (cutter : Cutter) (r : ℤ) → IsCutter cutter → r ≡ radius_of cutter → stored w32 (stored w32 r +ℤ pos 2) ≡ radius_of cutter +ℤ pos MAX_LAST_REACH
 passes_beyond cutter r size e = exact (r ∷ []) (10000 ∷ []) (Sum w32 (Read w32 0) (Lit (pos 2))) (radius_small cutter r size e, tt) refl ∙ ap (λ (s : ℤ). s +ℤ pos 2) e
 
 pub beyond_fits : (cutter : Cutter) (r : ℤ) → IsCutter cutter → r ≡ radius_of cutter → FitsSigned w32 (stored w32 r +ℤ pos 2)
@@ -178,5 +179,5 @@ outside_keeps s floor x y top size low outside =
     kept_over floor top (cut_height_of s.cutter s.tip x y) low (λ h cut. at_most h cut (split_lt h top))
   where
     at_most : (h : ℤ) → cut_height_of s.cutter s.tip x y ≡ Some h → (h <ℤ top) ⊎ (top ≤ℤ h) → top ≤ℤ h
-    at_most h cut (inl under) = absurd (outside ((cut_height_is_greatest s.cutter s.tip x y h (cutter_is_wide s.cutter (pos 10000) (omega (arith, ints)) size) cut).greatest top under))
+    at_most h cut (inl under) = absurd (outside ((cut_height_is_greatest s.cutter s.tip x y h (cutter_is_wide s.cutter MAX_RADIUS (omega (arith, ints)) size) cut).greatest top under))
     at_most h cut (inr over) = over

@@ -15,6 +15,7 @@ use Rattle.mill_base.specs.declared.points.Pt3.{Pt3}
 use Rattle.mill_base.specs.declared.motion.Move.{Move}
 use Rattle.mill_base.specs.declared.cutter.Cutter.{Cutter}
 use Rattle.mill_base.specs.declared.cutter.Cutter.TheVariants.{Flat, Ball, Cone}
+use Rattle.mill_base.specs.declared.limits.TheConstants.{MAX_RADIUS}
 use Rattle.mill_shape.proofs.CutHeights.{cut_height_is_greatest, cutter_is_wide}
 use Rattle.mill_sweep.specs.Leaves.{end_of}
 use Rattle.mill_sweep.proofs.Passing.{radius_least}
@@ -34,7 +35,7 @@ sample_holds : (s : Placed) (floor x y top h : ℤ) → IsCutter s.cutter → to
 sample_holds s floor x y top h size under =
     elim (lowered_under floor top h (cut_height_of s.cutter s.tip x y) under) [
       | inl before ↦ inl before
-      | inr cut ↦ inr ((cut_height_is_greatest s.cutter s.tip x y cut.0 (cutter_is_wide s.cutter (pos 10000) (omega (arith, ints)) size) cut.1.0).greatest h cut.1.1)
+      | inr cut ↦ inr ((cut_height_is_greatest s.cutter s.tip x y cut.0 (cutter_is_wide s.cutter MAX_RADIUS (omega (arith, ints)) size) cut.1.0).greatest h cut.1.1)
     ]
 
 -- the moment k/2^d of a move, for k up to 2^d

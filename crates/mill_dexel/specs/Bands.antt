@@ -2,6 +2,7 @@
 use Rattle.std.specs.Prelude.{◌≡◌, ℕ, ◌<◌, ◌≤◌, ℤ, pos, ◌+ℤ◌, ◌≤ℤ◌, List}
 use Rattle.mill_base.specs.Sizes.{radius_of}
 use Rattle.mill_base.specs.declared.motion.Move.{Move}
+use Rattle.mill_base.specs.declared.limits.TheConstants.{MAX_LAST_REACH}
 use Rattle.mill_job.specs.declared.job.Job.{Job}
 use Rattle.mill_job.specs.Columns.{column_y}
 use Rattle.mill_dexel.specs.declared.band.Band.{Band}
@@ -24,5 +25,5 @@ IsBand moves band = (k : ℕ) → band.first ≤ k → k < band.«end» → IsIn
 pub record PassesOver (job : Job) (band : Band) (old new : RowState) : Type 0 where
   pub first : band.first ≤ old.done
   pub onward : old.done ≤ band.«end»
-  pub beyond : IsBeyond (radius_of job.cutter +ℤ pos 2) band.low band.high (column_y job old.row)
+  pub beyond : IsBeyond (radius_of job.cutter +ℤ pos MAX_LAST_REACH) band.low band.high (column_y job old.row)
   pub is : new ≡ record old { done = band.«end» }

@@ -1,7 +1,7 @@
 -- What one sample does to the tops of a row, and which columns and rows it leaves alone.
 use Rattle.std.specs.Prelude.{◌≡◌, ◌⊎◌, ℕ, ◌+◌, ◌<◌, ◌≤◌, neg_ℤ, ℤ, pos, ◌+ℤ◌, ◌≤ℤ◌, List, length, Option, None, Some, MatchOption}
 use Rattle.mill_base.specs.Numbers.{Within, square}
-use Rattle.mill_base.specs.declared.limits.TheConstants.{MAX_TEXT_COORDINATE}
+use Rattle.mill_base.specs.declared.limits.TheConstants.{MAX_COORDINATE, MAX_LAST_REACH}
 use Rattle.mill_base.specs.Sizes.{IsCutter, radius_of, inner, shift}
 use Rattle.mill_base.specs.declared.points.Pt3.{Pt3}
 use Rattle.mill_base.specs.declared.cutter.Cutter.{Cutter}
@@ -36,9 +36,9 @@ pub record IsReachBy (job : Job) (r a b : ℤ) (first «end» : ℕ) : Type 0 wh
   pub under : (i : ℕ) → i < first → IsUnderBy r a b (column_x job i)
   pub over : (i : ℕ) → «end» ≤ i → i < column_count job → IsOverBy r a b (column_x job i)
 
--- the same by the radius of the job's cutter and 2, beyond which a move passes each column
+-- the same by the radius of the job's cutter and the last reach, beyond which a move passes each column
 abbrev pub IsReach : Job → ℤ → ℤ → ℕ → ℕ → Type 0
-IsReach job a b first «end» = IsReachBy job (radius_of job.cutter +ℤ pos 2) a b first «end»
+IsReach job a b first «end» = IsReachBy job (radius_of job.cutter +ℤ pos MAX_LAST_REACH) a b first «end»
 
 -- y is at least r away from the interval from a to b
 abbrev pub IsBeyond : ℤ → ℤ → ℤ → ℤ → Type 0
@@ -52,10 +52,10 @@ pub record IsHalfChord (r distance chord : ℤ) : Type 0 where
 -- a sample of a job's moves: its cutter has a job's size, and its tip is in range but for a rise of up to 16
 pub record IsSample (s : Placed) : Type 0 where
   pub cutter_ok : IsCutter s.cutter
-  pub x_ok : Within MAX_TEXT_COORDINATE s.tip.x
-  pub y_ok : Within MAX_TEXT_COORDINATE s.tip.y
-  pub z_least : neg_ℤ (pos 131071) ≤ℤ s.tip.z
-  pub z_most : s.tip.z ≤ℤ pos (131071 + 16)
+  pub x_ok : Within MAX_COORDINATE s.tip.x
+  pub y_ok : Within MAX_COORDINATE s.tip.y
+  pub z_least : neg_ℤ (pos MAX_COORDINATE) ≤ℤ s.tip.z
+  pub z_most : s.tip.z ≤ℤ pos (MAX_COORDINATE + 16)
 
 -- the cutter narrowed by 1, with how far it is raised, none at radius 1
 abbrev pub IsNarrowed : Cutter → Option (Cutter × ℤ) → Type 0

@@ -1,15 +1,15 @@
 ghost use Rattle.std.specs.Prelude.{◌*◌, ◌+◌, ◌-ℤ◌, ◌<◌, ◌≤◌, MatchOption, pos};
 ghost use Rattle.mill_base.specs.Numbers.{Within};
-ghost use Rattle.mill_base.specs.declared.limits.TheConstants.{MAX_TEXT_COORDINATE};
+ghost use Rattle.mill_base.specs.declared.limits.TheConstants.{MAX_COORDINATE, MAX_RADIUS};
 ghost use Rattle.mill_base.specs.Sizes.{HasRadius};
 ghost use Rattle.mill_dexel.specs.Cuts.{IsBeyond, IsHalfChord};
 
 /// At least half of the chord at which the row at `y` crosses the circle of the radius round
 /// `middle`. There is none where the row stands at least the radius away.
 pub(crate) fn half_chord(radius: i32, y: i32, middle: i32) -> Option<i32>
-    requires radius_ok { HasRadius radius (pos 10000) }
-    requires y_ok { Within MAX_TEXT_COORDINATE y }
-    requires middle_ok { Within MAX_TEXT_COORDINATE middle }
+    requires radius_ok { HasRadius radius MAX_RADIUS }
+    requires y_ok { Within MAX_COORDINATE y }
+    requires middle_ok { Within MAX_COORDINATE middle }
     ensures { MatchOption result (IsBeyond radius middle middle y) (IsHalfChord radius (y -ℤ middle)) }
 {
     let radius = radius.unsigned_abs();

@@ -1,9 +1,9 @@
 ghost use Rattle.std.specs.Prelude.{◌≡◌, ◌↔◌, ◌<◌, ◌≤◌, ◌≤ℤ◌, pos, length, slice_set, IsTrue, IfSome, Some};
 ghost use Rattle.mill_base.specs.Contact.{Holds};
 ghost use Rattle.mill_base.specs.Numbers.{Within};
-ghost use Rattle.mill_base.specs.declared.limits.TheConstants.{MAX_TEXT_COORDINATE};
+ghost use Rattle.mill_base.specs.declared.limits.TheConstants.{MAX_COORDINATE};
 ghost use Rattle.mill_base.specs.Points.{point_at};
-ghost use Rattle.mill_base.specs.Ranges.{MoveInTextRange};
+ghost use Rattle.mill_base.specs.Ranges.{MoveInRange};
 ghost use Rattle.mill_job.specs.Columns.{row_count, column_count, column_x, column_y};
 ghost use Rattle.mill_job.specs.Jobs.{IsJob};
 ghost use Rattle.mill_dexel.specs.Tops.{top_after_sample, tops_after_move};
@@ -26,7 +26,7 @@ pub(crate) fn cut_move(tops: &mut [i32], job: &Job, number: u32, step: &Move, la
     requires job { IsJob job.now }
     requires row { number < row_count job.now }
     requires columns { length tops.old ≡ column_count job.now }
-    requires step_ok { MoveInTextRange step.now }
+    requires step_ok { MoveInRange step.now }
     requires last { IfSome last (λ tip. IsCutAt job.now number tip tops.old) }
     ensures { tops.new ≡ tops_after_move job.now number 0 step.now tops.old }
 {
@@ -129,8 +129,8 @@ fn is_free(top: i32, floor: i32, tip: i32) -> bool
 /// sample's cutter, so that the cutter can't lower it. This takes no root, as a cut's height does.
 fn is_clear(sample: Placed, floor: i32, x: i32, y: i32, top: i32) -> bool
     requires sample_ok { IsSample sample }
-    requires x_ok { Within MAX_TEXT_COORDINATE x }
-    requires y_ok { Within MAX_TEXT_COORDINATE y }
+    requires x_ok { Within MAX_COORDINATE x }
+    requires y_ok { Within MAX_COORDINATE y }
     ensures low { IsTrue result → floor ≤ℤ top }
     ensures outside { IsTrue result → ¬ Holds sample.cutter (pos 1) sample.tip (pos 1) (point_at x y top) }
 {

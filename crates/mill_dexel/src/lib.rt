@@ -27,5 +27,5 @@ mod turns;
 pub use fail::RowFail;
 pub use laws::{cut_at_end, over_top_is_removed, passes_after_cut};
 pub use row::Row;
-pub use rows::rows_static;
+pub use rows::{rows_static, share};
 pub use turns::one_outcome;

@@ -1,11 +1,12 @@
 ghost use Rattle.std.specs.Prelude.{ℕ, ◌<◌, ◌≤◌, ◌*◌, ◌^◌, IsTrue, pos, ◌+ℤ◌, ◌≤ℤ◌, ◌<ℤ◌};
 ghost use Rattle.mill_base.specs.Numbers.{Within};
 ghost use Rattle.mill_base.specs.Sizes.{radius_of};
+ghost use Rattle.mill_base.specs.declared.limits.TheConstants.{MAX_LAST_REACH};
 ghost use Rattle.mill_job.specs.Columns.{column_count, column_x as x_of_column};
 ghost use Rattle.mill_job.specs.Jobs.{IsJob};
 ghost use Rattle.mill_dexel.specs.Cuts.{IsReach, IsReachBy, IsBeyond};
 
-use mill_base::Pt3;
+use mill_base::{MAX_LAST_REACH, Pt3};
 use mill_job::Job;
 
 /// The numbers of the columns that a move may touch: from `first` on, before `end`.
@@ -15,16 +16,18 @@ pub(crate) struct Reach {
     pub end: u32,
 }
 
-/// How far a column is to be away, beyond the radius, from a whole move that passes it.
-const PASSES_BEYOND: i32 = 2;
-
-/// The columns that stand nearer than the cutter's radius and 2 to the interval between two points
-/// in x. A move between these points passes each other column.
+/// The columns that stand nearer than the cutter's radius and the greatest last reach to the interval
+/// between two points in x. A move between these points passes each other column.
 pub(crate) fn reach_of(job: &Job, from: Pt3, to: Pt3) -> Reach
     requires { IsJob job.now }
     ensures { IsReach job.now from.x to.x result.first result.end }
 {
-    reach_by(job, job.cutter.radius() + PASSES_BEYOND, from.x, to.x)
+    reach_by(
+        job,
+        job.cutter.radius() + MAX_LAST_REACH as i32,
+        from.x,
+        to.x,
+    )
 }
 
 /// The columns that stand nearer than `distance` to the interval between two places in x.
@@ -97,7 +100,7 @@ pub(crate) fn is_beyond(y: i32, distance: i32, from: i32, to: i32) -> bool
 /// within it passes the row and leaves it uncut.
 pub(crate) fn is_apart(job: &Job, y: i32, from: i32, to: i32) -> bool
     requires { IsJob job.now }
-    ensures { IsTrue result → IsBeyond (radius_of job.now.cutter +ℤ pos 2) from to y }
+    ensures { IsTrue result → IsBeyond (radius_of job.now.cutter +ℤ pos MAX_LAST_REACH) from to y }
 {
-    is_beyond(y, job.cutter.radius() + PASSES_BEYOND, from, to)
+    is_beyond(y, job.cutter.radius() + MAX_LAST_REACH as i32, from, to)
 }

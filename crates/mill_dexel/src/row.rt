@@ -1,5 +1,5 @@
 ghost use Rattle.std.specs.Prelude.{◌≡◌, ◌<◌, false, length, None, IfOk, IfSome, IsTrue, MatchOption, replicate};
-ghost use Rattle.mill_base.specs.Ranges.{MoveInTextRange, MovesInTextRange};
+ghost use Rattle.mill_base.specs.Ranges.{MoveInRange, MovesInRange};
 ghost use Rattle.mill_base.specs.declared.motion.Kind.TheVariants.{Rapid};
 ghost use Rattle.mill_job.specs.Columns.{row_count, column_count};
 ghost use Rattle.mill_job.specs.Jobs.{IsJob};
@@ -80,7 +80,7 @@ impl Row {
     pub fn rapid_turn(&self, job: &Job, step: &Move) -> Option<(u32, Leaf)>
         requires job { IsJob job.now }
         requires row { IsRowOf job.now self.now }
-        requires step { MoveInTextRange step.now }
+        requires step { MoveInRange step.now }
         ensures first { MatchOption result (PassesRow job.now self.now step.now) (λ s. IsFirstStop job.now self.now step.now s.0 s.1) }
         ensures blocked { IfSome result (λ s. IsBlocked job.now self.now step.now s.0 s.1) }
     {
@@ -102,7 +102,7 @@ impl Row {
     pub fn cut_turn(&mut self, job: &Job, step: &Move)
         requires job { IsJob job.now }
         requires row { IsRowOf job.now self.old }
-        requires step { MoveInTextRange step.now }
+        requires step { MoveInRange step.now }
         ensures tops { self.new ≡ record self.old { tops = tops_after_move job.now self.old.row 0 step.now self.old.tops } }
         ensures row { IsRowOf job.now self.new }
     {
@@ -114,7 +114,7 @@ impl Row {
     /// is cut, and the answer is false.
     pub fn turn(&mut self, job: &Job, moves: &[Move], t: u64) -> bool
         requires job { IsJob job.now }
-        requires moves_ok { MovesInTextRange moves.now }
+        requires moves_ok { MovesInRange moves.now }
         requires row { IsRowOf job.now self.old }
         requires unfailed { self.old.failed ≡ None }
         requires next { t ≡ self.old.done }
@@ -127,7 +127,8 @@ impl Row {
         self.turn_after(job, moves, t, None)
     }
 
-    /// The same turn of a row that is known to be cut at the point `last`, if one is given.
+    /// The turn of move `t`, as `turn` makes it, in a row that is known to be cut at the point `last`, if
+    /// one is given.
     pub(crate) fn turn_after(
         &mut self,
         job: &Job,
@@ -136,7 +137,7 @@ impl Row {
         last: Option<Pt3>,
     ) -> bool
         requires job { IsJob job.now }
-        requires moves_ok { MovesInTextRange moves.now }
+        requires moves_ok { MovesInRange moves.now }
         requires row { IsRowOf job.now self.old }
         requires unfailed { self.old.failed ≡ None }
         requires next { t ≡ self.old.done }
@@ -180,7 +181,7 @@ impl Row {
     fn cut_after(&mut self, job: &Job, step: &Move, last: Option<Pt3>)
         requires job { IsJob job.now }
         requires row { IsRowOf job.now self.old }
-        requires step { MoveInTextRange step.now }
+        requires step { MoveInRange step.now }
         requires last { IfSome last (λ tip. IsCutAt job.now self.old.row tip self.old.tops) }
         ensures tops { self.new ≡ record self.old { tops = tops_after_move job.now self.old.row 0 step.now self.old.tops } }
         ensures row { IsRowOf job.now self.new }
@@ -193,7 +194,7 @@ impl Row {
     fn stop(&self, job: &Job, step: &Move) -> Option<RowFail>
         requires job { IsJob job.now }
         requires row { IsRowOf job.now self.now }
-        requires step { MoveInTextRange step.now }
+        requires step { MoveInRange step.now }
         ensures { MatchOption result (ClearsRow job.now self.now step.now) (StopsRow job.now self.now step.now) }
     {
         match step.kind {
@@ -206,7 +207,7 @@ impl Row {
     fn rapid_stop(&self, job: &Job, step: &Move) -> Option<RowFail>
         requires job { IsJob job.now }
         requires row { IsRowOf job.now self.now }
-        requires step { MoveInTextRange step.now }
+        requires step { MoveInRange step.now }
         requires rapid { step.now.kind ≡ Rapid }
         ensures { MatchOption result (ClearsRow job.now self.now step.now) (StopsRow job.now self.now step.now) }
     {
@@ -222,7 +223,7 @@ impl Row {
     fn is_passed_uncut(&self, job: &Job, step: &Move) -> bool
         requires job { IsJob job.now }
         requires row { IsRowOf job.now self.now }
-        requires step { MoveInTextRange step.now }
+        requires step { MoveInRange step.now }
         ensures { IsTrue result → PassesRow job.now self.now step.now }
     {
         passes_tri(job.cutter, step, &uncut_row(job, self.number))

@@ -1,6 +1,7 @@
-ghost use Rattle.std.specs.Prelude.{◌≡◌, ◌<◌, ◌≤◌, ◌^◌, All, length};
+ghost use Rattle.std.specs.Prelude.{◌≡◌, ◌<◌, ◌≤◌, ◌*◌, ◌/◌, ◌^◌, All, length};
 ghost use Rattle.std.specs.List.{AllZip};
-ghost use Rattle.mill_base.specs.Ranges.{MovesInTextRange};
+ghost use Rattle.mill_base.specs.Ranges.{MovesInRange};
+ghost use Rattle.mill_base.specs.declared.limits.TheConstants.{MAX_WORKERS};
 ghost use Rattle.mill_job.specs.Jobs.{IsJob};
 ghost use Rattle.mill_dexel.specs.Rows.{IsRowOf};
 ghost use Rattle.mill_dexel.specs.Bands.{IsBand};
@@ -28,9 +29,9 @@ pub fn rows_static<R: Threads + Sync>(
 ) -> Vec<Row>
     requires job { IsJob job.now }
     requires rows_ok { All (IsRowOf job.now) rows.items }
-    requires moves_ok { MovesInTextRange moves.now }
+    requires moves_ok { MovesInRange moves.now }
     requires some { 1 ≤ workers }
-    requires few { workers ≤ 64 }
+    requires few { workers ≤ MAX_WORKERS }
     ensures turned { AllZip (IsTurned job.now moves.now) rows.items result.items }
     ensures rows_ok { All (IsRowOf job.now) result.items }
 {
@@ -42,8 +43,8 @@ pub fn rows_static<R: Threads + Sync>(
 fn spread<R: Threads + Sync>(rt: &R, job: &Job, moves: &[Move], workers: u32, rows: &mut [Row])
     requires job { IsJob job.now }
     requires rows_ok { All (IsRowOf job.now) rows.old }
-    requires moves_ok { MovesInTextRange moves.now }
-    requires few { workers ≤ 64 }
+    requires moves_ok { MovesInRange moves.now }
+    requires few { workers ≤ MAX_WORKERS }
     ensures { AllZip (IsTurned job.now moves.now) rows.old rows.new }
 {
     if workers <= 1 || rows.len() <= 1 {
@@ -60,28 +61,32 @@ fn spread<R: Threads + Sync>(rt: &R, job: &Job, moves: &[Move], workers: u32, ro
             requires sync { IsSync R.row }
             requires job { IsJob job.now }
             requires rows_ok { All (IsRowOf job.now) left.now }
-            requires moves_ok { MovesInTextRange moves.now }
-            requires few { left_workers ≤ 64 }
+            requires moves_ok { MovesInRange moves.now }
+            requires few { left_workers ≤ MAX_WORKERS }
             ensures { AllZip (IsTurned job.entry.now moves.entry.now) left.entry.now left.exit.now }
         { spread(rt, job, moves, left_workers, left) },
         &mut || -> ()
             requires sync { IsSync R.row }
             requires job { IsJob job.now }
             requires rows_ok { All (IsRowOf job.now) right.now }
-            requires moves_ok { MovesInTextRange moves.now }
-            requires few { right_workers ≤ 64 }
+            requires moves_ok { MovesInRange moves.now }
+            requires few { right_workers ≤ MAX_WORKERS }
             ensures { AllZip (IsTurned job.entry.now moves.entry.now) right.entry.now right.exit.now }
         { spread(rt, job, moves, right_workers, right) },
     );
 }
 
-/// How many of `count` rows are for `some` of all the workers, so that each gets about as many.
-fn share(count: usize, some: u32, workers: u32) -> usize
-    requires some { 1 ≤ workers }
+/// How many of `count` pieces of work are for `some` of all the workers, so that each worker gets about
+/// as many.
+///
+/// The product of the two may be too great for a machine, so it is never made.
+pub fn share(count: usize, some: u32, workers: u32) -> usize
+    requires workers { 1 ≤ workers }
     requires part { some ≤ workers }
-    requires few { workers ≤ 64 }
+    requires few { workers ≤ MAX_WORKERS }
     requires count_ok { count ≤ 2 ^ 63 }
-    ensures { result ≤ count }
+    ensures value { result ≡ (count * some) / workers }
+    ensures bound { result ≤ count }
 {
     let some = some as usize;
     let workers = workers as usize;
@@ -96,7 +101,7 @@ const BLOCK: u64 = 512;
 fn run_all(job: &Job, moves: &[Move], rows: &mut [Row])
     requires job { IsJob job.now }
     requires rows_ok { All (IsRowOf job.now) rows.old }
-    requires moves_ok { MovesInTextRange moves.now }
+    requires moves_ok { MovesInRange moves.now }
     ensures { AllZip (IsTurned job.now moves.now) rows.old rows.new }
 {
     let count = moves.len() as u64;
@@ -121,7 +126,7 @@ fn block_end(first: u64, count: u64) -> u64
 fn run_block(job: &Job, moves: &[Move], band: &Band, rows: &mut [Row])
     requires job { IsJob job.now }
     requires rows_ok { All (IsRowOf job.now) rows.old }
-    requires moves_ok { MovesInTextRange moves.now }
+    requires moves_ok { MovesInRange moves.now }
     requires there { band.now.end ≤ length moves.now }
     requires band { IsBand moves.now band.now }
     ensures turned { AllZip (IsTurnedUpTo job.now moves.now band.now.end) rows.old rows.new }

@@ -1,7 +1,7 @@
 ghost use Rattle.std.specs.Prelude.{◌<◌};
 ghost use Rattle.mill_base.specs.Numbers.{Within};
-ghost use Rattle.mill_base.specs.declared.limits.TheConstants.{MAX_TEXT_COORDINATE};
-ghost use Rattle.mill_base.specs.Ranges.{MoveInTextRange};
+ghost use Rattle.mill_base.specs.declared.limits.TheConstants.{MAX_COORDINATE};
+ghost use Rattle.mill_base.specs.Ranges.{MoveInRange};
 ghost use Rattle.mill_base.specs.Sizes.{IsCutter};
 ghost use Rattle.mill_job.specs.Columns.{row_count};
 ghost use Rattle.mill_job.specs.Jobs.{IsJob};
@@ -45,9 +45,9 @@ fn three_columns() -> Job
 
 /// A move straight down at (x, 0), from 400 to this height.
 fn plunge(kind: Kind, x: i32, z: i32) -> Move
-    requires x_ok { Within MAX_TEXT_COORDINATE x }
-    requires z_ok { Within MAX_TEXT_COORDINATE z }
-    ensures { MoveInTextRange result }
+    requires x_ok { Within MAX_COORDINATE x }
+    requires z_ok { Within MAX_COORDINATE z }
+    ensures { MoveInRange result }
 {
     Move {
         kind,

@@ -1,5 +1,5 @@
 ghost use Rattle.std.specs.Prelude.{◌≡◌, ◌≤◌, None, length};
-ghost use Rattle.mill_base.specs.Ranges.{MovesInTextRange};
+ghost use Rattle.mill_base.specs.Ranges.{MovesInRange};
 ghost use Rattle.mill_job.specs.Jobs.{IsJob};
 ghost use Rattle.mill_dexel.specs.Rows.{IsRowOf};
 ghost use Rattle.mill_dexel.specs.Bands.{IsBand};
@@ -14,7 +14,7 @@ use mill_job::Job;
 /// A row that had failed is left as it is.
 pub(crate) fn run_to(row: &mut Row, job: &Job, moves: &[Move], band: &Band)
     requires job { IsJob job.now }
-    requires moves_ok { MovesInTextRange moves.now }
+    requires moves_ok { MovesInRange moves.now }
     requires there { band.now.end ≤ length moves.now }
     requires band { IsBand moves.now band.now }
     requires row { IsRowOf job.now row.old }
@@ -33,7 +33,7 @@ pub(crate) fn run_to(row: &mut Row, job: &Job, moves: &[Move], band: &Band)
 /// until one fails.
 fn run_on(row: &mut Row, job: &Job, moves: &[Move], end: u64)
     requires job { IsJob job.now }
-    requires moves_ok { MovesInTextRange moves.now }
+    requires moves_ok { MovesInRange moves.now }
     requires there { end ≤ length moves.now }
     requires row { IsRowOf job.now row.old }
     requires unfailed { row.old.failed ≡ None }

@@ -4,18 +4,19 @@ use Rattle.std.proofs.Common.{◌≡◌, inl, inr, arith}
 use Rattle.std.proofs.Math.Nat.{mul-le-mul}
 use Rattle.std.proofs.lemmas.Bool.{cases_lt}
 use Rattle.std.proofs.lemmas.Int.{ints}
-use Rattle.mill_base.specs.Ranges.{MoveInTextRange}
+use Rattle.mill_base.specs.Ranges.{MoveInRange}
 use Rattle.mill_base.specs.Sizes.{IsCutter, radius_of}
 use Rattle.mill_base.specs.declared.points.Tri.{Tri}
 use Rattle.mill_base.specs.declared.motion.Move.{Move}
 use Rattle.mill_base.specs.declared.cutter.Cutter.{Cutter}
-use Rattle.mill_shape.proofs.RootLemmas.{ceil_root_is}
+use Rattle.mill_base.specs.declared.limits.TheConstants.{MAX_LAST_REACH}
 use Rattle.mill_sweep.specs.Leaves.{depth_of, end_of, middle_of, farther_of, diagonal_of}
 use Rattle.mill_sweep.specs.Halving.{LeafPasses}
 use Rattle.mill_sweep.specs.Apart.{LieApart}
-use Rattle.mill_sweep.proofs.Far.{middle_under, middle_over, far_leaf}
+use Rattle.mill_sweep.proofs.Far.{IsBeside, middle_under, middle_over, far_leaf}
 use Rattle.mill_sweep.proofs.LeafCerts.{half_least, half_most, joint_least, joint_most, end_of_half_least, end_of_half_most, end_near_least, end_near_most}
-use Rattle.mill_sweep.proofs.Spans.{parts_twice, ends_near}
+use Rattle.mill_sweep.proofs.Spans.{parts_twice, diagonal_root, ends_near}
+use Rattle.mill_sweep.specs.Widths.{longest}
 
 -- both ends of a leaf along one axis lie from low to high, over the parts
 record EndsFrom (low high f t : ℤ) (d k : ℕ) : Type 0 where
@@ -68,11 +69,9 @@ nearer r q x m a b c low high (inr under) = inr (record {
     down y h = omega (arith, ints)
 
 -- a side is at most the diagonal
-pub side_most : (ex ey : ℕ) → ex ≤ 262144 → ey ≤ 262144 → (ex ≤ diagonal_of ex ey) × (ey ≤ diagonal_of ex ey)
+pub side_most : (ex ey : ℕ) → ex ≤ longest → ey ≤ longest → (ex ≤ diagonal_of ex ey) × (ey ≤ diagonal_of ex ey)
 side_most ex ey hx hy =
-    let x : ex * ex ≤ 262144 * 262144 = mul-le-mul hx hx in
-    let y : ey * ey ≤ 262144 * 262144 = mul-le-mul hy hy in
-    let reaches = (ceil_root_is (ex * ex + ey * ey) (omega arith)).reaches in
+    let reaches = (diagonal_root ex ey hx hy).reaches in
     (root ex (diagonal_of ex ey) (ey * ey) reaches (cases_lt (diagonal_of ex ey) ex), root ey (diagonal_of ex ey) (ex * ex) (omega arith) (cases_lt (diagonal_of ex ey) ey))
   where
     root : (s r o : ℕ) → s * s + o ≤ r * r → (r < s) ⊎ (s ≤ r) → s ≤ r
@@ -93,22 +92,22 @@ reached f t d k =
       last_most = end_near_most (pos (2 ^ d)) (middle_of f t d k) q q (end_of f t d (k + 1)) n e near.last_above;
     }
 
--- a leaf passes, where the triangle is at least the radius and 2 away from both its ends along one axis
-module _ (cutter : Cutter) (move : Move) (tri : Tri) (more d k : ℕ) (cutter_ok : IsCutter cutter) (range : MoveInTextRange move) (deep : d + more ≡ depth_of move) where
-  pub beside_x_passes : LieApart ((radius_of cutter +ℤ pos 2) +ℤ pos (farther_of move.from.x move.to.x d k)) (middle_of move.from.x move.to.x d k) (middle_of move.from.x move.to.x d k) tri.a.x tri.b.x tri.c.x
-      → LeafPasses cutter move tri more d k
-  beside_x_passes h =
-      let q = pos (farther_of move.from.x move.to.x d k) in
-      let x = middle_of move.from.x move.to.x d k in
-      far_leaf cutter move tri (λ i j. EndsFrom (x -ℤ q) (x +ℤ q) move.from.x move.to.x i j) (left_ends (x -ℤ q) (x +ℤ q) move.from.x move.to.x) (right_ends (x -ℤ q) (x +ℤ q) move.from.x move.to.x)
-      (λ i j e. inl (nearer (radius_of cutter +ℤ pos 2) q x (middle_of move.from.x move.to.x i j) tri.a.x tri.b.x tri.c.x (middle_over move.from.x move.to.x (x -ℤ q) i j e.first_least e.last_least) (middle_under move.from.x move.to.x (x +ℤ q) i j e.first_most e.last_most) h))
-      cutter_ok range more d k deep (reached move.from.x move.to.x d k)
+-- a leaf passes, where the triangle is at least the radius and the last reach away from both its ends along one axis
+module _ (cutter : Cutter) (move : Move) (tri : Tri) (more d k : ℕ) (cutter_ok : IsCutter cutter) (range : MoveInRange move) (deep : d + more ≡ depth_of move) where
+  along : (f t a b c : ℤ)
+      → ((i j : ℕ) → LieApart (radius_of cutter +ℤ pos MAX_LAST_REACH) (middle_of f t i j) (middle_of f t i j) a b c → IsBeside (radius_of cutter +ℤ pos MAX_LAST_REACH) move tri i j)
+      → LieApart ((radius_of cutter +ℤ pos MAX_LAST_REACH) +ℤ pos (farther_of f t d k)) (middle_of f t d k) (middle_of f t d k) a b c → LeafPasses cutter move tri more d k
+  along f t a b c beside h =
+      let q = pos (farther_of f t d k) in
+      let x = middle_of f t d k in
+      far_leaf cutter move tri (λ i j. EndsFrom (x -ℤ q) (x +ℤ q) f t i j) (left_ends (x -ℤ q) (x +ℤ q) f t) (right_ends (x -ℤ q) (x +ℤ q) f t)
+      (λ i j e. beside i j (nearer (radius_of cutter +ℤ pos MAX_LAST_REACH) q x (middle_of f t i j) a b c (middle_over f t (x -ℤ q) i j e.first_least e.last_least) (middle_under f t (x +ℤ q) i j e.first_most e.last_most) h))
+      cutter_ok range more d k deep (reached f t d k)
 
-  pub beside_y_passes : LieApart ((radius_of cutter +ℤ pos 2) +ℤ pos (farther_of move.from.y move.to.y d k)) (middle_of move.from.y move.to.y d k) (middle_of move.from.y move.to.y d k) tri.a.y tri.b.y tri.c.y
+  pub beside_x_passes : LieApart ((radius_of cutter +ℤ pos MAX_LAST_REACH) +ℤ pos (farther_of move.from.x move.to.x d k)) (middle_of move.from.x move.to.x d k) (middle_of move.from.x move.to.x d k) tri.a.x tri.b.x tri.c.x
       → LeafPasses cutter move tri more d k
-  beside_y_passes h =
-      let q = pos (farther_of move.from.y move.to.y d k) in
-      let y = middle_of move.from.y move.to.y d k in
-      far_leaf cutter move tri (λ i j. EndsFrom (y -ℤ q) (y +ℤ q) move.from.y move.to.y i j) (left_ends (y -ℤ q) (y +ℤ q) move.from.y move.to.y) (right_ends (y -ℤ q) (y +ℤ q) move.from.y move.to.y)
-      (λ i j e. inr (nearer (radius_of cutter +ℤ pos 2) q y (middle_of move.from.y move.to.y i j) tri.a.y tri.b.y tri.c.y (middle_over move.from.y move.to.y (y -ℤ q) i j e.first_least e.last_least) (middle_under move.from.y move.to.y (y +ℤ q) i j e.first_most e.last_most) h))
-      cutter_ok range more d k deep (reached move.from.y move.to.y d k)
+  beside_x_passes = along move.from.x move.to.x tri.a.x tri.b.x tri.c.x (λ i j far. inl far)
+
+  pub beside_y_passes : LieApart ((radius_of cutter +ℤ pos MAX_LAST_REACH) +ℤ pos (farther_of move.from.y move.to.y d k)) (middle_of move.from.y move.to.y d k) (middle_of move.from.y move.to.y d k) tri.a.y tri.b.y tri.c.y
+      → LeafPasses cutter move tri more d k
+  beside_y_passes = along move.from.y move.to.y tri.a.y tri.b.y tri.c.y (λ i j far. inr far)

@@ -8,9 +8,11 @@ use Rattle.std.proofs.lemmas.Int.{ints}
 use Rattle.std.proofs.lemmas.Nat.{leading_length}
 use Rattle.std.specs.Int.Count.{count_leading_zeros}
 use Rattle.mill_base.specs.Numbers.{least_from}
-use Rattle.mill_base.specs.Ranges.{MoveInTextRange}
+use Rattle.mill_base.specs.Ranges.{MoveInRange}
 use Rattle.mill_base.specs.declared.motion.Move.{Move}
+use Rattle.mill_base.specs.declared.limits.TheConstants.{MAX_DEPTH}
 use Rattle.mill_sweep.specs.Leaves.{depth_of, length_x, length_y, length_z}
+use Rattle.mill_sweep.specs.Widths.{longest}
 
 -- a number that passes the test, where none before it does, is the least
 pub least_is : (test : ℕ → Bool) (more start e : ℕ) → start ≤ e → e < start + more → test e ≡ true → ((i : ℕ) → i < e → test i ≡ false) → e ≡ least_from test more start
@@ -83,8 +85,8 @@ least_passes test (suc more) start e low high passes = by (least_passes test mor
       | inr same ↦ let at : e ≡ start = omega arith in absurd (differ (test start) (subst (λ i. test i ≡ true) at passes) q)
     ]
 
--- a move in range has no length over 262,142, so its depth is at most 18
-length_within : (m : Move) → MoveInTextRange m → length_of m ≤ 2 ^ 18
+-- a move in range is no longer along an axis than two coordinates, so its depth is a move's
+length_within : (m : Move) → MoveInRange m → length_of m ≤ 2 ^ MAX_DEPTH
 length_within m range =
     let a = range.from_ok.x_ok.within in
     let b = range.to_ok.x_ok.within in
@@ -94,15 +96,15 @@ length_within m range =
     let f = range.to_ok.z_ok.within in
     joined (length_x m) (length_y m) (length_z m) (omega (arith, ints)) (omega (arith, ints)) (omega (arith, ints))
   where
-    joined : (x y z : ℕ) → x ≤ 262142 → y ≤ 262142 → z ≤ 262142 → max (max x y) z ≤ 2 ^ 18
+    joined : (x y z : ℕ) → x ≤ longest → y ≤ longest → z ≤ longest → max (max x y) z ≤ 2 ^ MAX_DEPTH
     joined x y z h k l = omega arith
 
-depth_at_18 : (m : Move) → MoveInTextRange m → (nat_le (length_x m) (2 ^ depth_of m) && nat_le (length_y m) (2 ^ depth_of m) && nat_le (length_z m) (2 ^ depth_of m) ≡ true) × (depth_of m ≤ 18)
-depth_at_18 m range = least_passes (λ i. nat_le (length_x m) (2 ^ i) && nat_le (length_y m) (2 ^ i) && nat_le (length_z m) (2 ^ i)) 64 0 18 (omega arith) (omega arith) (all_within (length_x m) (length_y m) (length_z m) (2 ^ 18) (length_within m range))
+depth_within : (m : Move) → MoveInRange m → (nat_le (length_x m) (2 ^ depth_of m) && nat_le (length_y m) (2 ^ depth_of m) && nat_le (length_z m) (2 ^ depth_of m) ≡ true) × (depth_of m ≤ MAX_DEPTH)
+depth_within m range = least_passes (λ i. nat_le (length_x m) (2 ^ i) && nat_le (length_y m) (2 ^ i) && nat_le (length_z m) (2 ^ i)) 64 0 MAX_DEPTH (omega arith) (omega arith) (all_within (length_x m) (length_y m) (length_z m) (2 ^ MAX_DEPTH) (length_within m range))
 
-pub depth_most : (m : Move) → MoveInTextRange m → depth_of m ≤ 18
-depth_most m range = (depth_at_18 m range).1
+pub depth_most : (m : Move) → MoveInRange m → depth_of m ≤ MAX_DEPTH
+depth_most m range = (depth_within m range).1
 
 -- at the depth each length is at most the number of parts
-pub lengths_at_depth : (m : Move) → MoveInTextRange m → (length_x m ≤ 2 ^ depth_of m) × (length_y m ≤ 2 ^ depth_of m) × (length_z m ≤ 2 ^ depth_of m)
-lengths_at_depth m range = within_all (length_x m) (length_y m) (length_z m) (2 ^ depth_of m) (depth_at_18 m range).0
+pub lengths_at_depth : (m : Move) → MoveInRange m → (length_x m ≤ 2 ^ depth_of m) × (length_y m ≤ 2 ^ depth_of m) × (length_z m ≤ 2 ^ depth_of m)
+lengths_at_depth m range = within_all (length_x m) (length_y m) (length_z m) (2 ^ depth_of m) (depth_within m range).0

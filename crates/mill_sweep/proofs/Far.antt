@@ -8,12 +8,13 @@ use Rattle.mill_base.proofs.Exit.{split_lt}
 use Rattle.mill_base.specs.Numbers.{lesser, greater}
 use Rattle.mill_base.specs.Points.{highest, plus, times}
 use Rattle.mill_base.specs.Contact.{Holds, Touches}
-use Rattle.mill_base.specs.Ranges.{MoveInTextRange}
+use Rattle.mill_base.specs.Ranges.{MoveInRange}
 use Rattle.mill_base.specs.Sizes.{IsCutter, radius_of, outer}
 use Rattle.mill_base.specs.declared.points.Tri.{Tri}
 use Rattle.mill_base.specs.declared.motion.Move.{Move}
 use Rattle.mill_base.specs.declared.cutter.Cutter.{Cutter}
 use Rattle.mill_base.specs.declared.cutter.Cutter.TheVariants.{Flat, Ball, Cone}
+use Rattle.mill_base.specs.declared.limits.TheConstants.{MAX_LAST_REACH}
 use Rattle.mill_shape.proofs.Holding.{holds_around}
 use Rattle.mill_sweep.specs.Leaves.{depth_of, end_of, middle_of, lower_of, reach_of, span_of, outer_tip}
 use Rattle.mill_sweep.specs.Halving.{IsFree, LeafPasses, Passes, LiesBeside, middle_point}
@@ -147,8 +148,8 @@ outer_radius (Cone r a b) q = refl
 abbrev pub IsBeside : ℤ → Move → Tri → ℕ → ℕ → Type 0
 IsBeside r move tri d k = LiesBeside r (middle_point (span_of move d k)) (middle_point (span_of move d k)) tri
 
--- where that is the radius and 2, the outer cutter of a leaf whose reach is at most 2 doesn't touch it
-far_is_clear : (cutter : Cutter) (move : Move) (tri : Tri) (d k : ℕ) → IsCutter cutter → reach_of move d k ≤ 2 → IsBeside (radius_of cutter +ℤ pos 2) move tri d k
+-- where that is the radius and the last reach, the outer cutter of a leaf whose reach is at most that doesn't touch it
+far_is_clear : (cutter : Cutter) (move : Move) (tri : Tri) (d k : ℕ) → IsCutter cutter → reach_of move d k ≤ MAX_LAST_REACH → IsBeside (radius_of cutter +ℤ pos MAX_LAST_REACH) move tri d k
     → Touches (outer cutter (pos (reach_of move d k))) (pos 1) (outer_tip cutter (span_of move d k)) tri → ⊥
 far_is_clear cutter move tri d k cutter_ok narrow far touches =
     let p = touches.point in
@@ -167,16 +168,16 @@ far_is_clear cutter move tri d k cutter_ok narrow far touches =
     grown : (r : ℤ) (q : ℕ) → (pos 1) ≤ℤ r → (pos 1) ≤ℤ (r +ℤ pos q)
     grown r q h = omega (arith, ints)
 
-    small : (q : ℕ) → q ≤ 2 → pos q ≤ℤ pos 2
+    small : (q : ℕ) → q ≤ MAX_LAST_REACH → pos q ≤ℤ pos MAX_LAST_REACH
     small q h = omega (arith, ints)
 
 -- so a leaf passes if what is so of it is so of its halves, and puts the triangle beside each
 module _ (cutter : Cutter) (move : Move) (tri : Tri) (P : ℕ → ℕ → Type 0) (left : (d k : ℕ) → P d k → P (d + 1) (2 * k)) (right : (d k : ℕ) → P d k → P (d + 1) (2 * k + 1))
-    (beside : (d k : ℕ) → P d k → IsBeside (radius_of cutter +ℤ pos 2) move tri d k) (cutter_ok : IsCutter cutter) (range : MoveInTextRange move) where
+    (beside : (d k : ℕ) → P d k → IsBeside (radius_of cutter +ℤ pos MAX_LAST_REACH) move tri d k) (cutter_ok : IsCutter cutter) (range : MoveInRange move) where
   pub far_leaf : (more d k : ℕ) → d + more ≡ depth_of move → P d k → LeafPasses cutter move tri more d k
   far_leaf zero d k deep p =
       let bottom : d ≡ depth_of move = omega arith in
-      let narrow : reach_of move d k ≤ 2 = subst (λ e. reach_of move e k ≤ 2) (sym bottom) (reach_at_depth move k range) in
+      let narrow : reach_of move d k ≤ MAX_LAST_REACH = subst (λ e. reach_of move e k ≤ MAX_LAST_REACH) (sym bottom) (reach_at_depth move k range) in
       inl (omega arith, λ blocks. far_is_clear cutter move tri d k cutter_ok narrow (beside d k p) blocks.touches)
   far_leaf (suc more) d k deep p = inr (far_leaf more (d + 1) (2 * k) (omega arith) (left d k p), far_leaf more (d + 1) (2 * k + 1) (omega arith) (right d k p))
 
@@ -204,11 +205,11 @@ under_passes cutter move tri under =
     top_passes cutter move tri (least_top _ _ _ _ under.from.a under.from.b under.from.c) (least_top _ _ _ _ under.to.a under.to.b under.to.c)
 
 -- the move passes a triangle at least the radius and 2 beside it
-pub beside_passes : (cutter : Cutter) (move : Move) (tri : Tri) → IsCutter cutter → MoveInTextRange move → LiesBeside (radius_of cutter +ℤ pos 2) move.from move.to tri → Passes cutter move tri
+pub beside_passes : (cutter : Cutter) (move : Move) (tri : Tri) → IsCutter cutter → MoveInRange move → LiesBeside (radius_of cutter +ℤ pos MAX_LAST_REACH) move.from move.to tri → Passes cutter move tri
 beside_passes cutter move tri cutter_ok range (inl x) =
-    far_leaf cutter move tri (λ d k. k < 2 ^ d) left_place right_place (λ d k inside. inl (apart_from_middle (radius_of cutter +ℤ pos 2) move.from.x move.to.x tri.a.x tri.b.x tri.c.x d k inside x)) cutter_ok range (depth_of move) 0 0 (omega arith) (omega arith)
+    far_leaf cutter move tri (λ d k. k < 2 ^ d) left_place right_place (λ d k inside. inl (apart_from_middle (radius_of cutter +ℤ pos MAX_LAST_REACH) move.from.x move.to.x tri.a.x tri.b.x tri.c.x d k inside x)) cutter_ok range (depth_of move) 0 0 (omega arith) (omega arith)
 beside_passes cutter move tri cutter_ok range (inr y) =
-    far_leaf cutter move tri (λ d k. k < 2 ^ d) left_place right_place (λ d k inside. inr (apart_from_middle (radius_of cutter +ℤ pos 2) move.from.y move.to.y tri.a.y tri.b.y tri.c.y d k inside y)) cutter_ok range (depth_of move) 0 0 (omega arith) (omega arith)
+    far_leaf cutter move tri (λ d k. k < 2 ^ d) left_place right_place (λ d k inside. inr (apart_from_middle (radius_of cutter +ℤ pos MAX_LAST_REACH) move.from.y move.to.y tri.a.y tri.b.y tri.c.y d k inside y)) cutter_ok range (depth_of move) 0 0 (omega arith) (omega arith)
 
 pub far_passes : FarPasses
 far_passes cutter move tri cutter_ok range (inl under) = under_passes cutter move tri under

@@ -2,10 +2,11 @@
 use Rattle.std.specs.Prelude.{◌≡◌, ℕ, zero, suc, ◌+◌, ◌*◌, ◌≤◌, pos, ◌≤ℤ◌, Option, None, Some, MatchOption}
 use Rattle.std.proofs.Common.{inl, inr, refl, subst, sym, arith}
 use Rattle.std.proofs.lemmas.Int.{ints}
-use Rattle.mill_base.specs.Ranges.{MoveInTextRange}
+use Rattle.mill_base.specs.Ranges.{MoveInRange}
 use Rattle.mill_base.specs.declared.points.Tri.{Tri}
 use Rattle.mill_base.specs.declared.motion.Move.{Move}
 use Rattle.mill_base.specs.declared.cutter.Cutter.{Cutter}
+use Rattle.mill_base.specs.declared.limits.TheConstants.{MAX_REACH, MAX_LAST_REACH}
 use Rattle.mill_sweep.specs.Leaves.{depth_of, reach_of, span_of}
 use Rattle.mill_sweep.specs.Halving.{Blocks, IsFree, IsFreeSpan, LeafPasses, FailsUnder, FailsAt, Passes}
 use Rattle.mill_sweep.specs.declared.leaf.Leaf.{Leaf}
@@ -13,10 +14,10 @@ use Rattle.mill_sweep.specs.declared.leaf.Span.{Span}
 use Rattle.mill_sweep.proofs.Narrow.{reach_at_depth}
 
 module _ (cutter : Cutter) (move : Move) (tri : Tri) where
-  small : (q : ℕ) → pos q ≤ℤ pos 1024 → q ≤ 1024
+  small : (q : ℕ) → pos q ≤ℤ pos MAX_REACH → q ≤ MAX_REACH
   small q h = omega (arith, ints)
 
-  small_span : (q : ℕ) → q ≤ 1024 → pos q ≤ℤ pos 1024
+  small_span : (q : ℕ) → q ≤ MAX_REACH → pos q ≤ℤ pos MAX_REACH
   small_span q h = omega (arith, ints)
 
   -- a span of a leaf is free as the leaf is
@@ -43,18 +44,18 @@ module _ (cutter : Cutter) (move : Move) (tri : Tri) where
       by (suc rest) free = inl free
 
   -- one at the bottom that isn't free is blocked
-  pub fails_at_bottom : (more : ℕ) (leaf : Leaf) (s : Span) → MoveInTextRange move → s ≡ span_of move leaf.d leaf.k → more ≡ 0 → leaf.d + more ≡ depth_of move
-      → ¬ IsFreeSpan cutter s tri → (s.reach ≤ℤ pos 1024 → Blocks cutter s tri) → FailsUnder cutter move tri more leaf.d leaf.k leaf
+  pub fails_at_bottom : (more : ℕ) (leaf : Leaf) (s : Span) → MoveInRange move → s ≡ span_of move leaf.d leaf.k → more ≡ 0 → leaf.d + more ≡ depth_of move
+      → ¬ IsFreeSpan cutter s tri → (s.reach ≤ℤ pos MAX_REACH → Blocks cutter s tri) → FailsUnder cutter move tri more leaf.d leaf.k leaf
   fails_at_bottom more leaf s range e zero_more deep held blocked =
       let bottom : leaf.d ≡ depth_of move = omega arith in
-      let narrow : reach_of move leaf.d leaf.k ≤ 2 = subst (λ d. reach_of move d leaf.k ≤ 2) (sym bottom) (reach_at_depth move leaf.k range) in
+      let narrow : reach_of move leaf.d leaf.k ≤ MAX_LAST_REACH = subst (λ d. reach_of move d leaf.k ≤ MAX_LAST_REACH) (sym bottom) (reach_at_depth move leaf.k range) in
       subst (λ m. FailsUnder cutter move tri m leaf.d leaf.k leaf) (sym zero_more) (record {
         fails = λ free. held (span_from_free leaf.d leaf.k s e free);
         leads = (refl, refl);
         blocked = subst (λ t. Blocks cutter t tri) e (blocked (rw e (small_span (reach_of move leaf.d leaf.k) (wider (reach_of move leaf.d leaf.k) narrow))));
       })
     where
-      wider : (q : ℕ) → q ≤ 2 → q ≤ 1024
+      wider : (q : ℕ) → q ≤ MAX_LAST_REACH → q ≤ MAX_REACH
       wider q h = omega arith
 
   -- one that isn't free fails where its left half fails

@@ -7,12 +7,14 @@ use Rattle.mill_base.specs.Numbers.{greater}
 use Rattle.mill_base.specs.Points.{IsPointOf, highest, plus, times}
 use Rattle.mill_base.specs.Motion.{IsMoment, tip_at}
 use Rattle.mill_base.specs.Contact.{Touches}
-use Rattle.mill_base.specs.Ranges.{MoveInTextRange}
+use Rattle.mill_base.specs.Ranges.{MoveInRange}
 use Rattle.mill_base.specs.Sizes.{IsCutter}
 use Rattle.mill_base.specs.declared.points.Pt3.{Pt3}
 use Rattle.mill_base.specs.declared.points.Tri.{Tri}
 use Rattle.mill_base.specs.declared.motion.Move.{Move}
 use Rattle.mill_base.specs.declared.cutter.Cutter.{Cutter}
+use Rattle.mill_base.specs.declared.limits.TheConstants.{MAX_RADIUS}
+use Rattle.mill_shape.proofs.CutHeights.{cutter_is_wide}
 use Rattle.mill_shape.proofs.Holding.{holds_over_tip}
 use Rattle.mill_sweep.specs.Leaves.{depth_of, zlow_of, IsMomentOf}
 use Rattle.mill_sweep.specs.Halving.{IsFree, LeafPasses}
@@ -74,7 +76,7 @@ touched_over cutter move tri d j k m cutter_ok l touches =
     (under_highest tri touches.n touches.p touches.point)
 
 -- a leaf that passes by itself is clear at each of its moments
-free_is_clear : (cutter : Cutter) (move : Move) (tri : Tri) (d j : ℕ) (k m : ℤ) → IsCutter cutter → MoveInTextRange move → d ≤ depth_of move → j < 2 ^ d
+free_is_clear : (cutter : Cutter) (move : Move) (tri : Tri) (d j : ℕ) (k m : ℤ) → IsCutter cutter → MoveInRange move → d ≤ depth_of move → j < 2 ^ d
     → IsFree cutter move tri d j → IsMomentOf d j k m → Touches cutter m (tip_at move k m) tri → ⊥
 free_is_clear cutter move tri d j k m cutter_ok range deep less (inl free) l touches =
     free.1 (record {
@@ -83,7 +85,7 @@ free_is_clear cutter move tri d j k m cutter_ok range deep less (inl free) l tou
         n = touches.n;
         p = touches.p;
         point = touches.point;
-        inside = outer_holds cutter move d j k m touches.n touches.p cutter_ok range deep less l touches.point.some touches.inside;
+        inside = outer_holds cutter move d j k m touches.n touches.p (cutter_is_wide cutter MAX_RADIUS (omega (arith, ints)) cutter_ok) range deep less l touches.point.some touches.inside;
       };
     })
 free_is_clear cutter move tri d j k m cutter_ok range deep less (inr under) l touches =
@@ -100,7 +102,7 @@ pub right_place : (d j : ℕ) → j < 2 ^ d → 2 * j + 1 < 2 ^ (d + 1)
 right_place d j h = rw (parts_twice d) (omega arith)
 
 -- so is a leaf whose halves both pass
-leaf_is_clear : (cutter : Cutter) (move : Move) (tri : Tri) (more d j : ℕ) (k m : ℤ) → IsCutter cutter → MoveInTextRange move → d + more ≤ depth_of move → j < 2 ^ d
+leaf_is_clear : (cutter : Cutter) (move : Move) (tri : Tri) (more d j : ℕ) (k m : ℤ) → IsCutter cutter → MoveInRange move → d + more ≤ depth_of move → j < 2 ^ d
     → LeafPasses cutter move tri more d j → IsMomentOf d j k m → Touches cutter m (tip_at move k m) tri → ⊥
 leaf_is_clear cutter move tri zero d j k m cutter_ok range deep less free l touches =
     free_is_clear cutter move tri d j k m cutter_ok range (omega arith) less free l touches

@@ -1,13 +1,14 @@
--- A failing leaf is as deep as the move is halved, and so its reach is at most 2.
+-- A failing leaf is as deep as the move is halved, and so its reach is at most the last reach.
 use Rattle.std.specs.Prelude.{◌≡◌, ℕ, zero, suc, ◌+◌, ◌*◌, ◌^◌, ◌≤◌, max, nat_abs, ℤ, pos, ◌+ℤ◌, ◌-ℤ◌, ◌*ℤ◌, ◌<ℤ◌, ◌≤ℤ◌}
 use Rattle.std.proofs.Common.{inl, inr, refl, subst, sym, arith}
 use Rattle.std.proofs.lemmas.Int.{ints}
 use Rattle.std.proofs.lemmas.Nat.{pow_pos}
 use Rattle.mill_base.proofs.Divisions.{half_low, half_high}
-use Rattle.mill_base.specs.Ranges.{MoveInTextRange}
+use Rattle.mill_base.specs.Ranges.{MoveInRange}
 use Rattle.mill_base.specs.declared.points.Tri.{Tri}
 use Rattle.mill_base.specs.declared.motion.Move.{Move}
 use Rattle.mill_base.specs.declared.cutter.Cutter.{Cutter}
+use Rattle.mill_base.specs.declared.limits.TheConstants.{MAX_LAST_REACH}
 use Rattle.mill_sweep.specs.Leaves.{depth_of, end_of, middle_of, farther_of, diagonal_of, reach_of}
 use Rattle.mill_sweep.specs.Halving.{IsFree, LeafPasses, LeadsTo}
 use Rattle.mill_sweep.specs.Moments.{FailingIsBlocked}
@@ -73,8 +74,8 @@ diagonal_most (suc zero) (suc zero) h k = let e : diagonal_of 1 1 ≡ 2 = refl i
 diagonal_most (suc (suc x)) y h k = absurd (omega arith)
 diagonal_most x (suc (suc y)) h k = absurd (omega arith)
 
--- at the depth a leaf's reach is at most 2
-pub reach_at_depth : (move : Move) (k : ℕ) → MoveInTextRange move → reach_of move (depth_of move) k ≤ 2
+-- at the depth a leaf's reach is at most the last
+pub reach_at_depth : (move : Move) (k : ℕ) → MoveInRange move → reach_of move (depth_of move) k ≤ MAX_LAST_REACH
 reach_at_depth move k range =
     let lengths = lengths_at_depth move range in
     diagonal_most _ _ (farther_most move.from.x move.to.x (depth_of move) k lengths.0) (farther_most move.from.y move.to.y (depth_of move) k lengths.1)
@@ -82,7 +83,7 @@ reach_at_depth move k range =
 pub failing_is_blocked : FailingIsBlocked
 failing_is_blocked cutter move tri leaf cutter_ok range h =
     let fails = leads_down cutter move tri (depth_of move) 0 0 leaf h.fails h.leads in
-    let narrow : reach_of move leaf.d leaf.k ≤ 2 = subst (λ d. reach_of move d leaf.k ≤ 2) (sym (bottom fails.deep)) (reach_at_depth move leaf.k range) in
+    let narrow : reach_of move leaf.d leaf.k ≤ MAX_LAST_REACH = subst (λ d. reach_of move d leaf.k ≤ MAX_LAST_REACH) (sym (bottom fails.deep)) (reach_at_depth move leaf.k range) in
     (narrow, λ unblocked. fails.free (inl (omega arith, unblocked)))
   where
     bottom : leaf.d ≡ 0 + depth_of move → leaf.d ≡ depth_of move

@@ -1,7 +1,6 @@
 -- What the cutter holds at a moment of a leaf, the leaf's outer cutter holds.
 use Rattle.std.specs.Prelude.{ℕ, zero, suc, ◌+◌, ◌*◌, ◌^◌, ◌<◌, ◌≤◌, nat_abs, ℤ, pos, negsuc, ◌+ℤ◌, ◌-ℤ◌, ◌*ℤ◌, ◌<ℤ◌, ◌≤ℤ◌}
 use Rattle.std.proofs.Common.{inl, inr, arith}
-use Rattle.std.proofs.Math.Nat.{mul-le-mul}
 use Rattle.std.proofs.lemmas.Int.{ints}
 use Rattle.std.proofs.lemmas.Nat.{pow_pos}
 use Rattle.mill_base.proofs.Divisions.{ceil_div_high}
@@ -11,16 +10,16 @@ use Rattle.mill_base.specs.Numbers.{square, ceil_div}
 use Rattle.mill_base.specs.Points.{minus, times}
 use Rattle.mill_base.specs.Motion.{tip_at}
 use Rattle.mill_base.specs.Cutters.{InFlat, InBall, InCone}
-use Rattle.mill_base.specs.Ranges.{MoveInTextRange}
+use Rattle.mill_base.specs.Ranges.{MoveInRange}
 use Rattle.mill_base.specs.declared.points.Pt3.{Pt3}
 use Rattle.mill_base.specs.declared.motion.Move.{Move}
 use Rattle.mill_base.specs.declared.cutter.Cutter.TheVariants.{Flat, Ball, Cone}
-use Rattle.mill_shape.proofs.RootLemmas.{ceil_root_is}
 use Rattle.mill_sweep.specs.Leaves.{middle_of, farther_of, lower_of, diagonal_of, reach_of, zlow_of, IsMomentOf}
 use Rattle.mill_sweep.specs.Moments.{OuterHolds}
-use Rattle.mill_sweep.proofs.Spans.{ends_near, farther_within, lower_first, lower_last}
+use Rattle.mill_sweep.proofs.Spans.{diagonal_root, ends_near, farther_within, lower_first, lower_last}
 use Rattle.mill_sweep.proofs.LeafCerts.{leaf_high, leaf_low, leaf_over, scale_down, scale_down_le, box_sq, reach_sq, scaled_sq, product_3, product_pos}
 use Rattle.mill_sweep.proofs.OuterCerts.{sum_lt, dot_le, near_form, near_unscale, flat_over, ball_top, ball_top_out, ball_deep, ball_sum, ball_unscale, cone_first, cone_reach, cone_over, cone_up, cone_unscale}
+use Rattle.mill_sweep.specs.Widths.{longest}
 
 some : (n : ℕ) → 0 < n → (pos 0) <ℤ pos n
 some n h = omega (arith, ints)
@@ -53,17 +52,14 @@ off_square f t d j k m l =
     (scale_down_le (pos (2 ^ d)) (pos 0 -ℤ off) (m *ℤ pos (farther_of f t d j)) parts (leaf_low f t (pos (2 ^ d)) (pos j) m k (middle_of f t d j) (pos (farther_of f t d j)) l.after l.before near.first_below near.last_below))
 
 -- the reach is at least the diagonal of the two distances
-reach_covers : (ex ey : ℕ) → ex ≤ 262142 → ey ≤ 262142 → (pos ex *ℤ pos ex +ℤ pos ey *ℤ pos ey) ≤ℤ (pos (diagonal_of ex ey) *ℤ pos (diagonal_of ex ey))
-reach_covers ex ey hx hy =
-    let x : ex * ex ≤ 262142 * 262142 = mul-le-mul hx hx in
-    let y : ey * ey ≤ 262142 * 262142 = mul-le-mul hy hy in
-    by (ex * ex + ey * ey) (diagonal_of ex ey) (ceil_root_is (ex * ex + ey * ey) (omega arith)).reaches
+reach_covers : (ex ey : ℕ) → ex ≤ longest → ey ≤ longest → (pos ex *ℤ pos ex +ℤ pos ey *ℤ pos ey) ≤ℤ (pos (diagonal_of ex ey) *ℤ pos (diagonal_of ex ey))
+reach_covers ex ey hx hy = by (ex * ex + ey * ey) (diagonal_of ex ey) (diagonal_root ex ey hx hy).reaches
   where
     by : (a r : ℕ) → a ≤ r * r → pos a ≤ℤ (pos r *ℤ pos r)
     by a r h = omega (arith, ints)
 
 -- so at each moment the tip is at most reach from the middle, here in the denominator of a point
-pub shift_square : (move : Move) (d j : ℕ) (k m n : ℤ) → MoveInTextRange move → j < 2 ^ d → IsMomentOf d j k m
+pub shift_square : (move : Move) (d j : ℕ) (k m n : ℤ) → MoveInRange move → j < 2 ^ d → IsMomentOf d j k m
     → (square (n *ℤ (tip_of move.from.x move.to.x k m -ℤ m *ℤ middle_of move.from.x move.to.x d j)) +ℤ square (n *ℤ (tip_of move.from.y move.to.y k m -ℤ m *ℤ middle_of move.from.y move.to.y d j)))
     ≤ℤ square (n *ℤ (m *ℤ pos (reach_of move d j)))
 shift_square move d j k m n range less l =

@@ -4,6 +4,7 @@ use Rattle.mill_base.specs.Points.{point_at}
 use Rattle.mill_base.specs.declared.points.Pt3.{Pt3}
 use Rattle.mill_base.specs.declared.motion.Move.{Move}
 use Rattle.mill_base.specs.declared.motion.Kind.TheVariants.{Feed}
+use Rattle.mill_base.specs.declared.limits.TheConstants.{MAX_DEPTH}
 use Rattle.mill_sweep.specs.Leaves.{depth_of, span_of}
 
 abbrev feed : Pt3 → Pt3 → Move
@@ -43,12 +44,18 @@ still = feed (point_at (pos 0) (pos 0) (pos 0)) (point_at (pos 0) (pos 0) (pos 0
 still_depth : depth_of still ≡ 0
 still_depth = refl
 
--- the longest move
-abbrev longest : Move
-longest = feed (point_at (negsuc 131070) (pos 0) (pos 0)) (point_at (pos 131071) (pos 0) (pos 0))
+-- the longest moves that a text gives and that calls take
+abbrev across_text : Move
+across_text = feed (point_at (negsuc 131070) (negsuc 131070) (pos 0)) (point_at (pos 131071) (pos 131071) (pos 0))
 
-longest_depth : depth_of longest ≡ 18
-longest_depth = refl
+across_text_depth : depth_of across_text ≡ 18
+across_text_depth = refl
+
+abbrev across : Move
+across = feed (point_at (negsuc 524286) (negsuc 524286) (pos 0)) (point_at (pos 524287) (pos 524287) (pos 0))
+
+across_depth : depth_of across ≡ MAX_DEPTH
+across_depth = refl
 
 -- a half below zero goes up
 abbrev below : Move

@@ -1,13 +1,16 @@
 -- What is so of a leaf by its stretches in x and in y and by its lower end is so of the leaf.
 use Rattle.std.specs.Prelude.{◌≡◌, ℕ, ◌^◌, ◌<◌, ℤ, pos, ◌+ℤ◌, ◌≤ℤ◌}
-use Rattle.std.proofs.Common.{inr, refl, ap, sym, subst, ◌∙◌, arith}
+use Rattle.std.proofs.Common.{inr, refl, ap, sym, subst, ◌∙◌, arith, w32}
 use Rattle.std.proofs.lemmas.Int.{ints}
+use Rattle.mill_base.proofs.Machine.{kept, stored}
+use Rattle.mill_base.specs.Numbers.{Within}
 use Rattle.mill_base.specs.Points.{highest}
-use Rattle.mill_base.specs.Ranges.{MoveInTextRange}
+use Rattle.mill_base.specs.Ranges.{MoveInRange}
 use Rattle.mill_base.specs.Sizes.{IsCutter, radius_of}
 use Rattle.mill_base.specs.declared.points.Tri.{Tri}
 use Rattle.mill_base.specs.declared.motion.Move.{Move}
 use Rattle.mill_base.specs.declared.cutter.Cutter.{Cutter}
+use Rattle.mill_base.specs.declared.limits.TheConstants.{MAX_COORDINATE, MAX_LAST_REACH}
 use Rattle.mill_sweep.specs.Apart.{LieApart}
 use Rattle.mill_sweep.specs.Leaves.{span_of, zlow_of, farther_of, diagonal_of, reach_of}
 use Rattle.mill_sweep.specs.Halving.{IsFreeSpan, IsSpan}
@@ -34,6 +37,11 @@ span_is move d k x y z in_x in_y low = same_span _ _ _ _ _ _ _ _ in_x.middle in_
     reach : (e f m n : ℕ) → e ≡ m → f ≡ n → pos (diagonal_of e f) ≡ pos (diagonal_of m n)
     reach e f m n p q = ap (λ (i : ℕ). pos (diagonal_of i f)) p ∙ ap (λ (i : ℕ). pos (diagonal_of m i)) q
 
+-- also where the code reads the lower end again from its width
+pub read_span : (move : Move) (d k : ℕ) (x y : Stretch) (z : ℤ) → IsStretchOf move.from.x move.to.x d k x → IsStretchOf move.from.y move.to.y d k y → z ≡ zlow_of move d k → Within MAX_COORDINATE z
+    → span_at x y (stored w32 z) ≡ span_of move d k
+read_span move d k x y z in_x in_y low ok = span_is move d k x y (stored w32 z) in_x in_y (kept w32 z MAX_COORDINATE ok.within refl ∙ low)
+
 module _ (cutter : Cutter) (move : Move) (tri : Tri) (d k : ℕ) where
   -- a leaf of this span that is free passes
   pub free_down : (s : Span) → s ≡ span_of move d k → IsFreeSpan cutter s tri → PassesDown cutter move tri d k
@@ -44,17 +52,17 @@ module _ (cutter : Cutter) (move : Move) (tri : Tri) (d k : ℕ) where
   under_down z e under = λ more deep. free_passes cutter move tri more d k (span_of move d k) refl (inr (subst (λ (l : ℤ). highest tri ≤ℤ l) e under))
 
   -- and one that the triangle lies far beside
-  module _ (cutter_ok : IsCutter cutter) (range : MoveInTextRange move) where
-    pub beside_x_down : (s : Stretch) → IsStretchOf move.from.x move.to.x d k s → LieApart ((radius_of cutter +ℤ pos 2) +ℤ pos s.farther) s.middle s.middle tri.a.x tri.b.x tri.c.x → PassesDown cutter move tri d k
+  module _ (cutter_ok : IsCutter cutter) (range : MoveInRange move) where
+    pub beside_x_down : (s : Stretch) → IsStretchOf move.from.x move.to.x d k s → LieApart ((radius_of cutter +ℤ pos MAX_LAST_REACH) +ℤ pos s.farther) s.middle s.middle tri.a.x tri.b.x tri.c.x → PassesDown cutter move tri d k
     beside_x_down s e far = λ more deep. beside_x_passes cutter move tri more d k cutter_ok range deep
-        (subst (λ (m : ℤ). LieApart ((radius_of cutter +ℤ pos 2) +ℤ pos (farther_of move.from.x move.to.x d k)) m m tri.a.x tri.b.x tri.c.x) e.middle (subst (λ (q : ℕ). LieApart ((radius_of cutter +ℤ pos 2) +ℤ pos q) s.middle s.middle tri.a.x tri.b.x tri.c.x) e.farther far))
+        (subst (λ (m : ℤ). LieApart ((radius_of cutter +ℤ pos MAX_LAST_REACH) +ℤ pos (farther_of move.from.x move.to.x d k)) m m tri.a.x tri.b.x tri.c.x) e.middle (subst (λ (q : ℕ). LieApart ((radius_of cutter +ℤ pos MAX_LAST_REACH) +ℤ pos q) s.middle s.middle tri.a.x tri.b.x tri.c.x) e.farther far))
 
-    pub beside_y_down : (s : Stretch) → IsStretchOf move.from.y move.to.y d k s → LieApart ((radius_of cutter +ℤ pos 2) +ℤ pos s.farther) s.middle s.middle tri.a.y tri.b.y tri.c.y → PassesDown cutter move tri d k
+    pub beside_y_down : (s : Stretch) → IsStretchOf move.from.y move.to.y d k s → LieApart ((radius_of cutter +ℤ pos MAX_LAST_REACH) +ℤ pos s.farther) s.middle s.middle tri.a.y tri.b.y tri.c.y → PassesDown cutter move tri d k
     beside_y_down s e far = λ more deep. beside_y_passes cutter move tri more d k cutter_ok range deep
-        (subst (λ (m : ℤ). LieApart ((radius_of cutter +ℤ pos 2) +ℤ pos (farther_of move.from.y move.to.y d k)) m m tri.a.y tri.b.y tri.c.y) e.middle (subst (λ (q : ℕ). LieApart ((radius_of cutter +ℤ pos 2) +ℤ pos q) s.middle s.middle tri.a.y tri.b.y tri.c.y) e.farther far))
+        (subst (λ (m : ℤ). LieApart ((radius_of cutter +ℤ pos MAX_LAST_REACH) +ℤ pos (farther_of move.from.y move.to.y d k)) m m tri.a.y tri.b.y tri.c.y) e.middle (subst (λ (q : ℕ). LieApart ((radius_of cutter +ℤ pos MAX_LAST_REACH) +ℤ pos q) s.middle s.middle tri.a.y tri.b.y tri.c.y) e.farther far))
 
 -- the span of a leaf of a move in range is in range
-pub span_in_range : (move : Move) (d k : ℕ) → MoveInTextRange move → k < 2 ^ d → IsSpan (span_of move d k)
+pub span_in_range : (move : Move) (d k : ℕ) → MoveInRange move → k < 2 ^ d → IsSpan (span_of move d k)
 span_in_range move d k range inside = record {
   x_ok = record { within = middle_within move.from.x move.to.x d k range.from_ok.x_ok.within range.to_ok.x_ok.within inside };
   y_ok = record { within = middle_within move.from.y move.to.y d k range.from_ok.y_ok.within range.to_ok.y_ok.within inside };

@@ -9,49 +9,51 @@ use Rattle.std.proofs.lemmas.Int.{ints, to_z_pos}
 use Rattle.std.proofs.lemmas.Nat.{pow_pos}
 use Rattle.mill_base.proofs.Divisions.{floor_div_low, half_within}
 use Rattle.mill_base.specs.Numbers.{floor_div, lesser}
-use Rattle.mill_base.specs.declared.limits.TheConstants.{MAX_TEXT_COORDINATE}
+use Rattle.mill_base.specs.declared.limits.TheConstants.{MAX_COORDINATE, MAX_DEPTH}
 use Rattle.mill_shape.proofs.RootLemmas.{ceil_root_agrees, ceil_root_is}
+use Rattle.mill_shape.specs.Roots.{IsCeilRoot}
 use Rattle.mill_sweep.specs.Leaves.{end_of, middle_of, farther_of, lower_of, diagonal_of}
 use Rattle.mill_sweep.proofs.LeafCerts.{end_high, end_low}
+use Rattle.mill_sweep.specs.Widths.{longest, end_depth, farthest_end}
 
 -- twice as many parts one halving further
 pub parts_twice : (d : ℕ) → 2 ^ (d + 1) ≡ 2 * 2 ^ d
 parts_twice d = let more = pow_more 2 d in omega arith
 
--- a move in range has at most 2^18 parts, and a sample of one at most 2^19
-pub parts_small : (d : ℕ) → d ≤ 18 → 2 ^ d ≤ 262144
-parts_small d h = pow-le-pow_right {n = 2} (omega arith) {i = d} {j = 18} h
+-- a move in range has no more parts than the deepest, nor do the ends of its leaves
+pub parts_small : (d : ℕ) → d ≤ MAX_DEPTH → 2 ^ d ≤ 2 ^ MAX_DEPTH
+parts_small d h = pow-le-pow_right {n = 2} (omega arith) {i = d} {j = MAX_DEPTH} h
 
-pub parts_most : (d : ℕ) → d ≤ 19 → 2 ^ d ≤ 524288
-parts_most d h = pow-le-pow_right {n = 2} (omega arith) {i = d} {j = 19} h
+pub parts_most : (d : ℕ) → d ≤ end_depth → 2 ^ d ≤ 2 ^ end_depth
+parts_most d h = pow-le-pow_right {n = 2} (omega arith) {i = d} {j = end_depth} h
 
 -- so what is within as many times the bound is small
-pub end_small : (a d : ℕ) → d ≤ 19 → a ≤ 2 ^ d * MAX_TEXT_COORDINATE → a ≤ 68719476736
-end_small a d h within = let most : 2 ^ d * MAX_TEXT_COORDINATE ≤ 524288 * MAX_TEXT_COORDINATE = mul-le-mul (parts_most d h) (same MAX_TEXT_COORDINATE) in omega arith
+pub end_small : (a d : ℕ) → d ≤ end_depth → a ≤ 2 ^ d * MAX_COORDINATE → a ≤ farthest_end
+end_small a d h within = let most : 2 ^ d * MAX_COORDINATE ≤ 2 ^ end_depth * MAX_COORDINATE = mul-le-mul (parts_most d h) (same MAX_COORDINATE) in omega arith
   where
     same : (x : ℕ) → x ≤ x
     same x = omega arith
 
 -- an end is within as many times the bound as there are parts
-pub end_within : (f t : ℤ) (d k : ℕ) → nat_abs f ≤ MAX_TEXT_COORDINATE → nat_abs t ≤ MAX_TEXT_COORDINATE → k ≤ 2 ^ d → nat_abs (end_of f t d k) ≤ 2 ^ d * MAX_TEXT_COORDINATE
+pub end_within : (f t : ℤ) (d k : ℕ) → nat_abs f ≤ MAX_COORDINATE → nat_abs t ≤ MAX_COORDINATE → k ≤ 2 ^ d → nat_abs (end_of f t d k) ≤ 2 ^ d * MAX_COORDINATE
 end_within f t d k hf ht hk =
     by (end_of f t d k) (2 ^ d)
-    (end_high (pos (2 ^ d)) (pos k) f t (pos MAX_TEXT_COORDINATE) (omega (arith, ints)) (omega (arith, ints)) (omega (arith, ints)) (omega (arith, ints)))
-    (end_low (pos (2 ^ d)) (pos k) f t (pos MAX_TEXT_COORDINATE) (omega (arith, ints)) (omega (arith, ints)) (omega (arith, ints)) (omega (arith, ints)))
+    (end_high (pos (2 ^ d)) (pos k) f t (pos MAX_COORDINATE) (omega (arith, ints)) (omega (arith, ints)) (omega (arith, ints)) (omega (arith, ints)))
+    (end_low (pos (2 ^ d)) (pos k) f t (pos MAX_COORDINATE) (omega (arith, ints)) (omega (arith, ints)) (omega (arith, ints)) (omega (arith, ints)))
   where
-    by : (e : ℤ) (n : ℕ) → e ≤ℤ (pos n *ℤ pos MAX_TEXT_COORDINATE) → (pos 0 -ℤ e) ≤ℤ (pos n *ℤ pos MAX_TEXT_COORDINATE) → nat_abs e ≤ n * MAX_TEXT_COORDINATE
+    by : (e : ℤ) (n : ℕ) → e ≤ℤ (pos n *ℤ pos MAX_COORDINATE) → (pos 0 -ℤ e) ≤ℤ (pos n *ℤ pos MAX_COORDINATE) → nat_abs e ≤ n * MAX_COORDINATE
     by e n p q = omega (arith, ints)
 
 -- and so is the sum of two, so the middle is within the bound
-pub sum_within : (a b : ℤ) (d : ℕ) → nat_abs a ≤ 2 ^ d * MAX_TEXT_COORDINATE → nat_abs b ≤ 2 ^ d * MAX_TEXT_COORDINATE → nat_abs (a +ℤ b) ≤ 2 ^ (d + 1) * MAX_TEXT_COORDINATE
-sum_within a b d p q = subst (λ n. nat_abs (a +ℤ b) ≤ n * MAX_TEXT_COORDINATE) (sym (parts_twice d)) (by (2 ^ d) p q)
+pub sum_within : (a b : ℤ) (d : ℕ) → nat_abs a ≤ 2 ^ d * MAX_COORDINATE → nat_abs b ≤ 2 ^ d * MAX_COORDINATE → nat_abs (a +ℤ b) ≤ 2 ^ (d + 1) * MAX_COORDINATE
+sum_within a b d p q = subst (λ n. nat_abs (a +ℤ b) ≤ n * MAX_COORDINATE) (sym (parts_twice d)) (by (2 ^ d) p q)
   where
-    by : (n : ℕ) → nat_abs a ≤ n * MAX_TEXT_COORDINATE → nat_abs b ≤ n * MAX_TEXT_COORDINATE → nat_abs (a +ℤ b) ≤ 2 * n * MAX_TEXT_COORDINATE
+    by : (n : ℕ) → nat_abs a ≤ n * MAX_COORDINATE → nat_abs b ≤ n * MAX_COORDINATE → nat_abs (a +ℤ b) ≤ 2 * n * MAX_COORDINATE
     by n p q = omega (arith, ints)
 
-pub middle_within : (f t : ℤ) (d k : ℕ) → nat_abs f ≤ MAX_TEXT_COORDINATE → nat_abs t ≤ MAX_TEXT_COORDINATE → k < 2 ^ d → nat_abs (middle_of f t d k) ≤ MAX_TEXT_COORDINATE
+pub middle_within : (f t : ℤ) (d k : ℕ) → nat_abs f ≤ MAX_COORDINATE → nat_abs t ≤ MAX_COORDINATE → k < 2 ^ d → nat_abs (middle_of f t d k) ≤ MAX_COORDINATE
 middle_within f t d k hf ht hk =
-    half_within (end_of f t d k +ℤ end_of f t d (k + 1)) (2 ^ (d + 1)) MAX_TEXT_COORDINATE (pow_pos (d + 1))
+    half_within (end_of f t d k +ℤ end_of f t d (k + 1)) (2 ^ (d + 1)) MAX_COORDINATE (pow_pos (d + 1))
     (sum_within (end_of f t d k) (end_of f t d (k + 1)) d (end_within f t d k hf ht (omega arith)) (end_within f t d (k + 1) hf ht (omega arith)))
 
 -- a quotient rounded up of a number that is at most g times the divisor is at most g
@@ -68,26 +70,26 @@ div_ceil_most a n g h l = by (div_ceil a n) (div_ceil_times a n h)
     ]
 
 -- how far a bounded end is from a bounded place
-pub far_within : (e c : ℤ) (n : ℕ) → nat_abs e ≤ n * MAX_TEXT_COORDINATE → nat_abs c ≤ MAX_TEXT_COORDINATE → nat_abs (e -ℤ pos n *ℤ c) ≤ 262142 * n
+pub far_within : (e c : ℤ) (n : ℕ) → nat_abs e ≤ n * MAX_COORDINATE → nat_abs c ≤ MAX_COORDINATE → nat_abs (e -ℤ pos n *ℤ c) ≤ longest * n
 far_within e c n p q = by (pos n *ℤ c) (times c q)
   where
-    times : (c : ℤ) → nat_abs c ≤ MAX_TEXT_COORDINATE → nat_abs (pos n *ℤ c) ≤ MAX_TEXT_COORDINATE * n
-    times (pos a) h = let m : n * a ≤ n * MAX_TEXT_COORDINATE = mul-le-mul (omega arith) h in omega (arith, ints)
-    times (negsuc a) h = let m : n * (a + 1) ≤ n * MAX_TEXT_COORDINATE = mul-le-mul (omega arith) (omega arith) in omega (arith, ints)
+    times : (c : ℤ) → nat_abs c ≤ MAX_COORDINATE → nat_abs (pos n *ℤ c) ≤ MAX_COORDINATE * n
+    times (pos a) h = let m : n * a ≤ n * MAX_COORDINATE = mul-le-mul (omega arith) h in omega (arith, ints)
+    times (negsuc a) h = let m : n * (a + 1) ≤ n * MAX_COORDINATE = mul-le-mul (omega arith) (omega arith) in omega (arith, ints)
 
-    by : (x : ℤ) → nat_abs x ≤ MAX_TEXT_COORDINATE * n → nat_abs (e -ℤ x) ≤ 262142 * n
+    by : (x : ℤ) → nat_abs x ≤ MAX_COORDINATE * n → nat_abs (e -ℤ x) ≤ longest * n
     by x h = omega (arith, ints)
 
 pub max_most : (a b m : ℕ) → a ≤ m → b ≤ m → max a b ≤ m
 max_most a b m p q = omega arith
 
--- so the farther of two bounded ends is at most 262,142 from a bounded place
-pub farther_most : (first last middle : ℤ) (d : ℕ) → nat_abs first ≤ 2 ^ d * MAX_TEXT_COORDINATE → nat_abs last ≤ 2 ^ d * MAX_TEXT_COORDINATE → nat_abs middle ≤ MAX_TEXT_COORDINATE
-    → div_ceil (max (nat_abs (first -ℤ pos (2 ^ d) *ℤ middle)) (nat_abs (last -ℤ pos (2 ^ d) *ℤ middle))) (2 ^ d) ≤ 262142
+-- so the farther of two bounded ends is at most the longest from a bounded place
+pub farther_most : (first last middle : ℤ) (d : ℕ) → nat_abs first ≤ 2 ^ d * MAX_COORDINATE → nat_abs last ≤ 2 ^ d * MAX_COORDINATE → nat_abs middle ≤ MAX_COORDINATE
+    → div_ceil (max (nat_abs (first -ℤ pos (2 ^ d) *ℤ middle)) (nat_abs (last -ℤ pos (2 ^ d) *ℤ middle))) (2 ^ d) ≤ longest
 farther_most first last middle d hf hl hm =
-    div_ceil_most _ (2 ^ d) 262142 (pow_pos d) (max_most _ _ (262142 * 2 ^ d) (far_within first middle (2 ^ d) hf hm) (far_within last middle (2 ^ d) hl hm))
+    div_ceil_most _ (2 ^ d) longest (pow_pos d) (max_most _ _ (longest * 2 ^ d) (far_within first middle (2 ^ d) hf hm) (far_within last middle (2 ^ d) hl hm))
 
-pub farther_within : (f t : ℤ) (d k : ℕ) → nat_abs f ≤ MAX_TEXT_COORDINATE → nat_abs t ≤ MAX_TEXT_COORDINATE → k < 2 ^ d → farther_of f t d k ≤ 262142
+pub farther_within : (f t : ℤ) (d k : ℕ) → nat_abs f ≤ MAX_COORDINATE → nat_abs t ≤ MAX_COORDINATE → k < 2 ^ d → farther_of f t d k ≤ longest
 farther_within f t d k hf ht hk =
     farther_most (end_of f t d k) (end_of f t d (k + 1)) (middle_of f t d k) d
     (end_within f t d k hf ht (omega arith)) (end_within f t d (k + 1) hf ht (omega arith)) (middle_within f t d k hf ht hk)
@@ -107,10 +109,10 @@ lesser_within a b m p q = by (int_lt b a)
     by true = q
     by false = p
 
-pub lower_within : (f t : ℤ) (d k : ℕ) → nat_abs f ≤ MAX_TEXT_COORDINATE → nat_abs t ≤ MAX_TEXT_COORDINATE → k < 2 ^ d → nat_abs (lower_of f t d k) ≤ MAX_TEXT_COORDINATE
+pub lower_within : (f t : ℤ) (d k : ℕ) → nat_abs f ≤ MAX_COORDINATE → nat_abs t ≤ MAX_COORDINATE → k < 2 ^ d → nat_abs (lower_of f t d k) ≤ MAX_COORDINATE
 lower_within f t d k hf ht hk =
-    quotient_within (lesser (end_of f t d k) (end_of f t d (k + 1))) (2 ^ d) MAX_TEXT_COORDINATE (pow_pos d)
-    (lesser_within (end_of f t d k) (end_of f t d (k + 1)) (2 ^ d * MAX_TEXT_COORDINATE) (end_within f t d k hf ht (omega arith)) (end_within f t d (k + 1) hf ht (omega arith)))
+    quotient_within (lesser (end_of f t d k) (end_of f t d (k + 1))) (2 ^ d) MAX_COORDINATE (pow_pos d)
+    (lesser_within (end_of f t d k) (end_of f t d (k + 1)) (2 ^ d * MAX_COORDINATE) (end_within f t d k hf ht (omega arith)) (end_within f t d (k + 1) hf ht (omega arith)))
 
 -- both ends are at most farther from the middle, over the parts
 pub record AreNear (n e a b : ℤ) : Type 0 where
@@ -151,27 +153,31 @@ lower_last f t d k =
     by : (x : ℤ) {y z : ℤ} → x ≤ℤ y → y ≤ℤ z → x ≤ℤ z
     by x p q = omega (arith, ints)
 
--- the diagonal of two lengths in range, as the least root, is stored as it is
-pub diagonal_is : (ex ey a b r : ℕ) → ex ≤ 262144 → ey ≤ 262144 → a ≡ ex * ex → b ≡ ey * ey → a + b ≤ r * r → (0 < r → (r - 1) * (r - 1) < a + b) → to_z w32 r ≡ pos (diagonal_of ex ey)
-diagonal_is ex ey a b r hx hy ea eb reaches least =
-    let x : ex * ex ≤ 262144 * 262144 = mul-le-mul hx hx in
-    let y : ey * ey ≤ 262144 * 262144 = mul-le-mul hy hy in
-    let sum : a + b ≡ ex * ex + ey * ey = omega arith in
-    let agrees : r ≡ diagonal_of ex ey = ceil_root_agrees (ex * ex + ey * ey) r (omega arith) (record { reaches = subst (λ n. n ≤ r * r) sum reaches; least = λ some. subst (λ n. (r - 1) * (r - 1) < n) sum (least some) }) in
-    to_z_pos w32 r (small (cases_lt r 1048576) (omega arith)) ∙ ap pos agrees
-  where
-    small : (r < 1048576) ⊎ (1048576 ≤ r) → a + b ≤ 137438953472 → r < 2 ^ 31
-    small (inl less) most = omega arith
-    small (inr more) most = absurd (let under = least (omega arith) in let root : 1048575 ≤ r - 1 = omega arith in let much : 1048575 * 1048575 ≤ (r - 1) * (r - 1) = mul-le-mul root root in omega arith)
+-- the squares of two lengths in range have a small sum
+pub squares_small : (ex ey : ℕ) → ex ≤ longest → ey ≤ longest → ex * ex + ey * ey ≤ 2 * (longest * longest)
+squares_small ex ey hx hy =
+    let x : ex * ex ≤ longest * longest = mul-le-mul hx hx in
+    let y : ey * ey ≤ longest * longest = mul-le-mul hy hy in
+    omega arith
 
--- the diagonal of two lengths in range is at most 2^19
-pub diagonal_small : (ex ey : ℕ) → ex ≤ 262144 → ey ≤ 262144 → diagonal_of ex ey ≤ 524288
-diagonal_small ex ey hx hy =
-    let x : ex * ex ≤ 262144 * 262144 = mul-le-mul hx hx in
-    let y : ey * ey ≤ 262144 * 262144 = mul-le-mul hy hy in
-    let root = ceil_root_is (ex * ex + ey * ey) (omega arith) in
-    small (diagonal_of ex ey) (cases_lt (diagonal_of ex ey) 524289) root.least (omega arith)
+pub diagonal_root : (ex ey : ℕ) → ex ≤ longest → ey ≤ longest → IsCeilRoot (ex * ex + ey * ey) (diagonal_of ex ey)
+diagonal_root ex ey hx hy = ceil_root_is (ex * ex + ey * ey) (let sum = squares_small ex ey hx hy in omega arith)
+
+-- so their diagonal is at most twice as long
+pub diagonal_small : (ex ey : ℕ) → ex ≤ longest → ey ≤ longest → diagonal_of ex ey ≤ 2 * longest
+diagonal_small ex ey hx hy = small (diagonal_of ex ey) (cases_lt (diagonal_of ex ey) (2 * longest + 1)) (diagonal_root ex ey hx hy).least (squares_small ex ey hx hy)
   where
-    small : {s : ℕ} (r : ℕ) → (r < 524289) ⊎ (524289 ≤ r) → (0 < r → (r - 1) * (r - 1) < s) → s ≤ 137438953472 → r ≤ 524288
+    small : {s : ℕ} (r : ℕ) → (r < 2 * longest + 1) ⊎ (2 * longest + 1 ≤ r) → (0 < r → (r - 1) * (r - 1) < s) → s ≤ 2 * (longest * longest) → r ≤ 2 * longest
     small r (inl less) least most = omega arith
-    small r (inr more) least most = absurd (let under = least (omega arith) in let root : 524288 ≤ r - 1 = omega arith in let much : 524288 * 524288 ≤ (r - 1) * (r - 1) = mul-le-mul root root in omega arith)
+    small r (inr more) least most = absurd (let under = least (omega arith) in let root : 2 * longest ≤ r - 1 = omega arith in let much : 2 * longest * (2 * longest) ≤ (r - 1) * (r - 1) = mul-le-mul root root in omega arith)
+
+-- it is stored as it is, where it is found as the least root
+pub diagonal_is : (ex ey a b r : ℕ) → ex ≤ longest → ey ≤ longest → a ≡ ex * ex → b ≡ ey * ey → a + b ≤ r * r → (0 < r → (r - 1) * (r - 1) < a + b) → to_z w32 r ≡ pos (diagonal_of ex ey)
+diagonal_is ex ey a b r hx hy ea eb reaches least =
+    let sum : a + b ≡ ex * ex + ey * ey = omega arith in
+    let agrees : r ≡ diagonal_of ex ey = ceil_root_agrees (ex * ex + ey * ey) r (let most = squares_small ex ey hx hy in omega arith)
+    (record { reaches = subst (λ n. n ≤ r * r) sum reaches; least = λ some. subst (λ n. (r - 1) * (r - 1) < n) sum (least some) }) in
+    to_z_pos w32 r (small (diagonal_of ex ey) agrees (diagonal_small ex ey hx hy)) ∙ ap pos agrees
+  where
+    small : (q : ℕ) → r ≡ q → q ≤ 2 * longest → r < 2 ^ 31
+    small q e h = omega arith

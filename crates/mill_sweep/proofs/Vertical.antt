@@ -13,6 +13,7 @@ use Rattle.mill_base.specs.declared.points.Tri.{Tri}
 use Rattle.mill_base.specs.declared.motion.Move.{Move}
 use Rattle.mill_base.specs.declared.cutter.Cutter.{Cutter}
 use Rattle.mill_base.specs.declared.cutter.Cutter.TheVariants.{Flat, Ball, Cone}
+use Rattle.mill_base.specs.declared.limits.TheConstants.{MAX_REACH}
 use Rattle.mill_sweep.specs.Leaves.{depth_of, middle_of, farther_of, reach_of, zlow_of, span_of}
 use Rattle.mill_sweep.specs.Halving.{Blocks, IsFree, LeafPasses}
 use Rattle.mill_sweep.specs.Vertical.{StaysOver, VerticalPasses, VerticalPassesPoint}
@@ -80,7 +81,7 @@ module _ (cutter : Cutter) (move : Move) (tri : Tri) (p : Pt3) (over : StaysOver
   free : (Touches cutter (pos 1) p tri → ⊥) → IsFree cutter move tri 0 0
   free clear = inl (few (reach_of move 0 0) reach_none, λ blocks. clear (touches_lower blocks))
     where
-      few : (q : ℕ) → q ≡ 0 → q ≤ 1024
+      few : (q : ℕ) → q ≡ 0 → q ≤ MAX_REACH
       few q e = omega arith
 
   passes_at_once : (more : ℕ) → IsFree cutter move tri 0 0 → LeafPasses cutter move tri more 0 0

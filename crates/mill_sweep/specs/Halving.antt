@@ -1,7 +1,7 @@
 -- Which moves pass a triangle at every moment, by halving.
 use Rattle.std.specs.Prelude.{◌≡◌, ◌⊎◌, ℕ, zero, suc, ◌+◌, ◌*◌, ◌≤◌, ℤ, pos, ◌<ℤ◌, ◌≤ℤ◌}
 use Rattle.mill_base.specs.Numbers.{Within}
-use Rattle.mill_base.specs.declared.limits.TheConstants.{MAX_TEXT_COORDINATE}
+use Rattle.mill_base.specs.declared.limits.TheConstants.{MAX_COORDINATE, MAX_REACH}
 use Rattle.mill_base.specs.Points.{highest, point_at, point_tri}
 use Rattle.mill_base.specs.Contact.{Touches}
 use Rattle.mill_base.specs.Sizes.{outer}
@@ -21,7 +21,7 @@ pub record Blocks (cutter : Cutter) (s : Span) (tri : Tri) : Type 0 where
 
 -- a leaf passes by itself: its reach is at most 1,024 and it isn't blocked, or it lies no lower than the triangle's highest point
 abbrev pub IsFree : Cutter → Move → Tri → ℕ → ℕ → Type 0
-IsFree cutter m tri d k = ((reach_of m d k ≤ 1024) × (¬ Blocks cutter (span_of m d k) tri)) ⊎ (highest tri ≤ℤ zlow_of m d k)
+IsFree cutter m tri d k = ((reach_of m d k ≤ MAX_REACH) × (¬ Blocks cutter (span_of m d k) tri)) ⊎ (highest tri ≤ℤ zlow_of m d k)
 
 -- the leaf (d, k) passes, with more further halvings: by itself, or both its halves do
 abbrev pub LeafPasses : Cutter → Move → Tri → ℕ → ℕ → ℕ → Type 0
@@ -56,14 +56,14 @@ pub record FailsUnder (cutter : Cutter) (m : Move) (tri : Tri) (more d k : ℕ) 
 
 -- a span of a leaf of a move in range: its numbers are in range
 pub record IsSpan (s : Span) : Type 0 where
-  pub x_ok : Within MAX_TEXT_COORDINATE s.x
-  pub y_ok : Within MAX_TEXT_COORDINATE s.y
-  pub low_ok : Within MAX_TEXT_COORDINATE s.zlow
+  pub x_ok : Within MAX_COORDINATE s.x
+  pub y_ok : Within MAX_COORDINATE s.y
+  pub low_ok : Within MAX_COORDINATE s.zlow
   pub reach_least : (pos 0) ≤ℤ s.reach
 
 -- a leaf of this span passes by itself
 abbrev pub IsFreeSpan : Cutter → Span → Tri → Type 0
-IsFreeSpan cutter s tri = ((s.reach ≤ℤ pos 1024) × (¬ Blocks cutter s tri)) ⊎ (highest tri ≤ℤ s.zlow)
+IsFreeSpan cutter s tri = ((s.reach ≤ℤ pos MAX_REACH) × (¬ Blocks cutter s tri)) ⊎ (highest tri ≤ℤ s.zlow)
 
 -- the middle of a leaf, at its lower end
 abbrev pub middle_point : Span → Pt3

@@ -1,3 +1,4 @@
+pub mod Widths
 pub mod Apart
 pub mod Leaves
 pub mod Halving

@@ -3,12 +3,13 @@ use Rattle.std.specs.Prelude.{◌⊎◌, ℕ, ◌≤◌, ◌<◌, ◌^◌, ℤ, 
 use Rattle.mill_base.specs.Points.{point_at}
 use Rattle.mill_base.specs.Motion.{IsMoment, tip_at}
 use Rattle.mill_base.specs.Contact.{Holds, Touches, Removes}
-use Rattle.mill_base.specs.Sizes.{outer, radius_of, IsCutter}
-use Rattle.mill_base.specs.Ranges.{IsInTextRange, MoveInTextRange}
+use Rattle.mill_base.specs.Sizes.{outer, radius_of, IsCutter, IsWideCutter}
+use Rattle.mill_base.specs.Ranges.{IsInRange, MoveInRange}
 use Rattle.mill_base.specs.declared.points.Pt3.{Pt3}
 use Rattle.mill_base.specs.declared.points.Tri.{Tri}
 use Rattle.mill_base.specs.declared.motion.Move.{Move}
 use Rattle.mill_base.specs.declared.cutter.Cutter.{Cutter}
+use Rattle.mill_base.specs.declared.limits.TheConstants.{MAX_LAST_REACH}
 use Rattle.mill_sweep.specs.Leaves.{depth_of, span_of, reach_of, IsMomentOf, outer_tip}
 use Rattle.mill_sweep.specs.Halving.{Passes, PassesPoint, FailsAt, Blocks}
 use Rattle.mill_sweep.specs.Apart.{IsUnderMove, LieApart}
@@ -16,32 +17,32 @@ use Rattle.mill_sweep.specs.declared.leaf.Leaf.{Leaf}
 
 -- every point inside the cutter at a moment of a leaf is inside the leaf's outer cutter
 abbrev pub OuterHolds : Type 0
-OuterHolds = (cutter : Cutter) (move : Move) (d j : ℕ) (k m n : ℤ) (p : Pt3) → IsCutter cutter → MoveInTextRange move → d ≤ depth_of move → j < 2 ^ d
+OuterHolds = (cutter : Cutter) (move : Move) (d j : ℕ) (k m n : ℤ) (p : Pt3) → IsWideCutter cutter → MoveInRange move → d ≤ depth_of move → j < 2 ^ d
     → IsMomentOf d j k m → (pos 0) <ℤ n → Holds cutter m (tip_at move k m) n p
     → Holds (outer cutter (pos (reach_of move d j))) (pos 1) (outer_tip cutter (span_of move d j)) n p
 
 -- if a move passes a triangle, no point of it is inside the cutter at any moment of the move
 abbrev pub PassingIsClear : Type 0
-PassingIsClear = (cutter : Cutter) (move : Move) (tri : Tri) (k m : ℤ) → IsCutter cutter → MoveInTextRange move
+PassingIsClear = (cutter : Cutter) (move : Move) (tri : Tri) (k m : ℤ) → IsCutter cutter → MoveInRange move
     → Passes cutter move tri → IsMoment k m → ¬ Touches cutter m (tip_at move k m) tri
 
 -- if a move passes a point, it removes no whole point at or under it
 abbrev pub PassingKeepsPoint : Type 0
-PassingKeepsPoint = (cutter : Cutter) (move : Move) (x y t h : ℤ) → IsCutter cutter → MoveInTextRange move → IsInTextRange (point_at x y t)
+PassingKeepsPoint = (cutter : Cutter) (move : Move) (x y t h : ℤ) → IsCutter cutter → MoveInRange move → IsInRange (point_at x y t)
     → PassesPoint cutter move (point_at x y t) → h ≤ℤ t → ¬ Removes cutter move (pos 1) (point_at x y h)
 
--- the triangle is no higher than both ends of the move, or lies at least the cutter's radius and 2 away from the whole move in x or in y
+-- the triangle is no higher than both ends of the move, or lies at least the cutter's radius and the last reach away from the whole move in x or in y
 abbrev pub IsFar : Cutter → Move → Tri → Type 0
 IsFar cutter m tri =
     IsUnderMove m tri
-    ⊎ (LieApart (radius_of cutter +ℤ pos 2) m.from.x m.to.x tri.a.x tri.b.x tri.c.x
-    ⊎ LieApart (radius_of cutter +ℤ pos 2) m.from.y m.to.y tri.a.y tri.b.y tri.c.y)
+    ⊎ (LieApart (radius_of cutter +ℤ pos MAX_LAST_REACH) m.from.x m.to.x tri.a.x tri.b.x tri.c.x
+    ⊎ LieApart (radius_of cutter +ℤ pos MAX_LAST_REACH) m.from.y m.to.y tri.a.y tri.b.y tri.c.y)
 
 -- a move passes each triangle that is far from it, so such a triangle needs no halving
 abbrev pub FarPasses : Type 0
-FarPasses = (cutter : Cutter) (move : Move) (tri : Tri) → IsCutter cutter → MoveInTextRange move → IsFar cutter move tri → Passes cutter move tri
+FarPasses = (cutter : Cutter) (move : Move) (tri : Tri) → IsCutter cutter → MoveInRange move → IsFar cutter move tri → Passes cutter move tri
 
--- a failing leaf has a reach of at most 2, and it isn't so that it isn't blocked; that it is blocked, is for the calls to say that decide it
+-- a failing leaf has no more than the last reach, and it isn't so that it isn't blocked; that it is blocked, is for the calls to say that decide it
 abbrev pub FailingIsBlocked : Type 0
-FailingIsBlocked = (cutter : Cutter) (move : Move) (tri : Tri) (leaf : Leaf) → IsCutter cutter → MoveInTextRange move
-    → FailsAt cutter move tri leaf → (reach_of move leaf.d leaf.k ≤ 2) × (¬ (¬ Blocks cutter (span_of move leaf.d leaf.k) tri))
+FailingIsBlocked = (cutter : Cutter) (move : Move) (tri : Tri) (leaf : Leaf) → IsCutter cutter → MoveInRange move
+    → FailsAt cutter move tri leaf → (reach_of move leaf.d leaf.k ≤ MAX_LAST_REACH) × (¬ (¬ Blocks cutter (span_of move leaf.d leaf.k) tri))

@@ -1,8 +1,8 @@
 -- A cutter and a move of it, with what is worked out once for all triangles that are tried against them, and a leaf along one axis.
 use Rattle.std.specs.Prelude.{◌≡◌, ℕ, ◌+◌, ◌≤◌, ℤ, pos}
 use Rattle.mill_base.specs.Numbers.{Within}
-use Rattle.mill_base.specs.declared.limits.TheConstants.{MAX_TEXT_COORDINATE}
-use Rattle.mill_base.specs.Ranges.{MoveInTextRange}
+use Rattle.mill_base.specs.declared.limits.TheConstants.{MAX_COORDINATE}
+use Rattle.mill_base.specs.Ranges.{MoveInRange}
 use Rattle.mill_base.specs.Sizes.{IsCutter}
 use Rattle.mill_base.specs.declared.points.Tri.{Tri}
 use Rattle.mill_base.specs.declared.motion.Move.{Move}
@@ -12,6 +12,7 @@ use Rattle.mill_sweep.specs.Halving.{LeafPasses}
 use Rattle.mill_sweep.specs.declared.leaf.Span.{Span}
 use Rattle.mill_sweep.specs.declared.leaf_span.Stretch.{Stretch}
 use Rattle.mill_sweep.specs.declared.sweep.Prepared.{Prepared}
+use Rattle.mill_sweep.specs.Widths.{longest}
 
 -- a cutter on a move
 pub record Swept : Type 0 where
@@ -21,14 +22,14 @@ pub record Swept : Type 0 where
 -- a job's cutter and a move in range, with the move's depth and where the whole of it lies
 pub record IsPrepared (p : Prepared) : Type 0 where
   pub cutter_ok : IsCutter p.cutter
-  pub move_ok : MoveInTextRange p.step
+  pub move_ok : MoveInRange p.step
   pub depth_is : p.depth ≡ depth_of p.step
   pub whole_is : p.whole ≡ span_of p.step 0 0
 
 -- a stretch is in range
 pub record IsStretch (s : Stretch) : Type 0 where
-  pub middle_ok : Within MAX_TEXT_COORDINATE s.middle
-  pub farther_ok : s.farther ≤ 262144
+  pub middle_ok : Within MAX_COORDINATE s.middle
+  pub farther_ok : s.farther ≤ longest
 
 -- it is that of the leaf (d, k) along an axis on which the move goes from here to there
 pub record IsStretchOf (from to : ℤ) (d k : ℕ) (s : Stretch) : Type 0 where

@@ -1,39 +1,43 @@
 ghost use Rattle.std.specs.Prelude.{◌≡◌, ◌↔◌, ◌^◌, ◌≤◌, ◌+ℤ◌, pos, IsTrue};
 ghost use Rattle.mill_base.specs.Sizes.{IsCutter, radius_of};
+ghost use Rattle.mill_base.specs.declared.limits.TheConstants.{MAX_LAST_REACH};
 ghost use Rattle.mill_sweep.specs.Apart.{LieApart};
 ghost use Rattle.mill_sweep.specs.Halving.{LiesBeside};
 ghost use Rattle.mill_sweep.specs.Sweeps.{IsStretch};
+ghost use Rattle.mill_sweep.specs.Widths.{longest};
 
 use crate::gap::Gap;
 use crate::leaf_span::Stretch;
-use mill_base::{Cutter, Move, Pt3, Tri};
+use mill_base::{Cutter, MAX_LAST_REACH, Move, Pt3, Tri};
 
-/// How far a triangle is to be away, beyond the radius, from all middles of the leaves at the move's
-/// depth, so that none is blocked: their greatest reach.
-const REACH_AT_DEPTH: i32 = 2;
-
-/// Whether the triangle lies, in x or in y, so far from the whole move that the move passes.
+/// Whether the triangle lies, in x or in y, so far from the whole move that the move passes: beyond
+/// the radius by the greatest reach of the leaves at the move's depth, so that none is blocked.
 pub(crate) fn is_beside_move(cutter: Cutter, step: &Move, tri: &Tri) -> bool
     requires { IsCutter cutter }
-    ensures { IsTrue result ↔ LiesBeside (radius_of cutter +ℤ pos 2) step.now.from step.now.to tri.now }
+    ensures { IsTrue result ↔ LiesBeside (radius_of cutter +ℤ pos MAX_LAST_REACH) step.now.from step.now.to tri.now }
 {
-    lies_beside(cutter.radius() + REACH_AT_DEPTH, step.from, step.to, tri)
+    lies_beside(
+        cutter.radius() + MAX_LAST_REACH as i32,
+        step.from,
+        step.to,
+        tri,
+    )
 }
 
 /// Whether the triangle lies, in x, so far from a leaf that each leaf under it passes.
 pub(crate) fn is_beside_in_x(cutter: Cutter, x: Stretch, tri: &Tri) -> bool
     requires cutter_ok { IsCutter cutter }
     requires x_ok { IsStretch x }
-    ensures { IsTrue result → LieApart ((radius_of cutter +ℤ pos 2) +ℤ pos x.farther) x.middle x.middle tri.now.a.x tri.now.b.x tri.now.c.x }
+    ensures { IsTrue result → LieApart ((radius_of cutter +ℤ pos MAX_LAST_REACH) +ℤ pos x.farther) x.middle x.middle tri.now.a.x tri.now.b.x tri.now.c.x }
 {
     gap_in_x(leaf_distance(cutter, x.farther), x.middle, tri).is_wide()
 }
 
-/// The same in y.
+/// Whether it lies so far from the leaf in y.
 pub(crate) fn is_beside_in_y(cutter: Cutter, y: Stretch, tri: &Tri) -> bool
     requires cutter_ok { IsCutter cutter }
     requires y_ok { IsStretch y }
-    ensures { IsTrue result → LieApart ((radius_of cutter +ℤ pos 2) +ℤ pos y.farther) y.middle y.middle tri.now.a.y tri.now.b.y tri.now.c.y }
+    ensures { IsTrue result → LieApart ((radius_of cutter +ℤ pos MAX_LAST_REACH) +ℤ pos y.farther) y.middle y.middle tri.now.a.y tri.now.b.y tri.now.c.y }
 {
     gap_in_y(leaf_distance(cutter, y.farther), y.middle, tri).is_wide()
 }
@@ -42,10 +46,10 @@ pub(crate) fn is_beside_in_y(cutter: Cutter, y: Stretch, tri: &Tri) -> bool
 /// from it.
 fn leaf_distance(cutter: Cutter, farther: u32) -> i32
     requires cutter_ok { IsCutter cutter }
-    requires farther_ok { farther ≤ 2 ^ 18 }
-    ensures { result ≡ (radius_of cutter +ℤ pos 2) +ℤ pos farther }
+    requires farther_ok { farther ≤ longest }
+    ensures { result ≡ (radius_of cutter +ℤ pos MAX_LAST_REACH) +ℤ pos farther }
 {
-    cutter.radius() + REACH_AT_DEPTH + farther as i32
+    cutter.radius() + MAX_LAST_REACH as i32 + farther as i32
 }
 
 /// The middle of a leaf and the triangle in x.

@@ -1,26 +1,28 @@
 ghost use Rattle.std.specs.Prelude.{◌≡◌, ◌+◌, ◌-◌, ◌*◌, ◌^◌, ◌<◌, ◌≤◌, ◌≤ℤ◌, pos};
 ghost use Rattle.mill_sweep.specs.Leaves.{diagonal_of};
+ghost use Rattle.mill_sweep.specs.Widths.{longest};
 
 /// The least whole number whose square is at least the sum of the squares.
 pub(crate) fn diagonal(ex: u32, ey: u32) -> i32
-    requires ex_ok { ex ≤ 2 ^ 18 }
-    requires ey_ok { ey ≤ 2 ^ 18 }
+    requires ex_ok { ex ≤ longest }
+    requires ey_ok { ey ≤ longest }
     ensures value { result ≡ pos (diagonal_of ex ey) }
     ensures bound { pos 0 ≤ℤ result }
-    ensures most { result ≤ℤ pos (2 ^ 19) }
+    ensures most { result ≤ℤ pos (2 * longest) }
 {
     hypotenuse(ex.max(ey), ex.min(ey)) as i32
 }
 
-/// The same of two lengths whose longer one is known.
+/// The least whole number whose square is at least the sum of the squares of two lengths, of which
+/// it is known which is the longer.
 ///
 /// The root is from the longer one on, and at most half of the shorter one over it.
 fn hypotenuse(longer: u32, shorter: u32) -> u64
-    requires longer_ok { longer ≤ 2 ^ 18 }
+    requires longer_ok { longer ≤ longest }
     requires order { shorter ≤ longer }
     ensures reaches { longer * longer + shorter * shorter ≤ result * result }
     ensures least { 0 < result → (result - 1) * (result - 1) < longer * longer + shorter * shorter }
-    ensures bound { result ≤ 2 ^ 19 }
+    ensures bound { result ≤ 2 * longest }
 {
     if shorter == 0 {
         return u64::from(longer);
@@ -38,7 +40,7 @@ fn root_between(square: u64, under: u64, over: u64) -> u64
     requires under_ok { under * under < square }
     requires over_ok { square ≤ over * over }
     requires order { under < over }
-    requires bound { over ≤ 2 ^ 19 }
+    requires bound { over ≤ 2 * longest }
     ensures reaches { square ≤ result * result }
     ensures least { (result - 1) * (result - 1) < square }
     ensures bound { result ≤ over }
@@ -58,9 +60,9 @@ fn root_between(square: u64, under: u64, over: u64) -> u64
 
 /// The square of a length.
 fn square(length: u32) -> u64
-    requires { length ≤ 2 ^ 18 }
+    requires { length ≤ longest }
     ensures value { result ≡ length * length }
-    ensures bound { result ≤ 2 ^ 36 }
+    ensures bound { result ≤ longest * longest }
 {
     u64::from(length) * u64::from(length)
 }

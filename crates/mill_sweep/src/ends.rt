@@ -1,7 +1,8 @@
 ghost use Rattle.std.specs.Prelude.{◌≡◌, ◌+◌, ◌*◌, ◌^◌, ◌<◌, ◌≤◌, ◌*ℤ◌, pos, nat_abs};
 ghost use Rattle.mill_base.specs.Numbers.{round_half_up, Within};
-ghost use Rattle.mill_base.specs.declared.limits.TheConstants.{MAX_TEXT_COORDINATE};
+ghost use Rattle.mill_base.specs.declared.limits.TheConstants.{MAX_COORDINATE, MAX_DEPTH};
 ghost use Rattle.mill_sweep.specs.Leaves.{end_of};
+ghost use Rattle.mill_sweep.specs.Widths.{end_depth, farthest_end};
 
 use crate::leaf::Leaf;
 use mill_base::{offset, power_of_two};
@@ -17,14 +18,14 @@ pub(crate) struct Ends {
 ///
 /// All leaves of a depth are equally long, so the last end needs no product of its own.
 pub(crate) fn ends_of(from: i32, to: i32, leaf: Leaf) -> Ends
-    requires from_ok { Within MAX_TEXT_COORDINATE from }
-    requires to_ok { Within MAX_TEXT_COORDINATE to }
-    requires d_ok { leaf.d ≤ 18 }
+    requires from_ok { Within MAX_COORDINATE from }
+    requires to_ok { Within MAX_COORDINATE to }
+    requires d_ok { leaf.d ≤ MAX_DEPTH }
     requires k_ok { leaf.k < 2 ^ leaf.d }
     ensures first { result.first ≡ end_of from to leaf.d leaf.k }
     ensures last { result.last ≡ end_of from to leaf.d (leaf.k + 1) }
-    ensures first_within { nat_abs result.first ≤ 2 ^ leaf.d * MAX_TEXT_COORDINATE }
-    ensures last_within { nat_abs result.last ≤ 2 ^ leaf.d * MAX_TEXT_COORDINATE }
+    ensures first_within { nat_abs result.first ≤ 2 ^ leaf.d * MAX_COORDINATE }
+    ensures last_within { nat_abs result.last ≤ 2 ^ leaf.d * MAX_COORDINATE }
 {
     let first = end_at(from, to, leaf.d, leaf.k);
     Ends {
@@ -35,33 +36,33 @@ pub(crate) fn ends_of(from: i32, to: i32, leaf: Leaf) -> Ends
 
 /// One coordinate of the tip at k/2^d, times 2^d.
 pub fn end_at(from: i32, to: i32, d: u32, k: u64) -> i64
-    requires from_ok { Within MAX_TEXT_COORDINATE from }
-    requires to_ok { Within MAX_TEXT_COORDINATE to }
-    requires d_ok { d ≤ 19 }
+    requires from_ok { Within MAX_COORDINATE from }
+    requires to_ok { Within MAX_COORDINATE to }
+    requires d_ok { d ≤ end_depth }
     requires k_ok { k ≤ 2 ^ d }
     ensures value { result ≡ end_of from to d k }
-    ensures bound { Within (2 ^ 37) result }
-    ensures within { nat_abs result ≤ 2 ^ d * MAX_TEXT_COORDINATE }
+    ensures bound { Within farthest_end result }
+    ensures within { nat_abs result ≤ 2 ^ d * MAX_COORDINATE }
 {
     weighed(power_of_two(d) - k, from) + weighed(k, to)
 }
 
 /// The whole number that is nearest to an end over 2^d, halves up.
 pub fn nearest(end: i64, d: u32) -> i32
-    requires end_ok { nat_abs end ≤ 2 ^ d * MAX_TEXT_COORDINATE }
-    requires d_ok { d ≤ 19 }
+    requires end_ok { nat_abs end ≤ 2 ^ d * MAX_COORDINATE }
+    requires d_ok { d ≤ end_depth }
     ensures value { result ≡ round_half_up end (2 ^ d) }
-    ensures bound { Within MAX_TEXT_COORDINATE result }
+    ensures bound { Within MAX_COORDINATE result }
 {
     ((2 * end + power_of_two(d) as i64) >> (d + 1)) as i32
 }
 
 /// The place times its weight.
 pub(crate) fn weighed(weight: u64, place: i32) -> i64
-    requires weight_ok { weight ≤ 2 ^ 19 }
-    requires place_ok { Within MAX_TEXT_COORDINATE place }
+    requires weight_ok { weight ≤ 2 ^ end_depth }
+    requires place_ok { Within MAX_COORDINATE place }
     ensures value { result ≡ pos weight *ℤ place }
-    ensures bound { Within (2 ^ 36) result }
+    ensures bound { Within farthest_end result }
 {
     weight as i64 * i64::from(place)
 }

@@ -1,14 +1,15 @@
 ghost use Rattle.std.specs.Prelude.{◌≡◌, ◌+◌, ◌*◌, ◌^◌, ◌<◌, ◌≤◌, ◌≤ℤ◌, pos, false, IsTrue, MatchOption};
 ghost use Rattle.mill_base.specs.Points.{point_tri};
-ghost use Rattle.mill_base.specs.Ranges.{IsInTextRange, MoveInTextRange, TriInTextRange};
+ghost use Rattle.mill_base.specs.Ranges.{IsInRange, MoveInRange, TriInRange};
 ghost use Rattle.mill_base.specs.Sizes.{IsCutter};
+ghost use Rattle.mill_base.specs.declared.limits.TheConstants.{MAX_REACH, MAX_DEPTH};
 ghost use Rattle.mill_sweep.specs.Halving.{Blocks, FailsAt, FailsUnder, IsFreeSpan, LeafPasses, Passes, PassesPoint};
 ghost use Rattle.mill_sweep.specs.Leaves.{depth_of, span_of};
 ghost use Rattle.mill_sweep.specs.Sweeps.{IsPrepared, PassesDown};
 
 use crate::beside::{is_beside_in_x, is_beside_in_y, is_beside_move};
 use crate::leaf::Leaf;
-use crate::leaf_span::{lower_end, stretch_of};
+use crate::leaf_span::{low_end, stretch_in_x, stretch_in_y};
 use crate::leaf_test::{is_free, is_free_by, is_no_higher};
 use crate::sweep::{Prepared, prepare};
 use mill_base::{Cutter, Move, Pt3, Tri};
@@ -18,11 +19,11 @@ use mill_base::{Cutter, Move, Pt3, Tri};
 ///
 /// A move that passes holds no point of the triangle strictly inside the cutter at any moment. One
 /// that doesn't comes so near to it that the outer cutter of a leaf, which is at most 2 wider, holds
-/// a point of the triangle. Lengths are in units of 0.01 mm; coordinates go from -131,071 to 131,071.
+/// a point of the triangle. Lengths are in units of 0.01 mm; coordinates go from -524,287 to 524,287.
 pub fn passes_tri(cutter: Cutter, step: &Move, tri: &Tri) -> bool
     requires cutter_ok { IsCutter cutter }
-    requires move_ok { MoveInTextRange step.now }
-    requires tri_ok { TriInTextRange tri.now }
+    requires move_ok { MoveInRange step.now }
+    requires tri_ok { TriInRange tri.now }
     ensures yes { IsTrue result → Passes cutter step.now tri.now }
     ensures no { result ≡ false → ¬ Passes cutter step.now tri.now }
 {
@@ -32,8 +33,8 @@ pub fn passes_tri(cutter: Cutter, step: &Move, tri: &Tri) -> bool
 /// Whether the move passes the point, which is a triangle of three equal corners.
 pub fn passes_point(cutter: Cutter, step: &Move, point: Pt3) -> bool
     requires cutter_ok { IsCutter cutter }
-    requires move_ok { MoveInTextRange step.now }
-    requires point_ok { IsInTextRange point }
+    requires move_ok { MoveInRange step.now }
+    requires point_ok { IsInRange point }
     ensures yes { IsTrue result → PassesPoint cutter step.now point }
     ensures no { result ≡ false → ¬ PassesPoint cutter step.now point }
 {
@@ -47,8 +48,8 @@ pub fn passes_point(cutter: Cutter, step: &Move, point: Pt3) -> bool
 /// the same with less work for each.
 pub fn first_block(cutter: Cutter, step: &Move, tri: &Tri) -> Option<Leaf>
     requires cutter_ok { IsCutter cutter }
-    requires move_ok { MoveInTextRange step.now }
-    requires tri_ok { TriInTextRange tri.now }
+    requires move_ok { MoveInRange step.now }
+    requires tri_ok { TriInRange tri.now }
     ensures { MatchOption result (Passes cutter step.now tri.now) (λ leaf. FailsAt cutter step.now tri.now leaf × Blocks cutter (span_of step.now leaf.d leaf.k) tri.now) }
 {
     if is_far(cutter, step, tri) {
@@ -60,17 +61,17 @@ pub fn first_block(cutter: Cutter, step: &Move, tri: &Tri) -> Option<Leaf>
 /// The leaf at which the move fails to pass the point, none exactly where the move passes.
 pub fn first_block_point(cutter: Cutter, step: &Move, point: Pt3) -> Option<Leaf>
     requires cutter_ok { IsCutter cutter }
-    requires move_ok { MoveInTextRange step.now }
-    requires point_ok { IsInTextRange point }
+    requires move_ok { MoveInRange step.now }
+    requires point_ok { IsInRange point }
     ensures { MatchOption result (PassesPoint cutter step.now point) (λ leaf. FailsAt cutter step.now (point_tri point) leaf × Blocks cutter (span_of step.now leaf.d leaf.k) (point_tri point)) }
 {
     first_block(cutter, step, &triangle_at(point))
 }
 
-/// The same of a move that is ready.
+/// The leaf at which a move that is ready fails to pass the triangle, none exactly where it passes.
 pub(crate) fn first_on(prepared: &Prepared, tri: &Tri) -> Option<Leaf>
     requires prepared_ok { IsPrepared prepared.now }
-    requires tri_ok { TriInTextRange tri.now }
+    requires tri_ok { TriInRange tri.now }
     ensures { MatchOption result (Passes prepared.now.cutter prepared.now.step tri.now) (λ leaf. FailsAt prepared.now.cutter prepared.now.step tri.now leaf × Blocks prepared.now.cutter (span_of prepared.now.step leaf.d leaf.k) tri.now) }
 {
     if is_far(prepared.cutter, &prepared.step, tri) {
@@ -83,7 +84,7 @@ pub(crate) fn first_on(prepared: &Prepared, tri: &Tri) -> Option<Leaf>
 /// then the move passes it.
 fn is_far(cutter: Cutter, step: &Move, tri: &Tri) -> bool
     requires cutter_ok { IsCutter cutter }
-    requires move_ok { MoveInTextRange step.now }
+    requires move_ok { MoveInRange step.now }
     ensures { IsTrue result → Passes cutter step.now tri.now }
 {
     if is_no_higher(tri, step.from.z.min(step.to.z)) {
@@ -95,7 +96,7 @@ fn is_far(cutter: Cutter, step: &Move, tri: &Tri) -> bool
 /// The leaf at which the move fails, found by halving from the whole move on, none where it passes.
 fn first_halved(prepared: &Prepared, tri: &Tri) -> Option<Leaf>
     requires prepared_ok { IsPrepared prepared.now }
-    requires tri_ok { TriInTextRange tri.now }
+    requires tri_ok { TriInRange tri.now }
     ensures { MatchOption result (Passes prepared.now.cutter prepared.now.step tri.now) (λ leaf. FailsAt prepared.now.cutter prepared.now.step tri.now leaf × Blocks prepared.now.cutter (span_of prepared.now.step leaf.d leaf.k) tri.now) }
 {
     first_under(prepared, tri, Leaf { d: 0, k: 0 }, prepared.depth)
@@ -106,7 +107,7 @@ fn first_halved(prepared: &Prepared, tri: &Tri) -> Option<Leaf>
 /// Halving ends early at each leaf that is free, or that lies far beside the triangle.
 fn first_under(prepared: &Prepared, tri: &Tri, leaf: Leaf, more: u32) -> Option<Leaf>
     requires prepared_ok { IsPrepared prepared.now }
-    requires tri_ok { TriInTextRange tri.now }
+    requires tri_ok { TriInRange tri.now }
     requires deep { leaf.d + more ≡ depth_of prepared.now.step }
     requires place { leaf.k < 2 ^ leaf.d }
     ensures { MatchOption result (LeafPasses prepared.now.cutter prepared.now.step tri.now more leaf.d leaf.k) (λ at. FailsUnder prepared.now.cutter prepared.now.step tri.now more leaf.d leaf.k at) }
@@ -126,12 +127,12 @@ fn first_under(prepared: &Prepared, tri: &Tri, leaf: Leaf, more: u32) -> Option<
 /// Whether a leaf is free, or lies so far beside the triangle that each leaf under it passes.
 fn is_passed(prepared: &Prepared, tri: &Tri, leaf: Leaf) -> bool
     requires prepared_ok { IsPrepared prepared.now }
-    requires tri_ok { TriInTextRange tri.now }
+    requires tri_ok { TriInRange tri.now }
     requires d_ok { leaf.d ≤ depth_of prepared.now.step }
     requires k_ok { leaf.k < 2 ^ leaf.d }
     ensures yes { IsTrue result → PassesDown prepared.now.cutter prepared.now.step tri.now leaf.d leaf.k }
     ensures no { result ≡ false → ¬ IsFreeSpan prepared.now.cutter (span_of prepared.now.step leaf.d leaf.k) tri.now }
-    ensures blocked { result ≡ false → (span_of prepared.now.step leaf.d leaf.k).reach ≤ℤ pos 1024 → Blocks prepared.now.cutter (span_of prepared.now.step leaf.d leaf.k) tri.now }
+    ensures blocked { result ≡ false → (span_of prepared.now.step leaf.d leaf.k).reach ≤ℤ pos MAX_REACH → Blocks prepared.now.cutter (span_of prepared.now.step leaf.d leaf.k) tri.now }
 {
     if leaf.d == 0 {
         return is_free(prepared.cutter, prepared.whole, tri);
@@ -139,28 +140,29 @@ fn is_passed(prepared: &Prepared, tri: &Tri, leaf: Leaf) -> bool
     is_segment_passed(prepared.cutter, &prepared.step, tri, leaf)
 }
 
-/// The same of a leaf whose span isn't known yet.
+/// Whether a leaf whose span isn't known yet is free, or lies so far beside the triangle that each
+/// leaf under it passes.
 ///
 /// What takes the least is tried first: its lower end, then where it lies in x, and then in y.
 fn is_segment_passed(cutter: Cutter, step: &Move, tri: &Tri, leaf: Leaf) -> bool
     requires cutter_ok { IsCutter cutter }
-    requires move_ok { MoveInTextRange step.now }
-    requires tri_ok { TriInTextRange tri.now }
+    requires move_ok { MoveInRange step.now }
+    requires tri_ok { TriInRange tri.now }
     requires d_ok { leaf.d ≤ depth_of step.now }
     requires k_ok { leaf.k < 2 ^ leaf.d }
     ensures yes { IsTrue result → PassesDown cutter step.now tri.now leaf.d leaf.k }
     ensures no { result ≡ false → ¬ IsFreeSpan cutter (span_of step.now leaf.d leaf.k) tri.now }
-    ensures blocked { result ≡ false → (span_of step.now leaf.d leaf.k).reach ≤ℤ pos 1024 → Blocks cutter (span_of step.now leaf.d leaf.k) tri.now }
+    ensures blocked { result ≡ false → (span_of step.now leaf.d leaf.k).reach ≤ℤ pos MAX_REACH → Blocks cutter (span_of step.now leaf.d leaf.k) tri.now }
 {
-    let zlow = lower_end(step.from.z, step.to.z, leaf);
+    let zlow = low_end(step, leaf);
     if is_no_higher(tri, zlow) {
         return true;
     }
-    let x = stretch_of(step.from.x, step.to.x, leaf);
+    let x = stretch_in_x(step, leaf);
     if is_beside_in_x(cutter, x, tri) {
         return true;
     }
-    let y = stretch_of(step.from.y, step.to.y, leaf);
+    let y = stretch_in_y(step, leaf);
     if is_beside_in_y(cutter, y, tri) {
         return true;
     }
@@ -169,7 +171,7 @@ fn is_segment_passed(cutter: Cutter, step: &Move, tri: &Tri, leaf: Leaf) -> bool
 
 /// The first half of a leaf's moments.
 fn left_half(leaf: Leaf) -> Leaf
-    requires d_ok { leaf.d < 18 }
+    requires d_ok { leaf.d < MAX_DEPTH }
     requires k_ok { leaf.k < 2 ^ leaf.d }
     ensures d { result.d ≡ leaf.d + 1 }
     ensures k { result.k ≡ 2 * leaf.k }
@@ -183,7 +185,7 @@ fn left_half(leaf: Leaf) -> Leaf
 
 /// The second half of a leaf's moments.
 fn right_half(leaf: Leaf) -> Leaf
-    requires d_ok { leaf.d < 18 }
+    requires d_ok { leaf.d < MAX_DEPTH }
     requires k_ok { leaf.k < 2 ^ leaf.d }
     ensures d { result.d ≡ leaf.d + 1 }
     ensures k { result.k ≡ 2 * leaf.k + 1 }

@@ -1,11 +1,12 @@
 ghost use Rattle.std.specs.Int.{div_ceil};
 ghost use Rattle.std.specs.Prelude.{◌≡◌, ◌+◌, ◌*◌, ◌^◌, ◌<◌, ◌≤◌, ◌+ℤ◌, ◌-ℤ◌, ◌*ℤ◌, ◌≤ℤ◌, pos, nat_abs, max};
 ghost use Rattle.mill_base.specs.Numbers.{floor_div, round_half_up, lesser, Within};
-ghost use Rattle.mill_base.specs.declared.limits.TheConstants.{MAX_TEXT_COORDINATE};
-ghost use Rattle.mill_base.specs.Ranges.{MoveInTextRange};
+ghost use Rattle.mill_base.specs.declared.limits.TheConstants.{MAX_COORDINATE, MAX_DEPTH};
+ghost use Rattle.mill_base.specs.Ranges.{MoveInRange};
 ghost use Rattle.mill_sweep.specs.Halving.{IsSpan};
-ghost use Rattle.mill_sweep.specs.Leaves.{depth_of, span_of, lower_of};
+ghost use Rattle.mill_sweep.specs.Leaves.{depth_of, span_of, lower_of, zlow_of};
 ghost use Rattle.mill_sweep.specs.Sweeps.{IsStretch, IsStretchOf, span_at};
+ghost use Rattle.mill_sweep.specs.Widths.{longest};
 
 use crate::diagonal::diagonal;
 use crate::ends::{Ends, ends_of, nearest, weighed};
@@ -14,20 +15,20 @@ use mill_base::{Move, power_of_two};
 
 /// Where the leaf of the move lies.
 pub fn span(step: &Move, leaf: Leaf) -> Span
-    requires move_ok { MoveInTextRange step.now }
+    requires move_ok { MoveInRange step.now }
     requires d_ok { leaf.d ≤ depth_of step.now }
     requires k_ok { leaf.k < 2 ^ leaf.d }
     ensures value { result ≡ span_of step.now leaf.d leaf.k }
-    ensures x_ok { Within MAX_TEXT_COORDINATE result.x }
-    ensures y_ok { Within MAX_TEXT_COORDINATE result.y }
+    ensures x_ok { Within MAX_COORDINATE result.x }
+    ensures y_ok { Within MAX_COORDINATE result.y }
     ensures reach_ok { pos 0 ≤ℤ result.reach }
-    ensures reach_most { result.reach ≤ℤ pos (2 ^ 19) }
-    ensures zlow_ok { Within MAX_TEXT_COORDINATE result.zlow }
+    ensures reach_most { result.reach ≤ℤ pos (2 * longest) }
+    ensures zlow_ok { Within MAX_COORDINATE result.zlow }
 {
     span_by(
-        stretch_of(step.from.x, step.to.x, leaf),
-        stretch_of(step.from.y, step.to.y, leaf),
-        lower_end(step.from.z, step.to.z, leaf),
+        stretch_in_x(step, leaf),
+        stretch_in_y(step, leaf),
+        low_end(step, leaf),
     )
 }
 
@@ -35,10 +36,10 @@ pub fn span(step: &Move, leaf: Leaf) -> Span
 pub(crate) fn span_by(x: Stretch, y: Stretch, zlow: i32) -> Span
     requires x_ok { IsStretch x }
     requires y_ok { IsStretch y }
-    requires zlow_ok { Within MAX_TEXT_COORDINATE zlow }
+    requires zlow_ok { Within MAX_COORDINATE zlow }
     ensures value { result ≡ span_at x y zlow }
     ensures span { IsSpan result }
-    ensures reach_most { result.reach ≤ℤ pos (2 ^ 19) }
+    ensures reach_most { result.reach ≤ℤ pos (2 * longest) }
 {
     Span {
         x: x.middle,
@@ -55,13 +56,46 @@ pub(crate) struct Stretch {
     pub farther: u32,
 }
 
+/// The leaf of the move in x.
+pub(crate) fn stretch_in_x(step: &Move, leaf: Leaf) -> Stretch
+    requires move_ok { MoveInRange step.now }
+    requires d_ok { leaf.d ≤ depth_of step.now }
+    requires k_ok { leaf.k < 2 ^ leaf.d }
+    ensures value { IsStretchOf step.now.from.x step.now.to.x leaf.d leaf.k result }
+    ensures bound { IsStretch result }
+{
+    stretch_of(step.from.x, step.to.x, leaf)
+}
+
+/// The leaf of the move in y.
+pub(crate) fn stretch_in_y(step: &Move, leaf: Leaf) -> Stretch
+    requires move_ok { MoveInRange step.now }
+    requires d_ok { leaf.d ≤ depth_of step.now }
+    requires k_ok { leaf.k < 2 ^ leaf.d }
+    ensures value { IsStretchOf step.now.from.y step.now.to.y leaf.d leaf.k result }
+    ensures bound { IsStretch result }
+{
+    stretch_of(step.from.y, step.to.y, leaf)
+}
+
+/// The height of the leaf's lower end, rounded down.
+pub(crate) fn low_end(step: &Move, leaf: Leaf) -> i32
+    requires move_ok { MoveInRange step.now }
+    requires d_ok { leaf.d ≤ depth_of step.now }
+    requires k_ok { leaf.k < 2 ^ leaf.d }
+    ensures value { result ≡ zlow_of step.now leaf.d leaf.k }
+    ensures bound { Within MAX_COORDINATE result }
+{
+    lower_end(step.from.z, step.to.z, leaf)
+}
+
 /// The leaf along one axis of a move.
 ///
 /// Most moves of a raster are at rest along an axis or two.
-pub(crate) fn stretch_of(from: i32, to: i32, leaf: Leaf) -> Stretch
-    requires from_ok { Within MAX_TEXT_COORDINATE from }
-    requires to_ok { Within MAX_TEXT_COORDINATE to }
-    requires d_ok { leaf.d ≤ 18 }
+fn stretch_of(from: i32, to: i32, leaf: Leaf) -> Stretch
+    requires from_ok { Within MAX_COORDINATE from }
+    requires to_ok { Within MAX_COORDINATE to }
+    requires d_ok { leaf.d ≤ MAX_DEPTH }
     requires k_ok { leaf.k < 2 ^ leaf.d }
     ensures value { IsStretchOf from to leaf.d leaf.k result }
     ensures bound { IsStretch result }
@@ -77,9 +111,9 @@ pub(crate) fn stretch_of(from: i32, to: i32, leaf: Leaf) -> Stretch
 
 /// The stretch between two ends, which are given times 2^d.
 fn stretch_between(ends: Ends, d: u32) -> Stretch
-    requires first_ok { nat_abs ends.first ≤ 2 ^ d * MAX_TEXT_COORDINATE }
-    requires last_ok { nat_abs ends.last ≤ 2 ^ d * MAX_TEXT_COORDINATE }
-    requires d_ok { d ≤ 18 }
+    requires first_ok { nat_abs ends.first ≤ 2 ^ d * MAX_COORDINATE }
+    requires last_ok { nat_abs ends.last ≤ 2 ^ d * MAX_COORDINATE }
+    requires d_ok { d ≤ MAX_DEPTH }
     ensures middle { result.middle ≡ round_half_up (ends.first +ℤ ends.last) (2 ^ (d + 1)) }
     ensures farther { result.farther ≡ div_ceil (max (nat_abs (ends.first -ℤ pos (2 ^ d) *ℤ result.middle)) (nat_abs (ends.last -ℤ pos (2 ^ d) *ℤ result.middle))) (2 ^ d) }
     ensures bound { IsStretch result }
@@ -93,23 +127,23 @@ fn stretch_between(ends: Ends, d: u32) -> Stretch
 
 /// The mean of two ends, which are given times 2^d.
 fn mean(ends: Ends, d: u32) -> i32
-    requires first_ok { nat_abs ends.first ≤ 2 ^ d * MAX_TEXT_COORDINATE }
-    requires last_ok { nat_abs ends.last ≤ 2 ^ d * MAX_TEXT_COORDINATE }
-    requires d_ok { d ≤ 18 }
+    requires first_ok { nat_abs ends.first ≤ 2 ^ d * MAX_COORDINATE }
+    requires last_ok { nat_abs ends.last ≤ 2 ^ d * MAX_COORDINATE }
+    requires d_ok { d ≤ MAX_DEPTH }
     ensures value { result ≡ round_half_up (ends.first +ℤ ends.last) (2 ^ (d + 1)) }
-    ensures bound { Within MAX_TEXT_COORDINATE result }
+    ensures bound { Within MAX_COORDINATE result }
 {
     nearest(ends.first + ends.last, d + 1)
 }
 
 /// How far, rounded up, the farther of two ends, which are given times 2^d, is from the middle.
 fn farther_from(ends: Ends, middle: i32, d: u32) -> u32
-    requires first_ok { nat_abs ends.first ≤ 2 ^ d * MAX_TEXT_COORDINATE }
-    requires last_ok { nat_abs ends.last ≤ 2 ^ d * MAX_TEXT_COORDINATE }
-    requires middle_ok { Within MAX_TEXT_COORDINATE middle }
-    requires d_ok { d ≤ 18 }
+    requires first_ok { nat_abs ends.first ≤ 2 ^ d * MAX_COORDINATE }
+    requires last_ok { nat_abs ends.last ≤ 2 ^ d * MAX_COORDINATE }
+    requires middle_ok { Within MAX_COORDINATE middle }
+    requires d_ok { d ≤ MAX_DEPTH }
     ensures value { result ≡ div_ceil (max (nat_abs (ends.first -ℤ pos (2 ^ d) *ℤ middle)) (nat_abs (ends.last -ℤ pos (2 ^ d) *ℤ middle))) (2 ^ d) }
-    ensures bound { result ≤ 2 ^ 18 }
+    ensures bound { result ≤ longest }
 {
     let place = weighed(power_of_two(d), middle);
     let farther = ends.first.abs_diff(place).max(ends.last.abs_diff(place));
@@ -118,21 +152,21 @@ fn farther_from(ends: Ends, middle: i32, d: u32) -> u32
 
 /// A length over 2^d, rounded up.
 fn parts_up(length: u64, d: u32) -> u64
-    requires length_ok { length ≤ 2 ^ 40 }
-    requires d_ok { d ≤ 18 }
+    requires length_ok { length ≤ longest * 2 ^ MAX_DEPTH }
+    requires d_ok { d ≤ MAX_DEPTH }
     ensures { result ≡ div_ceil length (2 ^ d) }
 {
     (length + (power_of_two(d) - 1)) >> d
 }
 
 /// The lower end of the leaf along one axis, rounded down.
-pub(crate) fn lower_end(from: i32, to: i32, leaf: Leaf) -> i32
-    requires from_ok { Within MAX_TEXT_COORDINATE from }
-    requires to_ok { Within MAX_TEXT_COORDINATE to }
-    requires d_ok { leaf.d ≤ 18 }
+fn lower_end(from: i32, to: i32, leaf: Leaf) -> i32
+    requires from_ok { Within MAX_COORDINATE from }
+    requires to_ok { Within MAX_COORDINATE to }
+    requires d_ok { leaf.d ≤ MAX_DEPTH }
     requires k_ok { leaf.k < 2 ^ leaf.d }
     ensures value { result ≡ lower_of from to leaf.d leaf.k }
-    ensures bound { Within MAX_TEXT_COORDINATE result }
+    ensures bound { Within MAX_COORDINATE result }
 {
     if from == to {
         return from;
@@ -142,11 +176,11 @@ pub(crate) fn lower_end(from: i32, to: i32, leaf: Leaf) -> i32
 
 /// The lower of two ends, which are given times 2^d, rounded down.
 fn lower_of_ends(ends: Ends, d: u32) -> i32
-    requires first_ok { nat_abs ends.first ≤ 2 ^ d * MAX_TEXT_COORDINATE }
-    requires last_ok { nat_abs ends.last ≤ 2 ^ d * MAX_TEXT_COORDINATE }
-    requires d_ok { d ≤ 18 }
+    requires first_ok { nat_abs ends.first ≤ 2 ^ d * MAX_COORDINATE }
+    requires last_ok { nat_abs ends.last ≤ 2 ^ d * MAX_COORDINATE }
+    requires d_ok { d ≤ MAX_DEPTH }
     ensures value { result ≡ floor_div (lesser ends.first ends.last) (2 ^ d) }
-    ensures bound { Within MAX_TEXT_COORDINATE result }
+    ensures bound { Within MAX_COORDINATE result }
 {
     (ends.first.min(ends.last) >> d) as i32
 }
@@ -156,22 +190,27 @@ mod tests {
     use super::*;
     use mill_base::{Kind, Pt3};
 
+    fn at(x: i32, y: i32, z: i32) -> Pt3
+        ensures { result ≡ record { x = x; y = y; z = z } }
+    {
+        Pt3 { x, y, z }
+    }
+
+    fn feed(from: Pt3, to: Pt3) -> Move
+        ensures from { result.from ≡ from }
+        ensures to { result.to ≡ to }
+    {
+        Move {
+            kind: Kind::Feed,
+            from,
+            to,
+        }
+    }
+
     // From 500 down to 279: the last leaf but one is at rest in x and y.
     #[test]
     fn span_of_a_leaf(rt: HostRuntime) {
-        let down = Move {
-            kind: Kind::Feed,
-            from: Pt3 {
-                x: 60,
-                y: 0,
-                z: 500,
-            },
-            to: Pt3 {
-                x: 60,
-                y: 0,
-                z: 279,
-            },
-        };
+        let down = feed(at(60, 0, 500), at(60, 0, 279));
         let want = Span {
             x: 60,
             y: 0,
@@ -184,11 +223,7 @@ mod tests {
     // The middle of -3 and 0 is -1, the half rounded up, and the lower end is at -1.
     #[test]
     fn span_of_a_whole_move(rt: HostRuntime) {
-        let below = Move {
-            kind: Kind::Feed,
-            from: Pt3 { x: -3, y: 0, z: 0 },
-            to: Pt3 { x: 0, y: 0, z: -1 },
-        };
+        let below = feed(at(-3, 0, 0), at(0, 0, -1));
         let want = Span {
             x: -1,
             y: 0,
@@ -201,19 +236,7 @@ mod tests {
     // The leaves at which a flat and a ball are stopped by a point at (500, 0).
     #[test]
     fn spans_at_the_depth(rt: HostRuntime) {
-        let along = Move {
-            kind: Kind::Feed,
-            from: Pt3 {
-                x: 0,
-                y: 100,
-                z: 200,
-            },
-            to: Pt3 {
-                x: 1000,
-                y: 100,
-                z: 200,
-            },
-        };
+        let along = feed(at(0, 100, 200), at(1000, 100, 200));
         let past = Span {
             x: 486,
             y: 100,

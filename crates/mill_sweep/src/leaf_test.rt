@@ -1,9 +1,9 @@
 ghost use Rattle.std.specs.Prelude.{◌≡◌, ◌≤ℤ◌, ◌<ℤ◌, pos, false, IsTrue};
 ghost use Rattle.mill_base.specs.Contact.{Touches};
 ghost use Rattle.mill_base.specs.Numbers.{Within};
-ghost use Rattle.mill_base.specs.declared.limits.TheConstants.{MAX_TEXT_COORDINATE};
+ghost use Rattle.mill_base.specs.declared.limits.TheConstants.{MAX_COORDINATE, MAX_REACH};
 ghost use Rattle.mill_base.specs.Points.{highest as highest_of};
-ghost use Rattle.mill_base.specs.Ranges.{TriInTextRange};
+ghost use Rattle.mill_base.specs.Ranges.{TriInRange};
 ghost use Rattle.mill_base.specs.Sizes.{IsCutter, outer};
 ghost use Rattle.mill_sweep.specs.Halving.{Blocks, IsFreeSpan, IsSpan};
 ghost use Rattle.mill_sweep.specs.Leaves.{outer_tip};
@@ -12,14 +12,8 @@ ghost use Rattle.mill_sweep.specs.Sweeps.{IsStretch, span_at};
 use crate::contact::holds_some;
 use crate::leaf::Span;
 use crate::leaf_span::{Stretch, span_by};
-use mill_base::{Cutter, Pt3, Tri};
+use mill_base::{Cutter, MAX_REACH, Pt3, Tri};
 use mill_shape::widen;
-
-/// The greatest reach by which a cutter is widened, in units of 0.01 mm.
-const REACH_MOST: i32 = 1_024;
-
-/// The same, for the distance along one axis.
-const FARTHER_MOST: u32 = 1_024;
 
 /// Whether no corner of the triangle is higher than `height`.
 pub(crate) fn is_no_higher(tri: &Tri, height: i32) -> bool
@@ -34,35 +28,36 @@ pub(crate) fn is_no_higher(tri: &Tri, height: i32) -> bool
 pub(crate) fn is_free(cutter: Cutter, span: Span, tri: &Tri) -> bool
     requires cutter_ok { IsCutter cutter }
     requires span_ok { IsSpan span }
-    requires tri_ok { TriInTextRange tri.now }
+    requires tri_ok { TriInRange tri.now }
     ensures yes { IsTrue result → IsFreeSpan cutter span tri.now }
     ensures no { result ≡ false → ¬ IsFreeSpan cutter span tri.now }
-    ensures blocked { result ≡ false → span.reach ≤ℤ pos 1024 → Blocks cutter span tri.now }
+    ensures blocked { result ≡ false → span.reach ≤ℤ pos MAX_REACH → Blocks cutter span tri.now }
 {
     if highest(tri) <= span.zlow {
         return true;
     }
-    if span.reach > REACH_MOST {
+    if span.reach > MAX_REACH as i32 {
         return false;
     }
     !outer_holds_some(cutter, span, tri)
 }
 
-/// The same of a leaf that lies so in x and in y, where a corner of the triangle is higher than it.
+/// Whether a leaf that lies so in x and in y passes the triangle by itself, where a corner of the
+/// triangle is higher than it.
 ///
 /// Ends that are far from the middle along an axis make the reach great, so no root is taken then.
 pub(crate) fn is_free_by(cutter: Cutter, x: Stretch, y: Stretch, zlow: i32, tri: &Tri) -> bool
     requires cutter_ok { IsCutter cutter }
     requires x_ok { IsStretch x }
     requires y_ok { IsStretch y }
-    requires zlow_ok { Within MAX_TEXT_COORDINATE zlow }
-    requires tri_ok { TriInTextRange tri.now }
+    requires zlow_ok { Within MAX_COORDINATE zlow }
+    requires tri_ok { TriInRange tri.now }
     requires higher { zlow <ℤ highest_of tri.now }
     ensures yes { IsTrue result → IsFreeSpan cutter (span_at x y zlow) tri.now }
     ensures no { result ≡ false → ¬ IsFreeSpan cutter (span_at x y zlow) tri.now }
-    ensures blocked { result ≡ false → (span_at x y zlow).reach ≤ℤ pos 1024 → Blocks cutter (span_at x y zlow) tri.now }
+    ensures blocked { result ≡ false → (span_at x y zlow).reach ≤ℤ pos MAX_REACH → Blocks cutter (span_at x y zlow) tri.now }
 {
-    if x.farther.max(y.farther) > FARTHER_MOST {
+    if x.farther.max(y.farther) > MAX_REACH {
         return false;
     }
     is_free(cutter, span_by(x, y, zlow), tri)
@@ -72,8 +67,8 @@ pub(crate) fn is_free_by(cutter: Cutter, x: Stretch, y: Stretch, zlow: i32, tri:
 fn outer_holds_some(cutter: Cutter, span: Span, tri: &Tri) -> bool
     requires cutter_ok { IsCutter cutter }
     requires span_ok { IsSpan span }
-    requires reach_most { span.reach ≤ℤ pos 1024 }
-    requires tri_ok { TriInTextRange tri.now }
+    requires reach_most { span.reach ≤ℤ pos MAX_REACH }
+    requires tri_ok { TriInRange tri.now }
     ensures yes { IsTrue result → Touches (outer cutter span.reach) (pos 1) (outer_tip cutter span) tri.now }
     ensures no { result ≡ false → ¬ Touches (outer cutter span.reach) (pos 1) (outer_tip cutter span) tri.now }
 {

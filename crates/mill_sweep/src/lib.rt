@@ -23,6 +23,7 @@ mod sweep;
 #[cfg(test)]
 mod tests;
 
+pub use contact::{holds_some, touch};
 pub use ends::{end_at, nearest};
 pub use halving::{first_block, first_block_point, passes_point, passes_tri};
 pub use leaf::{Leaf, Span};

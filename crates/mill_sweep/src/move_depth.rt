@@ -1,5 +1,6 @@
 ghost use Rattle.std.specs.Prelude.{◌≡◌, ◌*◌, ◌^◌, ◌<◌, ◌≤◌, max};
-ghost use Rattle.mill_base.specs.Ranges.{MoveInTextRange};
+ghost use Rattle.mill_base.specs.Ranges.{MoveInRange};
+ghost use Rattle.mill_base.specs.declared.limits.TheConstants.{MAX_DEPTH};
 ghost use Rattle.mill_sweep.specs.Leaves.{depth_of, length_x, length_y, length_z};
 
 use mill_base::Move;
@@ -8,7 +9,7 @@ use mill_base::Move;
 /// at most 2 to the power `d`.
 pub fn depth(step: &Move) -> u32
     ensures value { result ≡ depth_of step.now }
-    ensures most { MoveInTextRange step.now → result ≤ 18 }
+    ensures most { MoveInRange step.now → result ≤ MAX_DEPTH }
 {
     halvings(longest(step))
 }
@@ -52,29 +53,31 @@ mod tests {
             (221, 8),
             (1000, 10),
             (262142, 18),
+            (1048574, 20),
             (u32::MAX, 32),
         ] {
             assert_eq!(rt; halvings(length), want, "of {length}");
         }
     }
 
+    // By the longest axis; and of the longest moves that a text gives and that calls take.
     #[test]
     fn depth_by_the_longest_axis(rt: HostRuntime) {
-        let from = Pt3 {
-            x: 60,
-            y: 0,
-            z: 500,
-        };
-        let to = Pt3 {
-            x: 60,
-            y: 3,
-            z: 279,
-        };
-        let step = Move {
-            kind: Kind::Feed,
-            from,
-            to,
-        };
-        assert_eq!(rt; depth(&step), 8);
+        for (from, to, want) in [
+            ((60, 0, 500), (60, 3, 279), 8),
+            ((-131_071, -131_071, 0), (131_071, 131_071, 0), 18),
+            ((-524_287, -524_287, 0), (524_287, 524_287, 0), 20),
+        ] {
+            let step = Move {
+                kind: Kind::Feed,
+                from: at(from),
+                to: at(to),
+            };
+            assert_eq!(rt; depth(&step), want);
+        }
+    }
+
+    fn at((x, y, z): (i32, i32, i32)) -> Pt3 {
+        Pt3 { x, y, z }
     }
 }

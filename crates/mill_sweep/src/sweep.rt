@@ -1,6 +1,6 @@
 ghost use Rattle.std.specs.Prelude.{◌≡◌, MatchOption};
 ghost use Rattle.mill_base.specs.Points.{point_tri};
-ghost use Rattle.mill_base.specs.Ranges.{IsInTextRange, MoveInTextRange, TriInTextRange};
+ghost use Rattle.mill_base.specs.Ranges.{IsInRange, MoveInRange, TriInRange};
 ghost use Rattle.mill_base.specs.Sizes.{IsCutter};
 ghost use Rattle.mill_sweep.specs.Halving.{Blocks, FailsAt, Passes, PassesPoint};
 ghost use Rattle.mill_sweep.specs.Leaves.{span_of};
@@ -35,7 +35,7 @@ impl Sweep {
     /// The cutter on the move.
     pub fn new(cutter: Cutter, step: &Move) -> Sweep
         requires cutter_ok { IsCutter cutter }
-        requires move_ok { MoveInTextRange step.now }
+        requires move_ok { MoveInRange step.now }
         ensures { result ≡ record { cutter = cutter; move = step.now } }
     {
         Sweep {
@@ -45,7 +45,7 @@ impl Sweep {
 
     /// The leaf at which the move fails to pass the triangle, none exactly where the move passes.
     pub fn first_block(&self, tri: &Tri) -> Option<Leaf>
-        requires { TriInTextRange tri.now }
+        requires { TriInRange tri.now }
         ensures { MatchOption result (Passes self.now.cutter self.now.move tri.now) (λ leaf. FailsAt self.now.cutter self.now.move tri.now leaf × Blocks self.now.cutter (span_of self.now.move leaf.d leaf.k) tri.now) }
     {
         first_on(&self.prepared, tri)
@@ -53,7 +53,7 @@ impl Sweep {
 
     /// The leaf at which the move fails to pass the point, none exactly where the move passes.
     pub fn first_block_point(&self, point: Pt3) -> Option<Leaf>
-        requires { IsInTextRange point }
+        requires { IsInRange point }
         ensures { MatchOption result (PassesPoint self.now.cutter self.now.move point) (λ leaf. FailsAt self.now.cutter self.now.move (point_tri point) leaf × Blocks self.now.cutter (span_of self.now.move leaf.d leaf.k) (point_tri point)) }
     {
         self.first_block(&triangle_at(point))
@@ -73,7 +73,7 @@ pub(crate) struct Prepared {
 /// The cutter and the move, with what their tests have in common.
 pub(crate) fn prepare(cutter: Cutter, step: &Move) -> Prepared
     requires cutter_ok { IsCutter cutter }
-    requires move_ok { MoveInTextRange step.now }
+    requires move_ok { MoveInRange step.now }
     ensures prepared { IsPrepared result }
     ensures cutter { result.cutter ≡ cutter }
     ensures step { result.step ≡ step.now }

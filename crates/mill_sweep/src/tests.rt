@@ -1,11 +1,11 @@
-ghost use Rattle.mill_base.specs.Ranges.{IsInTextRange, MoveInTextRange, TriInTextRange};
+ghost use Rattle.mill_base.specs.Ranges.{IsInRange, MoveInRange, TriInRange};
 
 use crate::halving::{first_block, first_block_point, passes_point, passes_tri, triangle_at};
 use crate::leaf::Leaf;
 use mill_base::{Cutter, Kind, Move, Pt3, Tri};
 
 fn at(x: i16, y: i16, z: i16) -> Pt3
-    ensures { IsInTextRange result }
+    ensures { IsInRange result }
 {
     Pt3 {
         x: i32::from(x),
@@ -16,7 +16,7 @@ fn at(x: i16, y: i16, z: i16) -> Pt3
 
 /// A feed along the straight line between two points.
 fn feed(from: (i16, i16, i16), to: (i16, i16, i16)) -> Move
-    ensures { MoveInTextRange result }
+    ensures { MoveInRange result }
 {
     Move {
         kind: Kind::Feed,
@@ -27,7 +27,7 @@ fn feed(from: (i16, i16, i16), to: (i16, i16, i16)) -> Move
 
 /// A level triangle at height 200 whose nearest corner to the left is (x, 100).
 fn plate_at(x: i16) -> Tri
-    ensures { TriInTextRange result }
+    ensures { TriInRange result }
 {
     Tri {
         a: at(x, 100, 200),

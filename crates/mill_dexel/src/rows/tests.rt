@@ -1,8 +1,8 @@
 ghost use Rattle.std.specs.Prelude.{◌≡◌, ◌<◌, ◌≤◌, All, IfOk};
 ghost use Rattle.mill_base.specs.Numbers.{Within};
-ghost use Rattle.mill_base.specs.declared.limits.TheConstants.{MAX_TEXT_COORDINATE};
+ghost use Rattle.mill_base.specs.declared.limits.TheConstants.{MAX_COORDINATE};
 ghost use Rattle.mill_base.specs.Points.{point_at};
-ghost use Rattle.mill_base.specs.Ranges.{IsInTextRange, MoveInTextRange, MovesInTextRange};
+ghost use Rattle.mill_base.specs.Ranges.{IsInRange, MoveInRange, MovesInRange};
 ghost use Rattle.mill_job.specs.Columns.{row_count};
 ghost use Rattle.mill_job.specs.Jobs.{IsJob};
 ghost use Rattle.mill_dexel.specs.Rows.{IsRowOf};
@@ -46,18 +46,18 @@ fn five_rows() -> Job
 }
 
 fn place(x: i32, y: i32, z: i32) -> Pt3
-    requires x_ok { Within MAX_TEXT_COORDINATE x }
-    requires y_ok { Within MAX_TEXT_COORDINATE y }
-    requires z_ok { Within MAX_TEXT_COORDINATE z }
-    ensures { IsInTextRange result }
+    requires x_ok { Within MAX_COORDINATE x }
+    requires y_ok { Within MAX_COORDINATE y }
+    requires z_ok { Within MAX_COORDINATE z }
+    ensures { IsInRange result }
 {
     Pt3 { x, y, z }
 }
 
 fn step(kind: Kind, from: Pt3, to: Pt3) -> Move
-    requires from_ok { IsInTextRange from }
-    requires to_ok { IsInTextRange to }
-    ensures { MoveInTextRange result }
+    requires from_ok { IsInRange from }
+    requires to_ok { IsInRange to }
+    ensures { MoveInRange result }
 {
     Move { kind, from, to }
 }
@@ -65,7 +65,7 @@ fn step(kind: Kind, from: Pt3, to: Pt3) -> Move
 /// A pocket to 200 over the first three rows and a rapid out of it. Then a rapid at 250 that comes
 /// too near to the fourth row, and a cut to 100 of two columns of the fifth.
 fn program() -> [Move; 4]
-    ensures { MovesInTextRange result }
+    ensures { MovesInRange result }
 {
     [
         step(Kind::Feed, place(100, 100, 400), place(100, 100, 200)),

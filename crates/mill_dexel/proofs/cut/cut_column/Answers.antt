@@ -1,4 +1,4 @@
-use Rattle.std.proofs.Common.{ap, pos, arith}
+use Rattle.std.proofs.Common.{ap, arith}
 use Rattle.std.specs.Prelude.{ℤ, slice_set}
 use Rattle.std.proofs.lemmas.Int.{ints}
 use mir.Syntax.{w32}
@@ -6,6 +6,7 @@ use Rattle.mill_base.proofs.Machine.{stored}
 use Rattle.mill_shape.proofs.CutHeights.{cutter_is_wide}
 use Rattle.mill_dexel.specs.Rows.{top_at}
 use Rattle.mill_dexel.proofs.CutRows.{lowered_is, kept_is, free_is, clear_is}
+use Rattle.mill_base.specs.declared.limits.TheConstants.{MAX_RADIUS}
 use Rattle.mill_dexel.proofs.cut.cut_column.Goals as goal
 
 pub returns-then-is_free : goal.returns-then-is_free
@@ -13,7 +14,7 @@ returns-then-is_free c = free_is c.args.job.now c.args.number c.args.column c.ar
     (omega (arith, ints, c.is_free.ensures.low c.if-is_free.true)) (omega (arith, ints, c.is_free.ensures.high c.if-is_free.true))
 
 pub cut_height-requires-clause-cutter_ok : goal.cut_height-requires-clause-cutter_ok
-cut_height-requires-clause-cutter_ok c = cutter_is_wide c.args.sample.cutter (pos 10000) (omega (arith, ints)) c.requires.sample_ok.cutter_ok
+cut_height-requires-clause-cutter_ok c = cutter_is_wide c.args.sample.cutter MAX_RADIUS (omega (arith, ints)) c.requires.sample_ok.cutter_ok
 
 pub returns-in-Some : goal.returns-in-Some
 returns-in-Some c =

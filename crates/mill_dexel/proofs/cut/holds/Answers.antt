@@ -6,12 +6,13 @@ use Rattle.mill_base.specs.Cutters.{Inside}
 use Rattle.mill_base.specs.Points.{point_at}
 use Rattle.mill_base.specs.declared.points.Pt3.{Pt3}
 use Rattle.mill_base.specs.declared.cutter.Cutter.{Cutter}
+use Rattle.mill_base.specs.declared.limits.TheConstants.{MAX_RADIUS}
 use Rattle.mill_base.proofs.Machine.{stored}
 use Rattle.mill_shape.proofs.CutHeights.{cutter_is_wide, holds_whole}
 use Rattle.mill_dexel.proofs.cut.holds.Goals as goal
 
 pub inside-requires-clause-cutter_ok : goal.inside-requires-clause-cutter_ok
-inside-requires-clause-cutter_ok c = cutter_is_wide c.args.sample.cutter (pos 10000) (omega (arith, ints)) c.requires.sample_ok.cutter_ok
+inside-requires-clause-cutter_ok c = cutter_is_wide c.args.sample.cutter MAX_RADIUS (omega (arith, ints)) c.requires.sample_ok.cutter_ok
 
 -- a whole point is held where its offset is inside
 same_place : (cutter : Cutter) (tip : Pt3) (x y z a b c : ℤ) → a ≡ x -ℤ tip.x → b ≡ y -ℤ tip.y → c ≡ z -ℤ tip.z

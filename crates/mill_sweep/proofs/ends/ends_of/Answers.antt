@@ -3,15 +3,17 @@ use Rattle.mill_base.proofs.Machine.{Read, Sum, exact, kept}
 use Rattle.mill_sweep.specs.Leaves.{end_of}
 use Rattle.mill_sweep.proofs.Rest.{next_end}
 use Rattle.mill_sweep.proofs.Spans.{end_within}
+use Rattle.mill_sweep.specs.Widths.{farthest_end}
+use Rattle.mill_base.specs.declared.limits.TheConstants.{MAX_COORDINATE}
 use Rattle.mill_sweep.proofs.ends.ends_of.Goals as goal
 
 pub returns-clause-last : goal.returns-clause-last
 returns-clause-last c =
-    let keep_from = kept w32 c.args.from 131071 c.requires.from_ok.within refl in
-    let keep_to = kept w32 c.args.to 131071 c.requires.to_ok.within refl in
+    let keep_from = kept w32 c.args.from MAX_COORDINATE c.requires.from_ok.within refl in
+    let keep_to = kept w32 c.args.to MAX_COORDINATE c.requires.to_ok.within refl in
     let first : c.end_at-first.result ≡ end_of c.args.from c.args.to c.args.leaf.d c.args.leaf.k = rw (keep_from, keep_to) at c.end_at-first.ensures.value in
     let moved : c.offset.result ≡ c.args.to -ℤ c.args.from = rw (keep_from, keep_to) at c.offset.ensures.value in
-    exact (c.end_at-first.result ∷ c.offset.result ∷ []) (2 ^ 37 ∷ 2 ^ 32 ∷ []) (Sum w64 (Read w64 0) (Read w64 1)) (c.end_at-first.ensures.bound.within, (c.offset.ensures.bound.within, tt)) refl
+    exact (c.end_at-first.result ∷ c.offset.result ∷ []) (farthest_end ∷ 2 ^ 32 ∷ []) (Sum w64 (Read w64 0) (Read w64 1)) (c.end_at-first.ensures.bound.within, (c.offset.ensures.bound.within, tt)) refl
     ∙ rw (first, moved) (next_end c.args.from c.args.to c.args.leaf.d c.args.leaf.k)
 
 pub returns-clause-last_within : goal.returns-clause-last_within

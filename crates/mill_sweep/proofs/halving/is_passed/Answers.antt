@@ -4,6 +4,7 @@ use lib.Signed.{◌≤ℤ◌}
 use Rattle.mill_sweep.specs.Halving.{Blocks, IsFreeSpan}
 use Rattle.mill_sweep.specs.declared.leaf.Span.{Span}
 use Rattle.mill_sweep.proofs.Segments.{free_down, whole_in_range, whole_span}
+use Rattle.mill_base.specs.declared.limits.TheConstants.{MAX_REACH}
 use Rattle.mill_sweep.proofs.halving.is_passed.Goals as goal
 
 pub is_free-requires-clause-span_ok : goal.is_free-requires-clause-span_ok
@@ -22,4 +23,4 @@ returns-then-leaf-eq0-clause-no c = λ held.
 pub returns-then-leaf-eq0-clause-blocked : goal.returns-then-leaf-eq0-clause-blocked
 returns-then-leaf-eq0-clause-blocked c = λ held.
     let span = whole_span c.args.prepared.now c.requires.prepared_ok c.args.leaf.d c.args.leaf.k c.if-leaf-eq0.true c.requires.k_ok in
-    subst (λ (s : Span). s.reach ≤ℤ pos 1024 → Blocks c.args.prepared.now.cutter s c.args.tri.now) span (c.is_free.ensures.blocked held)
+    subst (λ (s : Span). s.reach ≤ℤ pos MAX_REACH → Blocks c.args.prepared.now.cutter s c.args.tri.now) span (c.is_free.ensures.blocked held)

@@ -2,11 +2,12 @@ use Rattle.std.proofs.Common.{◌≡◌, ◌∙◌, ℤ, refl, ap, sym, subst, t
 use Rattle.mill_base.proofs.Machine.{kept}
 use Rattle.mill_sweep.specs.Leaves.{lower_of}
 use Rattle.mill_sweep.proofs.Rest.{lower_at_rest}
+use Rattle.mill_base.specs.declared.limits.TheConstants.{MAX_COORDINATE}
 use Rattle.mill_sweep.proofs.leaf_span.lower_end.Goals as goal
 
 pub returns-then-from-to-clause-value : goal.returns-then-from-to-clause-value
 returns-then-from-to-clause-value c =
-    let keep_from = kept w32 c.args.from 131071 c.requires.from_ok.within refl in
-    let keep_to = kept w32 c.args.to 131071 c.requires.to_ok.within refl in
+    let keep_from = kept w32 c.args.from MAX_COORDINATE c.requires.from_ok.within refl in
+    let keep_to = kept w32 c.args.to MAX_COORDINATE c.requires.to_ok.within refl in
     let same : c.args.from ≡ c.args.to = sym keep_from ∙ ap (to_z w32) c.if-from-to.true ∙ keep_to in
     keep_from ∙ subst (λ (t : ℤ). c.args.from ≡ lower_of c.args.from t c.args.leaf.d c.args.leaf.k) same (sym (lower_at_rest c.args.from c.args.leaf.d c.args.leaf.k c.requires.k_ok))

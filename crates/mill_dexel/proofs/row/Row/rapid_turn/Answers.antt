@@ -1,5 +1,5 @@
 use Rattle.mill_base.specs.Points.{point_tri}
-use Rattle.mill_base.specs.Ranges.{IsInTextRange}
+use Rattle.mill_base.specs.Ranges.{IsInRange}
 use Rattle.mill_base.specs.declared.points.Pt3.{Pt3}
 use Rattle.mill_job.specs.Columns.{column_x, column_y}
 use Rattle.mill_sweep.specs.Leaves.{span_of}
@@ -14,7 +14,7 @@ use Rattle.mill_dexel.proofs.row.Row.rapid_turn.Goals as goal
 
 pub first_block_point-requires : goal.first_block_point-requires
 first_block_point-requires c =
-    subst (λ (p : Pt3). IsInTextRange p) (sym c.top_point-top.ensures)
+    subst (λ (p : Pt3). IsInRange p) (sym c.top_point-top.ensures)
     (top_in_range c.args.job.now c.args.self.now c.loop-column.column c.requires.job c.requires.row (omega (arith, c.reach_of-reach.ensures.within)))
 
 pub loop-column-init : goal.loop-column-init
