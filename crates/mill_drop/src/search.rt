@@ -6,8 +6,8 @@ ghost use Rattle.mill_base.specs.Ranges.{TriInRange};
 ghost use Rattle.mill_drop.specs.Drops.{TouchesAt};
 ghost use Rattle.mill_drop.specs.inner.Spindles.{IsSpindle};
 
-use crate::contact::holds_some;
 use mill_base::{Cutter, Pt3, Tri};
+use mill_sweep::holds_some;
 
 /// A cutter over a place, whose height is looked for.
 #[derive(Clone, Copy)]
