@@ -12,7 +12,7 @@ use Rattle.std.proofs.lemmas.Map.Views.{Contains-from_any}
 use lib.IntN.{ℤ, pos}
 use lib.Signed.{◌<ℤ◌, ◌≤ℤ◌}
 use Rattle.mill_base.specs.Numbers.{Within}
-use Rattle.mill_base.specs.declared.limits.TheConstants.{MAX_TEXT_COORDINATE}
+use Rattle.mill_base.specs.declared.limits.TheConstants.{MAX_COORDINATE}
 use Rattle.mill_base.specs.Points.{highest, point_at, point_tri}
 use Rattle.mill_base.specs.Sizes.{IsCutter}
 use Rattle.mill_base.specs.declared.points.Tri.{Tri}
@@ -227,12 +227,12 @@ module _ (cutter : Cutter) (part : List Tri) (fiber : Fiber) (from to : ℤ) whe
   collect_cost near found old now s = record { numbers = s.numbers; once = s.each_once; tried = s.tried; bound = s.bound }
 
 -- at most 40 touches for each triangle of the part
-pub few_touches : (cutter : Cutter) (part : List Tri) (fiber : Fiber) (from to : ℤ) (old new : ℕ) → Within MAX_TEXT_COORDINATE from → Within MAX_TEXT_COORDINATE to → TouchesFew cutter part fiber from to old new
+pub few_touches : (cutter : Cutter) (part : List Tri) (fiber : Fiber) (from to : ℤ) (old new : ℕ) → Within MAX_COORDINATE from → Within MAX_COORDINATE to → TouchesFew cutter part fiber from to old new
     → new ≤ old + 40 * length part
 few_touches cutter part fiber from to old new h k t =
     let few = few_below t.numbers (length part) t.once (λ i c. (t.tried i c).within) in
     let steps = t.bound 20 (short from to h k) in
     omega arith
   where
-    short : (from to : ℤ) → Within MAX_TEXT_COORDINATE from → Within MAX_TEXT_COORDINATE to → position_count from to < 1048576
+    short : (from to : ℤ) → Within MAX_COORDINATE from → Within MAX_COORDINATE to → position_count from to < 1048576
     short from to h k = let a = h.within in let b = k.within in omega (arith, ints)

@@ -15,7 +15,7 @@ use lib.Signed.{◌<ℤ◌, ◌≤ℤ◌}
 use Rattle.mill_push.specs.declared.fiber.Run.{Run}
 use Rattle.mill_push.specs.Runs.{StandsIn}
 use Rattle.mill_base.specs.Numbers.{Within}
-use Rattle.mill_base.specs.declared.limits.TheConstants.{MAX_TEXT_COORDINATE}
+use Rattle.mill_base.specs.declared.limits.TheConstants.{MAX_COORDINATE}
 use Rattle.mill_base.specs.declared.points.Tri.{Tri}
 use Rattle.mill_base.specs.declared.cutter.Cutter.{Cutter}
 use Rattle.mill_push.specs.declared.fiber.Fiber.{Fiber}
@@ -66,10 +66,10 @@ pub spans_moved : (xs ys : List Run) (from to : ℤ) → IsPermutation xs ys →
 spans_moved xs ys from to p spans run c = spans run (Contains-permutation ys xs run (IsPermutation-sym xs ys p) c)
 
 -- the ends of runs between two positions in range are in range
-pub first_within : (xs : List Run) (from to : ℤ) → Within MAX_TEXT_COORDINATE from → Within MAX_TEXT_COORDINATE to → AreSpans from to xs → (run : Run) → Contains xs run → Within MAX_TEXT_COORDINATE run.first
+pub first_within : (xs : List Run) (from to : ℤ) → Within MAX_COORDINATE from → Within MAX_COORDINATE to → AreSpans from to xs → (run : Run) → Contains xs run → Within MAX_COORDINATE run.first
 first_within xs from to h k spans run c = let s = spans run c in within_between from run.first to h k s.after (through run.first run.last to s.some s.within)
 
-pub last_within : (xs : List Run) (from to : ℤ) → Within MAX_TEXT_COORDINATE from → Within MAX_TEXT_COORDINATE to → AreSpans from to xs → (run : Run) → Contains xs run → Within MAX_TEXT_COORDINATE run.last
+pub last_within : (xs : List Run) (from to : ℤ) → Within MAX_COORDINATE from → Within MAX_COORDINATE to → AreSpans from to xs → (run : Run) → Contains xs run → Within MAX_COORDINATE run.last
 last_within xs from to h k spans run c = let s = spans run c in within_between from run.last to h k (through from run.first run.last s.after s.some) s.within
 
 -- the runs of the stretches, in whatever order, are those of the blocked positions

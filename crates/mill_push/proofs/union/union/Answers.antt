@@ -4,7 +4,7 @@ use Rattle.std.specs.List.{Contains}
 use Rattle.std.proofs.lemmas.Int.{ints}
 use lib.IntN.{ℤ, pos, ◌+ℤ◌}
 use lib.Signed.{◌<ℤ◌, ◌≤ℤ◌}
-use Rattle.mill_base.specs.declared.limits.TheConstants.{MAX_TEXT_COORDINATE}
+use Rattle.mill_base.specs.declared.limits.TheConstants.{MAX_COORDINATE}
 use Rattle.mill_push.proofs.Joining.{grown_first, grown_on, grown_next, grown_all, at_head, at_later, all_taken, one_of_two, most_of_two, most_within}
 use Rattle.mill_push.proofs.Stored.{stored, and_one}
 use Rattle.mill_push.proofs.union.union.Goals as goal
@@ -36,7 +36,7 @@ loop-stretch-preserved-then-stretch-run c =
     let near : s.first ≤ℤ (run.last +ℤ pos 1) = omega (test, arith, ints) in
     let value = rw (end, last) at c.max.ensures.value in
     let most = most_of_two run.last s.last in
-    let within = most_within MAX_TEXT_COORDINATE run.last s.last i.1 (c.requires.lasts s m) in
+    let within = most_within MAX_COORDINATE run.last s.last i.1 (c.requires.lasts s m) in
     rw (value, stored (int_max run.last s.last) within)
     (
       λ from to spans. grown_on xs c.requires.ordered from to (k + 1) c.loop-stretch.runs.items run s (int_max run.last s.last) spans h.0 h.1 near most.0 most.1 (one_of_two run.last s.last) (i.0 from to spans),
