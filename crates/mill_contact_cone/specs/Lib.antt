@@ -1,2 +1,5 @@
+pub mod Widths
 pub mod Cones
-pub mod inner
+pub mod Quadratics
+pub mod Positions
+pub mod Clears
