@@ -15,7 +15,7 @@ use Rattle.mill_geom.proofs.SideCerts.{side_near, side_dot, side_over, side_weig
 use Rattle.mill_contact_cone.specs.declared.corner.Cone.{Cone}
 use Rattle.mill_contact_cone.specs.declared.corner.Corner.{Corner}
 use Rattle.mill_contact_cone.specs.Cones.{IsCone, plain, TouchesCone}
-use Rattle.mill_contact_cone.specs.Positions.{ConeAt, slid as slid_corner, flattened, IsSeenOn}
+use Rattle.mill_contact_cone.specs.inner.Positions.{ConeAt, slid as slid_corner, flattened, IsSeenOn}
 use Rattle.mill_contact_cone.proofs.Sizes.{radius_positive, run_positive}
 use Rattle.mill_contact_cone.proofs.Zones.{same_inside}
 use Rattle.mill_contact_cone.proofs.Whole.{cone_edge, cone_turned}

@@ -9,7 +9,7 @@ use Rattle.mill_geom.specs.Gaps.{AllApart, AllUpTo}
 use Rattle.mill_contact_cone.specs.declared.corner.Cone.{Cone}
 use Rattle.mill_contact_cone.specs.declared.corner.Corner.{Corner}
 use Rattle.mill_contact_cone.specs.Cones.{plain, TouchesCone}
-use Rattle.mill_contact_cone.specs.Clears.{apart_of, across_of, upward_of, HoldsCorner}
+use Rattle.mill_contact_cone.specs.inner.Clears.{apart_of, across_of, upward_of, HoldsCorner}
 use Rattle.mill_contact_cone.proofs.Zones.{same_inside}
 use Rattle.mill_contact_cone.proofs.Whole.{zero_ok}
 use Rattle.mill_contact_cone.proofs.ClearCerts.{low_box, far_box, wall_box, corner_weights, corner_near}

@@ -13,7 +13,7 @@ use Rattle.mill_geom.proofs.TriangleCerts.{opp_zero, opp_zero2, opp_rises}
 use Rattle.mill_contact_cone.specs.declared.corner.Cone.{Cone}
 use Rattle.mill_contact_cone.specs.declared.corner.Corner.{Corner}
 use Rattle.mill_contact_cone.specs.Cones.{plain, TouchesCone, EdgesFree}
-use Rattle.mill_contact_cone.specs.Positions.{ConeAt, flattened}
+use Rattle.mill_contact_cone.specs.inner.Positions.{ConeAt, flattened}
 use Rattle.mill_contact_cone.proofs.Zones.{same_inside}
 use Rattle.mill_contact_cone.proofs.SideCerts.{no_width, still_lifted, still_lifted_back, time_lifted, time_lifted_back, lift_near, lift_over, lift_steep, rise_still, steep_flat, near_flat}
 

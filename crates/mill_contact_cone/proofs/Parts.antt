@@ -8,7 +8,7 @@ use Rattle.mill_geom.proofs.Segments.{finds, never, pair_or}
 use Rattle.mill_geom.proofs.LevelCerts.{minor_yes, minor_no, square_above}
 use Rattle.mill_contact_cone.specs.declared.quadratic.Form.{Form}
 use Rattle.mill_contact_cone.specs.declared.quadratic.Blend.{Blend}
-use Rattle.mill_contact_cone.specs.Quadratics.{value_of, polar_of, turn_of, HitsBetween, IsStart}
+use Rattle.mill_contact_cone.specs.inner.Quadratics.{value_of, polar_of, turn_of, HitsBetween, IsStart}
 use Rattle.mill_contact_cone.proofs.PartCerts.{polar_value, polar_scaled, polar_minor, scaled_negative, blend_after, blend_before, blend_least, start_zone_up, start_zone_down, start_back_up, start_back_down, start_apart_up, start_apart_down}
 
 -- the tests of the part's two ends

@@ -21,7 +21,7 @@ use Rattle.mill_geom.proofs.Along.{side_carried, touch_carried}
 use Rattle.mill_contact_cone.specs.declared.corner.Cone.{Cone}
 use Rattle.mill_contact_cone.specs.declared.corner.Corner.{Corner}
 use Rattle.mill_contact_cone.specs.Cones.{plain, TouchesCone}
-use Rattle.mill_contact_cone.specs.Positions.{IsAlong, slid, ConeAt}
+use Rattle.mill_contact_cone.specs.inner.Positions.{IsAlong, slid, ConeAt}
 use Rattle.mill_contact_cone.proofs.Zones.{same_inside}
 use Rattle.mill_contact_cone.proofs.Whole.{cone_flat}
 use Rattle.mill_contact_cone.proofs.SideCerts.{steep_swapped}

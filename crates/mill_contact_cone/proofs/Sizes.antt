@@ -9,7 +9,7 @@ use Rattle.mill_base.specs.declared.limits.TheConstants.{MAX_WIDE_RADIUS}
 use Rattle.mill_base.specs.declared.cutter.Cutter.TheVariants.{Cone as ConeCutter}
 use Rattle.mill_contact_cone.specs.declared.corner.Cone.{Cone}
 use Rattle.mill_geom.specs.Widths.{widest}
-use Rattle.mill_contact_cone.specs.Widths.{steepest}
+use Rattle.mill_contact_cone.specs.inner.Widths.{steepest}
 use Rattle.mill_contact_cone.specs.Cones.{IsCone}
 
 within_widest : (x : ℤ) → (pos 1) ≤ℤ x → x ≤ℤ MAX_WIDE_RADIUS → nat_abs x ≤ widest

@@ -7,7 +7,7 @@ use Rattle.mill_base.proofs.Exit.{split_lt}
 use Rattle.mill_contact_cone.specs.declared.corner.Cone.{Cone}
 use Rattle.mill_contact_cone.specs.declared.corner.Corner.{Corner}
 use Rattle.mill_contact_cone.specs.Cones.{IsCone, TouchesEdge}
-use Rattle.mill_contact_cone.specs.Positions.{flattened, SeenLess, SeenMore, IsBefore}
+use Rattle.mill_contact_cone.specs.inner.Positions.{flattened, SeenLess, SeenMore, IsBefore}
 use Rattle.mill_contact_cone.proofs.Sizes.{radius_positive, rise_positive, run_positive}
 use Rattle.mill_contact_cone.proofs.Zones.{same_inside, edge_turned}
 use Rattle.mill_contact_cone.proofs.ZoneCerts.{low_pair, high_pair}

@@ -15,7 +15,7 @@ use Rattle.mill_contact_cone.specs.declared.corner.Corner.{Corner}
 use Rattle.mill_contact_cone.specs.declared.quadratic.Form.{Form}
 use Rattle.mill_contact_cone.specs.declared.quadratic.Blend.{Blend}
 use Rattle.mill_contact_cone.specs.Cones.{IsCone, IsCornerOf, plain, TouchesEdge, HitsUpper, HitsLower}
-use Rattle.mill_contact_cone.specs.Quadratics.{turn_of, HitsBetween, IsUpperForm, IsLowerForm, IsStart}
+use Rattle.mill_contact_cone.specs.inner.Quadratics.{turn_of, HitsBetween, IsUpperForm, IsLowerForm, IsStart}
 use Rattle.mill_contact_cone.proofs.Sizes.{radius_positive, rise_positive, run_positive}
 use Rattle.mill_contact_cone.proofs.Parts.{start_zone, start_back, start_apart}
 use Rattle.mill_contact_cone.proofs.PartCerts.{last_before, last_height, turned_before, before_turned, turned_height, end_height_level, end_height_cut}

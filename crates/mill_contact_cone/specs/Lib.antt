@@ -1,5 +1,2 @@
-pub mod Widths
 pub mod Cones
-pub mod Quadratics
-pub mod Positions
-pub mod Clears
+pub mod inner

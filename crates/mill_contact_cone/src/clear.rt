@@ -1,9 +1,9 @@
 ghost use Rattle.std.specs.Prelude.{◌≡◌, ◌*◌, ◌*ℤ◌, false, IsTrue};
 ghost use Rattle.mill_base.specs.Numbers.{Within};
 ghost use Rattle.mill_geom.specs.Widths.{farthest, widest, most_area};
-ghost use Rattle.mill_contact_cone.specs.Widths.{most_steep};
+ghost use Rattle.mill_contact_cone.specs.inner.Widths.{most_steep};
 ghost use Rattle.mill_contact_cone.specs.Cones.{IsCone, CornerInRange, TouchesCone};
-ghost use Rattle.mill_contact_cone.specs.Clears.{apart_of, across_of, upward_of, HoldsCorner};
+ghost use Rattle.mill_contact_cone.specs.inner.Clears.{apart_of, across_of, upward_of, HoldsCorner};
 
 use crate::corner::{Cone, Corner, offset_of};
 use mill_geom::{box_gap, highest};

@@ -7,7 +7,7 @@ ghost use Rattle.mill_base.specs.declared.cutter.Cutter.TheVariants.{Cone as Con
 ghost use Rattle.mill_geom.specs.Offsets.{IsCentre};
 ghost use Rattle.mill_geom.specs.Sides.{IsTouch, along};
 ghost use Rattle.mill_contact_cone.specs.Cones.{IsCone, IsConical, IsCornerOf, CornerInRange, TouchesCone, EdgesFree};
-ghost use Rattle.mill_contact_cone.specs.Positions.{ConeAt};
+ghost use Rattle.mill_contact_cone.specs.inner.Positions.{ConeAt};
 
 use crate::clear::{holds_corner, is_clear};
 use crate::corner::{Cone, Corner, corner_from, lifted_of, offset_of};

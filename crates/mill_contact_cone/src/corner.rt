@@ -4,7 +4,7 @@ ghost use Rattle.mill_base.specs.Ranges.{IsInRange};
 ghost use Rattle.mill_geom.specs.Offsets.{OffsetInRange, LiftedInRange, IsCentre};
 ghost use Rattle.mill_geom.specs.Widths.{farthest, most_lift};
 ghost use Rattle.mill_contact_cone.specs.Cones.{IsCone, over_of, IsCornerOf, plain, lifted, CornerInRange};
-ghost use Rattle.mill_contact_cone.specs.Positions.{IsAlong};
+ghost use Rattle.mill_contact_cone.specs.inner.Positions.{IsAlong};
 
 use mill_base::Pt3;
 use mill_geom::{Axis, Offset, offset_from};

@@ -1,9 +1,9 @@
 ghost use Rattle.std.specs.Prelude.{◌≡◌, ◌⊎◌, ◌<ℤ◌, ◌≤ℤ◌, pos, false, IsTrue};
 ghost use Rattle.mill_base.specs.Numbers.{Within};
 ghost use Rattle.mill_geom.specs.Widths.{most_lift};
-ghost use Rattle.mill_contact_cone.specs.Widths.{most_cone_form};
+ghost use Rattle.mill_contact_cone.specs.inner.Widths.{most_cone_form};
 ghost use Rattle.mill_contact_cone.specs.Cones.{IsCone, IsCornerOf, CornerInRange, TouchesEdge, HitsUpper, HitsLower};
-ghost use Rattle.mill_contact_cone.specs.Quadratics.{FormInRange, BlendInRange, IsUpperForm, IsLowerForm, upper_of, lower_of, IsStart};
+ghost use Rattle.mill_contact_cone.specs.inner.Quadratics.{FormInRange, BlendInRange, IsUpperForm, IsLowerForm, upper_of, lower_of, IsStart};
 
 use crate::corner::{Cone, Corner};
 use crate::quadratic::{Blend, Form, hits_between};

@@ -1,7 +1,7 @@
 ghost use Rattle.std.specs.Prelude.{◌≡◌, ◌↔◌, ◌*ℤ◌, ◌<ℤ◌, pos, false, IsTrue};
 ghost use Rattle.mill_base.specs.Numbers.{Within};
-ghost use Rattle.mill_contact_cone.specs.Widths.{most_blend_form};
-ghost use Rattle.mill_contact_cone.specs.Quadratics.{FormInRange, BlendInRange, polar_of, turn_of, HitsBetween};
+ghost use Rattle.mill_contact_cone.specs.inner.Widths.{most_blend_form};
+ghost use Rattle.mill_contact_cone.specs.inner.Quadratics.{FormInRange, BlendInRange, polar_of, turn_of, HitsBetween};
 
 /// The quadratic form `a * u * u + 2 * h * u * v + b * v * v`.
 #[derive(Clone, Copy, Debug, PartialEq, Eq)]

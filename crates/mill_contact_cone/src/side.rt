@@ -2,9 +2,9 @@ ghost use Rattle.std.specs.Prelude.{◌≡◌, ◌+ℤ◌, ◌-ℤ◌, ◌*ℤ�
 ghost use Rattle.mill_base.specs.Numbers.{Within};
 ghost use Rattle.mill_geom.specs.Sides.{IsOnSide};
 ghost use Rattle.mill_geom.specs.Widths.{farthest};
-ghost use Rattle.mill_contact_cone.specs.Widths.{most_bound};
+ghost use Rattle.mill_contact_cone.specs.inner.Widths.{most_bound};
 ghost use Rattle.mill_contact_cone.specs.Cones.{IsCone, IsCornerOf, CornerInRange, TouchesEdge, TouchesCone};
-ghost use Rattle.mill_contact_cone.specs.Positions.{ConeAt, flattened as flattened_of, IsSeenOn, HoldsBefore, IsBefore};
+ghost use Rattle.mill_contact_cone.specs.inner.Positions.{ConeAt, flattened as flattened_of, IsSeenOn, HoldsBefore, IsBefore};
 
 use crate::corner::{Cone, Corner};
 use crate::edge::touches_edge;

@@ -2,7 +2,7 @@ use Rattle.std.proofs.Common.{ℕ, List, [], ◌∷◌, refl, w64}
 use Rattle.mill_base.proofs.Machine.{Read, Prod, exact, stays, prod_fits}
 use Rattle.mill_contact_cone.proofs.Sizes.{rise_within}
 use Rattle.mill_geom.specs.Widths.{most_area}
-use Rattle.mill_contact_cone.specs.Widths.{steepest, most_steep}
+use Rattle.mill_contact_cone.specs.inner.Widths.{steepest, most_steep}
 use Rattle.mill_contact_cone.proofs.clear.across.Goals as goal
 
 -- how far each number is from 0

@@ -2,7 +2,7 @@ use Rattle.std.proofs.Common.{ℕ, List, [], ◌∷◌, refl, w64}
 use Rattle.mill_base.proofs.Machine.{Read, Prod, exact, stays, prod_fits}
 use Rattle.mill_contact_cone.proofs.Sizes.{run_within}
 use Rattle.mill_geom.specs.Widths.{farthest}
-use Rattle.mill_contact_cone.specs.Widths.{steepest, most_steep}
+use Rattle.mill_contact_cone.specs.inner.Widths.{steepest, most_steep}
 use Rattle.mill_contact_cone.proofs.clear.upward.Goals as goal
 
 -- how far each number is from 0

@@ -2,7 +2,7 @@ use Rattle.std.proofs.Common.{ℕ, List, [], ◌∷◌, refl, w64}
 use Rattle.mill_base.proofs.Machine.{Read, Sum, Diff, Prod, exact, stays, sum_fits, diff_fits, prod_fits}
 use Rattle.mill_contact_cone.proofs.Sizes.{rise_within, run_within}
 use Rattle.mill_geom.specs.Widths.{farthest}
-use Rattle.mill_contact_cone.specs.Widths.{steepest, most_cone_form}
+use Rattle.mill_contact_cone.specs.inner.Widths.{steepest, most_cone_form}
 use Rattle.mill_contact_cone.proofs.edge.lower_product.Goals as goal
 
 -- how far each number is from 0

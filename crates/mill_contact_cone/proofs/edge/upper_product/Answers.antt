@@ -2,7 +2,7 @@ use Rattle.std.proofs.Common.{ℕ, List, [], ◌∷◌, refl, w64}
 use Rattle.mill_base.proofs.Machine.{Read, Sum, Diff, Prod, exact, stays, sum_fits, diff_fits, prod_fits}
 use Rattle.mill_contact_cone.proofs.Sizes.{radius_within}
 use Rattle.mill_geom.specs.Widths.{farthest, widest}
-use Rattle.mill_contact_cone.specs.Widths.{most_cone_form}
+use Rattle.mill_contact_cone.specs.inner.Widths.{most_cone_form}
 use Rattle.mill_contact_cone.proofs.edge.upper_product.Goals as goal
 
 -- how far each number is from 0

@@ -1,7 +1,7 @@
 use Rattle.std.proofs.Common.{ℕ, List, [], ◌∷◌, refl, w64}
 use mir.Syntax.{w128}
 use Rattle.mill_base.proofs.Machine.{Read, Cast, Prod, less, prod_fits}
-use Rattle.mill_contact_cone.specs.Widths.{most_cone_form}
+use Rattle.mill_contact_cone.specs.inner.Widths.{most_cone_form}
 use Rattle.mill_contact_cone.proofs.quadratic.has_both_signs.Goals as goal
 
 -- how far each number is from 0

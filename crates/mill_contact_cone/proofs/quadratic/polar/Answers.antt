@@ -2,7 +2,7 @@ use Rattle.std.proofs.Common.{ℕ, List, [], ◌∷◌, refl, w64}
 use mir.Syntax.{w128}
 use Rattle.mill_base.proofs.Machine.{Read, Cast, Sum, Prod, exact, stays, sum_fits, prod_fits}
 use Rattle.mill_geom.specs.Widths.{most_lift}
-use Rattle.mill_contact_cone.specs.Widths.{most_cone_form, most_blend_form}
+use Rattle.mill_contact_cone.specs.inner.Widths.{most_cone_form, most_blend_form}
 use Rattle.mill_contact_cone.proofs.quadratic.polar.Goals as goal
 
 -- how far each number is from 0

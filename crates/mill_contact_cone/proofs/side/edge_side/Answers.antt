@@ -1,6 +1,6 @@
 use Rattle.std.proofs.Common.{arith}
 use Rattle.std.proofs.lemmas.Int.{ints}
-use Rattle.mill_contact_cone.specs.Positions.{flattened}
+use Rattle.mill_contact_cone.specs.inner.Positions.{flattened}
 use Rattle.mill_contact_cone.proofs.Zones.{edge_turned}
 use Rattle.mill_contact_cone.proofs.Splits.{all_less, all_more, split_less, split_more, less_turned, more_turned}
 use Rattle.mill_contact_cone.proofs.Stored.{x_kept}

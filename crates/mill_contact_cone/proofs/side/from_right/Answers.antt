@@ -2,7 +2,7 @@ use Rattle.std.proofs.Common.{ℕ, List, [], ◌∷◌, refl, w64}
 use Rattle.mill_base.proofs.Machine.{Read, Diff, exact, stays, diff_fits}
 use Rattle.mill_contact_cone.proofs.Sizes.{radius_within}
 use Rattle.mill_geom.specs.Widths.{farthest, widest}
-use Rattle.mill_contact_cone.specs.Widths.{most_bound}
+use Rattle.mill_contact_cone.specs.inner.Widths.{most_bound}
 use Rattle.mill_contact_cone.proofs.side.from_right.Goals as goal
 
 -- how far each number is from 0

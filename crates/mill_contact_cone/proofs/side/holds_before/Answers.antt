@@ -4,7 +4,7 @@ use lib.Signed.{◌<ℤ◌, ◌≤ℤ◌}
 use Rattle.std.proofs.lemmas.Int.{ints}
 use Rattle.mill_base.proofs.Machine.{Read, Prod, exact, prod_fits}
 use Rattle.mill_geom.specs.Widths.{farthest}
-use Rattle.mill_contact_cone.specs.Widths.{most_bound}
+use Rattle.mill_contact_cone.specs.inner.Widths.{most_bound}
 use Rattle.mill_contact_cone.proofs.Stored.{kept_in}
 use Rattle.mill_contact_cone.proofs.side.holds_before.Goals as goal
 

@@ -3,9 +3,9 @@ use lib.IntN.{ℤ}
 use Rattle.mill_base.specs.Numbers.{Within}
 use Rattle.mill_base.proofs.Machine.{stored}
 use Rattle.mill_contact_cone.specs.declared.corner.Corner.{Corner}
-use Rattle.mill_contact_cone.specs.Widths.{most_bound}
+use Rattle.mill_contact_cone.specs.inner.Widths.{most_bound}
 use Rattle.mill_contact_cone.specs.Cones.{CornerInRange}
-use Rattle.mill_contact_cone.specs.Positions.{HoldsBefore}
+use Rattle.mill_contact_cone.specs.inner.Positions.{HoldsBefore}
 use Rattle.mill_contact_cone.proofs.Stored.{kept_in, x_kept}
 use Rattle.mill_contact_cone.proofs.side.is_before.Goals as goal
 

@@ -2,7 +2,7 @@ use Rattle.std.proofs.Common.{ℕ, List, [], ◌∷◌, refl, w64}
 use Rattle.mill_base.proofs.Machine.{Read, Sum, Prod, exact, stays, sum_fits, prod_fits}
 use Rattle.mill_contact_cone.proofs.Sizes.{rise_within, run_within}
 use Rattle.mill_geom.specs.Widths.{farthest}
-use Rattle.mill_contact_cone.specs.Widths.{steepest, most_bound}
+use Rattle.mill_contact_cone.specs.inner.Widths.{steepest, most_bound}
 use Rattle.mill_contact_cone.proofs.side.over_left.Goals as goal
 
 -- how far each number is from 0
