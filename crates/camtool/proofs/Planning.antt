@@ -12,10 +12,10 @@ use Rattle.camtool.specs.declared.load.LoadFault.TheVariants as load_fault
 use Rattle.camtool.specs.declared.load.Setup.{Setup}
 use Rattle.camtool.specs.Answers.{Answer, planned}
 use Rattle.camtool.specs.Calls.{Call, CanCount}
-use Rattle.camtool.specs.Loads.{LoadsSetup, OnlyLoads}
+use Rattle.camtool.specs.inner.Loads.{LoadsSetup, OnlyLoads}
 use Rattle.camtool.specs.Outcomes.{no_memory, answered, IsOutcome, Shows, ShowsOr, Serves}
 use Rattle.camtool.specs.Plan.{plan_line}
-use Rattle.camtool.specs.Prints.{Prints, PrintsOutcome, PrintsOr, ShowsPlan, ShowsPlanOr, fault_outcome, plan_fault_outcome}
+use Rattle.camtool.specs.inner.Prints.{Prints, PrintsOutcome, PrintsOr, ShowsPlan, ShowsPlanOr, fault_outcome, plan_fault_outcome}
 use Rattle.camtool.specs.Setup.{setup_texts}
 use Rattle.camtool.proofs.Reading.{rises}
 use Rattle.camtool.proofs.Serving.{printed_shows, answer_shows}

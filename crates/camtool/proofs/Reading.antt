@@ -17,7 +17,7 @@ use Rattle.camtool.specs.declared.verify.Loaded.{Loaded}
 use Rattle.mill_io.specs.Views.{StoreView}
 use Rattle.mill_io.proofs.Read.{reads_on}
 use Rattle.camtool.specs.declared.load.Unfit.{Unfit as UnfitFault}
-use Rattle.camtool.specs.Loads.{LoadsJob, LoadsPart, LoadsProgram, LoadsSetup, Loads, CountsFault, OnlyLoads, IsLow}
+use Rattle.camtool.specs.inner.Loads.{LoadsJob, LoadsPart, LoadsProgram, LoadsSetup, Loads, CountsFault, OnlyLoads, IsLow}
 use Rattle.camtool.specs.Setup.{SetupTexts, ReadsSetup, ReadsJob, ReadsPart, HighPart}
 use Rattle.camtool.specs.Verify.{Texts}
 

@@ -21,9 +21,9 @@ use Rattle.camtool.specs.Answers.{Answer, refused_word, unfit, judged, dropped, 
 use Rattle.camtool.specs.Calls.{Call, CanCount, NamedText, Stores}
 use Rattle.camtool.specs.Drop.{ReadsPlace, RefusesWord}
 use Rattle.camtool.specs.Faults.{unfit_line}
-use Rattle.camtool.specs.Loads.{Loads, LoadsSetup, OnlyLoads, PlaceFrom}
+use Rattle.camtool.specs.inner.Loads.{Loads, LoadsSetup, OnlyLoads, PlaceFrom}
 use Rattle.camtool.specs.Outcomes.{Outcome, help, bad_words, no_memory, read_fault, answered, outcome_file, outcome_status, outcome_line, IsOutcome, IsOutcomeOf, CountsReads, Shows, ShowsOr, Serves, HasOutcome}
-use Rattle.camtool.specs.Prints.{Prints, PrintsOutcome, PrintsOr, PrintsMade, PrintsFault, fault_outcome, refusal_outcome, TriesVerdict, PrintsHeight}
+use Rattle.camtool.specs.inner.Prints.{Prints, PrintsOutcome, PrintsOr, PrintsMade, PrintsFault, fault_outcome, refusal_outcome, TriesVerdict, PrintsHeight}
 use Rattle.camtool.specs.Setup.{setup_texts}
 use Rattle.camtool.specs.Verify.{texts_of}
 use Rattle.camtool.proofs.Reading.{rises}

@@ -10,5 +10,4 @@ pub mod Drop
 pub mod Answers
 pub mod Outcomes
 pub mod Headline
-pub mod Prints
-pub mod Loads
+pub mod inner

@@ -3,9 +3,9 @@ ghost use Rattle.std.specs.Prelude.{◌≡◌, ◌-◌, ◌^◌, ◌<◌, IfOk};
 ghost use Rattle.mill_command.specs.Requests.{drop as asks_drop};
 ghost use Rattle.camtool.specs.Calls.{CanCount, call_of};
 ghost use Rattle.camtool.specs.Drop.{height_line};
-ghost use Rattle.camtool.specs.Loads.{IsPlace, IsSetup};
+ghost use Rattle.camtool.specs.inner.Loads.{IsPlace, IsSetup};
 ghost use Rattle.camtool.specs.Outcomes.{Serves};
-ghost use Rattle.camtool.specs.Prints.{PrintsHeight};
+ghost use Rattle.camtool.specs.inner.Prints.{PrintsHeight};
 ghost use Rattle.camtool.specs.Statuses.{status_code};
 
 use crate::faults::line_of_word_fault;

@@ -1,7 +1,7 @@
 //! Reading the files of a command: the job, the part and a program.
 ghost use Rattle.std.specs.Prelude.{◌≡◌, IfOk, Some};
 ghost use Rattle.mill_job.specs.Jobs.{IsJob};
-ghost use Rattle.camtool.specs.Loads.{ReadsFile, LoadsJob, LoadsPart, LoadsProgram, LoadsSetup, OnlyLoads, CountsFault, IsSetup, AreMoves, IsLow};
+ghost use Rattle.camtool.specs.inner.Loads.{ReadsFile, LoadsJob, LoadsPart, LoadsProgram, LoadsSetup, OnlyLoads, CountsFault, IsSetup, AreMoves, IsLow};
 ghost use Rattle.camtool.specs.Setup.{setup_texts, Fits};
 ghost use Rattle.camtool.specs.declared.load.LoadFault.TheVariants as load_fault;
 

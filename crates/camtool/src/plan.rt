@@ -4,10 +4,10 @@ ghost use Rattle.mill_command.specs.Requests.{plan as asks_plan};
 ghost use Rattle.mill_plan.specs.Plans.{answer_of, too_many_nodes, uncut};
 ghost use Rattle.camtool.specs.Answers.{planned as planned_answer};
 ghost use Rattle.camtool.specs.Calls.{CanCount, call_of};
-ghost use Rattle.camtool.specs.Loads.{AreWorkers, IsSetup};
+ghost use Rattle.camtool.specs.inner.Loads.{AreWorkers, IsSetup};
 ghost use Rattle.camtool.specs.Outcomes.{Serves, ShowsOr, answered};
 ghost use Rattle.camtool.specs.Plan.{plan_line};
-ghost use Rattle.camtool.specs.Prints.{PrintsOr, ShowsPlanOr, plan_fault_outcome};
+ghost use Rattle.camtool.specs.inner.Prints.{PrintsOr, ShowsPlanOr, plan_fault_outcome};
 ghost use Rattle.camtool.specs.Statuses.{status_code};
 
 use crate::load::{Setup, load_setup};

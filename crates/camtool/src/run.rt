@@ -5,7 +5,7 @@ ghost use Rattle.mill_io.specs.Views.{ReadsOnly};
 ghost use Rattle.camtool.specs.Calls.{CanCount, BlamesReads, BlamesWrites, call_of};
 ghost use Rattle.camtool.specs.Headline.{Answers, Completes, Untaken, Headline, PlanHeadline};
 ghost use Rattle.camtool.specs.Outcomes.{HasOutcome, Serves};
-ghost use Rattle.camtool.specs.Prints.{PrintsOutcome, refusal_outcome};
+ghost use Rattle.camtool.specs.inner.Prints.{PrintsOutcome, refusal_outcome};
 ghost use Rattle.camtool.specs.Statuses.{status_code};
 ghost use Rattle.camtool.specs.Words.{AsksNoPlan};
 

@@ -1,6 +1,6 @@
 //! What is printed, and the status that it ends with.
 ghost use Rattle.std.specs.Prelude.{◌-◌, ◌^◌, ◌<◌};
-ghost use Rattle.camtool.specs.Prints.{Prints, PrintsFault, PrintsMade};
+ghost use Rattle.camtool.specs.inner.Prints.{Prints, PrintsFault, PrintsMade};
 ghost use Rattle.camtool.specs.Statuses.{status_code};
 
 use crate::faults::{line_of_long, line_of_read_fault, line_of_unfit};

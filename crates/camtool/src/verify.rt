@@ -3,9 +3,9 @@ ghost use Rattle.std.specs.Prelude.{◌≡◌, ◌-◌, ◌^◌, ◌<◌, ◌++�
 ghost use Rattle.mill_command.specs.Requests.{verify as asks_verify};
 ghost use Rattle.camtool.specs.Answers.{judged};
 ghost use Rattle.camtool.specs.Calls.{CanCount, call_of};
-ghost use Rattle.camtool.specs.Loads.{Loads, OnlyLoads, AreWorkers, IsReady};
+ghost use Rattle.camtool.specs.inner.Loads.{Loads, OnlyLoads, AreWorkers, IsReady};
 ghost use Rattle.camtool.specs.Outcomes.{Serves, answered};
-ghost use Rattle.camtool.specs.Prints.{PrintsOr, TriesVerdict};
+ghost use Rattle.camtool.specs.inner.Prints.{PrintsOr, TriesVerdict};
 ghost use Rattle.camtool.specs.Statuses.{status_code};
 ghost use Rattle.camtool.specs.Verify.{texts_of, verdict_status, verdict_line, rejection_line, leaf_end, tolerances_end, NamesMove};
 

@@ -1,7 +1,7 @@
 use Rattle.std.proofs.Common.{ℕ, List, Option, subst, rules, w32}
 use Rattle.std.specs.Prelude.{FitsSigned, Ok}
 use Rattle.std.proofs.lemmas.Int.{to_z-of_z}
-use Rattle.camtool.specs.Loads.{LoadsPart}
+use Rattle.camtool.specs.inner.Loads.{LoadsPart}
 use Rattle.camtool.specs.Setup.{SetupTexts, setup_texts, HighPart}
 use Rattle.camtool.proofs.Reading.{high_part}
 use Rattle.camtool.proofs.load.load_setup.Goals as goal
