@@ -44,15 +44,15 @@ outcome_file _ = None
 -- ---- which outcome it is
 
 -- all that a command reads and checks before one of its files holds, by each file that the store tells
-abbrev pub IsBefore : (List ℕ → Option (List ℕ)) → Request → File → Type 0
-IsBefore contents (verify job part program workers) file = IsReadBeforeProgram (texts_of contents (record { job = job; part = part; program = program })) file
-IsBefore contents (plan job part out workers) file = IsReadBefore (setup_texts contents job part) file
-IsBefore contents (drop job part x y) file = HasPlace x y × IsReadBefore (setup_texts contents job part) file
+abbrev pub ReadsBefore : (List ℕ → Option (List ℕ)) → Request → File → Type 0
+ReadsBefore contents (verify job part program workers) file = IsReadBeforeProgram (texts_of contents (record { job = job; part = part; program = program })) file
+ReadsBefore contents (plan job part out workers) file = IsReadBefore (setup_texts contents job part) file
+ReadsBefore contents (drop job part x y) file = HasPlace x y × IsReadBefore (setup_texts contents job part) file
 
 -- the work on a request comes to this: memory was short; or a file couldn't be read, and all before it could; or this is the answer
 abbrev pub IsOutcome : (List ℕ → Option (List ℕ)) → Request → Outcome → Type 0
 IsOutcome contents asked no_memory = Unit {0}
-IsOutcome contents asked (read_fault file) = IsBefore contents asked file
+IsOutcome contents asked (read_fault file) = ReadsBefore contents asked file
 IsOutcome contents asked (answered answer) = IsAnswer contents asked answer
 IsOutcome contents asked outcome = ⊥
 

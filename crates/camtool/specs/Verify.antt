@@ -8,7 +8,7 @@ use Rattle.mill_ngc.specs.Programs.{program_of}
 use Rattle.mill_ngc.specs.declared.fault.NgcFault.{NgcFault}
 use Rattle.mill_job.specs.declared.job.Job.{Job}
 use Rattle.mill_job.specs.Columns.{home}
-use Rattle.mill_verify.specs.Tests.{move_at}
+use Rattle.mill_dexel.specs.Turns.{move_at}
 use Rattle.mill_verify.specs.Claims.{CutsSafely}
 use Rattle.mill_verify.specs.Verdicts.{IsVerdict}
 use Rattle.mill_verify.specs.declared.verdict.Verdict.{Verdict}

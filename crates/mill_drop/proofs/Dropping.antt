@@ -15,7 +15,7 @@ use Rattle.mill_base.specs.declared.points.Box2.{Box2}
 use Rattle.mill_base.specs.declared.cutter.Cutter.{Cutter}
 use Rattle.mill_cells.specs.Boxes.{Meet, IsNear, box_of, boxes_of, origin_box}
 use Rattle.mill_cells.specs.Ahead.{Ahead, Comes, NoneComes, AreDealt}
-use Rattle.mill_cells.specs.Sorted.{Sorted, sorted_of, height_at}
+use Rattle.mill_cells.specs.Sorted.{Sorted, sorted_of, top_at}
 use Rattle.mill_cells.proofs.PassedLemmas.{deals_on, deals_last, top_is}
 use Rattle.mill_drop.specs.Drops.{TouchesAt, GougesAt, IsRaised, IsDropHeight}
 use Rattle.mill_drop.specs.inner.Near.{AreFree, square_about}
@@ -74,9 +74,9 @@ pub next_within : (cutter : Cutter) (part : List Tri) (d : Tri) (area : Box2) (x
 next_within cutter part d area x y from near later i z height h s = s.within i h.number
 
 -- the cutter holds nothing of a triangle whose top isn't over its tip
-low_top : (cutter : Cutter) (part : List Tri) (d : Tri) (x y height : ℤ) (tops : List ℤ) (j : ℕ) → IsCutter cutter → tops ≡ map highest part → height_at tops j ≤ℤ height → IsFree cutter part d x y height j
+low_top : (cutter : Cutter) (part : List Tri) (d : Tri) (x y height : ℤ) (tops : List ℤ) (j : ℕ) → IsCutter cutter → tops ≡ map highest part → top_at tops j ≤ℤ height → IsFree cutter part d x y height j
 low_top cutter part d x y height tops j ok e le inside t =
-    let top = ap (λ (ts : List ℤ). height_at ts j) e ∙ top_is part j d inside in
+    let top = ap (λ (ts : List ℤ). top_at ts j) e ∙ top_is part j d inside in
     over_top_free cutter (get_or part j d) x y height ok (subst (λ z. z ≤ℤ height) top le) t
 
 pub raise_goes_on : (cutter : Cutter) (part : List Tri) (d : Tri) (area : Box2) (x y from : ℤ) (near later : Ahead) (i : ℕ) (height new : ℤ) → IsCutter cutter → Comes height near i later

@@ -17,7 +17,7 @@ use Rattle.mill_base.specs.declared.points.Box2.{Box2}
 use Rattle.mill_base.specs.declared.motion.Move.{Move}
 use Rattle.mill_base.specs.declared.cutter.Cutter.{Cutter}
 use Rattle.mill_cells.specs.Boxes.{Meet, IsNear, box_of, origin_box}
-use Rattle.mill_cells.specs.Sorted.{Sorted, sorted_of, height_at}
+use Rattle.mill_cells.specs.Sorted.{Sorted, sorted_of, top_at}
 use Rattle.mill_cells.specs.Ahead.{Ahead, Comes, NoneComes}
 use Rattle.mill_cells.proofs.PassedLemmas.{top_is}
 use Rattle.mill_sweep.specs.Halving.{FailsAt, Passes, Blocks}
@@ -200,11 +200,11 @@ tri_in_range tris part i d e h ok = ok _ (subst (λ (l : List Tri). Contains l (
 
 -- a triangle whose top isn't over the height of the move's lower end is passed
 passed_by : (cutter : Cutter) (m : Move) (part : List Tri) (low : ℤ) (tops : List ℤ) (t : ℕ) → FarPasses → IsCutter cutter → MoveInRange m
-    → low ≡ lesser m.from.z m.to.z → tops ≡ map highest part → t < length part → height_at tops t ≤ℤ low → Passes cutter m (tri_at part t)
+    → low ≡ lesser m.from.z m.to.z → tops ≡ map highest part → t < length part → top_at tops t ≤ℤ low → Passes cutter m (tri_at part t)
 passed_by cutter m part low tops t far ok ranged low_is tops_are inside under =
     low_passes cutter m (tri_at part t) far ok ranged
     (subst (λ (h : ℤ). highest (tri_at part t) ≤ℤ h) low_is
-    (subst (λ (h : ℤ). h ≤ℤ low) (top_is part t _ inside) (subst (λ (l : List ℤ). height_at l t ≤ℤ low) tops_are under)))
+    (subst (λ (h : ℤ). h ≤ℤ low) (top_is part t _ inside) (subst (λ (l : List ℤ). top_at l t ≤ℤ low) tops_are under)))
 
 -- what a sweep of the move says of a triangle, the move says
 pub passes_swept : (s : Swept) (cutter : Cutter) (m : Move) (t : Tri) → s ≡ record { cutter = cutter; move = m } → Passes s.cutter s.move t → Passes cutter m t
