@@ -1,5 +1,5 @@
 -- The stretches of the triangles near a fiber, one triangle after another.
-use Rattle.std.proofs.Common.{◌≡◌, ◌⊎◌, ◌↔◌, inl, inr, refl, ℕ, zero, suc, ◌+◌, ◌*◌, ◌<◌, ◌≤◌, Option, Some, None, List, [], ◌∷◌, ◌++◌, length, get_or, map, sym, subst, ap, ◌∙◌, arith}
+use Rattle.std.proofs.Common.{◌≡◌, ◌↔◌, inl, inr, refl, ℕ, zero, suc, ◌+◌, ◌*◌, ◌<◌, ◌≤◌, List, [], ◌∷◌, ◌++◌, length, get_or, map, sym, subst, ap, ◌∙◌, arith}
 use Rattle.std.specs.Prelude.{◌^◌, nat_eq, Bool, true, false}
 use Rattle.std.specs.List.{Contains, IsDistinct}
 use Rattle.std.proofs.lemmas.Bool.{eqb-true, eq-eqb}
@@ -27,8 +27,8 @@ use Rattle.mill_push.specs.declared.fiber.Fiber.{Fiber}
 use Rattle.mill_push.specs.declared.fiber.Run.{Run}
 use Rattle.mill_push.specs.Fibers.{IsTouched, IsBlocked}
 use Rattle.mill_push.specs.Runs.{StandsIn}
-use Rattle.mill_push.specs.Stretches.{IsStretch, IsStretchAnswer, IsClear}
-use Rattle.mill_push.specs.Touches.{IsNearFiber, IsTried, TouchesFew, position_count, strip_of, tri_at}
+use Rattle.mill_push.specs.Stretches.{IsStretch, IsClear}
+use Rattle.mill_push.specs.Touches.{IsTried, TouchesFew, position_count, strip_of, tri_at}
 use Rattle.mill_push.specs.Unions.{AreSpans, IsSpan, AreStretches}
 use Rattle.mill_push.proofs.Meeting.{touched_near}
 
