@@ -1,5 +1,5 @@
 -- Runs that overlap or touch, in the order of their first positions, joined to the maximal runs of the positions that stand in them.
-use Rattle.std.proofs.Common.{◌≡◌, ◌⊎◌, inl, inr, ℕ, zero, suc, ◌+◌, ◌<◌, ◌≤◌, List, [], ◌∷◌, ◌++◌, length, get_or, refl, sym, subst, ap, ◌∙◌, arith}
+use Rattle.std.proofs.Common.{◌≡◌, ◌⊎◌, inl, inr, ℕ, suc, ◌+◌, ◌<◌, ◌≤◌, List, [], ◌∷◌, ◌++◌, length, get_or, refl, sym, subst, ap, ◌∙◌, arith}
 use Rattle.std.specs.Prelude.{int_lt, Bool, true, false, ◌↔◌}
 use Rattle.std.specs.Int.{int_max}
 use Rattle.std.specs.List.{Contains}
@@ -98,10 +98,10 @@ module _ (xs : List Run) where
     leads = h.leads;
     after = h.after;
     some = through run.first run.last last h.some kept;
-    within = elim one [ | inl e ↦ as_it e h.within | inr e ↦ as_it e span.within ];
+    within = elim one [ inl e ↦ as_it e h.within | inr e ↦ as_it e span.within ];
     before = h.before;
     blocks = λ v a b. by_lt_z run.last v
-        (λ past. record { run = s; member = (k, less, it); first = reached v past; last = elim one [ | inl e ↦ absurd (not_past v past b e) | inr e ↦ bound b e ] })
+        (λ past. record { run = s; member = (k, less, it); first = reached v past; last = elim one [ inl e ↦ absurd (not_past v past b e) | inr e ↦ bound b e ] })
         (λ under. h.blocks v a under);
     taken = λ j d small inside. elim (cases_lt j k) [
       | inl before ↦ through (get_or xs j d).last run.last last (h.taken j d before inside) kept
@@ -189,8 +189,7 @@ module _ (xs : List Run) where
   -- after the last one
   pub grown_all : AreOrdered xs → (from to : ℤ) (k : ℕ) (runs : List Run) (run : Run) → length xs ≤ k → GrownSoFar from to k runs run → RunsOf (StandsIn xs) from to (runs ++ run ∷ [])
   grown_all ordered from to k runs run all h =
-      leads_all (StandsIn xs) from to h.here runs (run ∷ []) h.leads
-      (
+      leads_all (StandsIn xs) from to h.here runs (run ∷ []) h.leads (
         next_run ordered from to k runs run (λ v e j d le inside. absurd (none j le inside)) h,
         λ v a b. gap k run v h.taken (past v a) (λ j d le inside. absurd (none j le inside)),
       )

@@ -10,7 +10,6 @@ use Rattle.mill_geom.specs.declared.touch.Side.{Side}
 use Rattle.mill_geom.specs.declared.touch.Side.TheVariants.{Less, More, Never}
 use Rattle.mill_geom.specs.Sides.{IsOnSide}
 use Rattle.mill_push.specs.declared.fiber.Fiber.{Fiber}
-use Rattle.mill_push.specs.declared.fiber.Run.{Run}
 use Rattle.mill_push.specs.Fibers.{IsTouched}
 use Rattle.mill_push.specs.Stretches.{IsClear, IsHeld, IsTouchedStretch}
 use Rattle.mill_push.proofs.Halving.{IsPaid, IsPaidTwice, paid_first, paid_half, twice_first, twice_half, twice_last, twice_ends}

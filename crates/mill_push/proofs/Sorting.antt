@@ -1,5 +1,5 @@
 -- What a sort by the first positions gives.
-use Rattle.std.proofs.Common.{◌≡◌, ℕ, zero, suc, ◌+◌, ◌-◌, ◌<◌, ◌≤◌, Bool, true, false, cond, Bor, List, length, get_or, refl, ap, subst, arith}
+use Rattle.std.proofs.Common.{◌≡◌, ℕ, zero, suc, ◌+◌, ◌-◌, ◌<◌, Bool, true, false, cond, Bor, List, length, get_or, refl, ap, subst, arith}
 use Rattle.std.specs.Prelude.{int_lt, ◌↔◌, IsPermutation, Result, Ok, Err, IfOk}
 use Rattle.std.specs.Fn.{Called, ComputesKey}
 use Rattle.std.specs.List.{Contains}
@@ -10,8 +10,8 @@ use Rattle.std.proofs.lemmas.Fn.{always_returns_same}
 use Rattle.std.proofs.lemmas.Int.{ints}
 use Rattle.std.proofs.lemmas.List.Sorted.{Contains-permutation, IsPermutation-sym}
 use denote.Param.Members.{Mut}
-use lib.IntN.{ℤ, pos}
-use lib.Signed.{◌<ℤ◌, ◌≤ℤ◌}
+use lib.IntN.{ℤ}
+use lib.Signed.{◌≤ℤ◌}
 use Rattle.mill_push.specs.declared.fiber.Run.{Run}
 use Rattle.mill_push.specs.Runs.{StandsIn}
 use Rattle.mill_base.specs.Numbers.{Within}

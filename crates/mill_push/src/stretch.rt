@@ -50,13 +50,7 @@ impl Pusher {
         ensures touch { IsTouch result (λ t. IsTouched self.cutter tri.now self.fiber (at +ℤ t)) }
         ensures step { steps.new ≡ steps.old + 1 }
     {
-        counted_touch(
-            tri,
-            self.cutter,
-            self.fiber.tip(at),
-            self.fiber.axis,
-            steps,
-        )
+        counted_touch(tri, self.cutter, self.fiber.tip(at), self.fiber.axis, steps)
     }
 
     /// Whether some point of the triangle is strictly inside the cutter at this position.
@@ -75,13 +69,7 @@ impl Pusher {
     }
 
     /// The first position from `low` on at which the triangle is touched, where it is at `found`.
-    fn first_touched<L: Ledger>(
-        self,
-        tri: &Tri,
-        low: i32,
-        found: i32,
-        steps: &mut Steps<L>,
-    ) -> i32
+    fn first_touched<L: Ledger>(self, tri: &Tri, low: i32, found: i32, steps: &mut Steps<L>) -> i32
         requires self_ok { IsPusher self }
         requires tri_ok { TriInRange tri.now }
         requires low_ok { Within MAX_COORDINATE low }
@@ -108,13 +96,7 @@ impl Pusher {
     }
 
     /// The last position up to `high` at which the triangle is touched, where it is at `found`.
-    fn last_touched<L: Ledger>(
-        self,
-        tri: &Tri,
-        found: i32,
-        high: i32,
-        steps: &mut Steps<L>,
-    ) -> i32
+    fn last_touched<L: Ledger>(self, tri: &Tri, found: i32, high: i32, steps: &mut Steps<L>) -> i32
         requires self_ok { IsPusher self }
         requires tri_ok { TriInRange tri.now }
         requires found_ok { Within MAX_COORDINATE found }

@@ -1,5 +1,4 @@
 use Rattle.std.proofs.Common.{rules, sym, subst}
-use Rattle.mill_push.specs.Runs.{RunsOf, AreRuns, StandsIn}
 use Rattle.mill_push.specs.inner.Unions.{AreOrdered, AreSpans}
 use Rattle.mill_push.proofs.Collecting.{few_touches}
 use Rattle.mill_push.proofs.Sorting.{ordered_from_sort, spans_moved, first_within, last_within, runs_from_stretches, IfOk-more}

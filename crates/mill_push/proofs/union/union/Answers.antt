@@ -1,8 +1,8 @@
-use Rattle.std.proofs.Common.{◌+◌, ◌≡◌, get_or, sym, subst, arith}
+use Rattle.std.proofs.Common.{◌+◌, get_or, arith}
 use Rattle.std.specs.Int.{int_max}
 use Rattle.std.specs.List.{Contains}
 use Rattle.std.proofs.lemmas.Int.{ints}
-use lib.IntN.{ℤ, pos, ◌+ℤ◌}
+use lib.IntN.{pos, ◌+ℤ◌}
 use lib.Signed.{◌<ℤ◌, ◌≤ℤ◌}
 use Rattle.mill_base.specs.declared.limits.TheConstants.{MAX_COORDINATE}
 use Rattle.mill_push.proofs.Joining.{grown_first, grown_on, grown_next, grown_all, at_head, at_later, all_taken, one_of_two, most_of_two, most_within}
@@ -13,8 +13,7 @@ pub loop-stretch-init : goal.loop-stretch-init
 loop-stretch-init c =
     let xs = c.args.stretches.now in
     let first = c.in-Some.first.now in
-    let h = at_head xs c.in-Some.others.now first c.in-Some.ensures.cases.0 in
-    (
+    let h = at_head xs c.in-Some.others.now first c.in-Some.ensures.cases.0 in (
       λ from to spans. rw c.new-runs.ensures.items (grown_first xs c.requires.ordered from to first spans h.0 h.1),
       c.requires.lasts first (0, h.0, h.1),
     )
@@ -37,8 +36,7 @@ loop-stretch-preserved-then-stretch-run c =
     let value = rw (end, last) at c.max.ensures.value in
     let most = most_of_two run.last s.last in
     let within = most_within MAX_COORDINATE run.last s.last i.1 (c.requires.lasts s m) in
-    rw (value, stored (int_max run.last s.last) within)
-    (
+    rw (value, stored (int_max run.last s.last) within) (
       λ from to spans. grown_on xs c.requires.ordered from to (k + 1) c.loop-stretch.runs.items run s (int_max run.last s.last) spans h.0 h.1 near most.0 most.1 (one_of_two run.last s.last) (i.0 from to spans),
       within,
     )
@@ -57,8 +55,7 @@ loop-stretch-preserved c =
     let end = stored run.last i.1 in
     let next = and_one run.last i.1 in
     let test = rw (first, end, next) at c.if-stretch-run.false in
-    let beyond : (run.last +ℤ pos 1) <ℤ s.first = omega (test, arith, ints) in
-    (
+    let beyond : (run.last +ℤ pos 1) <ℤ s.first = omega (test, arith, ints) in (
       λ from to spans. rw c.in_ok-push.ensures.items (grown_next xs c.requires.ordered from to (k + 1) c.loop-stretch.runs.items run s spans h.0 h.1 beyond (i.0 from to spans)),
       c.requires.lasts s m,
     )
