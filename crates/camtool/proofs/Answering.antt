@@ -1,7 +1,8 @@
--- What was read decides the answer.
-use Rattle.std.proofs.Common.{◌≡◌, ◌⊎◌, ℕ, List, Result, Ok, Err, refl, sym, ap, subst, ◌∙◌, inl, inr, arith}
-use Rattle.std.specs.Prelude.{◌<◌, ◌≤◌, ℤ, ◌≤ℤ◌, ◌<ℤ◌}
+-- Where the files are told, what was read decides the answer.
+use Rattle.std.proofs.Common.{◌≡◌, ◌≢◌, ◌⊎◌, ℕ, List, Option, Some, None, Result, Ok, Err, refl, sym, ap, subst, ◌∙◌, inl, inr, arith}
+use Rattle.std.specs.Prelude.{◌<◌, ◌≤◌, ℤ, ◌≤ℤ◌, ◌<ℤ◌, IsSome}
 use Rattle.std.proofs.lemmas.Int.{ints}
+use Rattle.mill_base.specs.declared.limits.TheConstants.{MAX_FILE_BYTES}
 use Rattle.mill_base.specs.declared.points.Tri.{Tri}
 use Rattle.mill_base.specs.declared.motion.Move.{Move}
 use Rattle.mill_base.specs.Covers.{IsUnder}
@@ -9,19 +10,29 @@ use Rattle.mill_part.specs.Tops.{IsTop, HasCornerAt}
 use Rattle.mill_stl.specs.Parts.{Part, part_of}
 use Rattle.mill_stl.specs.declared.fault.StlFault.{StlFault}
 use Rattle.mill_ngc.specs.Programs.{program_of}
+use Rattle.mill_ngc.specs.declared.fault.NgcFault.{NgcFault}
 use Rattle.mill_job.specs.declared.job.Job.{Job}
 use Rattle.mill_job.specs.declared.fault.JobFault.{JobFault}
 use Rattle.mill_job.specs.Columns.{home}
-use Rattle.mill_job.specs.Documents.{IsJobOf}
 use Rattle.mill_job.proofs.OneAnswer.{one_answer}
 use Rattle.mill_verify.specs.Verdicts.{IsVerdict, OneVerdict}
 use Rattle.mill_verify.specs.declared.verdict.Verdict.{Verdict}
+use Rattle.mill_verify.specs.declared.verdict.Verdict.TheVariants.{Accept, Reject}
 use Rattle.mill_plan.specs.Plans.{done, too_many_nodes, too_many_moves, uncut}
-use Rattle.mill_decimal.specs.declared.fault.DecFault.{DecFault}
+use Rattle.mill_command.specs.Requests.{verify, plan, drop}
+use Rattle.camtool.specs.declared.file.File.TheVariants.{Job as JobFile, Part as PartFile, Program as ProgramFile}
+use Rattle.camtool.specs.declared.load.Unfit.{Unfit}
+use Rattle.camtool.specs.declared.load.Unfit.TheVariants.{TooLong, JobRefused, PartRefused, ProgramRefused, PartTop}
 use Rattle.camtool.specs.declared.place.Coordinate.{Coordinate}
 use Rattle.camtool.specs.declared.place.Coordinate.TheVariants.{X, Y}
 use Rattle.camtool.specs.declared.place.Place.{Place}
-use Rattle.camtool.specs.Answers.{SetupTexts, Texts, Reads, ReadsJob, ReadsPart, ReadsSetup, ReadsProgram, ReadsPlace, RefusesWord, Answer, IsUnfit, IsVerified, IsPlanned, IsDropped, answer_status, refused_word, long_job, refused_job, long_part, refused_part, high_part, long_program, refused_program, judged, planned, dropped}
+use Rattle.mill_decimal.specs.declared.fault.DecFault.{DecFault}
+use Rattle.camtool.specs.Answers.{Answer, refused_word, unfit, judged, planned, dropped, answer_status, IsAnswer}
+use Rattle.camtool.specs.Drop.{ReadsPlace, RefusesWord}
+use Rattle.camtool.specs.Setup.{SetupTexts, setup_texts, AreSetupTold, IsTooLong, IsJobText, IsRefusedJob, ReadsJob, IsPartText, IsRefusedPart, ReadsPart, ReadsSetup, LongPart, RefusesPart, HighPart, IsUnfit}
+use Rattle.camtool.specs.Verify.{Texts, texts_of, AreTold, IsProgramText, IsRefusedProgram, ReadsProgram, Reads, LongProgram, RefusesProgram, IsUnfitProgram, Judges, verdict_status}
+use Rattle.camtool.specs.Words.{Files, PlanFiles, DropWords}
+use Rattle.camtool.proofs.Told.{told_both}
 
 ok_is : {A E : Type 0} (a b : A) → (let r : Result A E = Ok a in r) ≡ Ok b → a ≡ b
 ok_is a b e = cc
@@ -29,18 +40,48 @@ ok_is a b e = cc
 ok_err : {A E : Type 0} (a : A) (f : E) → (let r : Result A E = Ok a in r) ≡ Err f → ⊥
 ok_err a f e = cc
 
-pub same_job : (texts : SetupTexts) (a b : Job) → ReadsJob texts a → ReadsJob texts b → a ≡ b
-same_job texts a b r s = ok_is a b (one_answer texts.job (Ok a) (Ok b) r.reads s.reads)
+pub too_long : (a b : ℕ) → a < b → b ≤ a → ⊥
+too_long a b h k = omega (h, k, arith)
 
-pub same_part : (texts : SetupTexts) (job : Job) (a b : List Tri) → ReadsPart texts job a → ReadsPart texts job b → a ≡ b
-same_part texts job a b r s =
+-- ---- one text reads as one thing
+
+job_text : (text : List ℕ) (a b : Job) → IsJobText text a → IsJobText text b → a ≡ b
+job_text text a b r s = ok_is a b (one_answer text (Ok a) (Ok b) r.reads s.reads)
+
+no_job_text : (text : List ℕ) (job : Job) (fault : JobFault) → IsJobText text job → IsRefusedJob text fault → ⊥
+no_job_text text job fault r refused = ok_err job fault (one_answer text (Ok job) (Err fault) r.reads refused.refused)
+
+part_text : (job : Job) (text : List ℕ) (a b : List Tri) → IsPartText job.snap text a → IsPartText job.snap text b → a ≡ b
+part_text job text a b r s =
     ap (λ (p : Part). p.tris) (ok_is (record { tris = a; rounded = r.rounded }) (record { tris = b; rounded = s.rounded }) (sym r.reads ∙ s.reads))
 
-pub same_moves : (texts : Texts) (job : Job) (a b : List Move) → ReadsProgram texts job a → ReadsProgram texts job b → a ≡ b
-same_moves texts job a b r s = ok_is a b (sym r.reads ∙ s.reads)
+no_part_text : (job : Job) (text : List ℕ) (part : List Tri) (fault : StlFault) → IsPartText job.snap text part → IsRefusedPart job.snap text fault → ⊥
+no_part_text job text part fault r refused = ok_err (record { tris = part; rounded = r.rounded }) fault (sym r.reads ∙ refused.refused)
 
-not_refused_job : (texts : SetupTexts) (job : Job) (f : JobFault) → ReadsJob texts job → IsJobOf texts.job (Err f) → ⊥
-not_refused_job texts job f r refused = ok_err job f (one_answer texts.job (Ok job) (Err f) r.reads refused)
+program_text : (job : Job) (text : List ℕ) (a b : List Move) → IsProgramText job text a → IsProgramText job text b → a ≡ b
+program_text job text a b r s = ok_is a b (sym r.reads ∙ s.reads)
+
+no_program_text : (job : Job) (text : List ℕ) (moves : List Move) (fault : NgcFault) → IsProgramText job text moves → IsRefusedProgram job text fault → ⊥
+no_program_text job text moves fault r refused = ok_err moves fault (sym r.reads ∙ refused.refused)
+
+-- ---- so does a file that is told
+
+same_job : (texts : SetupTexts) (a b : Job) → IsSome texts.job → ReadsJob texts a → ReadsJob texts b → a ≡ b
+same_job texts a b told r s =
+    let both = told_both (λ text. IsJobText text a) (λ text. IsJobText text b) texts.job told r s in
+    job_text both.0 a b both.1 both.2
+
+same_part : (texts : SetupTexts) (job : Job) (a b : List Tri) → IsSome texts.part → ReadsPart texts job a → ReadsPart texts job b → a ≡ b
+same_part texts job a b told r s =
+    let both = told_both (λ text. IsPartText job.snap text a) (λ text. IsPartText job.snap text b) texts.part told r s in
+    part_text job both.0 a b both.1 both.2
+
+same_moves : (texts : Texts) (job : Job) (a b : List Move) → IsSome texts.program → ReadsProgram texts job a → ReadsProgram texts job b → a ≡ b
+same_moves texts job a b told r s =
+    let both = told_both (λ text. IsProgramText job text a) (λ text. IsProgramText job text b) texts.program told r s in
+    program_text job both.0 a b both.1 both.2
+
+-- ---- files that are told and read are not unfit
 
 corner_under : (tri : Tri) (z top : ℤ) → (tri.a.z ≤ℤ top) × (tri.b.z ≤ℤ top) × (tri.c.z ≤ℤ top) → HasCornerAt tri z → z ≤ℤ top
 corner_under tri z top u (inl e) = subst (λ (h : ℤ). h ≤ℤ top) e u.0
@@ -55,84 +96,98 @@ not_high part top height limit under is_top same over =
     below : (h t : ℤ) → h ≤ℤ t → t <ℤ h → ⊥
     below h t le lt = omega (le, lt, arith, ints)
 
-too_long : (a b : ℕ) → a < b → b ≤ a → ⊥
-too_long a b h k = omega (h, k, arith)
+fit_long_part : (texts : SetupTexts) (job : Job) (part : List Tri) → AreSetupTold texts → ReadsSetup texts job part → LongPart texts → ⊥
+fit_long_part texts job part told r h =
+    let both = told_both IsTooLong (λ text. IsPartText job.snap text part) texts.part told.part h.long r.part_is in
+    too_long _ _ both.1 both.2.fits
 
--- ---- texts that read are not unfit
+fit_part : (texts : SetupTexts) (job : Job) (part : List Tri) (fault : StlFault) → AreSetupTold texts → ReadsSetup texts job part → RefusesPart texts fault → ⊥
+fit_part texts job part fault told r h =
+    let same : h.job ≡ job = same_job texts h.job job told.job h.job_is r.job_is in
+    let both = told_both (λ text. IsRefusedPart h.job.snap text fault) (λ text. IsPartText job.snap text part) texts.part told.part h.refused r.part_is in
+    no_part_text job both.0 part fault both.2 (subst (λ (j : Job). IsRefusedPart j.snap both.0 fault) same both.1)
 
-fit_part : (texts : SetupTexts) (job : Job) (part : List Tri) (fault : StlFault) → ReadsPart texts job part → part_of job.snap texts.part ≡ Err fault → ⊥
-fit_part texts job part fault r e = ok_err (record { tris = part; rounded = r.rounded }) fault (sym r.reads ∙ e)
+fit_top : (texts : SetupTexts) (job : Job) (part : List Tri) (height top : ℤ) → AreSetupTold texts → ReadsSetup texts job part → HighPart texts height top → ⊥
+fit_top texts job part height top told r h =
+    let same : h.job ≡ job = same_job texts h.job job told.job h.job_is r.job_is in
+    let same_p : h.part ≡ part = same_part texts job h.part part told.part (subst (λ (j : Job). ReadsPart texts j h.part) same h.part_is) r.part_is in
+    not_high part job.top height top r.under (subst (λ (q : List Tri). IsTop q height) same_p h.greatest) (h.limit ∙ ap (λ (j : Job). j.top) same) h.over
 
-fit_top : (texts : SetupTexts) (job j : Job) (part p : List Tri) (height top : ℤ) → ReadsSetup texts job part → ReadsPart texts j p → j ≡ job → top ≡ j.top → IsTop p height
-    → top <ℤ height → ⊥
-fit_top texts job j part p height top r part_is e limit greatest over =
-    let same : p ≡ part = same_part texts job p part (subst (λ (x : Job). ReadsPart texts x p) e part_is) r.part_is in
-    not_high part job.top height top r.under (subst (λ (q : List Tri). IsTop q height) same greatest) (limit ∙ ap (λ (x : Job). x.top) e) over
+fit_setup : (texts : SetupTexts) (job : Job) (part : List Tri) (u : Unfit) → AreSetupTold texts → ReadsSetup texts job part → IsUnfit texts u → ⊥
+fit_setup texts job part (TooLong JobFile) told r h =
+    let both = told_both IsTooLong (λ text. IsJobText text job) texts.job told.job h r.job_is in
+    too_long _ _ both.1 both.2.fits
+fit_setup texts job part (TooLong PartFile) told r h = fit_long_part texts job part told r h
+fit_setup texts job part (TooLong ProgramFile) told r h = h
+fit_setup texts job part (JobRefused fault) told r h =
+    let both = told_both (λ text. IsRefusedJob text fault) (λ text. IsJobText text job) texts.job told.job h r.job_is in
+    no_job_text both.0 job fault both.2 both.1
+fit_setup texts job part (PartRefused fault) told r h = fit_part texts job part fault told r h
+fit_setup texts job part (ProgramRefused fault) told r h = h
+fit_setup texts job part (PartTop height top) told r h = fit_top texts job part height top told r h
 
-is_fit : (texts : SetupTexts) (job : Job) (part : List Tri) (a : Answer) → ReadsSetup texts job part → IsUnfit texts a → ⊥
-is_fit texts job part (refused_word coordinate fault) r h = h
-is_fit texts job part long_job r h = too_long _ _ h r.job_is.fits
-is_fit texts job part (refused_job fault) r h = not_refused_job texts job fault r.job_is h.refused
-is_fit texts job part long_part r h = too_long _ _ h.long r.part_is.fits
-is_fit texts job part (refused_part fault) r h =
-    fit_part texts job part fault r.part_is (subst (λ (j : Job). part_of j.snap texts.part ≡ Err fault) (same_job texts h.job job h.job_is r.job_is) h.refused)
-is_fit texts job part (high_part height top) r h =
-    fit_top texts job h.job part h.part height top r h.part_is (same_job texts h.job job h.job_is r.job_is) h.limit h.greatest h.over
-is_fit texts job part long_program r h = h
-is_fit texts job part (refused_program fault) r h = h
-is_fit texts job part (judged j p m v) r h = h
-is_fit texts job part (planned answer) r h = h
-is_fit texts job part (dropped height) r h = h
+fit_long_program : (texts : Texts) (job : Job) (part : List Tri) (moves : List Move) → AreTold texts → Reads texts job part moves → LongProgram texts → ⊥
+fit_long_program texts job part moves told r h =
+    let both = told_both IsTooLong (λ text. IsProgramText job text moves) texts.program told.program h.long r.moves_are in
+    too_long _ _ both.1 both.2.fits
+
+fit_moves : (texts : Texts) (job : Job) (part : List Tri) (moves : List Move) (fault : NgcFault) → AreTold texts → Reads texts job part moves → RefusesProgram texts fault → ⊥
+fit_moves texts job part moves fault told r h =
+    let same : h.job ≡ job = same_job texts.setup h.job job told.setup.job h.setup_is.job_is r.setup_is.job_is in
+    let both = told_both (λ text. IsRefusedProgram h.job text fault) (λ text. IsProgramText job text moves) texts.program told.program h.refused r.moves_are in
+    no_program_text job both.0 moves fault both.2 (subst (λ (j : Job). IsRefusedProgram j both.0 fault) same both.1)
+
+fit_program : (texts : Texts) (job : Job) (part : List Tri) (moves : List Move) (u : Unfit) → AreTold texts → Reads texts job part moves → IsUnfitProgram texts u → ⊥
+fit_program texts job part moves (TooLong JobFile) told r h = fit_setup texts.setup job part (TooLong JobFile) told.setup r.setup_is h
+fit_program texts job part moves (TooLong PartFile) told r h = fit_long_part texts.setup job part told.setup r.setup_is h
+fit_program texts job part moves (TooLong ProgramFile) told r h = fit_long_program texts job part moves told r h
+fit_program texts job part moves (JobRefused fault) told r h = fit_setup texts.setup job part (JobRefused fault) told.setup r.setup_is h
+fit_program texts job part moves (PartRefused fault) told r h = fit_part texts.setup job part fault told.setup r.setup_is h
+fit_program texts job part moves (ProgramRefused fault) told r h = fit_moves texts job part moves fault told r h
+fit_program texts job part moves (PartTop height top) told r h = fit_top texts.setup job part height top told.setup r.setup_is h
 
 -- ---- `verify`
 
--- texts that read are judged, and nothing is refused
-pub is_judged : (texts : Texts) (job : Job) (part : List Tri) (moves : List Move) (a : Answer) → Reads texts job part moves → IsVerified texts a
-    → (v : Verdict) × IsVerdict job part moves v × (answer_status a ≡ answer_status (judged job part moves v))
-is_judged texts job part moves (refused_word coordinate fault) r h = absurd h
-is_judged texts job part moves long_job r h = absurd (is_fit texts.setup job part long_job r.setup_is h)
-is_judged texts job part moves (refused_job fault) r h = absurd (is_fit texts.setup job part (refused_job fault) r.setup_is h)
-is_judged texts job part moves long_part r h = absurd (is_fit texts.setup job part long_part r.setup_is h)
-is_judged texts job part moves (refused_part fault) r h = absurd (is_fit texts.setup job part (refused_part fault) r.setup_is h)
-is_judged texts job part moves (high_part height top) r h = absurd (is_fit texts.setup job part (high_part height top) r.setup_is h)
-is_judged texts job part moves long_program r h = absurd (too_long _ _ h.long r.moves_are.fits)
-is_judged texts job part moves (refused_program fault) r h =
-    absurd (ok_err moves fault
-    (sym r.moves_are.reads ∙ subst (λ (j : Job). program_of (home j) texts.program ≡ Err fault) (same_job texts.setup h.job job h.setup_is.job_is r.setup_is.job_is) h.refused))
-is_judged texts job part moves (judged j p m v) r h =
-    let e : j ≡ job = same_job texts.setup j job h.all_read.setup_is.job_is r.setup_is.job_is in
-    let f : p ≡ part = same_part texts.setup job p part (subst (λ (x : Job). ReadsPart texts.setup x p) e h.all_read.setup_is.part_is) r.setup_is.part_is in
-    let g : m ≡ moves = same_moves texts job m moves (subst (λ (x : Job). ReadsProgram texts x m) e h.all_read.moves_are) r.moves_are in
-    (v, subst (λ (x : List Move). IsVerdict job part x v) g (subst (λ (x : List Tri). IsVerdict job x m v) f (subst (λ (x : Job). IsVerdict x p m v) e h.is)), refl)
-is_judged texts job part moves (planned answer) r h = absurd h
-is_judged texts job part moves (dropped height) r h = absurd h
+-- what was judged is what was read
+judged_is : (texts : Texts) (job j : Job) (part p : List Tri) (moves m : List Move) (v : Verdict) → AreTold texts → Reads texts job part moves → Judges texts j p m v
+    → IsVerdict job part moves v
+judged_is texts job j part p moves m v told r h =
+    let e : j ≡ job = same_job texts.setup j job told.setup.job h.all_read.setup_is.job_is r.setup_is.job_is in
+    let f : p ≡ part = same_part texts.setup job p part told.setup.part (subst (λ (x : Job). ReadsPart texts.setup x p) e h.all_read.setup_is.part_is) r.setup_is.part_is in
+    let g : m ≡ moves = same_moves texts job m moves told.program (subst (λ (x : Job). ReadsProgram texts x m) e h.all_read.moves_are) r.moves_are in
+    subst (λ (x : List Move). IsVerdict job part x v) g (subst (λ (x : List Tri). IsVerdict job x m v) f (subst (λ (x : Job). IsVerdict x p m v) e h.is))
 
--- where the texts read and the moves are rejected for a reason, the answer has that verdict
-pub has_verdict : OneVerdict → (texts : Texts) (job : Job) (part : List Tri) (moves : List Move) (verdict : Verdict) (a : Answer) → Reads texts job part moves
-    → IsVerdict job part moves verdict → IsVerified texts a → answer_status a ≡ answer_status (judged job part moves verdict)
-has_verdict one texts job part moves verdict a r is h =
-    let j = is_judged texts job part moves a r h in
-    j.2 ∙ ap (λ (v : Verdict). answer_status (judged job part moves v)) (one job part moves j.0 verdict j.1 is)
+-- the answer is the status of a verdict on what was read
+pub record HasVerdict (job : Job) (part : List Tri) (moves : List Move) (status : ℕ) : Type 0 where
+  pub verdict : Verdict
+  pub is : IsVerdict job part moves verdict
+  pub same : status ≡ verdict_status verdict
+
+-- files that are told and read are judged, and nothing is refused
+pub is_judged : (contents : List ℕ → Option (List ℕ)) (files : Files) (workers : ℕ) (job : Job) (part : List Tri) (moves : List Move) (a : Answer)
+    → AreTold (texts_of contents files) → Reads (texts_of contents files) job part moves → IsAnswer contents (verify files.job files.part files.program workers) a
+    → HasVerdict job part moves (answer_status a)
+is_judged contents files workers job part moves (refused_word coordinate fault) told r h = absurd h
+is_judged contents files workers job part moves (unfit u) told r h = absurd (fit_program (texts_of contents files) job part moves u told r h)
+is_judged contents files workers job part moves (judged j p m v) told r h =
+    record { verdict = v; is = judged_is (texts_of contents files) job j part p moves m v told r h; same = refl }
+is_judged contents files workers job part moves (planned name answer) told r h = absurd h
+is_judged contents files workers job part moves (dropped height) told r h = absurd h
 
 -- ---- `plan`
 
--- texts that read have a plan, or there is none, and nothing is refused
-pub is_planned : (texts : SetupTexts) (job : Job) (part : List Tri) (a : Answer) → ReadsSetup texts job part → IsPlanned texts a
-    → (answer_status a ≡ 0) ⊎ ((answer_status a ≡ 8) ⊎ (answer_status a ≡ 9))
-is_planned texts job part (refused_word coordinate fault) r h = absurd h
-is_planned texts job part long_job r h = absurd (is_fit texts job part long_job r h)
-is_planned texts job part (refused_job fault) r h = absurd (is_fit texts job part (refused_job fault) r h)
-is_planned texts job part long_part r h = absurd (is_fit texts job part long_part r h)
-is_planned texts job part (refused_part fault) r h = absurd (is_fit texts job part (refused_part fault) r h)
-is_planned texts job part (high_part height top) r h = absurd (is_fit texts job part (high_part height top) r h)
-is_planned texts job part long_program r h = absurd h
-is_planned texts job part (refused_program fault) r h = absurd h
-is_planned texts job part (judged j p m v) r h = absurd h
-is_planned texts job part (planned (done text count columns left)) r h = inl refl
-is_planned texts job part (planned (uncut row col top)) r h = inr (inl refl)
-is_planned texts job part (planned (too_many_nodes nodes)) r h = inr (inr refl)
-is_planned texts job part (planned too_many_moves) r h = inr (inr refl)
-is_planned texts job part (dropped height) r h = absurd h
+-- files that are told and read have a plan, or there is none, and nothing is refused
+pub is_planned : (contents : List ℕ → Option (List ℕ)) (files : PlanFiles) (workers : ℕ) (job : Job) (part : List Tri) (a : Answer)
+    → AreSetupTold (setup_texts contents files.job files.part) → ReadsSetup (setup_texts contents files.job files.part) job part
+    → IsAnswer contents (plan files.job files.part files.out workers) a → (answer_status a ≡ 0) ⊎ ((answer_status a ≡ 8) ⊎ (answer_status a ≡ 9))
+is_planned contents files workers job part (refused_word coordinate fault) told r h = absurd h
+is_planned contents files workers job part (unfit u) told r h = absurd (fit_setup (setup_texts contents files.job files.part) job part u told r h)
+is_planned contents files workers job part (judged j p m v) told r h = absurd h
+is_planned contents files workers job part (planned name (done text count columns left)) told r h = inl refl
+is_planned contents files workers job part (planned name (uncut row col top)) told r h = inr (inl refl)
+is_planned contents files workers job part (planned name (too_many_nodes nodes)) told r h = inr (inr refl)
+is_planned contents files workers job part (planned name too_many_moves) told r h = inr (inr refl)
+is_planned contents files workers job part (dropped height) told r h = absurd h
 
 -- ---- `drop`
 
@@ -140,17 +195,12 @@ reads_word : (x y : List ℕ) (place : Place) (coordinate : Coordinate) (fault :
 reads_word x y place X fault r e = ok_err place.x fault (sym r.x_is ∙ e)
 reads_word x y place Y fault r e = ok_err place.y fault (sym r.y_is ∙ e.2)
 
--- words and texts that read give a drop height, and nothing is refused
-pub is_dropped : (x y : List ℕ) (texts : SetupTexts) (place : Place) (job : Job) (part : List Tri) (a : Answer) → ReadsPlace x y place → ReadsSetup texts job part
-    → IsDropped x y texts a → answer_status a ≡ 0
-is_dropped x y texts place job part (refused_word coordinate fault) p r h = absurd (reads_word x y place coordinate fault p h)
-is_dropped x y texts place job part long_job p r h = absurd (is_fit texts job part long_job r h.1)
-is_dropped x y texts place job part (refused_job fault) p r h = absurd (is_fit texts job part (refused_job fault) r h.1)
-is_dropped x y texts place job part long_part p r h = absurd (is_fit texts job part long_part r h.1)
-is_dropped x y texts place job part (refused_part fault) p r h = absurd (is_fit texts job part (refused_part fault) r h.1)
-is_dropped x y texts place job part (high_part height top) p r h = absurd (is_fit texts job part (high_part height top) r h.1)
-is_dropped x y texts place job part long_program p r h = absurd h.1
-is_dropped x y texts place job part (refused_program fault) p r h = absurd h.1
-is_dropped x y texts place job part (judged j q m v) p r h = absurd h.1
-is_dropped x y texts place job part (planned answer) p r h = absurd h.1
-is_dropped x y texts place job part (dropped height) p r h = refl
+-- words that read, and files that are told and read, give a drop height, and nothing is refused
+pub is_dropped : (contents : List ℕ → Option (List ℕ)) (given : DropWords) (place : Place) (job : Job) (part : List Tri) (a : Answer) → ReadsPlace given.x given.y place
+    → AreSetupTold (setup_texts contents given.job given.part) → ReadsSetup (setup_texts contents given.job given.part) job part
+    → IsAnswer contents (drop given.job given.part given.x given.y) a → answer_status a ≡ 0
+is_dropped contents given place job part (refused_word coordinate fault) p told r h = absurd (reads_word given.x given.y place coordinate fault p h)
+is_dropped contents given place job part (unfit u) p told r h = absurd (fit_setup (setup_texts contents given.job given.part) job part u told r h.1)
+is_dropped contents given place job part (judged j q m v) p told r h = absurd h
+is_dropped contents given place job part (planned name answer) p told r h = absurd h
+is_dropped contents given place job part (dropped height) p told r h = refl

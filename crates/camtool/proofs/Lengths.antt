@@ -13,7 +13,7 @@ use Rattle.mill_base.specs.declared.motion.Kind.TheVariants.{Rapid, Feed}
 use Rattle.mill_base.specs.declared.motion.Move.{Move}
 use Rattle.mill_decimal.specs.Decimals.{canonical}
 use Rattle.mill_post.specs.Texts.{motion_word, ended, move_line, program_text}
-use Rattle.camtool.specs.Answers.{Fits}
+use Rattle.camtool.specs.Setup.{Fits}
 
 -- ---- the line of a move
 

@@ -1,8 +1,10 @@
-pub mod Shown
-pub mod Works
+pub mod Told
+pub mod Taken
+pub mod Reading
 pub mod Answering
-pub mod Outcomes
-pub mod Taking
+pub mod Blaming
+pub mod Serving
 pub mod Planning
 pub mod Lengths
-pub mod PlanOutcomes
+pub mod Outcomes
+pub mod Headlines

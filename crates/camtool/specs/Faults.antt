@@ -1,5 +1,10 @@
--- How the line of a refused text names its first fault.
-use Rattle.std.specs.Prelude.{ℕ, codes, List, [], ◌∷◌, ◌++◌}
+-- The line of a refused word, and of a file that is refused or too long: how it names the first fault.
+use Rattle.std.specs.Prelude.{ℕ, codes, decimal, List, [], ◌∷◌, ◌++◌}
+use Rattle.mill_decimal.specs.Decimals.{canonical}
+use Rattle.camtool.specs.declared.file.File.{File}
+use Rattle.camtool.specs.declared.file.File.TheVariants.{Job as JobFile, Part as PartFile, Program as ProgramFile}
+use Rattle.camtool.specs.declared.load.Unfit.{Unfit}
+use Rattle.camtool.specs.declared.load.Unfit.TheVariants.{TooLong, JobRefused, PartRefused, ProgramRefused, PartTop}
 use Rattle.camtool.specs.Printed.{line}
 use Rattle.camtool.specs.declared.place.Coordinate.{Coordinate}
 use Rattle.camtool.specs.declared.place.Coordinate.TheVariants.{X, Y}
@@ -97,3 +102,22 @@ program_fault_code (program_fault.TooManyMoves line) = codes "too-many-moves"
 program_fault_code (program_fault.NoAxis line) = codes "no-axis"
 program_fault_code (program_fault.NoEnd line) = codes "no-end"
 program_fault_code program_fault.WantOfMemory = codes "memory"
+
+-- ---- lines
+
+abbrev pub file_name : File → List ℕ
+file_name JobFile = codes "job"
+file_name PartFile = codes "part"
+file_name ProgramFile = codes "program"
+
+-- the line of a word that is refused
+abbrev pub word_line : Coordinate → DecFault → List ℕ
+word_line coordinate fault = line (codes "refused" ∷ codes "word" ∷ coordinate_name coordinate ∷ decimal_fault_code fault ∷ [])
+
+-- the line of files that give a command nothing to work on
+abbrev pub unfit_line : Unfit → List ℕ
+unfit_line (TooLong file) = line (codes "refused" ∷ codes "too-long" ∷ file_name file ∷ [])
+unfit_line (JobRefused fault) = line (codes "refused" ∷ codes "job" ∷ job_fault_words fault)
+unfit_line (PartRefused fault) = line (codes "refused" ∷ codes "part" ∷ codes "line" ∷ decimal (part_fault_line fault) ∷ part_fault_code fault ∷ [])
+unfit_line (ProgramRefused fault) = line (codes "refused" ∷ codes "program" ∷ codes "line" ∷ decimal (program_fault_line fault) ∷ program_fault_code fault ∷ [])
+unfit_line (PartTop height top) = line (codes "refused" ∷ codes "part-top" ∷ canonical height ∷ codes "top" ∷ canonical top ∷ [])

@@ -1,6 +1,6 @@
 -- What the words of the command line ask for.
 use Rattle.std.specs.Prelude.{◌≡◌, ℕ, List, Some}
-use Rattle.mill_command.specs.Requests.{Request, request, verify, plan, drop}
+use Rattle.mill_command.specs.Requests.{request, verify, plan, drop}
 
 -- the names of the job's, the part's and the program's file
 pub record Files : Type 0 where
@@ -11,10 +11,6 @@ pub record Files : Type 0 where
 -- the words are taken as `verify` with these files, with any number of workers
 abbrev pub AsksVerify : List (List ℕ) → Files → Type 0
 AsksVerify words files = (workers : ℕ) × (request words ≡ Some (verify files.job files.part files.program workers))
-
--- the words are taken as `drop` with the job's and the part's file, and with these words for x and y
-abbrev pub AsksDrop : List (List ℕ) → List ℕ → List ℕ → List ℕ → List ℕ → Type 0
-AsksDrop words job part x y = request words ≡ Some (drop job part x y)
 
 -- the names of the job's and the part's file, and of the file that the program is stored in
 pub record PlanFiles : Type 0 where
@@ -30,7 +26,13 @@ AsksPlan words files = (workers : ℕ) × (request words ≡ Some (plan files.jo
 abbrev pub AsksNoPlan : List (List ℕ) → Type 0
 AsksNoPlan words = (files : PlanFiles) → ¬ AsksPlan words files
 
--- a request that stores nothing: any but `plan`
-abbrev pub StoresNothing : Request → Type 0
-StoresNothing (plan job part out workers) = ⊥
-StoresNothing _ = Unit {0}
+-- the names of the job's and the part's file, and the words for x and y
+pub record DropWords : Type 0 where
+  pub job : List ℕ
+  pub part : List ℕ
+  pub x : List ℕ
+  pub y : List ℕ
+
+-- the words are taken as `drop` with these
+abbrev pub AsksDrop : List (List ℕ) → DropWords → Type 0
+AsksDrop words given = request words ≡ Some (drop given.job given.part given.x given.y)

@@ -1,18 +1,19 @@
 //! The command `drop`: how low the cutter comes at one place.
-ghost use Rattle.std.specs.Prelude.{◌≡◌, ◌≢◌, ◌-◌, ◌^◌, ◌<◌, ◌↔◌, IfOk};
+ghost use Rattle.std.specs.Prelude.{◌≡◌, ◌-◌, ◌^◌, ◌<◌, IfOk};
 ghost use Rattle.mill_command.specs.Requests.{drop as asks_drop};
-ghost use Rattle.mill_io.specs.Contents.{Stay};
-ghost use Rattle.camtool.specs.Answers.{answer_line, dropped};
-ghost use Rattle.camtool.specs.Loads.{IsPlace, IsSetup};
-ghost use Rattle.camtool.specs.Shows.{Works, TellsDrop};
+ghost use Rattle.camtool.specs.Calls.{CanCount, call_of};
+ghost use Rattle.camtool.specs.Drop.{height_line};
+ghost use Rattle.camtool.specs.inner.Loads.{IsPlace, IsSetup};
+ghost use Rattle.camtool.specs.Outcomes.{Serves};
+ghost use Rattle.camtool.specs.inner.Prints.{PrintsHeight};
 ghost use Rattle.camtool.specs.Statuses.{status_code};
 
-use crate::ending::Status;
 use crate::faults::line_of_word_fault;
 use crate::load::{Setup, load_setup};
 use crate::place::{Place, read_place};
 use crate::print::{add_length, add_text};
-use crate::tell::{tell_end, tell_made};
+use crate::status::Status;
+use crate::tell::{tell_fault, tell_made};
 use mill_base::WantOfMemory;
 use mill_drop::drop_once;
 use mill_io::{Shelf, Sink};
@@ -29,13 +30,9 @@ pub fn drop_cutter<S: Shelf, O: Sink>(
     y: &str,
     out: &mut O,
 ) -> Status
-    requires reads { S.read_faults shelf.old < 2 ^ 64 - 1 }
-    requires prints { O.faults out.old < 2 ^ 64 - 1 }
-    ensures works { Works (S.contents shelf.old) (asks_drop job.now part.now x.now y.now) (status_code result) (O.written out.old) (O.written out.new) }
-    ensures write { (result ≡ Status.WriteFault) ↔ (O.faults out.old < O.faults out.new) }
-    ensures read { (result ≡ Status.ReadFault) ↔ ((S.read_faults shelf.old < S.read_faults shelf.new) × (O.faults out.new ≡ O.faults out.old)) }
-    ensures kept { S.write_faults shelf.new ≡ S.write_faults shelf.old }
-    ensures stay { Stay (S.contents shelf.old) (S.contents shelf.new) }
+    requires { CanCount (S.shows shelf.old) (O.shows out.old) }
+    ensures { Serves (asks_drop job.now part.now x.now y.now)
+        (call_of result (S.shows shelf.old) (S.shows shelf.new) (O.shows out.old) (O.shows out.new)) }
 {
     let place = match read_place(x, y) {
         Ok(place) => place,
@@ -43,7 +40,7 @@ pub fn drop_cutter<S: Shelf, O: Sink>(
     };
     match load_setup(alloc, shelf, job, part) {
         Ok(setup) => tell_drop(alloc, &setup, place, out),
-        Err(end) => tell_end(alloc, end, out),
+        Err(fault) => tell_fault(alloc, fault, out),
     }
 }
 
@@ -51,11 +48,9 @@ pub fn drop_cutter<S: Shelf, O: Sink>(
 fn tell_drop<O: Sink>(alloc: Global, setup: &Setup, place: Place, out: &mut O) -> Status
     requires ready { IsSetup setup.now }
     requires place_ok { IsPlace place }
-    requires prints { O.faults out.old < 2 ^ 64 - 1 }
-    ensures tells { TellsDrop setup.now place (status_code result) (O.written out.old) (O.written out.new) }
-    ensures write { (result ≡ Status.WriteFault) ↔ (O.faults out.old < O.faults out.new) }
-    ensures no_read { result ≢ Status.ReadFault }
-    ensures other { result ≢ Status.WriteFault → O.faults out.new ≡ O.faults out.old }
+    requires prints { (O.shows out.old).faults < 2 ^ 64 - 1 }
+    ensures { PrintsHeight setup.now place (status_code result)
+        (O.shows out.old) (O.shows out.new) }
 {
     let job = &setup.job;
     let height = drop_once(&setup.part, job.cutter, place.x, place.y, job.floor);
@@ -64,7 +59,7 @@ fn tell_drop<O: Sink>(alloc: Global, setup: &Setup, place: Place, out: &mut O) -
 
 /// The line of a drop height.
 fn line_of_height(alloc: Global, height: i32) -> Result<Vec<u8>, WantOfMemory>
-    ensures { IfOk result (λ line. line.items ≡ answer_line (dropped height)) }
+    ensures { IfOk result (λ line. line.items ≡ height_line height) }
 {
     let mut line = Vec::new(alloc);
     add_text(&mut line, b"drop ")?;

@@ -1,11 +1,10 @@
-ghost use Rattle.std.specs.Prelude.{◌≡◌, ◌++◌, ◌∷◌, IfOk, OnOk};
-ghost use Rattle.camtool.specs.Answers.{answer_line, high_part, refused_job, refused_part, refused_program, refused_word};
-ghost use Rattle.camtool.specs.Faults.{coordinate_name, job_fault_end, decimal_fault_code, part_fault_line, part_fault_code, program_fault_line, program_fault_code, one_key, two_keys};
-ghost use Rattle.camtool.specs.Headline.{ending_line, read_fault};
-ghost use Rattle.camtool.specs.Statuses.{ending_of};
+//! The lines of refusals.
+ghost use Rattle.std.specs.Prelude.{◌≡◌, ◌++◌, IfOk, OnOk};
+ghost use Rattle.camtool.specs.Faults.{coordinate_name, word_line, unfit_line, job_fault_end, decimal_fault_code, part_fault_line, part_fault_code, program_fault_line, program_fault_code, one_key, two_keys};
+ghost use Rattle.camtool.specs.Outcomes.{outcome_line, read_fault};
 
-use crate::ending::End;
 use crate::file::File;
+use crate::load::Unfit;
 use crate::place::{Coordinate, WordFault};
 use crate::print::{add_length, add_number, add_text};
 use mill_base::WantOfMemory;
@@ -17,7 +16,7 @@ use std::alloc::Global;
 
 /// The line of a word that is refused.
 pub fn line_of_word_fault(alloc: Global, refused: WordFault) -> Result<Vec<u8>, WantOfMemory>
-    ensures { IfOk result (λ line. line.items ≡ answer_line (refused_word refused.coordinate refused.fault)) }
+    ensures { IfOk result (λ line. line.items ≡ word_line refused.coordinate refused.fault) }
 {
     let mut line = Vec::new(alloc);
     add_text(&mut line, b"refused word ")?;
@@ -37,9 +36,30 @@ fn name_of_coordinate(coordinate: Coordinate) -> &'static [u8]
     }
 }
 
+/// The line of files that give a command nothing to work on.
+pub fn line_of_unfit(alloc: Global, fault: &Unfit) -> Result<Vec<u8>, WantOfMemory>
+    ensures { IfOk result (λ line. line.items ≡ unfit_line fault.now) }
+{
+    match fault {
+        Unfit::TooLong(file) => line_of_text(alloc, line_of_long(*file)),
+        Unfit::JobRefused(fault) => line_of_job_fault(alloc, fault),
+        Unfit::PartRefused(fault) => line_of_part_fault(alloc, *fault),
+        Unfit::ProgramRefused(fault) => line_of_program_fault(alloc, *fault),
+        Unfit::PartTop { height, top } => line_of_high_part(alloc, *height, *top),
+    }
+}
+
+fn line_of_text(alloc: Global, text: &[u8]) -> Result<Vec<u8>, WantOfMemory>
+    ensures { IfOk result (λ line. line.items ≡ text.now) }
+{
+    let mut line = Vec::new(alloc);
+    add_text(&mut line, text)?;
+    Ok(line)
+}
+
 /// The line of a job's text that is refused.
-pub fn line_of_job_fault(alloc: Global, fault: &JobFault) -> Result<Vec<u8>, WantOfMemory>
-    ensures { IfOk result (λ line. line.items ≡ answer_line (refused_job fault.now)) }
+fn line_of_job_fault(alloc: Global, fault: &JobFault) -> Result<Vec<u8>, WantOfMemory>
+    ensures { IfOk result (λ line. line.items ≡ unfit_line (Unfit.JobRefused fault.now)) }
 {
     let mut line = Vec::new(alloc);
     add_text(&mut line, b"refused job ")?;
@@ -92,8 +112,8 @@ fn add_keys(line: &mut Vec<u8>, first: Key, second: Key) -> Result<(), WantOfMem
 }
 
 /// The line of a part's text that is refused.
-pub fn line_of_part_fault(alloc: Global, fault: StlFault) -> Result<Vec<u8>, WantOfMemory>
-    ensures { IfOk result (λ line. line.items ≡ answer_line (refused_part fault)) }
+fn line_of_part_fault(alloc: Global, fault: StlFault) -> Result<Vec<u8>, WantOfMemory>
+    ensures { IfOk result (λ line. line.items ≡ unfit_line (Unfit.PartRefused fault)) }
 {
     let mut line = Vec::new(alloc);
     add_text(&mut line, b"refused part line ")?;
@@ -140,8 +160,8 @@ fn code_of_decimal(fault: DecFault) -> &'static [u8]
 }
 
 /// The line of a program's text that is refused.
-pub fn line_of_program_fault(alloc: Global, fault: NgcFault) -> Result<Vec<u8>, WantOfMemory>
-    ensures { IfOk result (λ line. line.items ≡ answer_line (refused_program fault)) }
+fn line_of_program_fault(alloc: Global, fault: NgcFault) -> Result<Vec<u8>, WantOfMemory>
+    ensures { IfOk result (λ line. line.items ≡ unfit_line (Unfit.ProgramRefused fault)) }
 {
     let mut line = Vec::new(alloc);
     add_text(&mut line, b"refused program line ")?;
@@ -197,8 +217,8 @@ fn code_of_program(fault: NgcFault) -> &'static [u8]
 }
 
 /// The line of a part whose greatest height is over the job's top.
-pub fn line_of_high_part(alloc: Global, height: i32, top: i32) -> Result<Vec<u8>, WantOfMemory>
-    ensures { IfOk result (λ line. line.items ≡ answer_line (high_part height top)) }
+fn line_of_high_part(alloc: Global, height: i32, top: i32) -> Result<Vec<u8>, WantOfMemory>
+    ensures { IfOk result (λ line. line.items ≡ unfit_line (Unfit.PartTop height top)) }
 {
     let mut line = Vec::new(alloc);
     add_text(&mut line, b"refused part-top ")?;
@@ -211,7 +231,7 @@ pub fn line_of_high_part(alloc: Global, height: i32, top: i32) -> Result<Vec<u8>
 
 /// The line of a file that couldn't be read.
 pub fn line_of_read_fault(file: File) -> &'static [u8]
-    ensures { result.now ≡ ending_line (read_fault file) }
+    ensures { result.now ≡ outcome_line (read_fault file) }
 {
     match file {
         File::Job => b"read fault job\n",
@@ -222,7 +242,7 @@ pub fn line_of_read_fault(file: File) -> &'static [u8]
 
 /// The line of a file with too many bytes.
 pub fn line_of_long(file: File) -> &'static [u8]
-    ensures { result.now ≡ ending_line (ending_of (End.TooLong file)) }
+    ensures { result.now ≡ unfit_line (Unfit.TooLong file) }
 {
     match file {
         File::Job => b"refused too-long job\n",

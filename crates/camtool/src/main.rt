@@ -4,12 +4,12 @@
 //! place.
 //!
 //! `run` is all that the program does, over any store of files and any sink. Its contract goes
-//! from bytes to bytes: `specs/Answers` says which answer a command has on its texts,
-//! `specs/Headline` what the answer means.
+//! from bytes to bytes: `specs/Answers` says which answer a command has on its files,
+//! `specs/Outcomes` how it is shown and stored, `specs/Headline` what it means. Each command has a
+//! file here and a module in `specs/`.
 #![tactic(auto)]
 
 mod drop;
-mod ending;
 mod faults;
 mod file;
 mod load;
@@ -17,14 +17,16 @@ mod place;
 mod plan;
 mod print;
 mod run;
+mod status;
 mod tell;
 #[cfg(test)]
 mod tests;
+mod verify;
 
-use ending::Status;
 use mill_base::WantOfMemory;
 use mill_io::{FileShelf, StdSink};
 use run::run;
+use status::Status;
 use std::env;
 use std::env::Env;
 use std::process::ExitCode;

@@ -1,5 +1,5 @@
 ghost use Rattle.std.specs.Prelude.{IfOk};
-ghost use Rattle.camtool.specs.Loads.{PlaceFrom, IsPlace};
+ghost use Rattle.camtool.specs.inner.Loads.{PlaceFrom, IsPlace};
 
 use mill_decimal::{DecFault, Snap, read_decimal};
 

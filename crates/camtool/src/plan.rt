@@ -1,19 +1,19 @@
 //! The command `plan`: a program that cuts the job's part, stored as a file.
-ghost use Rattle.std.specs.Prelude.{◌≡◌, ◌≢◌, ◌⊎◌, ◌-◌, ◌^◌, ◌<◌, ◌≤◌, ◌↔◌};
+ghost use Rattle.std.specs.Prelude.{◌≡◌, ◌-◌, ◌^◌, ◌<◌, IfOk};
 ghost use Rattle.mill_command.specs.Requests.{plan as asks_plan};
-ghost use Rattle.mill_io.specs.Contents.{OthersStay};
-ghost use Rattle.mill_plan.specs.Plans.{answer_of};
+ghost use Rattle.mill_plan.specs.Plans.{answer_of, too_many_nodes, uncut};
 ghost use Rattle.camtool.specs.Answers.{planned as planned_answer};
-ghost use Rattle.camtool.specs.Headline.{answered};
-ghost use Rattle.camtool.specs.Loads.{IsSetup};
-ghost use Rattle.camtool.specs.Plans.{PlanEnds, deed_of};
-ghost use Rattle.camtool.specs.Shows.{CameOr, DeliversOr, TriesPlan, Works};
-ghost use Rattle.camtool.specs.Statuses.{fault_ending, status_code};
+ghost use Rattle.camtool.specs.Calls.{CanCount, call_of};
+ghost use Rattle.camtool.specs.inner.Loads.{AreWorkers, IsSetup};
+ghost use Rattle.camtool.specs.Outcomes.{Serves, ShowsOr, answered};
+ghost use Rattle.camtool.specs.Plan.{plan_line};
+ghost use Rattle.camtool.specs.inner.Prints.{PrintsOr, ShowsPlanOr, plan_fault_outcome};
+ghost use Rattle.camtool.specs.Statuses.{status_code};
 
-use crate::ending::Status;
 use crate::load::{Setup, load_setup};
-use crate::print::{line_of_nodes, line_of_plan, line_of_uncut};
-use crate::tell::{tell, tell_end, tell_made};
+use crate::print::{add_length, add_number, add_text};
+use crate::status::Status;
+use crate::tell::{tell, tell_fault, tell_made};
 use mill_base::WantOfMemory;
 use mill_io::{Failed, Shelf, Sink, store};
 use mill_plan::{PlanFault, Planned, plan};
@@ -22,7 +22,7 @@ use std::thread::Threads;
 
 /// The work of `plan`: reads the job and the part, stores a program that cuts the part under `name`,
 /// and prints its numbers, or what keeps it from a program.
-pub fn plan_part<R: Threads + Sync, S: Shelf, O: Sink>(
+pub fn plan_program<R: Threads + Sync, S: Shelf, O: Sink>(
     rt: &R,
     alloc: Global,
     shelf: &mut S,
@@ -32,19 +32,14 @@ pub fn plan_part<R: Threads + Sync, S: Shelf, O: Sink>(
     workers: u32,
     out: &mut O,
 ) -> Status
-    requires some_workers { 1 ≤ workers }
-    requires few_workers { workers ≤ 64 }
-    requires reads { S.read_faults shelf.old < 2 ^ 64 - 1 }
-    requires writes { S.write_faults shelf.old < 2 ^ 64 - 1 }
-    requires prints { O.faults out.old < 2 ^ 64 - 1 }
-    ensures works { Works (S.contents shelf.old) (asks_plan job.now part.now name.now workers) (status_code result) (O.written out.old) (O.written out.new) }
-    ensures plans { PlanEnds (deed_of (S.tells shelf.old) (S.contents shelf.old) (S.contents shelf.new) (status_code result) (O.written out.old) (O.written out.new) (S.write_faults shelf.old) (S.write_faults shelf.new) (O.faults out.old) (O.faults out.new)) (record { job = job.now; part = part.now; out = name.now }) }
-    ensures write { (result ≡ Status.WriteFault) ↔ ((S.write_faults shelf.old < S.write_faults shelf.new) ⊎ (O.faults out.old < O.faults out.new)) }
-    ensures read { (result ≡ Status.ReadFault) ↔ ((S.read_faults shelf.old < S.read_faults shelf.new) × (O.faults out.new ≡ O.faults out.old)) }
+    requires workers { AreWorkers workers }
+    requires counts { CanCount (S.shows shelf.old) (O.shows out.old) }
+    ensures { Serves (asks_plan job.now part.now name.now workers)
+        (call_of result (S.shows shelf.old) (S.shows shelf.new) (O.shows out.old) (O.shows out.new)) }
 {
     match load_setup(alloc, shelf, job, part) {
         Ok(setup) => tell_plan(rt, alloc, shelf, &setup, name, workers, out),
-        Err(end) => tell_end(alloc, end, out),
+        Err(fault) => tell_fault(alloc, fault, out),
     }
 }
 
@@ -58,20 +53,15 @@ fn tell_plan<R: Threads + Sync, S: Shelf, O: Sink>(
     workers: u32,
     out: &mut O,
 ) -> Status
-    requires some_workers { 1 ≤ workers }
-    requires few_workers { workers ≤ 64 }
+    requires workers { AreWorkers workers }
     requires ready { IsSetup setup.now }
-    requires writes { S.write_faults shelf.old < 2 ^ 64 - 1 }
-    requires prints { O.faults out.old < 2 ^ 64 - 1 }
-    ensures tries { TriesPlan setup.now name.now (deed_of (S.tells shelf.old) (S.contents shelf.old) (S.contents shelf.new) (status_code result) (O.written out.old) (O.written out.new) (S.write_faults shelf.old) (S.write_faults shelf.new) (O.faults out.old) (O.faults out.new)) }
-    ensures others { OthersStay name.now (S.contents shelf.old) (S.contents shelf.new) }
-    ensures write { (result ≡ Status.WriteFault) ↔ ((S.write_faults shelf.old < S.write_faults shelf.new) ⊎ (O.faults out.old < O.faults out.new)) }
-    ensures no_read { result ≢ Status.ReadFault }
-    ensures other_count { S.read_faults shelf.new ≡ S.read_faults shelf.old }
+    requires counts { CanCount (S.shows shelf.old) (O.shows out.old) }
+    ensures { ShowsPlanOr setup.now name.now
+        (call_of result (S.shows shelf.old) (S.shows shelf.new) (O.shows out.old) (O.shows out.new)) }
 {
     match plan(rt, alloc, &setup.job, &setup.part, workers) {
         Ok(planned) => store_plan(alloc, shelf, name, &planned, out),
-        Err(fault) => tell_fault(alloc, fault, out),
+        Err(fault) => tell_plan_fault(alloc, name, fault, out),
     }
 }
 
@@ -86,13 +76,9 @@ fn store_plan<S: Shelf, O: Sink>(
     planned: &Planned,
     out: &mut O,
 ) -> Status
-    requires writes { S.write_faults shelf.old < 2 ^ 64 - 1 }
-    requires prints { O.faults out.old < 2 ^ 64 - 1 }
-    ensures delivers { DeliversOr (answered (planned_answer (answer_of planned.now))) name.now (deed_of (S.tells shelf.old) (S.contents shelf.old) (S.contents shelf.new) (status_code result) (O.written out.old) (O.written out.new) (S.write_faults shelf.old) (S.write_faults shelf.new) (O.faults out.old) (O.faults out.new)) }
-    ensures others { OthersStay name.now (S.contents shelf.old) (S.contents shelf.new) }
-    ensures write { (result ≡ Status.WriteFault) ↔ ((S.write_faults shelf.old < S.write_faults shelf.new) ⊎ (O.faults out.old < O.faults out.new)) }
-    ensures no_read { result ≢ Status.ReadFault }
-    ensures other_count { S.read_faults shelf.new ≡ S.read_faults shelf.old }
+    requires counts { CanCount (S.shows shelf.old) (O.shows out.old) }
+    ensures { ShowsOr (answered (planned_answer name.now (answer_of planned.now)))
+        (call_of result (S.shows shelf.old) (S.shows shelf.new) (O.shows out.old) (O.shows out.new)) }
 {
     let line = match line_of_plan(alloc, planned) {
         Ok(line) => line,
@@ -104,13 +90,11 @@ fn store_plan<S: Shelf, O: Sink>(
     }
 }
 
-/// Prints why there is no program.
-fn tell_fault<O: Sink>(alloc: Global, fault: PlanFault, out: &mut O) -> Status
-    requires prints { O.faults out.old < 2 ^ 64 - 1 }
-    ensures came { CameOr (fault_ending fault) (status_code result) (O.written out.old) (O.written out.new) }
-    ensures write { (result ≡ Status.WriteFault) ↔ (O.faults out.old < O.faults out.new) }
-    ensures no_read { result ≢ Status.ReadFault }
-    ensures other { result ≢ Status.WriteFault → O.faults out.new ≡ O.faults out.old }
+/// Prints why there is no program to be stored under `name`.
+fn tell_plan_fault<O: Sink>(alloc: Global, name: &str, fault: PlanFault, out: &mut O) -> Status
+    requires { (O.shows out.old).faults < 2 ^ 64 - 1 }
+    ensures { PrintsOr (plan_fault_outcome name.now fault)
+        (status_code result) (O.shows out.old) (O.shows out.new) }
 {
     match fault {
         PlanFault::TooManyNodes { nodes } => {
@@ -122,4 +106,45 @@ fn tell_fault<O: Sink>(alloc: Global, fault: PlanFault, out: &mut O) -> Status
         }
         PlanFault::WantOfMemory => tell(out, b"out of memory\n", Status::Memory),
     }
+}
+
+/// The line of a program that was planned.
+fn line_of_plan(alloc: Global, planned: &Planned) -> Result<Vec<u8>, WantOfMemory>
+    ensures { IfOk result (λ line. line.items ≡ plan_line (answer_of planned.now)) }
+{
+    let mut line = Vec::new(alloc);
+    add_text(&mut line, b"planned moves ")?;
+    add_number(&mut line, planned.moves)?;
+    add_text(&mut line, b" columns ")?;
+    add_number(&mut line, planned.columns)?;
+    add_text(&mut line, b" left ")?;
+    add_length(&mut line, planned.most_left)?;
+    add_text(&mut line, b"\n")?;
+    Ok(line)
+}
+
+/// The line of a plan that leaves this column's top uncut.
+fn line_of_uncut(alloc: Global, row: u32, col: u32, top: i32) -> Result<Vec<u8>, WantOfMemory>
+    ensures { IfOk result (λ line. line.items ≡ plan_line (uncut row col top)) }
+{
+    let mut line = Vec::new(alloc);
+    add_text(&mut line, b"uncut row ")?;
+    add_number(&mut line, u64::from(row))?;
+    add_text(&mut line, b" column ")?;
+    add_number(&mut line, u64::from(col))?;
+    add_text(&mut line, b" top ")?;
+    add_length(&mut line, top)?;
+    add_text(&mut line, b"\n")?;
+    Ok(line)
+}
+
+/// The line of a plan over a lattice of too many nodes.
+fn line_of_nodes(alloc: Global, nodes: u64) -> Result<Vec<u8>, WantOfMemory>
+    ensures { IfOk result (λ line. line.items ≡ plan_line (too_many_nodes nodes)) }
+{
+    let mut line = Vec::new(alloc);
+    add_text(&mut line, b"over nodes ")?;
+    add_number(&mut line, nodes)?;
+    add_text(&mut line, b"\n")?;
+    Ok(line)
 }

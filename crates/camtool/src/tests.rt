@@ -7,6 +7,7 @@ use std::test::Fail;
 
 mod drops;
 mod faults;
+mod missing;
 mod plans;
 mod untaken;
 mod verdicts;
@@ -73,8 +74,8 @@ fn file(alloc: Global, name: &str, bytes: &[u8]) -> Result<MemFile, AllocError> 
 
 // A store with these three files, whose numbered calls fail.
 fn store(alloc: Global, texts: (&[u8], &[u8], &[u8]), fails: &[u64]) -> Result<MemShelf, Fail>
-    ensures reads { IfOk result (λ s. ⟦<MemShelf as Shelf>⟧.read_faults s ≡ 0) }
-    ensures writes { IfOk result (λ s. ⟦<MemShelf as Shelf>⟧.write_faults s ≡ 0) }
+    ensures reads { IfOk result (λ s. (⟦<MemShelf as Shelf>⟧.shows s).read_faults ≡ 0) }
+    ensures writes { IfOk result (λ s. (⟦<MemShelf as Shelf>⟧.shows s).write_faults ≡ 0) }
 {
     let mut files = Vec::new(alloc);
     files.push(file(alloc, "job", texts.0)?)?;

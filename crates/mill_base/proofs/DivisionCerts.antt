@@ -1,3 +1,5 @@
+-- Polynomial facts behind rounding and division.
+-- Written by tools/certificates.py from tools/certificates/mill_base_divisions.spec.
 use Rattle.std.proofs.Common.{[], ◌∷◌, refl}
 use lib.IntN.{ℤ, pos, ◌+ℤ◌, ◌-ℤ◌, ◌*ℤ◌}
 use lib.Signed.{◌<ℤ◌, ◌≤ℤ◌}

@@ -1,3 +1,5 @@
+-- Polynomial facts behind the first moment at which a quantity that changes linearly comes to 0.
+-- Written by tools/certificates.py from tools/certificates/mill_base_exit.spec.
 use Rattle.std.proofs.Common.{◌≡◌, [], ◌∷◌, refl}
 use lib.IntN.{ℤ, pos, ◌+ℤ◌, ◌-ℤ◌, ◌*ℤ◌}
 use lib.Signed.{◌<ℤ◌, ◌≤ℤ◌}

@@ -11,7 +11,7 @@ use Rattle.mill_base.specs.Numbers.{Within}
 use Rattle.mill_base.specs.declared.limits.TheConstants.{MAX_COORDINATE}
 use Rattle.mill_base.specs.declared.points.Box2.{Box2}
 use Rattle.mill_cells.specs.Boxes.{IsInside, IsBounds}
-use Rattle.mill_cells.specs.Frames.{cell_of, cell_count, block_of, width_of, height_of, area_of, has_cell, covers, IsBlock, IsFrame}
+use Rattle.mill_cells.specs.Frames.{cell_of, cell_count, block_of, width_of, height_of, frame_area, has_cell, covers, IsBlock, IsFrame}
 use Rattle.mill_cells.specs.declared.frame.Frame.{Frame}
 use Rattle.mill_cells.specs.declared.frame.Block.{Block}
 
@@ -85,7 +85,7 @@ block_is f b h some i =
       low = cell_small f.bounds.y0 f.size b.y1 h.y0_ok k.y1_ok;
     }
 
-pub area_le : (f : Frame) (b : Block) → InFrame f b → area_of b ≤ cell_count f
+pub area_le : (f : Frame) (b : Block) → InFrame f b → frame_area b ≤ cell_count f
 area_le f b h = mul-le-mul {n₁ = width_of b} {m₁ = height_of b} {n₂ = f.columns} {m₂ = f.rows} (omega (arith, h.narrow)) (omega (arith, h.low))
 
 -- the tests of a block's cells

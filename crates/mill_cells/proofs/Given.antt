@@ -11,7 +11,7 @@ use lib.IntN.{ℤ, pos}
 use lib.Signed.{◌≤ℤ◌, lt_z}
 use Rattle.mill_base.specs.declared.points.Box2.{Box2}
 use Rattle.mill_cells.specs.Boxes.{box_at, IsIn, Meet, IsNear, IsInside, IsCommon}
-use Rattle.mill_cells.specs.Frames.{block_of, width_of, height_of, area_of, covers, IsFrame}
+use Rattle.mill_cells.specs.Frames.{block_of, width_of, height_of, frame_area, covers, IsFrame}
 use Rattle.mill_cells.specs.Grids.{numbers_in, IsGrid}
 use Rattle.mill_cells.specs.Walks.{TellFirst, do_overlap, do_meet, is_first_cell, shows, column_in, row_in, given_in, given_from, rest_of, walk_over, IsWalk}
 use Rattle.mill_cells.specs.declared.frame.Frame.{Frame}
@@ -104,7 +104,7 @@ shared_cell f a b h ia ib m =
 
 -- the number of a cell in a block
 cell_number : (b : Block) (column row : ℕ) → b.first_column ≤ column → column ≤ b.last_column → b.first_row ≤ row → row ≤ b.last_row
-    → (w : ℕ) × (w < area_of b) × (column_in b w ≡ column) × (row_in b w ≡ row)
+    → (w : ℕ) × (w < frame_area b) × (column_in b w ≡ column) × (row_in b w ≡ row)
 cell_number b column row p q r s =
     let w = (row - b.first_row) * width_of b + (column - b.first_column) in
     let narrow : column - b.first_column < width_of b = omega arith in
@@ -184,16 +184,16 @@ given_distinct f boxes area w (suc left) =
     omega (arith, k.from, e))
 
 -- all the cells of an area give exactly the boxes that meet it
-pub given_is_near : (g : Grid) (area : Box2) (i : ℕ) → IsGrid g → IsInside g.frame.bounds area → Contains (given_from g.frame g.boxes.items area 0 (area_of (block_of g.frame area))) i
+pub given_is_near : (g : Grid) (area : Box2) (i : ℕ) → IsGrid g → IsInside g.frame.bounds area → Contains (given_from g.frame g.boxes.items area 0 (frame_area (block_of g.frame area))) i
     → IsNear g.boxes.items area i
 given_is_near g area i h ia c =
-    let k = given_from_tells g.frame g.boxes.items area 0 (area_of (block_of g.frame area)) i c in
+    let k = given_from_tells g.frame g.boxes.items area 0 (frame_area (block_of g.frame area)) i c in
     let t = given_in_tells g.frame g.boxes.items area k.cell i k.given in
     let b = h.inside i t.0 in
     record { within = t.0; meets = meet_tells (box_at g.boxes.items i) area b.x_order b.y_order ia.x_order ia.y_order (and_parts _ _ t.1).0 }
 
 pub near_is_given : (g : Grid) (area : Box2) (i : ℕ) → IsGrid g → IsInside g.frame.bounds area → IsNear g.boxes.items area i
-    → Contains (given_from g.frame g.boxes.items area 0 (area_of (block_of g.frame area))) i
+    → Contains (given_from g.frame g.boxes.items area 0 (frame_area (block_of g.frame area))) i
 near_is_given g area i h ia n =
     let f = g.frame in
     let boxes = g.boxes.items in
@@ -201,7 +201,7 @@ near_is_given g area i h ia n =
     let b = box_at boxes i in
     let s = shared_cell f area b h.frame ia (h.inside i n.within) n.meets in
     let c = cell_number k s.column s.row s.column_from s.column_to s.row_from s.row_to in
-    given_from_has f boxes area 0 (area_of k) c.0 i (omega arith) (omega (arith, c.1))
+    given_from_has f boxes area 0 (frame_area k) c.0 i (omega arith) (omega (arith, c.1))
     (given_in_has f boxes area c.0 i n.within
     (rw (c.2, c.3) s.covered)
     (and_from _ _ (meet_yes b area n.meets) (rw (c.2, c.3) s.first)))
@@ -246,7 +246,7 @@ first_row_is first width some = let z : 0 * width + 0 ≡ 0 = omega arith in let
 none_tell : (g : Bor Grid) (area : Box2) → TellFirst g.now.frame g.now.boxes.items area 0 0 (pos 0) (pos 0) (slice_range g.now.entries.items 0 0)
 none_tell g area = subst (TellFirst g.now.frame g.now.boxes.items area 0 0 (pos 0) (pos 0)) (sym (between_none g.now.entries.items 0)) (λ k d less. absurd (omega arith))
 
-pub new_walk : (g : Bor Grid) (area : Box2) (block : Block) (cells : ℕ) → IsGrid g.now → IsInside g.now.frame.bounds area → block ≡ block_of g.now.frame area → cells ≤ area_of block → IsWalk (walk_over g area block cells)
+pub new_walk : (g : Bor Grid) (area : Box2) (block : Block) (cells : ℕ) → IsGrid g.now → IsInside g.now.frame.bounds area → block ≡ block_of g.now.frame area → cells ≤ frame_area block → IsWalk (walk_over g area block cells)
 new_walk g area block cells h ia e le =
     record { grid = h; inside = ia; block = e; cells = le; entered = omega arith; next_column = first_is block.first_column (width_of block) (omega arith); next_row = first_row_is block.first_row (width_of block) (omega arith); order = omega arith; room = omega arith; borders = none_tell g area }
 
@@ -255,11 +255,11 @@ new_rest g area block cells =
     rw (sub-zero cells) refl
 
 -- the walk through all cells of the area's common part with the bounds
-pub walk_each : (w : Walk) (g : Bor Grid) (all area : Box2) (block : Block) (cells : ℕ) → w ≡ walk_over g area block cells → IsGrid g.now → block ≡ block_of g.now.frame area → cells ≡ area_of block
+pub walk_each : (w : Walk) (g : Bor Grid) (all area : Box2) (block : Block) (cells : ℕ) → w ≡ walk_over g area block cells → IsGrid g.now → block ≡ block_of g.now.frame area → cells ≡ frame_area block
     → IsInside g.now.frame.bounds area → IsCommon all g.now.frame.bounds area → IsInside all area → (i : ℕ) → Contains (rest_of w) i ↔ IsNear g.now.boxes.items all i
 walk_each w g all area block cells is h e n ia common part i =
-    let r : rest_of w ≡ given_from g.now.frame g.now.boxes.items area 0 (area_of (block_of g.now.frame area)) =
-    ap rest_of is ∙ (new_rest g area block cells ∙ ap (given_from g.now.frame g.now.boxes.items area 0) (n ∙ ap area_of e)) in (
+    let r : rest_of w ≡ given_from g.now.frame g.now.boxes.items area 0 (frame_area (block_of g.now.frame area)) =
+    ap rest_of is ∙ (new_rest g area block cells ∙ ap (given_from g.now.frame g.now.boxes.items area 0) (n ∙ ap frame_area e)) in (
       λ c. common_near g.now all area i part (given_is_near g.now area i h ia (subst (λ (xs : List ℕ). Contains xs i) r c)),
       λ m. subst (λ (xs : List ℕ). Contains xs i) (sym r) (near_is_given g.now area i h ia (near_common g.now all area i h common m)),
     )

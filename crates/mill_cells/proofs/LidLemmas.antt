@@ -11,16 +11,16 @@ use Rattle.mill_cells.specs.Frames.{cell_count}
 use Rattle.mill_cells.specs.Grids.{numbers_in, start_of}
 use Rattle.mill_cells.specs.declared.frame.Frame.{Frame}
 use Rattle.mill_cells.proofs.Placements.{start_mono}
-use Rattle.mill_cells.specs.Sorted.{height_at, AreUnder}
+use Rattle.mill_cells.specs.Sorted.{top_at, AreUnder}
 use Rattle.mill_cells.specs.inner.Placing.{AreLids}
 use Rattle.mill_cells.proofs.BoxLemmas.{le_trans_ℤ}
 
 -- one number more under a higher lid
-pub under_more : (tops : List ℤ) (numbers : List ℕ) (k d : ℕ) (lid new : ℤ) → k < length numbers → lid ≤ℤ new → height_at tops (get_or numbers k d) ≤ℤ new
+pub under_more : (tops : List ℤ) (numbers : List ℕ) (k d : ℕ) (lid new : ℤ) → k < length numbers → lid ≤ℤ new → top_at tops (get_or numbers k d) ≤ℤ new
     → AreUnder tops lid (take k numbers) → AreUnder tops new (take (k + 1) numbers)
 under_more tops numbers k d lid new less le it h =
-    All-more (λ i. height_at tops i ≤ℤ new) numbers k d less
-    (All-weaker (λ i. height_at tops i ≤ℤ lid) (λ i. height_at tops i ≤ℤ new) (λ i under. le_trans_ℤ (height_at tops i) lid new under le) (take k numbers) h) it
+    All-more (λ i. top_at tops i ≤ℤ new) numbers k d less
+    (All-weaker (λ i. top_at tops i ≤ℤ lid) (λ i. top_at tops i ≤ℤ new) (λ i under. le_trans_ℤ (top_at tops i) lid new under le) (take k numbers) h) it
 
 -- one lid more
 pub lids_more : (starts entries : List ℕ) (tops lids : List ℤ) (lid : ℤ) → AreUnder tops lid (slice_range entries (slice_index starts (length lids)) (slice_index starts (length lids + 1)))
@@ -30,10 +30,10 @@ lids_more starts entries tops lids lid new h k less = elim (cases_lt k (length l
   | inr late ↦ last k (omega (arith, length-append lids (lid ∷ [])))
 ]
   where
-    at_end : height_at (lids ++ lid ∷ []) (length lids) ≡ lid
+    at_end : top_at (lids ++ lid ∷ []) (length lids) ≡ lid
     at_end = let e : length lids - length lids ≡ 0 = omega arith in rw e at (get_or-append_right lids (lid ∷ []) (length lids) (length lids) (pos 0) refl (omega arith))
 
-    last : (k : ℕ) → k ≡ length lids → AreUnder tops (height_at (lids ++ lid ∷ []) k) (slice_range entries (slice_index starts k) (slice_index starts (k + 1)))
+    last : (k : ℕ) → k ≡ length lids → AreUnder tops (top_at (lids ++ lid ∷ []) k) (slice_range entries (slice_index starts k) (slice_index starts (k + 1)))
     last k e = rw e (subst (λ (z : ℤ). AreUnder tops z (slice_range entries (slice_index starts (length lids)) (slice_index starts (length lids + 1)))) (sym at_end) new)
 
 -- where the boxes are placed, each cell's part is in order and within the entries
@@ -48,10 +48,10 @@ starts_room f boxes starts entries long size is k less = omega (arith, is k (ome
 -- so the lids are those of the cells
 pub lids_placed : (f : Frame) (boxes : List Box2) (starts entries : List ℕ) (tops lids : List ℤ) → ((k : ℕ) → k ≤ cell_count f → slice_index starts k ≡ start_of f boxes k)
     → ((k : ℕ) → k < cell_count f → slice_range entries (start_of f boxes k) (start_of f boxes (k + 1)) ≡ numbers_in f boxes k)
-    → length lids ≡ cell_count f → AreLids starts entries tops lids → (k : ℕ) → k < cell_count f → AreUnder tops (height_at lids k) (numbers_in f boxes k)
+    → length lids ≡ cell_count f → AreLids starts entries tops lids → (k : ℕ) → k < cell_count f → AreUnder tops (top_at lids k) (numbers_in f boxes k)
 lids_placed f boxes starts entries tops lids is cells long h k less =
     let part = rw (is k (omega arith), is (k + 1) (omega arith)) at (h k (omega arith)) in
-    subst (AreUnder tops (height_at lids k)) (cells k less) part
+    subst (AreUnder tops (top_at lids k)) (cells k less) part
 
 pub lids_same : (starts starts' entries entries' : List ℕ) (tops tops' lids : List ℤ) → starts ≡ starts' → entries ≡ entries' → tops ≡ tops' → AreLids starts entries tops lids → AreLids starts' entries' tops' lids
 lids_same starts starts' entries entries' tops tops' lids p q r h =

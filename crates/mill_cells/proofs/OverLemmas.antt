@@ -9,7 +9,7 @@ use Rattle.mill_cells.specs.Boxes.{box_at}
 use Rattle.mill_cells.specs.Frames.{cell_count, block_of}
 use Rattle.mill_cells.specs.Grids.{numbers_in}
 use Rattle.mill_cells.specs.inner.Passed.{ArePassed, IsNext}
-use Rattle.mill_cells.specs.Sorted.{height_at, AreUnder}
+use Rattle.mill_cells.specs.Sorted.{top_at, AreUnder}
 use Rattle.mill_cells.specs.Walks.{shows, column_in, row_in, given_in, given_from, rest_of, moved, IsWalk}
 use Rattle.mill_cells.specs.declared.frame.Block.{Block}
 use Rattle.mill_cells.specs.declared.walk.Walk.{Walk}
@@ -44,7 +44,7 @@ shows_in w i = shows w.grid.now.frame w.area w.column w.row (box_at w.grid.now.b
 
 -- the number at the walk's place is passed over, or comes
 pub over_no : (w : Walk) (height : ℤ) (tops : List ℤ) → IsWalk w → w.place < w.end
-    → (lt_z height (height_at tops (get_or w.grid.now.entries.items w.place 0)) && shows_in w (get_or w.grid.now.entries.items w.place 0)) ≡ false
+    → (lt_z height (top_at tops (get_or w.grid.now.entries.items w.place 0)) && shows_in w (get_or w.grid.now.entries.items w.place 0)) ≡ false
     → ArePassed tops height (rest_of w) (rest_of (stepped w))
 over_no w height tops h less e = by (shows_in w (get_or w.grid.now.entries.items w.place 0)) refl
   where
@@ -55,11 +55,11 @@ over_no w height tops h less e = by (shows_in w (get_or w.grid.now.entries.items
     by : (b : Bool) → shows_in w (get_or w.grid.now.entries.items w.place 0) ≡ b → ArePassed tops height (rest_of w) (rest_of (stepped w))
     by true shown =
         one_passed tops height (rest_of w) (rest_of (stepped w)) (get_or w.grid.now.entries.items w.place 0) (gives_yes w h less shown)
-        (not_less (height_at tops (get_or w.grid.now.entries.items w.place 0)) height (not_over _ _ e shown))
+        (not_less (top_at tops (get_or w.grid.now.entries.items w.place 0)) height (not_over _ _ e shown))
     by false hidden = none_passed tops height (rest_of w) (rest_of (stepped w)) (sym (gives_no w h less hidden))
 
 pub over_yes : (w : Walk) (height : ℤ) (tops : List ℤ) → IsWalk w → w.place < w.end
-    → (lt_z height (height_at tops (get_or w.grid.now.entries.items w.place 0)) && shows_in w (get_or w.grid.now.entries.items w.place 0)) ≡ true
+    → (lt_z height (top_at tops (get_or w.grid.now.entries.items w.place 0)) && shows_in w (get_or w.grid.now.entries.items w.place 0)) ≡ true
     → IsNext tops height (rest_of w) (get_or w.grid.now.entries.items w.place 0) (rest_of (stepped w))
 over_yes w height tops h less e =
     let p = and_parts _ _ e in
@@ -67,20 +67,20 @@ over_yes w height tops h less e =
 
 -- what a step in a cell makes of a walk that has passed over some
 pub over_found : (old w : Walk) (height : ℤ) (i : ℕ) → IsOverIn height old w → w.place < w.end → i ≡ get_or w.grid.now.entries.items w.place 0
-    → (lt_z height (height_at w.grid.now.tops.items i) && shows_in w i) ≡ true → IsNext old.grid.now.tops.items height (rest_of old) i (rest_of (stepped w))
+    → (lt_z height (top_at w.grid.now.tops.items i) && shows_in w i) ≡ true → IsNext old.grid.now.tops.items height (rest_of old) i (rest_of (stepped w))
 over_found old w height i h less e is =
-    let n = over_yes w height w.grid.now.tops.items h.walk less (subst (λ (j : ℕ). (lt_z height (height_at w.grid.now.tops.items j) && shows_in w j) ≡ true) e is) in
+    let n = over_yes w height w.grid.now.tops.items h.walk less (subst (λ (j : ℕ). (lt_z height (top_at w.grid.now.tops.items j) && shows_in w j) ≡ true) e is) in
     let m = subst (λ (j : ℕ). IsNext w.grid.now.tops.items height (rest_of w) j (rest_of (stepped w))) (sym e) n in
     next_on old.grid.now.tops.items height (rest_of old) (rest_of w) (rest_of (stepped w)) i h.passed
     (subst (λ (tops : List ℤ). IsNext tops height (rest_of w) i (rest_of (stepped w))) h.tops m)
 
 pub over_left : (old w : Walk) (height : ℤ) (i : ℕ) → IsOverIn height old w → w.place < w.end → i ≡ get_or w.grid.now.entries.items w.place 0
-    → (lt_z height (height_at w.grid.now.tops.items i) && shows_in w i) ≡ false → IsOverIn height old (stepped w)
+    → (lt_z height (top_at w.grid.now.tops.items i) && shows_in w i) ≡ false → IsOverIn height old (stepped w)
 over_left old w height i h less e isn't = record {
   walk = step_walks w less h.walk;
   passed = passed_on old.grid.now.tops.items height (rest_of old) (rest_of w) (rest_of (stepped w)) h.passed
       (subst (λ (tops : List ℤ). ArePassed tops height (rest_of w) (rest_of (stepped w))) h.tops
-      (over_no w height w.grid.now.tops.items h.walk less (subst (λ (j : ℕ). (lt_z height (height_at w.grid.now.tops.items j) && shows_in w j) ≡ false) e isn't)));
+      (over_no w height w.grid.now.tops.items h.walk less (subst (λ (j : ℕ). (lt_z height (top_at w.grid.now.tops.items j) && shows_in w j) ≡ false) e isn't)));
   entered = h.entered;
   cells = h.cells;
   tops = h.tops;
@@ -121,7 +121,7 @@ skip_splits w column row less done =
 
 -- no number of a cell is over its lid
 under_lid : (w : Walk) (height : ℤ) (cell : ℕ) → IsWalk w → cell ≡ row_in (block_of w.grid.now.frame w.area) w.entered * w.grid.now.frame.columns + column_in (block_of w.grid.now.frame w.area) w.entered
-    → cell < cell_count w.grid.now.frame → height_at w.grid.now.lids.items cell ≤ℤ height
+    → cell < cell_count w.grid.now.frame → top_at w.grid.now.lids.items cell ≤ℤ height
     → AreUnder w.grid.now.tops.items height (given_in w.grid.now.frame w.grid.now.boxes.items w.area w.entered)
 under_lid w height cell h e within low =
     let f = w.grid.now.frame in
@@ -129,15 +129,15 @@ under_lid w height cell h e within low =
     let tops = w.grid.now.tops.items in
     let column = column_in (block_of f w.area) w.entered in
     let row = row_in (block_of f w.area) w.entered in
-    let at : AreUnder tops (height_at w.grid.now.lids.items cell) (numbers_in f boxes (row * f.columns + column)) =
-    subst (λ (k : ℕ). AreUnder tops (height_at w.grid.now.lids.items cell) (numbers_in f boxes k)) e (h.grid.lids cell within) in
-    All-members (λ i. height_at tops i ≤ℤ height) (given_in f boxes w.area w.entered)
+    let at : AreUnder tops (top_at w.grid.now.lids.items cell) (numbers_in f boxes (row * f.columns + column)) =
+    subst (λ (k : ℕ). AreUnder tops (top_at w.grid.now.lids.items cell) (numbers_in f boxes k)) e (h.grid.lids cell within) in
+    All-members (λ i. top_at tops i ≤ℤ height) (given_in f boxes w.area w.entered)
     (λ i c.
     let k = Contains-filter (λ j. shows f w.area column row (box_at boxes j)) (numbers_in f boxes (row * f.columns + column)) i c in
-    le_trans_ℤ (height_at tops i) (height_at w.grid.now.lids.items cell) height (All-contains (λ j. height_at tops j ≤ℤ height_at w.grid.now.lids.items cell) (numbers_in f boxes (row * f.columns + column)) i at k.0) low)
+    le_trans_ℤ (top_at tops i) (top_at w.grid.now.lids.items cell) height (All-contains (λ j. top_at tops j ≤ℤ top_at w.grid.now.lids.items cell) (numbers_in f boxes (row * f.columns + column)) i at k.0) low)
 
 pub skip_passes : (w : Walk) (height : ℤ) (cell column row : ℕ) → IsWalk w → w.entered < w.cells → w.place ≡ w.end
-    → cell ≡ w.next_row * w.grid.now.frame.columns + w.next_column → cell < cell_count w.grid.now.frame → height_at w.grid.now.lids.items cell ≤ℤ height
+    → cell ≡ w.next_row * w.grid.now.frame.columns + w.next_column → cell < cell_count w.grid.now.frame → top_at w.grid.now.lids.items cell ≤ℤ height
     → ArePassed w.grid.now.tops.items height (rest_of w) (rest_of (moved w column row))
 skip_passes w height cell column row h less done e within low = record {
   passed = given_in w.grid.now.frame w.grid.now.boxes.items w.area w.entered;

@@ -17,14 +17,14 @@ use Rattle.mill_base.specs.Ranges.{TrisInRange}
 use Rattle.mill_base.specs.declared.points.Tri.{Tri}
 use Rattle.mill_base.specs.declared.points.Box2.{Box2}
 use Rattle.mill_cells.specs.Boxes.{box_of, boxes_of, bounds_of, IsBounds, IsInside, AllInside}
-use Rattle.mill_cells.specs.Frames.{cell_of, frame_over, cell_count, block_of, area_of, IsFrame}
+use Rattle.mill_cells.specs.Frames.{cell_of, frame_over, cell_count, block_of, frame_area, IsFrame}
 use Rattle.mill_cells.specs.declared.frame.Frame.{Frame}
-use Rattle.mill_cells.specs.Sizes.{frame_of, entry_count, Fits, IsCellSize}
+use Rattle.mill_cells.specs.Sizes.{frame_of, entry_count, IsSmallGrid, IsCellSize}
 use Rattle.mill_cells.proofs.BoxLemmas.{bounds_ok, box_bounds, bounds_hold, bounds_hold_one}
 
 -- how many cells the box of one triangle covers
 abbrev pub tri_cells : List Tri → ℕ → Tri → ℕ
-tri_cells tris size t = area_of (block_of (frame_of tris size) (box_of t))
+tri_cells tris size t = frame_area (block_of (frame_of tris size) (box_of t))
 
 -- a greater size has no more cells
 div_anti : (n a b : ℕ) → 0 < a → a ≤ b → n / b ≤ n / a
@@ -35,7 +35,7 @@ cells_fewer b s t some le =
     mul-le-mul {n₁ = cell_of b.x0 t b.x1 + 1} {m₁ = cell_of b.y0 t b.y1 + 1} {n₂ = cell_of b.x0 s b.x1 + 1} {m₂ = cell_of b.y0 s b.y1 + 1}
     (omega (arith, div_anti (nat_abs (b.x1 -ℤ b.x0)) s t some le)) (omega (arith, div_anti (nat_abs (b.y1 -ℤ b.y0)) s t some le))
 
-pub works_on : (tris : List Tri) (s : ℕ) (size : ℤ) → 0 < s → Fits tris s → pos s ≤ℤ size → IsCellSize tris size
+pub works_on : (tris : List Tri) (s : ℕ) (size : ℤ) → 0 < s → IsSmallGrid tris s → pos s ≤ℤ size → IsCellSize tris size
 works_on tris s size some h le =
     let le' : s ≤ nat_abs size = omega (arith, ints) in
     record { some = omega (arith, ints); few = omega (arith, h.few, cells_fewer (bounds_of tris) s (nat_abs size) some le') }
@@ -49,20 +49,20 @@ one_cell_of low a hl ha =
     let less : nat_abs (a -ℤ low) / (2 ^ 20) < 1 = div_below (nat_abs (a -ℤ low)) (2 ^ 20) 1 (omega arith) (omega arith) in
     omega arith
 
-one_block : (b c : Box2) → IsBounds b → IsBounds c → area_of (block_of (frame_over b (2 ^ 20)) c) ≡ 1
+one_block : (b c : Box2) → IsBounds b → IsBounds c → frame_area (block_of (frame_over b (2 ^ 20)) c) ≡ 1
 one_block b c hb hc =
     rw (one_cell_of b.x0 c.x0 hb.x0_ok hc.x0_ok, one_cell_of b.x0 c.x1 hb.x0_ok hc.x1_ok, one_cell_of b.y0 c.y0 hb.y0_ok hc.y0_ok, one_cell_of b.y0 c.y1 hb.y0_ok hc.y1_ok) refl
 
-ones : (b : Box2) (tris : List Tri) → IsBounds b → TrisInRange tris → sum_by (λ t. area_of (block_of (frame_over b (2 ^ 20)) (box_of t))) tris ≡ length tris
+ones : (b : Box2) (tris : List Tri) → IsBounds b → TrisInRange tris → sum_by (λ t. frame_area (block_of (frame_over b (2 ^ 20)) (box_of t))) tris ≡ length tris
 ones b [] hb all = refl
 ones b (t ∷ tris) hb all =
-    let f = λ (u : Tri). area_of (block_of (frame_over b (2 ^ 20)) (box_of u)) in
+    let f = λ (u : Tri). frame_area (block_of (frame_over b (2 ^ 20)) (box_of u)) in
     let here : f t ≡ 1 = one_block b (box_of t) hb (box_bounds t (all t (0, omega arith, refl))) in
     let others = ones b tris hb (λ u m. all u (suc m.0, omega (arith, m.1), m.2)) in
     let e = sum_by-cons f t tris in
     omega arith
 
-pub greatest_fits : (tris : List Tri) → TrisInRange tris → Fits tris (2 ^ 20)
+pub greatest_fits : (tris : List Tri) → TrisInRange tris → IsSmallGrid tris (2 ^ 20)
 greatest_fits tris all =
     let h = bounds_ok tris all in
     let b = bounds_of tris in
@@ -81,7 +81,7 @@ pub sum_more : (tris : List Tri) (size i numbers more : ℕ) (d : Tri) → i < l
 sum_more tris size i numbers more d less e m = omega (arith, e, m, sum_by_more (tri_cells tris size) tris i d less)
 
 pub too_many : (tris : List Tri) (size i numbers : ℕ) → numbers ≡ cell_count (frame_of tris size) + sum_by (tri_cells tris size) (take i tris)
-    → 4 * (length tris + 1) < numbers → ¬ Fits tris size
+    → 4 * (length tris + 1) < numbers → ¬ IsSmallGrid tris size
 too_many tris size i numbers e over h = omega (arith, h.small, sum_by-take-le (tri_cells tris size) tris i)
 
 pub sum_all : (tris : List Tri) (size i numbers : ℕ) → length tris ≤ i → numbers ≡ cell_count (frame_of tris size) + sum_by (tri_cells tris size) (take i tris)
@@ -89,7 +89,7 @@ pub sum_all : (tris : List Tri) (size i numbers : ℕ) → length tris ≤ i →
 sum_all tris size i numbers end e = rw (take_all i tris end) at e
 
 -- no lesser power of two fits, where none before this one does
-pub least_power : (tris : List Tri) (d : ℕ) → ((k : ℕ) → k < d → ¬ Fits tris (2 ^ k)) → (k : ℕ) → (pos (2 ^ k)) <ℤ (pos (2 ^ d)) → ¬ Fits tris (2 ^ k)
+pub least_power : (tris : List Tri) (d : ℕ) → ((k : ℕ) → k < d → ¬ IsSmallGrid tris (2 ^ k)) → (k : ℕ) → (pos (2 ^ k)) <ℤ (pos (2 ^ d)) → ¬ IsSmallGrid tris (2 ^ k)
 least_power tris d before k less = elim (cases_lt k d) [
   | inl early ↦ before k early
   | inr late ↦ absurd (not_under (2 ^ k) (2 ^ d) less (pow_mono {i = d} {j = k} late))

@@ -8,7 +8,7 @@ use Rattle.std.proofs.lemmas.List.Edits.{between_none}
 use Rattle.std.proofs.lemmas.Nat.{div_below, mod_below, mul-add-lt, div-add-mod', div-mul-add, mod-mul-add}
 use Rattle.mill_base.specs.declared.points.Box2.{Box2}
 use Rattle.mill_cells.specs.Boxes.{box_at}
-use Rattle.mill_cells.specs.Frames.{border_of, cell_count, block_of, width_of, height_of, area_of, IsBlock}
+use Rattle.mill_cells.specs.Frames.{border_of, cell_count, block_of, width_of, height_of, frame_area, IsBlock}
 use Rattle.mill_cells.specs.Grids.{numbers_in, start_of, IsGrid}
 use Rattle.mill_cells.specs.Walks.{TellFirst, begins_at, is_first_cell, shows, column_in, row_in, given_from, rest_of, moved, IsWalk}
 use Rattle.mill_cells.specs.declared.frame.Frame.{Frame}
@@ -84,7 +84,7 @@ first_tells w h less =
     All-head tell x xs (subst (All tell) (part_more w.grid.now.entries.items w.place w.end less h.room) h.borders)
 
 -- the cell of a walk lies in its block and in the frame
-pub cell_in : (f : Frame) (b : Block) (w : ℕ) → InFrame f b → w < area_of b
+pub cell_in : (f : Frame) (b : Block) (w : ℕ) → InFrame f b → w < frame_area b
     → (column_in b w ≤ b.last_column) × (row_in b w ≤ b.last_row) × (column_in b w < f.columns) × (row_in b w < f.rows) × (row_in b w * f.columns + column_in b w < cell_count f)
 cell_in f b w h less =
     let c : w % width_of b < width_of b = mod_below w (width_of b) (omega arith) in

@@ -37,8 +37,8 @@ width_of b = (b.last_column - b.first_column) + 1
 abbrev pub height_of : Block → ℕ
 height_of b = (b.last_row - b.first_row) + 1
 
-abbrev pub area_of : Block → ℕ
-area_of b = width_of b * height_of b
+abbrev pub frame_area : Block → ℕ
+frame_area b = width_of b * height_of b
 
 -- its ends are the right way round, and small
 pub record IsBlock (b : Block) : Type 0 where

@@ -2,7 +2,7 @@
 use Rattle.std.specs.Prelude.{◌≡◌, ℕ, zero, suc, ◌+◌, ◌^◌, ◌<◌, ◌≤◌, if◌then◌else◌, Bool, List, [], ◌∷◌, ◌++◌, length, slice_index, slice_range, All}
 use Rattle.mill_base.specs.declared.points.Box2.{Box2}
 use Rattle.mill_cells.specs.Boxes.{box_at, AllInside}
-use Rattle.mill_cells.specs.Sorted.{height_at, AreUnder}
+use Rattle.mill_cells.specs.Sorted.{top_at, AreUnder}
 use Rattle.mill_cells.specs.Frames.{covers, cell_count, IsFrame}
 use Rattle.mill_cells.specs.declared.frame.Frame.{Frame}
 use Rattle.mill_cells.specs.declared.grid.Grid.{Grid}
@@ -38,4 +38,4 @@ pub record IsGrid (g : Grid) : Type 0 where
       → slice_range g.entries.items (start_of g.frame g.boxes.items k) (start_of g.frame g.boxes.items (k + 1)) ≡ numbers_in g.frame g.boxes.items k
   pub tops : length g.tops.items ≡ length g.boxes.items
   pub lids_long : length g.lids.items ≡ cell_count g.frame
-  pub lids : (k : ℕ) → k < cell_count g.frame → AreUnder g.tops.items (height_at g.lids.items k) (numbers_in g.frame g.boxes.items k)
+  pub lids : (k : ℕ) → k < cell_count g.frame → AreUnder g.tops.items (top_at g.lids.items k) (numbers_in g.frame g.boxes.items k)

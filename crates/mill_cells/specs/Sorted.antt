@@ -15,9 +15,9 @@ abbrev pub sorted_of : List Tri → Sorted
 sorted_of tris = record { boxes = boxes_of tris; tops = map highest tris }
 
 -- the height of number i in the list
-abbrev pub height_at : List ℤ → ℕ → ℤ
-height_at heights i = slice_index_or heights i (pos 0)
+abbrev pub top_at : List ℤ → ℕ → ℤ
+top_at heights i = slice_index_or heights i (pos 0)
 
 -- none of these numbers has a top over the height
 abbrev pub AreUnder : List ℤ → ℤ → List ℕ → Type 0
-AreUnder tops height = All (λ i. height_at tops i ≤ℤ height)
+AreUnder tops height = All (λ i. top_at tops i ≤ℤ height)

@@ -2,7 +2,7 @@
 use Rattle.std.specs.Prelude.{◌≡◌, ℕ, zero, suc, ◌+◌, ◌-◌, ◌*◌, ◌/◌, ◌%◌, ◌≤◌, ◌==◌, max, Bool, ◌&&◌, not, ℤ, pos, int_lt, List, [], ◌++◌, length, filter, slice_range, All}
 use Rattle.mill_base.specs.declared.points.Box2.{Box2}
 use Rattle.mill_cells.specs.Boxes.{box_at, IsInside}
-use Rattle.mill_cells.specs.Frames.{block_of, area_of, width_of}
+use Rattle.mill_cells.specs.Frames.{block_of, frame_area, width_of}
 use Rattle.mill_cells.specs.Grids.{IsGrid, numbers_in}
 use Rattle.mill_cells.specs.declared.frame.Frame.{Frame}
 use Rattle.mill_cells.specs.declared.frame.Block.{Block}
@@ -64,7 +64,7 @@ pub record IsWalk (w : Walk) : Type 0 where
   pub grid : IsGrid w.grid.now
   pub inside : IsInside w.grid.now.frame.bounds w.area
   pub block : w.block ≡ block_of w.grid.now.frame w.area
-  pub cells : w.cells ≤ area_of w.block
+  pub cells : w.cells ≤ frame_area w.block
   pub entered : w.entered ≤ w.cells
   pub next_column : w.next_column ≡ column_in w.block w.entered
   pub next_row : w.next_row ≡ row_in w.block w.entered

@@ -2,7 +2,7 @@ ghost use Rattle.std.specs.Prelude.{◌≡◌, ◌<◌, ◌^◌, ◌↔◌, ℤ,
 ghost use Rattle.std.specs.List.{IsDistinct};
 ghost use Rattle.mill_base.specs.Ranges.{TrisInRange};
 ghost use Rattle.mill_cells.specs.Boxes.{IsNear};
-ghost use Rattle.mill_cells.specs.Sizes.{Fits, IsCellSize};
+ghost use Rattle.mill_cells.specs.Sizes.{IsSmallGrid, IsCellSize};
 ghost use Rattle.mill_cells.specs.Sorted.{sorted_of};
 
 use crate::boxes::{bounds, tri_box, tri_top};
@@ -44,8 +44,8 @@ impl Cells {
         requires in_range { TrisInRange tris.now }
         requires count { length tris.now < 2 ^ 32 }
         ensures power { (k : ℕ) × (result ≡ pos (2 ^ k)) }
-        ensures fits { Fits tris.now (nat_abs result) }
-        ensures least { (k : ℕ) → (pos (2 ^ k)) <ℤ result → ¬ Fits tris.now (2 ^ k) }
+        ensures fits { IsSmallGrid tris.now (nat_abs result) }
+        ensures least { (k : ℕ) → (pos (2 ^ k)) <ℤ result → ¬ IsSmallGrid tris.now (2 ^ k) }
         ensures works { (size : ℤ) → result ≤ℤ size → IsCellSize tris.now size }
     {
         size::size_for(tris)

@@ -97,7 +97,7 @@ pub fn border(low: i32, size: u32, first: u32, at: u32) -> i32
 
 impl Block {
     ghost use Rattle.std.specs.Prelude.{◌+◌};
-    ghost use Rattle.mill_cells.specs.Frames.{IsBlock, width_of, area_of};
+    ghost use Rattle.mill_cells.specs.Frames.{IsBlock, width_of, frame_area};
 
     /// How many columns it has.
     pub fn width(self) -> u32
@@ -110,7 +110,7 @@ impl Block {
     /// How many cells it has.
     pub fn cells(self) -> u64
         requires { IsBlock self }
-        ensures value { result ≡ area_of self }
+        ensures value { result ≡ frame_area self }
         ensures bound { result ≤ 2 ^ 40 }
     {
         u64::from(self.width()) * u64::from(self.last_row - self.first_row + 1)

@@ -1,7 +1,7 @@
 ghost use Rattle.std.specs.Prelude.{◌≡◌, ◌<◌, ◌^◌, ◌↔◌, ℕ, ℤ, pos, ◌<ℤ◌, ◌≤ℤ◌, length, IsTrue, nat_abs};
 ghost use Rattle.mill_base.specs.Ranges.{TrisInRange};
 ghost use Rattle.mill_cells.specs.Boxes.{bounds_of};
-ghost use Rattle.mill_cells.specs.Sizes.{Fits, IsCellSize};
+ghost use Rattle.mill_cells.specs.Sizes.{IsSmallGrid, IsCellSize};
 
 use crate::boxes::{bounds, tri_box};
 use crate::frame::Frame;
@@ -18,8 +18,8 @@ pub fn size_for(tris: &[Tri]) -> i32
     requires in_range { TrisInRange tris.now }
     requires count { length tris.now < 2 ^ 32 }
     ensures power { (k : ℕ) × (result ≡ pos (2 ^ k)) }
-    ensures fits { Fits tris.now (nat_abs result) }
-    ensures least { (k : ℕ) → (pos (2 ^ k)) <ℤ result → ¬ Fits tris.now (2 ^ k) }
+    ensures fits { IsSmallGrid tris.now (nat_abs result) }
+    ensures least { (k : ℕ) → (pos (2 ^ k)) <ℤ result → ¬ IsSmallGrid tris.now (2 ^ k) }
     ensures works { (size : ℤ) → result ≤ℤ size → IsCellSize tris.now size }
 {
     let bounds = bounds(tris);
@@ -38,7 +38,7 @@ fn fits(tris: &[Tri], bounds: Box2, size: u32) -> bool
     requires count { length tris.now < 2 ^ 32 }
     requires bounds { bounds ≡ bounds_of tris.now }
     requires size { 0 < size }
-    ensures { IsTrue result ↔ Fits tris.now size }
+    ensures { IsTrue result ↔ IsSmallGrid tris.now size }
 {
     let frame = Frame::over(bounds, size);
     let cells = frame.cells();

@@ -1,7 +1,7 @@
 ghost use Rattle.std.specs.Prelude.{◌≡◌, ℕ, ◌≤ℤ◌};
 ghost use Rattle.mill_base.specs.Ranges.{IsInRange, TrisInRange};
 ghost use Rattle.mill_cells.specs.Boxes.{IsNear};
-ghost use Rattle.mill_cells.specs.Sorted.{height_at, sorted_of};
+ghost use Rattle.mill_cells.specs.Sorted.{top_at, sorted_of};
 
 use crate::Cells;
 use crate::boxes::tri_top;
@@ -68,7 +68,7 @@ fn finds_near_triangles(rt: HostRuntime) -> Result<(), Fail> {
 // The greatest top of the triangles near the area, and the floor where none is over it.
 fn top_near(cells: &Cells, tris: &[Tri], area: Box2, floor: i32) -> i32
     requires { cells.now ≡ sorted_of tris.now }
-    ensures { (i : ℕ) → IsNear cells.now.boxes area i → height_at cells.now.tops i ≤ℤ result }
+    ensures { (i : ℕ) → IsNear cells.now.boxes area i → top_at cells.now.tops i ≤ℤ result }
 {
     let mut top = floor;
     let mut near = cells.near_over(area);

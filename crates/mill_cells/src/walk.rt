@@ -42,7 +42,7 @@ impl<'a> Walk<'a> {
     ghost use Rattle.mill_cells.specs.Frames.{block_of};
     ghost use Rattle.mill_cells.specs.Walks.{IsWalk, rest_of, shows, walk_over, moved};
     ghost use Rattle.mill_cells.specs.inner.Passed.{ArePassed, IsNext};
-    ghost use Rattle.mill_cells.specs.Sorted.{height_at};
+    ghost use Rattle.mill_cells.specs.Sorted.{top_at};
 
     /// The walk from the first cell of the area on.
     pub fn new(grid: &'a Grid, area: Box2) -> Walk<'a>
@@ -236,7 +236,7 @@ impl<'a> Walk<'a> {
         requires number { number < length self.now.grid.now.boxes.items }
         requires top { number < length self.now.grid.now.tops.items }
         requires first { begins_at self.now.west self.now.south (box_at self.now.grid.now.boxes.items number) ≡ is_first_cell (block_of self.now.grid.now.frame self.now.area) (block_of self.now.grid.now.frame (box_at self.now.grid.now.boxes.items number)) self.now.column self.now.row }
-        ensures { result ≡ (int_lt height (height_at self.now.grid.now.tops.items number) && shows self.now.grid.now.frame self.now.area self.now.column self.now.row (box_at self.now.grid.now.boxes.items number)) }
+        ensures { result ≡ (int_lt height (top_at self.now.grid.now.tops.items number) && shows self.now.grid.now.frame self.now.area self.now.column self.now.row (box_at self.now.grid.now.boxes.items number)) }
     {
         height < self.grid.tops[number as usize] && self.gives(number)
     }

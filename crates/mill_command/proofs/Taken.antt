@@ -14,7 +14,7 @@ use Rattle.clap.specs.Faults.{entered_fault, level_fault}
 use Rattle.mill_command.specs.Set.{commands, verify, plan, drop, workers}
 use Rattle.clap.specs.Kinds.{IsAmong, Kinds}
 use Rattle.clap.specs.declared.error.kind.ErrorKind.{ErrorKind}
-use Rattle.mill_command.specs.Requests.{HasWorkers, Reads, Refuses, Request, drop_of, faults, is_taken, plan_of, request, request_in, verify_of, workers_in, verify as verify_files, plan as plan_to, drop as drop_at}
+use Rattle.mill_command.specs.Requests.{HasWorkers, ReadsWords, Refuses, Request, drop_of, faults, is_taken, plan_of, request, request_in, verify_of, workers_in, verify as verify_files, plan as plan_to, drop as drop_at}
 use Rattle.mill_command.specs.declared.refusal.Refusal.{Refusal}
 use Rattle.mill_command.specs.declared.refusal.Refusal.TheVariants as refusal
 use Rattle.mill_command.proofs.Faultless.{AreSound, IsSound, IsStopped, defaults_make, given_value, is_full, level_faultless, none_missing, other_sound}
@@ -183,7 +183,7 @@ pub taken : (words : List Text) → faults words ≡ [] → request words ≡ op
 taken words e = ap (λ b. cond b (option_and_then (λ (m : Text × List Row). request_in m.0 m.1) (subcommand_of commands words)) None) (takes_faultless words ∙ ap none e)
 
 -- a refusal is one of words that aren't taken
-pub refused : (words : List Text) (r : Refusal) → Refuses (faults words) r → Reads words (Err r)
+pub refused : (words : List Text) (r : Refusal) → Refuses (faults words) r → ReadsWords words (Err r)
 refused words (refusal.Help text) e = (not_taken words e.0 e.1, e)
 refused words (refusal.NotTaken text) e = (not_taken words e.0 e.1, e)
 refused words refusal.WantOfMemory e = tt

@@ -87,8 +87,8 @@ Refuses kinds (refusal.NotTaken text) = IsMistaken kinds
 Refuses kinds refusal.WantOfMemory = Unit {0}
 
 -- what reading the words comes to: the command that they ask for; or they aren't taken, and clap answers with help or a mistake; or memory was short
-abbrev pub Reads : List Text → Result Command Refusal → Type 0
-Reads words (Ok c) = request words ≡ Some (request_of c)
-Reads words (Err (refusal.Help text)) = (is_taken words ≡ false) × AsksHelp (faults words)
-Reads words (Err (refusal.NotTaken text)) = (is_taken words ≡ false) × IsMistaken (faults words)
-Reads words (Err refusal.WantOfMemory) = Unit {0}
+abbrev pub ReadsWords : List Text → Result Command Refusal → Type 0
+ReadsWords words (Ok c) = request words ≡ Some (request_of c)
+ReadsWords words (Err (refusal.Help text)) = (is_taken words ≡ false) × AsksHelp (faults words)
+ReadsWords words (Err (refusal.NotTaken text)) = (is_taken words ≡ false) × IsMistaken (faults words)
+ReadsWords words (Err refusal.WantOfMemory) = Unit {0}

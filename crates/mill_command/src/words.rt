@@ -1,6 +1,6 @@
 ghost use Rattle.std.specs.Prelude.{◌≡◌, IfOk, is_some, map, option_and_then, option_map, string_bytes};
 ghost use Rattle.clap.specs.Words.{FailsBy, HasKind, Kinds, subcommand_of, subcommand_rows_of};
-ghost use Rattle.mill_command.specs.Requests.{HasWorkers, Reads, Refuses, faults, is_taken, request, request_in, request_of};
+ghost use Rattle.mill_command.specs.Requests.{HasWorkers, ReadsWords, Refuses, faults, is_taken, request, request_in, request_of};
 ghost use Rattle.mill_command.specs.Set.{commands};
 
 use crate::command::Command;
@@ -16,7 +16,7 @@ use std::alloc::Global;
 /// `Help` where clap answers the words with its help or its version, `NotTaken` where it doesn't
 /// take them, and `WantOfMemory`.
 pub fn read_words<'a>(alloc: Global, words: &'a [String]) -> Result<Command<'a>, Refusal>
-    ensures reads { Reads (map string_bytes words.now) result }
+    ensures reads { ReadsWords (map string_bytes words.now) result }
 
     // Words that clap takes are a command, with each of its values.
     ensures whole { is_some (request (map string_bytes words.now)) ≡ is_taken (map string_bytes words.now) }

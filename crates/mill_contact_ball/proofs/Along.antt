@@ -13,11 +13,11 @@ use Rattle.mill_geom.specs.declared.touch.Axis.TheVariants.{X, Y}
 use Rattle.mill_geom.specs.declared.touch.Side.{Side}
 use Rattle.mill_geom.specs.declared.touch.Touch.{Touch}
 use Rattle.mill_geom.specs.Offsets.{mean3, IsOffset}
-use Rattle.mill_geom.specs.Sides.{IsOnSide, IsTouch, TouchesAt, along, slid_by, turned_to}
+use Rattle.mill_geom.specs.Sides.{IsOnSide, IsTouch, TouchesSlid, along, slid_by, turned_to}
 use Rattle.mill_geom.proofs.PlaceCerts.{swap_near}
 use Rattle.mill_geom.proofs.StripCerts.{unslid}
 use Rattle.mill_geom.proofs.Along.{touch_here, along_at as flat_along_at, side_carried, touch_carried}
-use Rattle.mill_contact_ball.specs.Centres.{centre_of}
+use Rattle.mill_contact_ball.specs.Centres.{sphere_centre}
 use Rattle.mill_contact_ball.specs.inner.Spheres.{MeetsSphere, MeetsBall, MeetsAt, flat_of}
 use Rattle.mill_contact_ball.proofs.ShadowCerts.{swap_sphere}
 use Rattle.mill_contact_ball.proofs.Shadows.{same_sphere, flat_never}
@@ -41,10 +41,10 @@ meeting_here r a b c (inl v) =
     })
 
 -- where the sphere meets nothing along x, the cylinder's side is the ball's
-pub cylinder_side : (s : Side) (r : ℤ) (a b c : Offset) → (MeetsSphere r (flat_of a) (flat_of b) (flat_of c) → ⊥) → IsOnSide s (TouchesAt r a b c) → IsOnSide s (MeetsAt r a b c)
-cylinder_side s r a b c none h = side_carried s (TouchesAt r a b c) (MeetsAt r a b c) back h
+pub cylinder_side : (s : Side) (r : ℤ) (a b c : Offset) → (MeetsSphere r (flat_of a) (flat_of b) (flat_of c) → ⊥) → IsOnSide s (TouchesSlid r a b c) → IsOnSide s (MeetsAt r a b c)
+cylinder_side s r a b c none h = side_carried s (TouchesSlid r a b c) (MeetsAt r a b c) back h
   where
-    back : (t : ℤ) → MeetsAt r a b c t → TouchesAt r a b c t
+    back : (t : ℤ) → MeetsAt r a b c t → TouchesSlid r a b c t
     back t (inl v) = absurd (flat_never r a b c t none v)
     back t (inr v) = v
 
@@ -77,15 +77,15 @@ moved d p m t e = omega (arith, ints)
 slid_y : ℤ → Offset → Offset
 slid_y t p = record { x = p.x; y = p.y -ℤ t; z = p.z }
 
-offset_x : (d : Offset) (r : ℤ) (p tip : Pt3) (t : ℤ) → IsOffset d p (centre_of r tip) → IsOffset (slid_by t d) p (centre_of r (along X tip t))
+offset_x : (d : Offset) (r : ℤ) (p tip : Pt3) (t : ℤ) → IsOffset d p (sphere_centre r tip) → IsOffset (slid_by t d) p (sphere_centre r (along X tip t))
 offset_x d r p tip t o = record { x_is = moved d.x p.x tip.x t o.x_is; y_is = o.y_is; z_is = o.z_is }
 
-offset_y : (d : Offset) (r : ℤ) (p tip : Pt3) (t : ℤ) → IsOffset d p (centre_of r tip) → IsOffset (slid_y t d) p (centre_of r (along Y tip t))
+offset_y : (d : Offset) (r : ℤ) (p tip : Pt3) (t : ℤ) → IsOffset d p (sphere_centre r tip) → IsOffset (slid_y t d) p (sphere_centre r (along Y tip t))
 unfolding slid_y
 offset_y d r p tip t o = record { x_is = o.x_is; y_is = moved d.y p.y tip.y t o.y_is; z_is = o.z_is }
 
 -- the meetings of a triangle's offsets, turned to the axis, are the touches of the triangle at the tips along it
-at_along : (r : ℤ) (tri : Tri) (tip : Pt3) (axis : Axis) (a b c : Offset) (t : ℤ) → IsOffset a tri.a (centre_of r tip) → IsOffset b tri.b (centre_of r tip) → IsOffset c tri.c (centre_of r tip)
+at_along : (r : ℤ) (tri : Tri) (tip : Pt3) (axis : Axis) (a b c : Offset) (t : ℤ) → IsOffset a tri.a (sphere_centre r tip) → IsOffset b tri.b (sphere_centre r tip) → IsOffset c tri.c (sphere_centre r tip)
     → MeetsAt r (turned_to axis a) (turned_to axis b) (turned_to axis c) t → Touches (Ball r) (pos 1) (along axis tip t) tri
 unfolding slid_y
 at_along r tri tip X a b c t oa ob oc v = ball_place r tri (along X tip t) (slid_by t a) (slid_by t b) (slid_by t c) (offset_x a r tri.a tip t oa) (offset_x b r tri.b tip t ob) (offset_x c r tri.c tip t oc) v
@@ -93,7 +93,7 @@ at_along r tri tip Y a b c t oa ob oc v =
     ball_place r tri (along Y tip t) (slid_y t a) (slid_y t b) (slid_y t c) (offset_y a r tri.a tip t oa) (offset_y b r tri.b tip t ob) (offset_y c r tri.c tip t oc)
     (swap_meeting r (slid_by t (turned_to Y a)) (slid_by t (turned_to Y b)) (slid_by t (turned_to Y c)) v)
 
-along_at : (r : ℤ) (tri : Tri) (tip : Pt3) (axis : Axis) (a b c : Offset) (t : ℤ) → IsOffset a tri.a (centre_of r tip) → IsOffset b tri.b (centre_of r tip) → IsOffset c tri.c (centre_of r tip)
+along_at : (r : ℤ) (tri : Tri) (tip : Pt3) (axis : Axis) (a b c : Offset) (t : ℤ) → IsOffset a tri.a (sphere_centre r tip) → IsOffset b tri.b (sphere_centre r tip) → IsOffset c tri.c (sphere_centre r tip)
     → Touches (Ball r) (pos 1) (along axis tip t) tri → MeetsAt r (turned_to axis a) (turned_to axis b) (turned_to axis c) t
 unfolding slid_y
 along_at r tri tip X a b c t oa ob oc v = place_ball r tri (along X tip t) (slid_by t a) (slid_by t b) (slid_by t c) (offset_x a r tri.a tip t oa) (offset_x b r tri.b tip t ob) (offset_x c r tri.c tip t oc) v
@@ -102,7 +102,7 @@ along_at r tri tip Y a b c t oa ob oc v =
     (place_ball r tri (along Y tip t) (slid_y t a) (slid_y t b) (slid_y t c) (offset_y a r tri.a tip t oa) (offset_y b r tri.b tip t ob) (offset_y c r tri.c tip t oc) v)
 
 -- an answer about the turned offsets is one about the triangle
-pub touch_along : (s : Touch) (r : ℤ) (tri : Tri) (tip : Pt3) (axis : Axis) (a b c : Offset) → IsOffset a tri.a (centre_of r tip) → IsOffset b tri.b (centre_of r tip) → IsOffset c tri.c (centre_of r tip)
+pub touch_along : (s : Touch) (r : ℤ) (tri : Tri) (tip : Pt3) (axis : Axis) (a b c : Offset) → IsOffset a tri.a (sphere_centre r tip) → IsOffset b tri.b (sphere_centre r tip) → IsOffset c tri.c (sphere_centre r tip)
     → IsTouch s (MeetsAt r (turned_to axis a) (turned_to axis b) (turned_to axis c)) → IsTouch s (λ t. Touches (Ball r) (pos 1) (along axis tip t) tri)
 touch_along s r tri tip axis a b c oa ob oc h =
     touch_carried s (MeetsAt r (turned_to axis a) (turned_to axis b) (turned_to axis c)) (λ t. Touches (Ball r) (pos 1) (along axis tip t) tri)
@@ -110,8 +110,8 @@ touch_along s r tri tip axis a b c oa ob oc h =
 
 -- a ball lies in the flat cutter of its radius, so where the box keeps that off the triangle, it keeps the ball off
 pub box_along : (s : Option Side) (r : ℤ) (tri : Tri) (tip : Pt3) (axis : Axis) (a b c : Offset) → (pos 1) ≤ℤ r → IsOffset a tri.a tip → IsOffset b tri.b tip → IsOffset c tri.c tip
-    → IfSome s (λ side. IsOnSide side (TouchesAt r (turned_to axis a) (turned_to axis b) (turned_to axis c))) → IfSome s (λ side. IsOnSide side (λ t. Touches (Ball r) (pos 1) (along axis tip t) tri))
+    → IfSome s (λ side. IsOnSide side (TouchesSlid r (turned_to axis a) (turned_to axis b) (turned_to axis c))) → IfSome s (λ side. IsOnSide side (λ t. Touches (Ball r) (pos 1) (along axis tip t) tri))
 box_along None r tri tip axis a b c hr oa ob oc h = tt
 box_along (Some side) r tri tip axis a b c hr oa ob oc h =
-    side_carried side (TouchesAt r (turned_to axis a) (turned_to axis b) (turned_to axis c)) (λ t. Touches (Ball r) (pos 1) (along axis tip t) tri)
+    side_carried side (TouchesSlid r (turned_to axis a) (turned_to axis b) (turned_to axis c)) (λ t. Touches (Ball r) (pos 1) (along axis tip t) tri)
     (λ t v. flat_along_at r tri tip axis a b c t oa ob oc (in_cylinder r tri (along axis tip t) hr v)) h

@@ -1,4 +1,5 @@
--- Polynomial facts behind a triangle's corner in the sphere; written by tools/certificates.py from tools/certificates/mill_contact_ball_corner.spec.
+-- Polynomial facts behind a triangle's corner in the sphere.
+-- Written by tools/certificates.py from tools/certificates/mill_contact_ball_corner.spec.
 use Rattle.std.proofs.Common.{[], ◌∷◌, refl}
 use lib.IntN.{ℤ, pos, ◌+ℤ◌, ◌-ℤ◌, ◌*ℤ◌}
 use lib.Signed.{◌<ℤ◌}

@@ -1,4 +1,5 @@
--- Polynomial facts behind a triangle's edge in the sphere; written by tools/certificates.py from tools/certificates/mill_contact_ball_edge.spec.
+-- Polynomial facts behind a triangle's edge in the sphere.
+-- Written by tools/certificates.py from tools/certificates/mill_contact_ball_edge.spec.
 use Rattle.std.proofs.Common.{[], ◌∷◌, refl}
 use lib.IntN.{ℤ, pos, ◌+ℤ◌, ◌-ℤ◌, ◌*ℤ◌}
 use lib.Signed.{◌<ℤ◌, ◌≤ℤ◌}

@@ -1,4 +1,5 @@
--- Polynomial facts behind the foot of the centre on a triangle's plane; written by tools/certificates.py from tools/certificates/mill_contact_ball_foot.spec.
+-- Polynomial facts behind the foot of the centre on a triangle's plane.
+-- Written by tools/certificates.py from tools/certificates/mill_contact_ball_foot.spec.
 use Rattle.std.proofs.Common.{◌≡◌, [], ◌∷◌, refl}
 use lib.IntN.{ℤ, pos, ◌+ℤ◌, ◌-ℤ◌, ◌*ℤ◌}
 use lib.Signed.{◌<ℤ◌, ◌≤ℤ◌}

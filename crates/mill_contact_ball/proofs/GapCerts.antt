@@ -1,4 +1,5 @@
--- Polynomial facts behind a box that keeps off the sphere; written by tools/certificates.py from tools/certificates/mill_contact_ball_gap.spec.
+-- Polynomial facts behind a box that keeps off the sphere.
+-- Written by tools/certificates.py from tools/certificates/mill_contact_ball_gap.spec.
 use Rattle.std.proofs.Common.{[], ◌∷◌, refl}
 use lib.IntN.{ℤ, pos, ◌+ℤ◌, ◌*ℤ◌}
 use lib.Signed.{◌<ℤ◌, ◌≤ℤ◌}

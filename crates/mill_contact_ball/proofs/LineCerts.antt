@@ -1,4 +1,5 @@
--- Polynomial facts behind triangles whose corners lie on one line; written by tools/certificates.py from tools/certificates/mill_contact_ball_line.spec.
+-- Polynomial facts behind triangles whose corners lie on one line.
+-- Written by tools/certificates.py from tools/certificates/mill_contact_ball_line.spec.
 use Rattle.std.proofs.Common.{◌≡◌, [], ◌∷◌, refl}
 use lib.IntN.{ℤ, pos, negsuc, ◌+ℤ◌, ◌-ℤ◌, ◌*ℤ◌}
 use lib.Signed.{◌≤ℤ◌}

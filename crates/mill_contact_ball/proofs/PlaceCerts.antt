@@ -1,4 +1,5 @@
--- Polynomial facts behind the cutter's solid and the sphere about its centre; written by tools/certificates.py from tools/certificates/mill_contact_ball_place.spec.
+-- Polynomial facts behind the cutter's solid and the sphere about its centre.
+-- Written by tools/certificates.py from tools/certificates/mill_contact_ball_place.spec.
 use Rattle.std.proofs.Common.{◌≡◌, [], ◌∷◌, refl}
 use lib.IntN.{ℤ, pos, ◌+ℤ◌, ◌-ℤ◌, ◌*ℤ◌}
 use lib.Signed.{◌<ℤ◌, ◌≤ℤ◌}

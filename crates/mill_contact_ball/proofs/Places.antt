@@ -15,7 +15,7 @@ use Rattle.mill_geom.specs.declared.offset.Offset.{Offset}
 use Rattle.mill_geom.specs.Offsets.{mean3, IsOffset}
 use Rattle.mill_geom.specs.Contacts.{TouchesTriangle}
 use Rattle.mill_geom.proofs.LevelCerts.{near_same}
-use Rattle.mill_contact_ball.specs.Centres.{centre_of}
+use Rattle.mill_contact_ball.specs.Centres.{sphere_centre}
 use Rattle.mill_contact_ball.specs.inner.Spheres.{InSphere, MeetsSphere, MeetsBall}
 use Rattle.mill_contact_ball.proofs.PlaceCerts.{shifted, raised, sphere_there, sphere_near, sphere_back, level_back, some_weight, over_centre as over_tip, in_sphere}
 
@@ -31,7 +31,7 @@ pub record Same (r m n : ℤ) (d e : Pt3) : Type 0 where
   pub z : d.z -ℤ r *ℤ m ≡ e.z
   pub time : m ≡ n
 
-same : (r : ℤ) (tri : Tri) (tip : Pt3) (a b c : Offset) (u v w n : ℤ) (p : Pt3) → IsOffset a tri.a (centre_of r tip) → IsOffset b tri.b (centre_of r tip) → IsOffset c tri.c (centre_of r tip)
+same : (r : ℤ) (tri : Tri) (tip : Pt3) (a b c : Offset) (u v w n : ℤ) (p : Pt3) → IsOffset a tri.a (sphere_centre r tip) → IsOffset b tri.b (sphere_centre r tip) → IsOffset c tri.c (sphere_centre r tip)
     → n ≡ (u +ℤ v) +ℤ w → p ≡ plus (plus (times u tri.a) (times v tri.b)) (times w tri.c)
     → Same r (pos 1 *ℤ n) ((u +ℤ v) +ℤ w) (minus (times (pos 1) p) (times n tip)) (mean3 u v w a b c)
 same r tri tip a b c u v w n p oa ob oc en ep = record {
@@ -55,7 +55,7 @@ at_centre : (z k e : ℤ) → z -ℤ k ≡ e → k ≤ℤ z → (pos 0) ≤ℤ e
 at_centre z k e s h = omega (arith, ints)
 
 -- the point that a touch tells, by the weights of a triangle
-pub sphere_place : (r : ℤ) (tri : Tri) (tip : Pt3) (a b c : Offset) → IsOffset a tri.a (centre_of r tip) → IsOffset b tri.b (centre_of r tip) → IsOffset c tri.c (centre_of r tip)
+pub sphere_place : (r : ℤ) (tri : Tri) (tip : Pt3) (a b c : Offset) → IsOffset a tri.a (sphere_centre r tip) → IsOffset b tri.b (sphere_centre r tip) → IsOffset c tri.c (sphere_centre r tip)
     → MeetsSphere r a b c → Touches (Ball r) (pos 1) tip tri
 sphere_place r tri tip a b c oa ob oc t =
     let s = t.at in
@@ -77,7 +77,7 @@ sphere_place r tri tip a b c oa ob oc t =
       inside = sphere_held r _ _ _ _ (same r tri tip a b c s.u s.v s.w _ _ oa ob oc refl refl) t.spot.inside;
     }
 
-pub cylinder_place : (r : ℤ) (tri : Tri) (tip : Pt3) (a b c : Offset) → IsOffset a tri.a (centre_of r tip) → IsOffset b tri.b (centre_of r tip) → IsOffset c tri.c (centre_of r tip)
+pub cylinder_place : (r : ℤ) (tri : Tri) (tip : Pt3) (a b c : Offset) → IsOffset a tri.a (sphere_centre r tip) → IsOffset b tri.b (sphere_centre r tip) → IsOffset c tri.c (sphere_centre r tip)
     → TouchesTriangle r a b c → Touches (Ball r) (pos 1) tip tri
 cylinder_place r tri tip a b c oa ob oc t =
     let p = plus (plus (times t.u tri.a) (times t.v tri.b)) (times t.w tri.c) in
@@ -95,13 +95,13 @@ cylinder_place r tri tip a b c oa ob oc t =
       };
     }
 
-pub ball_place : (r : ℤ) (tri : Tri) (tip : Pt3) (a b c : Offset) → IsOffset a tri.a (centre_of r tip) → IsOffset b tri.b (centre_of r tip) → IsOffset c tri.c (centre_of r tip)
+pub ball_place : (r : ℤ) (tri : Tri) (tip : Pt3) (a b c : Offset) → IsOffset a tri.a (sphere_centre r tip) → IsOffset b tri.b (sphere_centre r tip) → IsOffset c tri.c (sphere_centre r tip)
     → MeetsBall r a b c → Touches (Ball r) (pos 1) tip tri
 ball_place r tri tip a b c oa ob oc (inl t) = sphere_place r tri tip a b c oa ob oc t
 ball_place r tri tip a b c oa ob oc (inr t) = cylinder_place r tri tip a b c oa ob oc t
 
 -- the weights of the point that the cutter holds are those of one that the sphere or the cylinder holds
-pub place_ball : (r : ℤ) (tri : Tri) (tip : Pt3) (a b c : Offset) → IsOffset a tri.a (centre_of r tip) → IsOffset b tri.b (centre_of r tip) → IsOffset c tri.c (centre_of r tip)
+pub place_ball : (r : ℤ) (tri : Tri) (tip : Pt3) (a b c : Offset) → IsOffset a tri.a (sphere_centre r tip) → IsOffset b tri.b (sphere_centre r tip) → IsOffset c tri.c (sphere_centre r tip)
     → Touches (Ball r) (pos 1) tip tri → MeetsBall r a b c
 place_ball r tri tip a b c oa ob oc t =
     let k = t.point in

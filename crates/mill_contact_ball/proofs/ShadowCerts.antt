@@ -1,4 +1,5 @@
--- Polynomial facts behind what the cutter passes on its way along x; written by tools/certificates.py from tools/certificates/mill_contact_ball_shadow.spec.
+-- Polynomial facts behind what the cutter passes on its way along x.
+-- Written by tools/certificates.py from tools/certificates/mill_contact_ball_shadow.spec.
 use Rattle.std.proofs.Common.{◌≡◌, [], ◌∷◌, refl}
 use lib.IntN.{ℤ, pos, ◌+ℤ◌, ◌*ℤ◌}
 use lib.Signed.{◌<ℤ◌, ◌≤ℤ◌}

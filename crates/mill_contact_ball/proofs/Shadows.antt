@@ -8,7 +8,7 @@ use Rattle.mill_base.proofs.Exit.{split_lt}
 use Rattle.mill_base.proofs.Integers.{mul_nonneg-ℤ}
 use Rattle.mill_geom.specs.declared.offset.Offset.{Offset}
 use Rattle.mill_geom.specs.Offsets.{mean3}
-use Rattle.mill_geom.specs.Sides.{slid_by, TouchesAt}
+use Rattle.mill_geom.specs.Sides.{slid_by, TouchesSlid}
 use Rattle.mill_geom.proofs.DescendCerts.{lin}
 use Rattle.mill_geom.proofs.LevelCerts.{near_same}
 use Rattle.mill_geom.proofs.SideCerts.{slid, slid_x, slid_back, sum_time, side_over, side_weight}
@@ -92,7 +92,7 @@ joined_sphere r a b c t k m s hr shadow v hk hm e =
     }
 
 -- such a point and a meeting with the cylinder at t, weighed in the same way, give a meeting here
-joined_cylinder : (r : ℤ) (a b c : Offset) (t k m : ℤ) (s : Weights) → (pos 0) <ℤ r → Shadow r a b c s → (v : TouchesAt r a b c t) → (pos 0) ≤ℤ k → (pos 0) <ℤ m
+joined_cylinder : (r : ℤ) (a b c : Offset) (t k m : ℤ) (s : Weights) → (pos 0) <ℤ r → Shadow r a b c s → (v : TouchesSlid r a b c t) → (pos 0) ≤ℤ k → (pos 0) <ℤ m
     → k *ℤ (mean3 s.u s.v s.w a b c).x +ℤ m *ℤ (mean3 v.u v.v v.w a b c).x ≡ m *ℤ ((mean3 v.u v.v v.w a b c).x -ℤ t *ℤ ((v.u +ℤ v.v) +ℤ v.w)) → MeetsBall r a b c
 joined_cylinder r a b c t k m s hr shadow v hk hm e =
     let P = mean3 s.u s.v s.w a b c in

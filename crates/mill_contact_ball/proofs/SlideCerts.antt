@@ -1,4 +1,5 @@
--- Polynomial facts behind the descent of a quadratic form; written by tools/certificates.py from tools/certificates/mill_contact_ball_slide.spec.
+-- Polynomial facts behind the descent of a quadratic form.
+-- Written by tools/certificates.py from tools/certificates/mill_contact_ball_slide.spec.
 use Rattle.std.proofs.Common.{◌≡◌, [], ◌∷◌, refl}
 use lib.IntN.{ℤ, pos, ◌+ℤ◌, ◌-ℤ◌, ◌*ℤ◌}
 use lib.Signed.{◌<ℤ◌, ◌≤ℤ◌}

@@ -11,5 +11,5 @@ IsBall (Ball r) = Unit {0}
 IsBall (Cone r a b) = ⊥
 
 -- the centre is straight over the tip, by the radius
-abbrev pub centre_of : ℤ → Pt3 → Pt3
-centre_of r tip = record { x = tip.x; y = tip.y; z = tip.z +ℤ r }
+abbrev pub sphere_centre : ℤ → Pt3 → Pt3
+sphere_centre r tip = record { x = tip.x; y = tip.y; z = tip.z +ℤ r }

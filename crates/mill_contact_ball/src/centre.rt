@@ -5,7 +5,7 @@ ghost use Rattle.mill_base.specs.Sizes.{HasRadius};
 ghost use Rattle.mill_base.specs.declared.limits.TheConstants.{LOWEST_TIP, MAX_COORDINATE, MAX_WIDE_RADIUS};
 ghost use Rattle.mill_geom.specs.Widths.{farthest};
 ghost use Rattle.mill_geom.specs.Offsets.{OffsetInRange, IsOffset, IsCentre};
-ghost use Rattle.mill_contact_ball.specs.Centres.{centre_of};
+ghost use Rattle.mill_contact_ball.specs.Centres.{sphere_centre};
 
 use mill_base::Pt3;
 use mill_geom::{Offset, offset_from};
@@ -37,7 +37,7 @@ pub fn offset_from_centre(point: Pt3, tip: Pt3, radius: i32) -> Offset
     requires point_ok { IsInRange point }
     requires tip_ok { IsCentre tip }
     requires radius_ok { HasRadius radius MAX_WIDE_RADIUS }
-    ensures place { IsOffset result point (centre_of radius tip) }
+    ensures place { IsOffset result point (sphere_centre radius tip) }
     ensures range { OffsetInRange result }
 {
     let Offset { x, y, .. } = offset_from(point, tip);

@@ -1,4 +1,5 @@
--- Polynomial facts behind the lemmas on what the box and the corners alone show; written by tools/certificates.py from tools/certificates/mill_contact_cone_clears.spec.
+-- Polynomial facts behind the lemmas on what the box and the corners alone show.
+-- Written by tools/certificates.py from tools/certificates/mill_contact_cone_clears.spec.
 use Rattle.std.proofs.Common.{◌≡◌, [], ◌∷◌, refl}
 use lib.IntN.{ℤ, pos, ◌+ℤ◌, ◌*ℤ◌}
 use lib.Signed.{◌<ℤ◌, ◌≤ℤ◌}

@@ -6,7 +6,6 @@ pub mod WholeCerts
 pub mod Parts
 pub mod Zones
 pub mod Whole
-pub mod Volumes
 pub mod Placed
 pub mod SideCerts
 pub mod Lifts

@@ -1,4 +1,5 @@
--- Polynomial facts behind the lemmas on quadratic forms on parts of segments; written by tools/certificates.py from tools/certificates/mill_contact_cone_parts.spec.
+-- Polynomial facts behind the lemmas on quadratic forms on parts of segments.
+-- Written by tools/certificates.py from tools/certificates/mill_contact_cone_parts.spec.
 use Rattle.std.proofs.Common.{◌≡◌, [], ◌∷◌, refl}
 use lib.IntN.{ℤ, pos, ◌+ℤ◌, ◌-ℤ◌, ◌*ℤ◌}
 use lib.Signed.{◌<ℤ◌, ◌≤ℤ◌}

@@ -14,7 +14,7 @@ use Rattle.mill_geom.specs.declared.touch.Axis.TheVariants.{X, Y}
 use Rattle.mill_geom.specs.declared.touch.Side.{Side}
 use Rattle.mill_geom.specs.declared.touch.Touch.{Touch}
 use Rattle.mill_geom.specs.Offsets.{mean3, IsOffset}
-use Rattle.mill_geom.specs.Sides.{IsOnSide, IsTouch, TouchesAt, along}
+use Rattle.mill_geom.specs.Sides.{IsOnSide, IsTouch, TouchesSlid, along}
 use Rattle.mill_geom.proofs.PlaceCerts.{shifted, swap_near}
 use Rattle.mill_geom.proofs.StripCerts.{unslid}
 use Rattle.mill_geom.proofs.Along.{side_carried, touch_carried}
@@ -146,5 +146,5 @@ touch_here k a b c t = record {
 }
 
 -- the side that the cylinder's box shows is the cone's
-pub box_shows : (s : Side) (k : Cone) (a b c : Corner) → IsOnSide s (TouchesAt k.radius (plain a) (plain b) (plain c)) → IsOnSide s (ConeAt k a b c)
-box_shows s k a b c h = side_carried s (TouchesAt k.radius (plain a) (plain b) (plain c)) (ConeAt k a b c) (λ t v. cone_flat k (slid t a) (slid t b) (slid t c) v) h
+pub box_shows : (s : Side) (k : Cone) (a b c : Corner) → IsOnSide s (TouchesSlid k.radius (plain a) (plain b) (plain c)) → IsOnSide s (ConeAt k a b c)
+box_shows s k a b c h = side_carried s (TouchesSlid k.radius (plain a) (plain b) (plain c)) (ConeAt k a b c) (λ t v. cone_flat k (slid t a) (slid t b) (slid t c) v) h

@@ -1,4 +1,5 @@
--- Polynomial facts behind the lemmas on the sides of the tip; written by tools/certificates.py from tools/certificates/mill_contact_cone_sides.spec.
+-- Polynomial facts behind the lemmas on the sides of the tip.
+-- Written by tools/certificates.py from tools/certificates/mill_contact_cone_sides.spec.
 use Rattle.std.proofs.Common.{◌≡◌, [], ◌∷◌, refl}
 use lib.IntN.{ℤ, pos, ◌+ℤ◌, ◌-ℤ◌, ◌*ℤ◌}
 use lib.Signed.{◌<ℤ◌, ◌≤ℤ◌}

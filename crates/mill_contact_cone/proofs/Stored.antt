@@ -8,8 +8,7 @@ use Rattle.mill_base.specs.Numbers.{Within}
 use Rattle.mill_base.proofs.Machine.{stored, kept}
 use Rattle.mill_contact_cone.specs.declared.corner.Cone.{Cone}
 use Rattle.mill_contact_cone.specs.declared.corner.Corner.{Corner}
-use Rattle.mill_geom.specs.Widths.{farthest, widest}
-use Rattle.mill_contact_cone.specs.inner.Widths.{most_over}
+use Rattle.mill_geom.specs.Widths.{farthest, widest, most_lift}
 use Rattle.mill_contact_cone.specs.Cones.{IsCone, CornerInRange}
 use Rattle.mill_contact_cone.proofs.Sizes.{radius_within}
 
@@ -31,17 +30,17 @@ module _ (p : Corner) (h : CornerInRange p) where
   z_kept = kept_in w64 farthest p.z h.z_ok refl
 
   pub over_kept : stored w64 p.over ≡ p.over
-  over_kept = kept_in w64 most_over p.over h.over_ok refl
+  over_kept = kept_in w64 most_lift p.over h.over_ok refl
 
-  opposite_small : nat_abs (pos 0 -ℤ p.over) ≤ most_over
+  opposite_small : nat_abs (pos 0 -ℤ p.over) ≤ most_lift
   opposite_small = small p.over h.over_ok.within
     where
-      small : (x : ℤ) → nat_abs x ≤ most_over → nat_abs (pos 0 -ℤ x) ≤ most_over
+      small : (x : ℤ) → nat_abs x ≤ most_lift → nat_abs (pos 0 -ℤ x) ≤ most_lift
       small x k = omega (arith, ints)
 
   -- how far the corner is under the height of the rim, as it is stored
   pub under_kept : stored w64 (pos 0 -ℤ stored w64 p.over) ≡ pos 0 -ℤ p.over
-  under_kept = ap (λ t. stored w64 (pos 0 -ℤ t)) over_kept ∙ kept w64 (pos 0 -ℤ p.over) most_over opposite_small refl
+  under_kept = ap (λ t. stored w64 (pos 0 -ℤ t)) over_kept ∙ kept w64 (pos 0 -ℤ p.over) most_lift opposite_small refl
 
-  pub under_within : Within most_over (stored w64 (pos 0 -ℤ stored w64 p.over))
-  under_within = record { within = subst (λ t. nat_abs t ≤ most_over) (sym under_kept) opposite_small }
+  pub under_within : Within most_lift (stored w64 (pos 0 -ℤ stored w64 p.over))
+  under_within = record { within = subst (λ t. nat_abs t ≤ most_lift) (sym under_kept) opposite_small }

@@ -1,4 +1,5 @@
--- Polynomial facts behind the lemmas on triangles and the cone cutter; written by tools/certificates.py from tools/certificates/mill_contact_cone_whole.spec.
+-- Polynomial facts behind the lemmas on triangles and the cone cutter.
+-- Written by tools/certificates.py from tools/certificates/mill_contact_cone_whole.spec.
 use Rattle.std.proofs.Common.{◌≡◌, [], ◌∷◌, refl}
 use lib.IntN.{ℤ, pos, negsuc, ◌+ℤ◌, ◌-ℤ◌, ◌*ℤ◌}
 use lib.Signed.{◌<ℤ◌, ◌≤ℤ◌}

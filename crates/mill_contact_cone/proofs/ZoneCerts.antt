@@ -1,4 +1,5 @@
--- Polynomial facts behind the lemmas on segments in the two zones of the cone cutter; written by tools/certificates.py from tools/certificates/mill_contact_cone_zones.spec.
+-- Polynomial facts behind the lemmas on segments in the two zones of the cone cutter.
+-- Written by tools/certificates.py from tools/certificates/mill_contact_cone_zones.spec.
 use Rattle.std.proofs.Common.{◌≡◌, [], ◌∷◌, refl}
 use lib.IntN.{ℤ, pos, negsuc, ◌+ℤ◌, ◌-ℤ◌, ◌*ℤ◌}
 use lib.Signed.{◌<ℤ◌, ◌≤ℤ◌}

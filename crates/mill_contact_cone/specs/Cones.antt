@@ -8,8 +8,7 @@ use Rattle.mill_base.specs.declared.cutter.Cutter.{Cutter}
 use Rattle.mill_base.specs.declared.cutter.Cutter.TheVariants.{Flat, Ball, Cone as ConeCutter}
 use Rattle.mill_geom.specs.declared.offset.Offset.{Offset}
 use Rattle.mill_geom.specs.Offsets.{mean2, mean3}
-use Rattle.mill_geom.specs.Widths.{farthest}
-use Rattle.mill_contact_cone.specs.inner.Widths.{most_over}
+use Rattle.mill_geom.specs.Widths.{farthest, most_lift}
 use Rattle.mill_contact_cone.specs.declared.corner.Cone.{Cone}
 use Rattle.mill_contact_cone.specs.declared.corner.Corner.{Corner}
 
@@ -37,7 +36,7 @@ pub record CornerInRange (p : Corner) : Type 0 where
   pub x_ok : Within farthest p.x
   pub y_ok : Within farthest p.y
   pub z_ok : Within farthest p.z
-  pub over_ok : Within most_over p.over
+  pub over_ok : Within most_lift p.over
 
 -- the corner as an offset from the tip
 abbrev pub plain : Corner → Offset

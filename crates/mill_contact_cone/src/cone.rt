@@ -10,13 +10,11 @@ ghost use Rattle.mill_contact_cone.specs.Cones.{IsCone, IsConical, IsCornerOf, C
 ghost use Rattle.mill_contact_cone.specs.inner.Positions.{ConeAt};
 
 use crate::clear::{holds_corner, is_clear};
-use crate::corner::{Cone, Corner, corner_from, offset_of};
+use crate::corner::{Cone, Corner, corner_from, lifted_of, offset_of};
 use crate::edge::touches_edge;
-use crate::level::touches_on_level;
-use crate::plane::is_pierced;
 use crate::side::side;
 use mill_base::{Cutter, Pt3, Tri};
-use mill_geom::{Axis, Touch, box_side};
+use mill_geom::{Axis, Touch, box_side, is_pierced, touches_on_level};
 
 /// Whether some edge has a point strictly inside the cone cutter.
 fn touches_some_edge(a: Corner, b: Corner, c: Corner, cone: Cone) -> bool
@@ -51,13 +49,13 @@ fn touches_cone(a: Corner, b: Corner, c: Corner, cone: Cone) -> bool
     ensures yes { IsTrue result → TouchesCone cone a b c }
     ensures no { result ≡ false → ¬ TouchesCone cone a b c }
 {
-    if is_pierced(a, b, c) {
+    if is_pierced(offset_of(a), offset_of(b), offset_of(c)) {
         return true;
     }
     if touches_some_edge(a, b, c, cone) {
         return true;
     }
-    touches_on_level(a, b, c, cone)
+    touches_on_level(lifted_of(a), lifted_of(b), lifted_of(c), cone.radius)
 }
 
 /// Whether some point of the triangle is strictly inside the cone cutter, from the box and the corners

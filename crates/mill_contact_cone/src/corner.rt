@@ -1,10 +1,9 @@
 ghost use Rattle.std.specs.Prelude.{◌≡◌, ◌-ℤ◌};
 ghost use Rattle.mill_base.specs.Numbers.{Within};
 ghost use Rattle.mill_base.specs.Ranges.{IsInRange};
-ghost use Rattle.mill_geom.specs.Offsets.{OffsetInRange, IsCentre};
-ghost use Rattle.mill_geom.specs.Widths.{farthest};
-ghost use Rattle.mill_contact_cone.specs.inner.Widths.{most_over};
-ghost use Rattle.mill_contact_cone.specs.Cones.{IsCone, over_of, IsCornerOf, plain, CornerInRange};
+ghost use Rattle.mill_geom.specs.Offsets.{OffsetInRange, LiftedInRange, IsCentre};
+ghost use Rattle.mill_geom.specs.Widths.{farthest, most_lift};
+ghost use Rattle.mill_contact_cone.specs.Cones.{IsCone, over_of, IsCornerOf, plain, lifted, CornerInRange};
 ghost use Rattle.mill_contact_cone.specs.inner.Positions.{IsAlong};
 
 use mill_base::Pt3;
@@ -34,7 +33,7 @@ fn over(z: i64, cone: Cone) -> i64
     requires z_ok { Within farthest z }
     requires cone_ok { IsCone cone }
     ensures value { result ≡ over_of cone z }
-    ensures bound { Within most_over result }
+    ensures bound { Within most_lift result }
 {
     cone.run * z - cone.rise * cone.radius
 }
@@ -76,5 +75,18 @@ pub fn offset_of(p: Corner) -> Offset
         x: p.x,
         y: p.y,
         z: p.z,
+    }
+}
+
+/// The corner as an offset from the tip, with how far it is over the height of the rim for its height.
+pub fn lifted_of(p: Corner) -> Offset
+    requires p_ok { CornerInRange p }
+    ensures value { result ≡ lifted p }
+    ensures range { LiftedInRange result }
+{
+    Offset {
+        x: p.x,
+        y: p.y,
+        z: p.over,
     }
 }

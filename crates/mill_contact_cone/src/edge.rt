@@ -1,6 +1,7 @@
 ghost use Rattle.std.specs.Prelude.{◌≡◌, ◌⊎◌, ◌<ℤ◌, ◌≤ℤ◌, pos, false, IsTrue};
 ghost use Rattle.mill_base.specs.Numbers.{Within};
-ghost use Rattle.mill_contact_cone.specs.inner.Widths.{most_over, most_cone_form};
+ghost use Rattle.mill_geom.specs.Widths.{most_lift};
+ghost use Rattle.mill_contact_cone.specs.inner.Widths.{most_cone_form};
 ghost use Rattle.mill_contact_cone.specs.Cones.{IsCone, IsCornerOf, CornerInRange, TouchesEdge, HitsUpper, HitsLower};
 ghost use Rattle.mill_contact_cone.specs.inner.Quadratics.{FormInRange, BlendInRange, IsUpperForm, IsLowerForm, upper_of, lower_of, IsStart};
 
@@ -8,7 +9,7 @@ use crate::corner::{Cone, Corner};
 use crate::quadratic::{Blend, Form, hits_between};
 
 /// The dot product of two corners in x and y, less the square of the radius.
-pub fn upper_product(p: Corner, q: Corner, cone: Cone) -> i64
+fn upper_product(p: Corner, q: Corner, cone: Cone) -> i64
     requires p_ok { CornerInRange p }
     requires q_ok { CornerInRange q }
     requires cone_ok { IsCone cone }
@@ -61,8 +62,8 @@ fn lower_form(p: Corner, q: Corner, cone: Cone) -> Form
 
 /// Where a quantity that is `f` at the first end and `g` at the last begins not to be negative.
 fn start(f: i64, g: i64) -> Blend
-    requires f_ok { Within most_over f }
-    requires g_ok { Within most_over g }
+    requires f_ok { Within most_lift f }
+    requires g_ok { Within most_lift g }
     requires g_least { pos 0 ≤ℤ g }
     ensures place { IsStart f g result }
     ensures range { BlendInRange result }

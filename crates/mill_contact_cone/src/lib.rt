@@ -5,7 +5,8 @@
 //! inside a cone cutter. `touch` decides it too, and if none is, at which positions along an axis
 //! none is either; mill_geom's specs/Sides says what its answers mean. The cutter is a cylinder over
 //! the height of its rim, where the cone reaches its radius, and a cone under it; in each of the two
-//! zones a single quadratic form decides, so no root is ever compared. Before that the box of the
+//! zones a single quadratic form decides, so no root is ever compared. mill_geom finds where the axis
+//! meets the triangle, and its points at the height of the rim. Before that the box of the
 //! corners and the corners alone answer for most triangles; specs/Clears says by which numbers.
 //! specs/Cones says what a touch of an edge and of a triangle is, specs/Quadratics which numbers are
 //! compared, specs/Widths how great they can be, specs/Positions what comes into the cutter along an
@@ -16,8 +17,6 @@ mod clear;
 mod cone;
 mod corner;
 mod edge;
-mod level;
-mod plane;
 mod quadratic;
 mod side;
 #[cfg(test)]

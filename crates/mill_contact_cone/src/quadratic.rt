@@ -1,6 +1,6 @@
 ghost use Rattle.std.specs.Prelude.{◌≡◌, ◌↔◌, ◌*ℤ◌, ◌<ℤ◌, pos, false, IsTrue};
 ghost use Rattle.mill_base.specs.Numbers.{Within};
-ghost use Rattle.mill_contact_cone.specs.inner.Widths.{most_cone_mixed_form};
+ghost use Rattle.mill_contact_cone.specs.inner.Widths.{most_blend_form};
 ghost use Rattle.mill_contact_cone.specs.inner.Quadratics.{FormInRange, BlendInRange, polar_of, turn_of, HitsBetween};
 
 /// The quadratic form `a * u * u + 2 * h * u * v + b * v * v`.
@@ -24,7 +24,7 @@ fn polar(form: Form, p: Blend, q: Blend) -> i128
     requires p_ok { BlendInRange p }
     requires q_ok { BlendInRange q }
     ensures value { result ≡ polar_of form p q }
-    ensures bound { Within most_cone_mixed_form result }
+    ensures bound { Within most_blend_form result }
 {
     let first = (p.u * q.u) as i128 * form.a as i128;
     let mixed = (p.u * q.v + p.v * q.u) as i128 * form.h as i128;

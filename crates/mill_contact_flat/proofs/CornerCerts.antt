@@ -1,4 +1,5 @@
--- Polynomial facts behind corners and boxes; written by tools/certificates.py from tools/certificates/mill_contact_flat_corner.spec.
+-- Polynomial facts behind corners and boxes.
+-- Written by tools/certificates.py from tools/certificates/mill_contact_flat_corner.spec.
 use Rattle.std.proofs.Common.{[], ◌∷◌, refl}
 use lib.IntN.{ℤ, pos, ◌+ℤ◌, ◌*ℤ◌}
 use lib.Signed.{◌<ℤ◌, ◌≤ℤ◌}

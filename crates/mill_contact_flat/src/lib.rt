@@ -17,7 +17,7 @@ ghost use Rattle.mill_base.specs.declared.limits.TheConstants.{MAX_WIDE_RADIUS};
 ghost use Rattle.mill_geom.specs.Widths.{widest, most_area};
 ghost use Rattle.mill_geom.specs.Contacts.{TouchesTriangle};
 ghost use Rattle.mill_geom.specs.Offsets.{IsCentre, OffsetInRange};
-ghost use Rattle.mill_geom.specs.Sides.{IsTouch, TouchesAt, along};
+ghost use Rattle.mill_geom.specs.Sides.{IsTouch, TouchesSlid, along};
 ghost use Rattle.mill_contact_flat.specs.Flats.{IsFlat, IsCornerInside};
 
 use mill_base::{Cutter, Pt3, Tri};
@@ -35,7 +35,7 @@ fn touch_along_x(a: Offset, b: Offset, c: Offset, radius: i64) -> Touch
     requires c_ok { OffsetInRange c }
     requires r_ok { Within widest radius }
     requires r_least { pos 0 <ℤ radius }
-    ensures { IsTouch result (TouchesAt radius a b c) }
+    ensures { IsTouch result (TouchesSlid radius a b c) }
 {
     if let Some(side) = box_side(a, b, c, radius) {
         return Touch::Apart(side);

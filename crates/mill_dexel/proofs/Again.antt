@@ -16,7 +16,7 @@ use Rattle.mill_job.specs.declared.job.Job.{Job}
 use Rattle.mill_job.specs.Columns.{column_x, column_y}
 use Rattle.mill_sweep.specs.Leaves.{end_of}
 use Rattle.mill_dexel.specs.declared.sample.Placed.{Placed}
-use Rattle.mill_dexel.specs.Samples.{placed, sample_at, split_of, centre_of, is_whole}
+use Rattle.mill_dexel.specs.Samples.{placed, sample_at, split_of, sample_centre, is_at_whole_place}
 use Rattle.mill_dexel.specs.Tops.{lowered_to, top_after_sample, top_after_move, tops_after_move}
 use Rattle.mill_dexel.specs.Rows.{top_at}
 use Rattle.mill_dexel.specs.Cuts.{IsCutBy, IsCutAt}
@@ -76,11 +76,11 @@ both_are false b p q = p
 sample_is : (cutter : Cutter) (m : Move) (d k : ℕ) (tip : Pt3) → IsWholeAt m d k tip → sample_at cutter m d k ≡ Some (placed cutter tip)
 sample_is cutter m d k tip at = sym (whole_is cutter m d k whole) ∙ ap (λ (p : Pt3). Some (placed cutter p)) centre
   where
-    whole : is_whole m d k ≡ true
+    whole : is_at_whole_place m d k ≡ true
     whole = both_are (divides (2 ^ d) (end_of m.from.x m.to.x d k)) (divides (2 ^ d) (end_of m.from.y m.to.y d k))
         (ap (divides (2 ^ d)) at.x ∙ whole_divides (2 ^ d) tip.x) (ap (divides (2 ^ d)) at.y ∙ whole_divides (2 ^ d) tip.y)
 
-    centre : centre_of m d k ≡ tip
+    centre : sample_centre m d k ≡ tip
     centre = place_of _ _ _ tip.x tip.y tip.z
         (ap (λ (e : ℤ). round_half_up e (2 ^ d)) at.x ∙ whole_nearest (2 ^ d) tip.x (pow_pos d))
         (ap (λ (e : ℤ). round_half_up e (2 ^ d)) at.y ∙ whole_nearest (2 ^ d) tip.y (pow_pos d))

@@ -10,7 +10,7 @@ use Rattle.mill_base.specs.declared.motion.Move.{Move}
 use Rattle.mill_job.specs.declared.job.Job.{Job}
 use Rattle.mill_job.specs.Columns.{column_y}
 use Rattle.mill_sweep.specs.Leaves.{end_of}
-use Rattle.mill_dexel.specs.Samples.{placed, sample_at, split_of, centre_of}
+use Rattle.mill_dexel.specs.Samples.{placed, sample_at, split_of, sample_centre}
 use Rattle.mill_dexel.specs.Tops.{tops_after_move}
 use Rattle.mill_dexel.specs.Cuts.{IsCutBy, IsBeyond}
 use Rattle.mill_dexel.proofs.InnerCerts.{between_low, between_high}
@@ -52,14 +52,14 @@ module _ (job : Job) (j : ℕ) (m : Move) (old : List ℤ) (size : IsCutter job.
   sample_keeps : (d k : ℕ) → k ≤ 2 ^ d → IsCutBy job j (sample_at job.cutter m d k) old old
   sample_keeps d k within =
       sample_cases job.cutter m d k (λ s. IsCutBy job j s old old)
-      (λ whole. beyond_keeps job j (placed job.cutter (centre_of m d k)) old size centre)
+      (λ whole. beyond_keeps job j (placed job.cutter (sample_centre m d k)) old size centre)
       (none_keeps job j old)
       (λ n e.
       let narrow = inner_is job.cutter n size e in
       beyond_keeps job j (narrow_sample job.cutter m d k n) old narrow.size
-      (beyond_less (radius_of job.cutter) (radius_of n) (centre_of m d k).y (column_y job j) (less (radius_of n) (radius_of job.cutter) narrow.radius) centre))
+      (beyond_less (radius_of job.cutter) (radius_of n) (sample_centre m d k).y (column_y job j) (less (radius_of n) (radius_of job.cutter) narrow.radius) centre))
     where
-      centre : IsBeyond (radius_of job.cutter) (centre_of m d k).y (centre_of m d k).y (column_y job j)
+      centre : IsBeyond (radius_of job.cutter) (sample_centre m d k).y (sample_centre m d k).y (column_y job j)
       centre = beyond_centre (radius_of job.cutter) (column_y job j) m.from.y m.to.y d k within beyond
 
       less : (a b : ℤ) → a +ℤ pos 1 ≡ b → a ≤ℤ b

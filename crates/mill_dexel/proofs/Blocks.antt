@@ -18,7 +18,7 @@ use Rattle.mill_sweep.proofs.Far.{far_passes}
 use Rattle.mill_dexel.specs.Tops.{tops_after_move}
 use Rattle.mill_dexel.specs.Rows.{RowState, IsRowOf, top_at}
 use Rattle.mill_dexel.specs.Cuts.{IsBeyond}
-use Rattle.mill_dexel.specs.Turns.{move_at, ClearsRow, StopsRow, tops_after, row_before, EndsAt, IsRunOn, IsTurned, EndsBy, IsRunUpTo, IsTurnedUpTo}
+use Rattle.mill_dexel.specs.Turns.{move_at, ClearsRow, StopsRow, tops_after, row_before, TurnsEndAt, IsRunOn, IsTurned, TurnsEndBy, IsRunUpTo, IsTurnedUpTo}
 use Rattle.mill_dexel.specs.inner.Bands.{IsInBand, IsBand, PassesOver}
 use Rattle.mill_dexel.specs.declared.fail.RowFail.{RowFail}
 use Rattle.mill_dexel.specs.declared.band.Band.{Band}
@@ -86,7 +86,7 @@ module _ (job : Job) (moves : List Move) (limit more : ℕ) (old mid new : RowSt
       same : (n : ℕ) → mid.done ≤ n → row_before job moves mid n ≡ row_before job moves old n
       same n to = row_parts job moves old mid n first.onward to mid_is
 
-      ends : (f : Option RowFail) → EndsBy job moves mid more new.done f → EndsBy job moves old more new.done f
+      ends : (f : Option RowFail) → TurnsEndBy job moves mid more new.done f → TurnsEndBy job moves old more new.done f
       ends None h = h
       ends (Some fail) h = (h.0, subst (λ (r : RowState). StopsRow job r (move_at moves new.done) fail) (same new.done second.onward) h.1)
 
@@ -95,7 +95,7 @@ module _ (job : Job) (moves : List Move) (limit more : ℕ) (old mid new : RowSt
   run_stays fail failed run = record {
     onward = run.onward;
     passed = run.passed;
-    ends = subst (EndsBy job moves old more mid.done) (sym failed) (subst (EndsBy job moves old limit mid.done) failed run.ends);
+    ends = subst (TurnsEndBy job moves old more mid.done) (sym failed) (subst (TurnsEndBy job moves old limit mid.done) failed run.ends);
     is = run.is;
   }
 
@@ -123,7 +123,7 @@ turns_start job moves r = by r.failed refl
     by None e = record {
       onward = omega arith;
       passed = λ k from to. absurd (omega (arith, from, to));
-      ends = subst (EndsBy job moves r 0 r.done) (sym e) (omega arith);
+      ends = subst (TurnsEndBy job moves r 0 r.done) (sym e) (omega arith);
       is = ap (λ (n : ℕ). record r { tops = tops_after job r.row (take n (drop r.done moves)) r.tops }) (sym (none r.done));
     }
     by (Some fail) e = refl
@@ -132,7 +132,7 @@ turns_start job moves r = by r.failed refl
 pub turns_end : (job : Job) (moves : List Move) (limit : ℕ) (old new : RowState) → length moves ≤ limit → IsTurnedUpTo job moves limit old new → IsTurned job moves old new
 turns_end job moves limit old new all = by old.failed
   where
-    ends : (f : Option RowFail) → EndsBy job moves old limit new.done f → EndsAt job moves old new.done f
+    ends : (f : Option RowFail) → TurnsEndBy job moves old limit new.done f → TurnsEndAt job moves old new.done f
     ends None h = omega (arith, all, h)
     ends (Some fail) h = h
 

@@ -1,4 +1,5 @@
--- Polynomial facts behind whole places at a move's ends; written by tools/certificates.py from tools/certificates/mill_dexel_ends.spec.
+-- Polynomial facts behind whole places at a move's ends.
+-- Written by tools/certificates.py from tools/certificates/mill_dexel_ends.spec.
 use Rattle.std.proofs.Common.{◌≡◌, [], ◌∷◌, refl}
 use lib.IntN.{ℤ, pos, ◌+ℤ◌, ◌-ℤ◌, ◌*ℤ◌}
 use lib.Signed.{◌<ℤ◌, ◌≤ℤ◌}

@@ -13,7 +13,7 @@ use Rattle.mill_base.specs.declared.points.Pt3.{Pt3}
 use Rattle.mill_base.specs.declared.motion.Move.{Move}
 use Rattle.mill_base.specs.declared.cutter.Cutter.{Cutter}
 use Rattle.mill_sweep.specs.Leaves.{end_of}
-use Rattle.mill_dexel.specs.Samples.{placed, sample_at, centre_of, is_whole}
+use Rattle.mill_dexel.specs.Samples.{placed, sample_at, sample_centre, is_at_whole_place}
 use Rattle.mill_dexel.proofs.LastCerts.{last_end, under_next}
 use Rattle.mill_dexel.proofs.InnerCerts.{nearest_high}
 use Rattle.mill_dexel.proofs.Places.{whole_is, whole_place}
@@ -72,13 +72,13 @@ end_at_last f t d = last_end (pos (2 ^ d)) f t
 both : (a b : Bool) → a ≡ true → b ≡ true → (a && b) ≡ true
 both a b e f = rw (e, f) refl
 
-pub last_is_whole : (m : Move) (d : ℕ) → is_whole m d (2 ^ d) ≡ true
+pub last_is_whole : (m : Move) (d : ℕ) → is_at_whole_place m d (2 ^ d) ≡ true
 last_is_whole m d = both _ _ (whole m.from.x m.to.x) (whole m.from.y m.to.y)
   where
     whole : (f t : ℤ) → divides (2 ^ d) (end_of f t d (2 ^ d)) ≡ true
     whole f t = ap (divides (2 ^ d)) (end_at_last f t d) ∙ is_multiple (2 ^ d) (pow_pos d) t
 
-pub last_centre : (m : Move) (d : ℕ) → centre_of m d (2 ^ d) ≡ m.to
+pub last_centre : (m : Move) (d : ℕ) → sample_centre m d (2 ^ d) ≡ m.to
 last_centre m d = at (near m.from.x m.to.x) (near m.from.y m.to.y) (up m.from.z m.to.z)
   where
     near : (f t : ℤ) → round_half_up (end_of f t d (2 ^ d)) (2 ^ d) ≡ t

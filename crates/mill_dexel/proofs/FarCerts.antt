@@ -1,4 +1,5 @@
--- Polynomial facts behind what stands far from a move; written by tools/certificates.py from tools/certificates/mill_dexel_far.spec.
+-- Polynomial facts behind what stands far from a move.
+-- Written by tools/certificates.py from tools/certificates/mill_dexel_far.spec.
 use Rattle.std.proofs.Common.{[], ◌∷◌, refl}
 use lib.IntN.{ℤ, pos, ◌+ℤ◌, ◌-ℤ◌, ◌*ℤ◌}
 use lib.Signed.{◌≤ℤ◌}

@@ -1,4 +1,5 @@
--- Polynomial facts behind the law of tops: an inner cutter lies inside the cutter; written by tools/certificates.py from tools/certificates/mill_dexel_inner.spec.
+-- Polynomial facts behind the law of tops: an inner cutter lies inside the cutter.
+-- Written by tools/certificates.py from tools/certificates/mill_dexel_inner.spec.
 use Rattle.std.proofs.Common.{◌≡◌, [], ◌∷◌, refl}
 use lib.IntN.{ℤ, pos, ◌+ℤ◌, ◌-ℤ◌, ◌*ℤ◌}
 use lib.Signed.{◌<ℤ◌, ◌≤ℤ◌}

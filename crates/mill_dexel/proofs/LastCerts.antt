@@ -1,4 +1,5 @@
--- Polynomial facts behind a move's last sample; written by tools/certificates.py from tools/certificates/mill_dexel_last.spec.
+-- Polynomial facts behind a move's last sample.
+-- Written by tools/certificates.py from tools/certificates/mill_dexel_last.spec.
 use Rattle.std.proofs.Common.{◌≡◌, [], ◌∷◌, refl}
 use lib.IntN.{ℤ, pos, ◌+ℤ◌, ◌-ℤ◌, ◌*ℤ◌}
 use lib.Signed.{◌<ℤ◌, ◌≤ℤ◌}

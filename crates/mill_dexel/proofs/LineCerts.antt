@@ -1,4 +1,5 @@
--- Polynomial facts behind the law that a move that passes a line of points passes each point under it; written by tools/certificates.py from tools/certificates/mill_dexel_line.spec.
+-- Polynomial facts behind the law that a move that passes a line of points passes each point under it.
+-- Written by tools/certificates.py from tools/certificates/mill_dexel_line.spec.
 use Rattle.std.proofs.Common.{◌≡◌, [], ◌∷◌, refl}
 use lib.IntN.{ℤ, pos, ◌+ℤ◌, ◌-ℤ◌, ◌*ℤ◌}
 use lib.Signed.{◌<ℤ◌, ◌≤ℤ◌}

@@ -17,7 +17,7 @@ use Rattle.mill_base.specs.declared.cutter.Cutter.TheVariants.{Flat, Ball, Cone}
 use Rattle.mill_sweep.specs.Leaves.{length_x, length_y}
 use Rattle.mill_sweep.specs.Widths.{longest, end_depth, farthest_end}
 use Rattle.mill_dexel.specs.declared.sample.Placed.{Placed}
-use Rattle.mill_dexel.specs.Samples.{placed, is_split, split_of, centre_of, is_whole, raised_over, sample_at}
+use Rattle.mill_dexel.specs.Samples.{placed, is_split, split_of, sample_centre, is_at_whole_place, raised_over, sample_at}
 use Rattle.mill_dexel.proofs.InnerCerts.{nearest_low, nearest_high}
 
 -- the least number that passes a test: this one, or one from the next on
@@ -175,24 +175,24 @@ inner_is cutter n size e =
 -- the cases of a sample: the cutter itself at a whole place, and else none or the narrower cutter, raised
 module _ (cutter : Cutter) (m : Move) (d k : ℕ) where
   abbrev pub narrow_sample : Cutter → Placed
-  narrow_sample n = placed n (point_at (centre_of m d k).x (centre_of m d k).y ((centre_of m d k).z +ℤ shift cutter (pos 1)))
+  narrow_sample n = placed n (point_at (sample_centre m d k).x (sample_centre m d k).y ((sample_centre m d k).z +ℤ shift cutter (pos 1)))
 
-  pub sample_cases : (P : Option Placed → Type 0) → (is_whole m d k ≡ true → P (Some (placed cutter (centre_of m d k)))) → P None
+  pub sample_cases : (P : Option Placed → Type 0) → (is_at_whole_place m d k ≡ true → P (Some (placed cutter (sample_centre m d k)))) → P None
       → ((n : Cutter) → inner cutter ≡ Some n → P (Some (narrow_sample n))) → P (sample_at cutter m d k)
-  sample_cases P whole none narrow = by (is_whole m d k) refl
+  sample_cases P whole none narrow = by (is_at_whole_place m d k) refl
     where
-      beside : (o : Option Cutter) → inner cutter ≡ o → P (raised_over (centre_of m d k) (shift cutter (pos 1)) o)
+      beside : (o : Option Cutter) → inner cutter ≡ o → P (raised_over (sample_centre m d k) (shift cutter (pos 1)) o)
       beside None e = none
       beside (Some n) e = narrow n e
 
-      by : (b : Bool) → is_whole m d k ≡ b → P (if b then Some (placed cutter (centre_of m d k)) else raised_over (centre_of m d k) (shift cutter (pos 1)) (inner cutter))
+      by : (b : Bool) → is_at_whole_place m d k ≡ b → P (if b then Some (placed cutter (sample_centre m d k)) else raised_over (sample_centre m d k) (shift cutter (pos 1)) (inner cutter))
       by true e = whole e
       by false e = beside (inner cutter) refl
 
-  pub whole_is : is_whole m d k ≡ true → Some (placed cutter (centre_of m d k)) ≡ sample_at cutter m d k
-  whole_is e = ap (λ (b : Bool). if b then Some (placed cutter (centre_of m d k)) else raised_over (centre_of m d k) (shift cutter (pos 1)) (inner cutter)) (sym e)
+  pub whole_is : is_at_whole_place m d k ≡ true → Some (placed cutter (sample_centre m d k)) ≡ sample_at cutter m d k
+  whole_is e = ap (λ (b : Bool). if b then Some (placed cutter (sample_centre m d k)) else raised_over (sample_centre m d k) (shift cutter (pos 1)) (inner cutter)) (sym e)
 
-  pub beside_is : (o : Option Cutter) → is_whole m d k ≡ false → inner cutter ≡ o → raised_over (centre_of m d k) (shift cutter (pos 1)) o ≡ sample_at cutter m d k
+  pub beside_is : (o : Option Cutter) → is_at_whole_place m d k ≡ false → inner cutter ≡ o → raised_over (sample_centre m d k) (shift cutter (pos 1)) o ≡ sample_at cutter m d k
   beside_is o e f =
-      ap (raised_over (centre_of m d k) (shift cutter (pos 1))) (sym f)
-      ∙ ap (λ (b : Bool). if b then Some (placed cutter (centre_of m d k)) else raised_over (centre_of m d k) (shift cutter (pos 1)) (inner cutter)) (sym e)
+      ap (raised_over (sample_centre m d k) (shift cutter (pos 1))) (sym f)
+      ∙ ap (λ (b : Bool). if b then Some (placed cutter (sample_centre m d k)) else raised_over (sample_centre m d k) (shift cutter (pos 1)) (inner cutter)) (sym e)

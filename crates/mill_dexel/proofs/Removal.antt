@@ -21,7 +21,7 @@ use Rattle.mill_sweep.specs.Leaves.{end_of}
 use Rattle.mill_sweep.proofs.Passing.{radius_least}
 use Rattle.mill_job.specs.declared.job.Job.{Job}
 use Rattle.mill_dexel.specs.declared.sample.Placed.{Placed}
-use Rattle.mill_dexel.specs.Samples.{placed, sample_at, split_of, centre_of, is_whole}
+use Rattle.mill_dexel.specs.Samples.{placed, sample_at, split_of, sample_centre, is_at_whole_place}
 use Rattle.mill_dexel.specs.Tops.{top_after_sample, top_after_move}
 use Rattle.mill_dexel.specs.Laws.{OverTopIsRemoved}
 use Rattle.mill_dexel.proofs.InnerCerts.{nearest_square}
@@ -77,10 +77,10 @@ radius_some : (r : ℤ) → (pos 1) ≤ℤ r → (pos 0) ≤ℤ r
 radius_some r h = omega (arith, ints)
 
 -- what a sample at a whole place holds, the cutter holds at that moment
-whole_holds : (cutter : Cutter) (m : Move) (d k : ℕ) (p : Pt3) → IsCutter cutter → is_whole m d k ≡ true → Holds cutter (pos 1) (centre_of m d k) (pos 1) p
+whole_holds : (cutter : Cutter) (m : Move) (d k : ℕ) (p : Pt3) → IsCutter cutter → is_at_whole_place m d k ≡ true → Holds cutter (pos 1) (sample_centre m d k) (pos 1) p
     → Holds cutter (pos (2 ^ d)) (tip_at m (pos k) (pos (2 ^ d))) (pos 1) p
 whole_holds cutter m d k p size whole held =
-    let c = centre_of m d k in
+    let c = sample_centre m d k in
     let both = both_true (divides (2 ^ d) (end_of m.from.x m.to.x d k)) (divides (2 ^ d) (end_of m.from.y m.to.y d k)) whole in
     inner_holds cutter (radius_of cutter) (pos 0) (pos 0) (pos (2 ^ d)) p c (tip_at m (pos k) (pos (2 ^ d))) (radius_some (radius_of cutter) (radius_least cutter size)) (omega (arith, ints)) (parts_some d) (unchanged (radius_of cutter))
     (no_raise cutter size)
@@ -95,7 +95,7 @@ whole_holds cutter m d k p size whole held =
 narrow_holds : (cutter n : Cutter) (m : Move) (d k : ℕ) (p : Pt3) → IsCutter cutter → inner cutter ≡ Some n → Holds n (pos 1) (narrow_sample cutter m d k n).tip (pos 1) p
     → Holds cutter (pos (2 ^ d)) (tip_at m (pos k) (pos (2 ^ d))) (pos 1) p
 narrow_holds cutter n m d k p size e held =
-    let c = centre_of m d k in
+    let c = sample_centre m d k in
     let narrow = inner_is cutter n size e in
     inner_holds cutter (radius_of cutter -ℤ pos 1) (pos 1) (shift cutter (pos 1)) (pos (2 ^ d)) p c (tip_at m (pos k) (pos (2 ^ d))) (less (radius_of cutter) (radius_least cutter size)) (omega (arith, ints)) (parts_some d) (back (radius_of cutter))
     (raise_of cutter size)
@@ -114,7 +114,7 @@ sample_removes : (cutter : Cutter) (m : Move) (d k : ℕ) (floor x y top h : ℤ
     → (top <ℤ h) ⊎ Removes cutter m (pos 1) (point_at x y h)
 sample_removes cutter m d k floor x y top h size at_most =
     sample_cases cutter m d k (λ s. top_after_sample floor x y top s <ℤ h → (top <ℤ h) ⊎ Removes cutter m (pos 1) (point_at x y h))
-    (λ whole under. elim (sample_holds (placed cutter (centre_of m d k)) floor x y top h size under) [
+    (λ whole under. elim (sample_holds (placed cutter (sample_centre m d k)) floor x y top h size under) [
       | inl before ↦ inl before
       | inr held ↦ inr (removes (whole_holds cutter m d k (point_at x y h) size whole held))
     ])

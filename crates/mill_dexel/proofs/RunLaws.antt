@@ -18,7 +18,7 @@ use Rattle.mill_job.specs.Jobs.{IsFrom}
 use Rattle.mill_dexel.specs.Cuts.{IsCutAt}
 use Rattle.mill_dexel.specs.Tops.{tops_after_move}
 use Rattle.mill_dexel.specs.Rows.{RowState, IsRowOf, row_point}
-use Rattle.mill_dexel.specs.Turns.{move_at, ClearsRow, turned, StopsRow, IsStopped, tops_after, row_before, PassesTurn, EndsAt, IsRunOn, IsTurned, EndsBy, IsRunUpTo, IsTurnedUpTo}
+use Rattle.mill_dexel.specs.Turns.{move_at, ClearsRow, turned, StopsRow, IsRowStopped, tops_after, row_before, PassesTurn, TurnsEndAt, IsRunOn, IsTurned, TurnsEndBy, IsRunUpTo, IsTurnedUpTo}
 use Rattle.mill_dexel.specs.declared.fail.RowFail.{RowFail}
 use Rattle.mill_dexel.proofs.Again.{cut_at_end}
 use Rattle.mill_dexel.proofs.RowLaws.{row_stays}
@@ -85,7 +85,7 @@ turn_cuts job moves now new k d there new_is =
 runs_up_to : (job : Job) (moves : List Move) (limit : ℕ) (old new : RowState) → old.failed ≡ None → IsRunUpTo job moves limit old new → IsTurnedUpTo job moves limit old new
 runs_up_to job moves limit old new unfailed run = subst (λ (o : Option RowFail). MatchOption o (IsRunUpTo job moves limit old new) (λ fail. new ≡ old)) (sym unfailed) run
 
-pub run_stopped : (job : Job) (moves : List Move) (limit : ℕ) (old now new : RowState) (k : ℕ) → k < length moves → IsRunTo job moves old now k → IsStopped job (move_at moves k) now new → IsTurnedUpTo job moves limit old new
+pub run_stopped : (job : Job) (moves : List Move) (limit : ℕ) (old now new : RowState) (k : ℕ) → k < length moves → IsRunTo job moves old now k → IsRowStopped job (move_at moves k) now new → IsTurnedUpTo job moves limit old new
 run_stopped job moves limit old now new k there run stopped = runs_up_to job moves limit old new run.unfailed
     (subst (IsRunUpTo job moves limit old) (sym (stopped.noted ∙ ap (λ (r : RowState). record r { failed = Some stopped.fail }) run.is)) (record {
       onward = run.onward;
@@ -98,7 +98,7 @@ pub run_ended : (job : Job) (moves : List Move) (limit : ℕ) (old now : RowStat
 run_ended job moves limit old now k over run = runs_up_to job moves limit old now run.unfailed (subst (IsRunUpTo job moves limit old) (sym run.is) (record {
   onward = run.onward;
   passed = run.passed;
-  ends = subst (EndsBy job moves old limit k) (sym run.unfailed) over;
+  ends = subst (TurnsEndBy job moves old limit k) (sym run.unfailed) over;
   is = refl;
 }))
 
@@ -158,11 +158,11 @@ stop_is_one job r m a b h g =
     same_fail a b (h.move ∙ sym g.move) col (leaf_is_one job.cutter m (point_tri (row_point job r a.col)) a.leaf b.leaf h.column.fails fails)
 
 -- a turn that passes isn't the end
-end_passes : (job : Job) (moves : List Move) (r : RowState) (k : ℕ) (failed : Option RowFail) → EndsAt job moves r k failed → PassesTurn job moves r k → ⊥
+end_passes : (job : Job) (moves : List Move) (r : RowState) (k : ℕ) (failed : Option RowFail) → TurnsEndAt job moves r k failed → PassesTurn job moves r k → ⊥
 end_passes job moves r k None ends passes = let there = passes.there in omega (arith, ends, there)
 end_passes job moves r k (Some fail) ends passes = ends.1.column.fails.fails (passes.clears ends.1.rapid fail.col ends.1.column.column)
 
-end_is_one : (job : Job) (moves : List Move) (r : RowState) (k : ℕ) (a b : Option RowFail) → EndsAt job moves r k a → EndsAt job moves r k b → a ≡ b
+end_is_one : (job : Job) (moves : List Move) (r : RowState) (k : ℕ) (a b : Option RowFail) → TurnsEndAt job moves r k a → TurnsEndAt job moves r k b → a ≡ b
 end_is_one job moves r k None None h g = refl
 end_is_one job moves r k None (Some f) h g = let there = g.0 in absurd (omega (arith, h, there))
 end_is_one job moves r k (Some f) None h g = let there = h.0 in absurd (omega (arith, g, there))
@@ -173,7 +173,7 @@ run_is_one job moves r a b h g =
     ap (λ (n : ℕ). record { row = n; tops = a.tops; done = a.done; failed = a.failed }) (h.row ∙ sym g.row)
     ∙ ap (λ (ts : List ℤ). record { row = b.row; tops = ts; done = a.done; failed = a.failed }) (h.tops ∙ ap (λ (n : ℕ). tops_after job r.row (slice_range moves r.done n) r.tops) done ∙ sym g.tops)
     ∙ ap (λ (n : ℕ). record { row = b.row; tops = b.tops; done = n; failed = a.failed }) done
-    ∙ ap (λ (o : Option RowFail). record { row = b.row; tops = b.tops; done = b.done; failed = o }) (end_is_one job moves r b.done a.failed b.failed (subst (λ (n : ℕ). EndsAt job moves r n a.failed) done h.ends) g.ends)
+    ∙ ap (λ (o : Option RowFail). record { row = b.row; tops = b.tops; done = b.done; failed = o }) (end_is_one job moves r b.done a.failed b.failed (subst (λ (n : ℕ). TurnsEndAt job moves r n a.failed) done h.ends) g.ends)
   where
     done : a.done ≡ b.done
     done = same_number a.done b.done (λ less. end_passes job moves r a.done a.failed h.ends (g.passed a.done h.onward less)) (λ less. end_passes job moves r b.done b.failed g.ends (h.passed b.done g.onward less))

@@ -56,5 +56,5 @@ pub record IsFirstStop (job : Job) (r : RowState) (m : Move) (i : ℕ) (leaf : L
   pub fails : FailsAt job.cutter m (point_tri (row_point job r i)) leaf
 
 -- the point at the top of column i blocks this segment of the move
-abbrev pub IsBlocked : Job → RowState → Move → ℕ → Leaf → Type 0
-IsBlocked job r m i leaf = Blocks job.cutter (span_of m leaf.d leaf.k) (point_tri (row_point job r i))
+abbrev pub IsColumnBlocked : Job → RowState → Move → ℕ → Leaf → Type 0
+IsColumnBlocked job r m i leaf = Blocks job.cutter (span_of m leaf.d leaf.k) (point_tri (row_point job r i))

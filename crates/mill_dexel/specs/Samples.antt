@@ -23,15 +23,15 @@ abbrev pub split_of : ℤ → Move → ℕ
 split_of sample m = least_from (is_split sample m) 64 0
 
 -- the tip at k/2^d at a whole place: x and y rounded to the nearest whole number, halves up, and z rounded up
-abbrev pub centre_of : Move → ℕ → ℕ → Pt3
-centre_of m d k = point_at
+abbrev pub sample_centre : Move → ℕ → ℕ → Pt3
+sample_centre m d k = point_at
     (round_half_up (end_of m.from.x m.to.x d k) (2 ^ d))
     (round_half_up (end_of m.from.y m.to.y d k) (2 ^ d))
     (ceil_div (end_of m.from.z m.to.z d k) (2 ^ d))
 
 -- the tip at k/2^d is at a whole place in x and in y
-abbrev pub is_whole : Move → ℕ → ℕ → Bool
-is_whole m d k = divides (2 ^ d) (end_of m.from.x m.to.x d k) && divides (2 ^ d) (end_of m.from.y m.to.y d k)
+abbrev pub is_at_whole_place : Move → ℕ → ℕ → Bool
+is_at_whole_place m d k = divides (2 ^ d) (end_of m.from.x m.to.x d k) && divides (2 ^ d) (end_of m.from.y m.to.y d k)
 
 -- a cutter, if there is one, with its tip over a point
 abbrev pub raised_over : Pt3 → ℤ → Option Cutter → Option Placed
@@ -41,8 +41,8 @@ raised_over c rise (Some cutter) = Some (placed cutter (point_at c.x c.y (c.z +�
 -- the sample at k/2^d: at a whole place the cutter itself, else the cutter narrowed by 1 and raised for that, none at radius 1
 abbrev pub sample_at : Cutter → Move → ℕ → ℕ → Option Placed
 sample_at cutter m d k =
-    if is_whole m d k then Some (placed cutter (centre_of m d k))
-    else raised_over (centre_of m d k) (shift cutter (pos 1)) (inner cutter)
+    if is_at_whole_place m d k then Some (placed cutter (sample_centre m d k))
+    else raised_over (sample_centre m d k) (shift cutter (pos 1)) (inner cutter)
 
 -- the samples of a move, at k/2^d for each k from 0 to 2^d
 abbrev pub samples : Cutter → ℤ → Move → List (Option Placed)

@@ -5,7 +5,7 @@ use Rattle.mill_base.specs.declared.motion.Move.{Move}
 use Rattle.mill_base.specs.declared.motion.Kind.TheVariants.{Rapid, Feed}
 use Rattle.mill_job.specs.declared.job.Job.{Job}
 use Rattle.mill_dexel.specs.Tops.{tops_after_move}
-use Rattle.mill_dexel.specs.Rows.{RowState, PassesRow, IsFirstStop, IsBlocked}
+use Rattle.mill_dexel.specs.Rows.{RowState, PassesRow, IsFirstStop, IsColumnBlocked}
 use Rattle.mill_dexel.specs.declared.fail.RowFail.{RowFail}
 
 -- move k; there is none past the end, so what stands there is never looked at
@@ -25,10 +25,10 @@ pub record StopsRow (job : Job) (r : RowState) (m : Move) (fail : RowFail) : Typ
   pub rapid : m.kind ≡ Rapid
   pub move : fail.at ≡ r.done
   pub column : IsFirstStop job r m fail.col fail.leaf
-  pub blocked : IsBlocked job r m fail.col fail.leaf
+  pub blocked : IsColumnBlocked job r m fail.col fail.leaf
 
 -- the row's next move was stopped: the failure is noted, and the rest is as it was
-pub record IsStopped (job : Job) (m : Move) (old new : RowState) : Type 0 where
+pub record IsRowStopped (job : Job) (m : Move) (old new : RowState) : Type 0 where
   pub fail : RowFail
   pub stops : StopsRow job old m fail
   pub noted : new ≡ record old { failed = Some fail }
@@ -47,15 +47,15 @@ pub record PassesTurn (job : Job) (moves : List Move) (r : RowState) (k : ℕ) :
   pub clears : ClearsRow job (row_before job moves r k) (move_at moves k)
 
 -- why a row's turns end before move k: there are no more moves, or that move fails
-abbrev pub EndsAt : Job → List Move → RowState → ℕ → Option RowFail → Type 0
-EndsAt job moves r k None = length moves ≤ k
-EndsAt job moves r k (Some fail) = (k < length moves) × StopsRow job (row_before job moves r k) (move_at moves k) fail
+abbrev pub TurnsEndAt : Job → List Move → RowState → ℕ → Option RowFail → Type 0
+TurnsEndAt job moves r k None = length moves ≤ k
+TurnsEndAt job moves r k (Some fail) = (k < length moves) × StopsRow job (row_before job moves r k) (move_at moves k) fail
 
 -- the row went through its turns, from its next move on, to the end of the moves or to the first one that failed
 pub record IsRunOn (job : Job) (moves : List Move) (old new : RowState) : Type 0 where
   pub onward : old.done ≤ new.done
   pub passed : (k : ℕ) → old.done ≤ k → k < new.done → PassesTurn job moves old k
-  pub ends : EndsAt job moves old new.done new.failed
+  pub ends : TurnsEndAt job moves old new.done new.failed
   pub row : new.row ≡ old.row
   pub tops : new.tops ≡ tops_after job old.row (slice_range moves old.done new.done) old.tops
 
@@ -64,15 +64,15 @@ abbrev pub IsTurned : Job → List Move → RowState → RowState → Type 0
 IsTurned job moves old new = MatchOption old.failed (IsRunOn job moves old new) (λ fail. new ≡ old)
 
 -- why a row's turns end before move k, where they go up to move limit: that move is next, or move k fails
-abbrev pub EndsBy : Job → List Move → RowState → ℕ → ℕ → Option RowFail → Type 0
-EndsBy job moves r limit k None = limit ≤ k
-EndsBy job moves r limit k (Some fail) = (k < length moves) × StopsRow job (row_before job moves r k) (move_at moves k) fail
+abbrev pub TurnsEndBy : Job → List Move → RowState → ℕ → ℕ → Option RowFail → Type 0
+TurnsEndBy job moves r limit k None = limit ≤ k
+TurnsEndBy job moves r limit k (Some fail) = (k < length moves) × StopsRow job (row_before job moves r k) (move_at moves k) fail
 
 -- the row went through its turns, from its next move on, up to move limit or to the first one that failed
 pub record IsRunUpTo (job : Job) (moves : List Move) (limit : ℕ) (old new : RowState) : Type 0 where
   pub onward : old.done ≤ new.done
   pub passed : (k : ℕ) → old.done ≤ k → k < new.done → PassesTurn job moves old k
-  pub ends : EndsBy job moves old limit new.done new.failed
+  pub ends : TurnsEndBy job moves old limit new.done new.failed
   pub is : new ≡ record (row_before job moves old new.done) { failed = new.failed }
 
 -- a row that had failed is as it was, and each other went through its turns up to move limit

@@ -6,8 +6,8 @@ ghost use Rattle.mill_job.specs.Jobs.{IsJob};
 ghost use Rattle.mill_dexel.specs.inner.Bands.{PassesOver};
 ghost use Rattle.mill_dexel.specs.Cuts.{IsCutAt};
 ghost use Rattle.mill_dexel.specs.Tops.{tops_after_move};
-ghost use Rattle.mill_dexel.specs.Rows.{IsRowOf, PassesRow, IsFirstStop, IsBlocked, row_point, uncut_tri};
-ghost use Rattle.mill_dexel.specs.Turns.{ClearsRow, IsStopped, StopsRow, move_at, turned};
+ghost use Rattle.mill_dexel.specs.Rows.{IsRowOf, PassesRow, IsFirstStop, IsColumnBlocked, row_point, uncut_tri};
+ghost use Rattle.mill_dexel.specs.Turns.{ClearsRow, IsRowStopped, StopsRow, move_at, turned};
 
 use crate::band::Band;
 use crate::cut::cut_move;
@@ -82,7 +82,7 @@ impl Row {
         requires row { IsRowOf job.now self.now }
         requires step { MoveInRange step.now }
         ensures first { MatchOption result (PassesRow job.now self.now step.now) (λ s. IsFirstStop job.now self.now step.now s.0 s.1) }
-        ensures blocked { IfSome result (λ s. IsBlocked job.now self.now step.now s.0 s.1) }
+        ensures blocked { IfSome result (λ s. IsColumnBlocked job.now self.now step.now s.0 s.1) }
     {
         if self.is_passed_uncut(job, step) {
             return None;
@@ -121,7 +121,7 @@ impl Row {
         requires there { t < length moves.now }
         ensures clears { IsTrue result → ClearsRow job.now self.old (move_at moves.now t) }
         ensures cut { IsTrue result → self.new ≡ turned job.now (move_at moves.now t) self.old }
-        ensures stopped { result ≡ false → IsStopped job.now (move_at moves.now t) self.old self.new }
+        ensures stopped { result ≡ false → IsRowStopped job.now (move_at moves.now t) self.old self.new }
         ensures row { IsRowOf job.now self.new }
     {
         self.turn_after(job, moves, t, None)
@@ -145,7 +145,7 @@ impl Row {
         requires last { IfSome last (λ tip. IsCutAt job.now self.old.row tip self.old.tops) }
         ensures clears { IsTrue result → ClearsRow job.now self.old (move_at moves.now t) }
         ensures cut { IsTrue result → self.new ≡ turned job.now (move_at moves.now t) self.old }
-        ensures stopped { result ≡ false → IsStopped job.now (move_at moves.now t) self.old self.new }
+        ensures stopped { result ≡ false → IsRowStopped job.now (move_at moves.now t) self.old self.new }
         ensures row { IsRowOf job.now self.new }
     {
         let step = &moves[t as usize];

@@ -5,7 +5,7 @@ ghost use Rattle.mill_base.specs.Ranges.{IsInRange, MoveInRange};
 ghost use Rattle.mill_base.specs.Sizes.{IsCutter};
 ghost use Rattle.mill_sweep.specs.Leaves.{length_x, length_y, end_of};
 ghost use Rattle.mill_sweep.specs.Widths.{longest, end_depth, farthest_end};
-ghost use Rattle.mill_dexel.specs.Samples.{split_of, centre_of, is_whole as is_whole_at, sample_at as sample_of};
+ghost use Rattle.mill_dexel.specs.Samples.{split_of, sample_centre, is_at_whole_place as is_whole_at, sample_at as sample_of};
 ghost use Rattle.mill_dexel.specs.Cuts.{IsSample, IsNarrowed};
 
 use mill_base::{Cutter, MAX_DEPTH, Move, Pt3, power_of_two};
@@ -115,7 +115,7 @@ fn centre_at(step: &Move, d: u32, k: u64) -> Centre
     requires step_ok { MoveInRange step.now }
     requires d_ok { d ≤ end_depth }
     requires k_ok { k ≤ 2 ^ d }
-    ensures tip { result.tip ≡ centre_of step.now d k }
+    ensures tip { result.tip ≡ sample_centre step.now d k }
     ensures tip_ok { IsInRange result.tip }
     ensures whole { result.is_whole ≡ is_whole_at step.now d k }
 {

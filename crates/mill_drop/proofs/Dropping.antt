@@ -7,7 +7,7 @@ use Rattle.std.proofs.lemmas.List.Elements.{Contains-get_or}
 use lib.IntN.{ℤ, pos, ◌-ℤ◌}
 use lib.Signed.{◌<ℤ◌, ◌≤ℤ◌}
 use Rattle.mill_base.specs.Numbers.{Within}
-use Rattle.mill_base.specs.declared.limits.TheConstants.{MAX_TEXT_COORDINATE}
+use Rattle.mill_base.specs.declared.limits.TheConstants.{MAX_COORDINATE}
 use Rattle.mill_base.specs.Points.{point_at, highest}
 use Rattle.mill_base.specs.Sizes.{IsCutter}
 use Rattle.mill_base.specs.declared.points.Tri.{Tri}
@@ -15,7 +15,7 @@ use Rattle.mill_base.specs.declared.points.Box2.{Box2}
 use Rattle.mill_base.specs.declared.cutter.Cutter.{Cutter}
 use Rattle.mill_cells.specs.Boxes.{Meet, IsNear, box_of, boxes_of, origin_box}
 use Rattle.mill_cells.specs.Ahead.{Ahead, Comes, NoneComes, AreDealt}
-use Rattle.mill_cells.specs.Sorted.{Sorted, sorted_of, height_at}
+use Rattle.mill_cells.specs.Sorted.{Sorted, sorted_of, top_at}
 use Rattle.mill_cells.proofs.PassedLemmas.{deals_on, deals_last, top_is}
 use Rattle.mill_drop.specs.Drops.{TouchesAt, GougesAt, IsRaised, IsDropHeight}
 use Rattle.mill_drop.specs.inner.Near.{AreFree, square_about}
@@ -54,13 +54,13 @@ IsFree cutter part d x y height i = i < length part → ¬ TouchesAt cutter (get
 -- the numbers ahead are those of triangles, and each near triangle is ahead or the cutter holds nothing of it at this height
 pub record RaisesSoFar (cutter : Cutter) (part : List Tri) (d : Tri) (area : Box2) (x y from : ℤ) (near : Ahead) (height : ℤ) : Type 0 where
   pub raised : IsRaised cutter part x y from height
-  pub bound : Within MAX_TEXT_COORDINATE height
+  pub bound : Within MAX_COORDINATE height
   pub tops : near.tops ≡ map highest part
   pub within : (i : ℕ) → Contains near.numbers i → i < length part
   pub dealt : AreDealt (IsNearBy part area) (IsFree cutter part d x y height) near.numbers
 
 -- before the first triangle, those near are ahead
-pub raise_starts : (cutter : Cutter) (part : List Tri) (d : Tri) (area : Box2) (x y from : ℤ) (s : Sorted) (near : Ahead) → Within MAX_TEXT_COORDINATE from → s ≡ sorted_of part → near.tops ≡ s.tops
+pub raise_starts : (cutter : Cutter) (part : List Tri) (d : Tri) (area : Box2) (x y from : ℤ) (s : Sorted) (near : Ahead) → Within MAX_COORDINATE from → s ≡ sorted_of part → near.tops ≡ s.tops
     → ((i : ℕ) → Contains near.numbers i ↔ IsNear s.boxes area i) → RaisesSoFar cutter part d area x y from near from
 raise_starts cutter part d area x y from s near ranged e same each = record {
   raised = raised_none cutter part x y from;
@@ -74,13 +74,13 @@ pub next_within : (cutter : Cutter) (part : List Tri) (d : Tri) (area : Box2) (x
 next_within cutter part d area x y from near later i z height h s = s.within i h.number
 
 -- the cutter holds nothing of a triangle whose top isn't over its tip
-low_top : (cutter : Cutter) (part : List Tri) (d : Tri) (x y height : ℤ) (tops : List ℤ) (j : ℕ) → IsCutter cutter → tops ≡ map highest part → height_at tops j ≤ℤ height → IsFree cutter part d x y height j
+low_top : (cutter : Cutter) (part : List Tri) (d : Tri) (x y height : ℤ) (tops : List ℤ) (j : ℕ) → IsCutter cutter → tops ≡ map highest part → top_at tops j ≤ℤ height → IsFree cutter part d x y height j
 low_top cutter part d x y height tops j ok e le inside t =
-    let top = ap (λ (ts : List ℤ). height_at ts j) e ∙ top_is part j d inside in
+    let top = ap (λ (ts : List ℤ). top_at ts j) e ∙ top_is part j d inside in
     over_top_free cutter (get_or part j d) x y height ok (subst (λ z. z ≤ℤ height) top le) t
 
 pub raise_goes_on : (cutter : Cutter) (part : List Tri) (d : Tri) (area : Box2) (x y from : ℤ) (near later : Ahead) (i : ℕ) (height new : ℤ) → IsCutter cutter → Comes height near i later
-    → RaisesSoFar cutter part d area x y from near height → height ≤ℤ new → Within MAX_TEXT_COORDINATE new → (¬ TouchesAt cutter (get_or part i d) x y new) → (new ≡ height) ⊎ TouchesAt cutter (get_or part i d) x y (new -ℤ pos 1)
+    → RaisesSoFar cutter part d area x y from near height → height ≤ℤ new → Within MAX_COORDINATE new → (¬ TouchesAt cutter (get_or part i d) x y new) → (new ≡ height) ⊎ TouchesAt cutter (get_or part i d) x y (new -ℤ pos 1)
     → RaisesSoFar cutter part d area x y from later new
 raise_goes_on cutter part d area x y from near later i height new ok h s more bound free least = record {
   raised = raised_twice cutter part x y from height new s.raised (record {

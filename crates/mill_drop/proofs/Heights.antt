@@ -5,8 +5,8 @@ use lib.IntN.{ℤ, pos, ◌-ℤ◌, ◌*ℤ◌}
 use lib.Signed.{◌<ℤ◌, ◌≤ℤ◌}
 use Rattle.std.proofs.lemmas.Int.{ints}
 use Rattle.mill_base.specs.Numbers.{Within, greater}
-use Rattle.mill_base.specs.declared.limits.TheConstants.{MAX_TEXT_COORDINATE}
-use Rattle.mill_base.specs.Ranges.{TriInTextRange}
+use Rattle.mill_base.specs.declared.limits.TheConstants.{MAX_COORDINATE, MAX_RADIUS, MAX_WIDE_RADIUS}
+use Rattle.mill_base.specs.Ranges.{TriInRange}
 use Rattle.mill_base.specs.Points.{minus, times, point_at, highest}
 use Rattle.mill_base.specs.Sizes.{IsCutter, IsWideCutter, radius_of}
 use Rattle.mill_base.specs.Cutters.{Inside}
@@ -51,14 +51,14 @@ lowered cutter tri x y z lower hl t = record {
 }
 
 -- the greater of two numbers in range is in range
-greater_within : (a b : ℤ) → Within MAX_TEXT_COORDINATE a → Within MAX_TEXT_COORDINATE b → Within MAX_TEXT_COORDINATE (greater a b)
+greater_within : (a b : ℤ) → Within MAX_COORDINATE a → Within MAX_COORDINATE b → Within MAX_COORDINATE (greater a b)
 greater_within a b ha hb = by (int_lt a b)
   where
-    by : (t : Bool) → Within MAX_TEXT_COORDINATE (cond t b a)
+    by : (t : Bool) → Within MAX_COORDINATE (cond t b a)
     by true = hb
     by false = ha
 
-pub highest_within : (tri : Tri) → TriInTextRange tri → Within MAX_TEXT_COORDINATE (highest tri)
+pub highest_within : (tri : Tri) → TriInRange tri → Within MAX_COORDINATE (highest tri)
 highest_within tri h = greater_within tri.a.z (greater tri.b.z tri.c.z) h.a_ok.z_ok (greater_within tri.b.z tri.c.z h.b_ok.z_ok h.c_ok.z_ok)
 
 through : (a b c : ℤ) → a ≤ℤ b → b ≤ℤ c → a ≤ℤ c
@@ -78,6 +78,6 @@ over_top_free cutter tri x y z ok h t =
 
 -- a job's cutter is one of a contact test's
 pub is_wide : (cutter : Cutter) → IsCutter cutter → IsWideCutter cutter
-is_wide (Flat r) h = record { least = h.least; within = through r (pos 10000) (pos 11024) h.within (omega (arith, ints)) }
-is_wide (Ball r) h = record { least = h.least; within = through r (pos 10000) (pos 11024) h.within (omega (arith, ints)) }
-is_wide (Cone r a b) h = (record { least = h.0.least; within = through r (pos 10000) (pos 11024) h.0.within (omega (arith, ints)) }, h.1)
+is_wide (Flat r) h = record { least = h.least; within = through r MAX_RADIUS MAX_WIDE_RADIUS h.within (omega (arith, ints)) }
+is_wide (Ball r) h = record { least = h.least; within = through r MAX_RADIUS MAX_WIDE_RADIUS h.within (omega (arith, ints)) }
+is_wide (Cone r a b) h = (record { least = h.0.least; within = through r MAX_RADIUS MAX_WIDE_RADIUS h.0.within (omega (arith, ints)) }, h.1)

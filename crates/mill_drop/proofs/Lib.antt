@@ -6,3 +6,4 @@ pub mod NearLemmas
 pub mod Dropping
 pub mod Scanning
 pub mod NodeLemmas
+pub mod Uniqueness

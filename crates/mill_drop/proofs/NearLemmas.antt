@@ -12,17 +12,11 @@ use Rattle.mill_base.specs.declared.cutter.Cutter.{Cutter}
 use Rattle.mill_base.proofs.Integers.{one-mul-ℤ}
 use Rattle.mill_shape.proofs.Holding.{holds_around}
 use Rattle.mill_cells.specs.Boxes.{Meet, box_of}
+use Rattle.mill_cells.proofs.Meeting.{Overlap, overlapping_meet, least_of_three, greatest_of_three, ends_in_order}
 use Rattle.mill_drop.specs.Drops.{TouchesAt}
 use Rattle.mill_drop.specs.inner.Near.{square_about}
 use Rattle.mill_drop.proofs.HeightCerts.{mean_low}
 use Rattle.mill_drop.proofs.NearCerts.{mean_high, reaches_up, reaches_down}
-
--- two stretches with ends the right way round that neither end before the other begins
-record Overlap (low high from to : ℤ) : Type 0 where
-  first : low ≤ℤ high
-  second : from ≤ℤ to
-  up : low ≤ℤ to
-  down : from ≤ℤ high
 
 -- along one axis: a mean of three places that is within r of x, and the stretch of the places
 overlap : (u v w n a b c p x r : ℤ) → (pos 0) ≤ℤ u → (pos 0) ≤ℤ v → (pos 0) ≤ℤ w → (pos 0) <ℤ n → n ≡ (u +ℤ v) +ℤ w → p ≡ (u *ℤ a +ℤ v *ℤ b) +ℤ w *ℤ c
@@ -31,46 +25,22 @@ overlap : (u v w n a b c p x r : ℤ) → (pos 0) ≤ℤ u → (pos 0) ≤ℤ v 
 overlap u v w n a b c p x r hu hv hw hn weights place hr near_up near_down =
     let low = lesser a (lesser b c) in
     let high = greater a (greater b c) in
-    let l = lows a b c in
-    let h = highs a b c in
+    let l = least_of_three a b c in
+    let h = greatest_of_three a b c in
     let over : (n *ℤ low) ≤ℤ p = rw (weights, place) (mean_high u v w a b c low hu hv hw l.0 l.1 l.2) in
     let under : p ≤ℤ (n *ℤ high) = rw (weights, place) (mean_low u v w a b c high hu hv hw h.0 h.1 h.2) in
     record {
-      first = ordered a b c;
+      first = ends_in_order a b c;
       second = wide x r hr;
       up = by_lt_z low (x +ℤ r) (λ less. not_over low (x +ℤ r) less) (λ ge. absurd (reaches_up n x r p low hn near_up over ge));
       down = by_lt_z (x -ℤ r) high (λ less. not_over (x -ℤ r) high less) (λ ge. absurd (reaches_down n x r p high hn near_down under ge));
     }
   where
-    lows : (a b c : ℤ) → (lesser a (lesser b c) ≤ℤ a) × (lesser a (lesser b c) ≤ℤ b) × (lesser a (lesser b c) ≤ℤ c)
-    lows a b c = grind (arith, ints)
-
-    highs : (a b c : ℤ) → (a ≤ℤ greater a (greater b c)) × (b ≤ℤ greater a (greater b c)) × (c ≤ℤ greater a (greater b c))
-    highs a b c = grind (arith, ints)
-
-    ordered : (a b c : ℤ) → lesser a (lesser b c) ≤ℤ greater a (greater b c)
-    ordered a b c = grind (arith, ints)
-
     wide : (x r : ℤ) → (pos 1) ≤ℤ r → (x -ℤ r) ≤ℤ (x +ℤ r)
     wide x r h = omega (arith, ints)
 
     not_over : (a b : ℤ) → a <ℤ b → a ≤ℤ b
     not_over a b h = omega (arith, ints)
-
--- the greater one of their beginnings is in both
-record IsCommonTo (low high from to at : ℤ) : Type 0 where
-  right : low ≤ℤ at
-  left : at ≤ℤ high
-  right_too : from ≤ℤ at
-  left_too : at ≤ℤ to
-
-common : (low high from to : ℤ) → Overlap low high from to → IsCommonTo low high from to (greater low from)
-common low high from to o =
-    let a = o.first in
-    let b = o.second in
-    let c = o.up in
-    let d = o.down in
-    record { right = grind (arith, ints); left = grind (arith, ints); right_too = grind (arith, ints); left_too = grind (arith, ints) }
 
 -- from the centre's offset as a point held has it
 side_up : (p q n x m r : ℤ) → q ≡ p → m ≡ n → (q -ℤ n *ℤ x) <ℤ (r *ℤ m) → (p -ℤ n *ℤ x) <ℤ (r *ℤ n)
@@ -94,11 +64,4 @@ touching_meets cutter tri x y z least t =
     (side_up t.p.x (pos 1 *ℤ t.p.x) t.n x (pos 1 *ℤ t.n) r px one around.east) (side_down t.p.x (pos 1 *ℤ t.p.x) t.n x (pos 1 *ℤ t.n) r px one around.west) in
     let in_y = overlap k.u k.v k.w t.n tri.a.y tri.b.y tri.c.y t.p.y y r k.u_ok k.v_ok k.w_ok k.some k.weights (ap (λ (q : Pt3). q.y) k.place) least
     (side_up t.p.y (pos 1 *ℤ t.p.y) t.n y (pos 1 *ℤ t.n) r py one around.north) (side_down t.p.y (pos 1 *ℤ t.p.y) t.n y (pos 1 *ℤ t.n) r py one around.south) in
-    let cx = common _ _ _ _ in_x in
-    let cy = common _ _ _ _ in_y in
-    record {
-      x = greater (box_of tri).x0 (x -ℤ r);
-      y = greater (box_of tri).y0 (y -ℤ r);
-      in_first = record { right = cx.right; left = cx.left; over = cy.right; under = cy.left };
-      in_second = record { right = cx.right_too; left = cx.left_too; over = cy.right_too; under = cy.left_too };
-    }
+    overlapping_meet (box_of tri) (square_about cutter x y) in_x in_y

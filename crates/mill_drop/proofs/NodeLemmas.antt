@@ -12,7 +12,7 @@ use Rattle.std.proofs.Math.Nat.{div-add-mod, lt-mul-div-succ}
 use lib.IntN.{ℤ, pos, ◌+ℤ◌, ◌-ℤ◌, ◌*ℤ◌}
 use lib.Signed.{◌≤ℤ◌}
 use Rattle.mill_base.specs.Numbers.{Within}
-use Rattle.mill_base.specs.declared.limits.TheConstants.{MAX_TEXT_COORDINATE}
+use Rattle.mill_base.specs.declared.limits.TheConstants.{MAX_COORDINATE}
 use Rattle.mill_base.specs.Lattices.{lattice_positions}
 use Rattle.mill_drop.specs.Maps.{rows_of}
 
@@ -164,7 +164,7 @@ get_or-positions lo hi step k order some inside =
     spans a b h = omega (arith, ints)
 
 -- such a position is in range
-pub position_within : (lo hi : ℤ) (n : ℕ) → Within MAX_TEXT_COORDINATE lo → Within MAX_TEXT_COORDINATE hi → lo ≤ℤ hi → Within MAX_TEXT_COORDINATE (lo +ℤ pos (min n (nat_abs (hi -ℤ lo))))
+pub position_within : (lo hi : ℤ) (n : ℕ) → Within MAX_COORDINATE lo → Within MAX_COORDINATE hi → lo ≤ℤ hi → Within MAX_COORDINATE (lo +ℤ pos (min n (nat_abs (hi -ℤ lo))))
 position_within lo hi n l h order =
     let a = l.within in
     let b = h.within in

@@ -1,3 +1,4 @@
 pub mod Drops
 pub mod Maps
+pub mod Unique
 pub mod inner

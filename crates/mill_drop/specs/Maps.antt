@@ -2,7 +2,7 @@
 use Rattle.std.specs.Prelude.{◌≡◌, ℕ, ◌<◌, ◌≤◌, ℤ, pos, ◌≤ℤ◌, List, map, length, slice_index_or}
 use Rattle.std.specs.List.{AllZip, flat_map}
 use Rattle.mill_base.specs.Numbers.{Within}
-use Rattle.mill_base.specs.declared.limits.TheConstants.{MAX_TEXT_COORDINATE}
+use Rattle.mill_base.specs.declared.limits.TheConstants.{MAX_COORDINATE, MAX_NODES}
 use Rattle.mill_base.specs.Sizes.{IsCutter}
 use Rattle.mill_base.specs.Lattices.{lattice_xs, lattice_ys, node_count}
 use Rattle.mill_base.specs.declared.points.Tri.{Tri}
@@ -31,21 +31,21 @@ IsHeightAt cutter part floor node z = IsDropHeight cutter part node.0 node.1 flo
 abbrev pub AreDropHeights : Cutter → List Tri → ℤ → Lattice → List ℤ → Type 0
 AreDropHeights cutter part floor lattice heights = AllZip (IsHeightAt cutter part floor) (nodes_of lattice) heights
 
--- its ends are in range and the right way round, its step is at least one unit, and it has at most 4,000,000 nodes
+-- its ends are in range and the right way round, its step is at least one unit, and it has no more nodes than a lattice may
 pub record IsMapLattice (lattice : Lattice) : Type 0 where
-  pub x0_ok : Within MAX_TEXT_COORDINATE lattice.area.x0
-  pub x1_ok : Within MAX_TEXT_COORDINATE lattice.area.x1
-  pub y0_ok : Within MAX_TEXT_COORDINATE lattice.area.y0
-  pub y1_ok : Within MAX_TEXT_COORDINATE lattice.area.y1
+  pub x0_ok : Within MAX_COORDINATE lattice.area.x0
+  pub x1_ok : Within MAX_COORDINATE lattice.area.x1
+  pub y0_ok : Within MAX_COORDINATE lattice.area.y0
+  pub y1_ok : Within MAX_COORDINATE lattice.area.y1
   pub x_order : lattice.area.x0 ≤ℤ lattice.area.x1
   pub y_order : lattice.area.y0 ≤ℤ lattice.area.y1
   pub step_ok : (pos 1) ≤ℤ lattice.step
-  pub few : node_count lattice ≤ 4000000
+  pub few : node_count lattice ≤ MAX_NODES
 
 -- what a drop height at the node of this number needs
 pub record IsNodeTask (part : List Tri) (cells : Sorted) (cutter : Cutter) (lattice : Lattice) (floor : ℤ) (number : ℕ) : Type 0 where
   pub cells_ok : cells ≡ sorted_of part
   pub cutter_ok : IsCutter cutter
   pub lattice_ok : IsMapLattice lattice
-  pub floor_ok : Within MAX_TEXT_COORDINATE floor
+  pub floor_ok : Within MAX_COORDINATE floor
   pub number_ok : number < length (nodes_of lattice)

@@ -1,14 +1,15 @@
 //! The drop height: how far a cutter can go down over a place until it touches the part.
 //!
-//! It stands on the part and its cells (mill_part, mill_cells) and on the contact crates. It
-//! promises that `drop_at` gives the least whole height at which the cutter doesn't gouge, exactly,
-//! for every triangle and cutter, and `drop_once` the same without cells; `drop_map` gives the list of
-//! them over a lattice, whatever the number of threads. `specs/Drops` says what a drop height is, and
-//! `specs/Maps` in which order the nodes of a lattice come.
+//! It stands on the part and its cells (mill_part, mill_cells) and on mill_sweep, which chooses the
+//! contact test of a cutter. It promises that `drop_at` gives the least whole height at which the
+//! cutter doesn't gouge, exactly, for every triangle and cutter, and `drop_once` the same without
+//! cells; `drop_map` gives the list of them over a lattice, whatever the number of threads.
+//! `specs/Drops` says what a drop height is, `specs/Maps` in which order the nodes of a lattice come,
+//! and `specs/Unique` that a lattice has one list of drop heights at most.
 #![tactic(auto)]
 
-mod contact;
 mod drop;
+mod laws;
 mod map;
 mod near;
 mod nodes;
@@ -18,6 +19,7 @@ mod search;
 mod tests;
 
 pub use drop::drop_at;
+pub use laws::drop_heights_are_unique;
 pub use map::drop_map;
 pub use nodes::{node, node_columns, node_rows};
 pub use once::drop_once;

@@ -1,6 +1,6 @@
 ghost use Rattle.std.specs.Prelude.{◌≡◌, IfOk};
 ghost use Rattle.mill_base.specs.Numbers.{Within};
-ghost use Rattle.mill_base.specs.declared.limits.TheConstants.{MAX_TEXT_COORDINATE};
+ghost use Rattle.mill_base.specs.declared.limits.TheConstants.{MAX_COORDINATE};
 ghost use Rattle.mill_base.specs.Sizes.{IsCutter};
 ghost use Rattle.mill_cells.specs.Sorted.{sorted_of};
 ghost use Rattle.mill_drop.specs.Maps.{AreDropHeights, IsHeightAt, IsMapLattice, IsNodeTask, node_at};
@@ -11,14 +11,14 @@ use mill_base::{Cutter, Lattice, WantOfMemory};
 use mill_cells::Cells;
 use mill_part::Part;
 use rayon::prelude::*;
-use std::alloc::{AllocError, Global};
+use std::alloc::Global;
 use std::thread::Threads;
 
 /// The drop heights at all nodes of the lattice: row by row with y ascending, and with x ascending
 /// along each row. They are the same whatever the number of threads.
 ///
-/// `cells` are those of the part's triangles, and the lattice has at most 4,000,000 nodes. Lengths
-/// are in units of 0.01 mm, of at most 131,071 in magnitude.
+/// `cells` are those of the part's triangles, and the lattice has at most `MAX_NODES` nodes. Lengths
+/// are in units of 0.01 mm, of at most `MAX_COORDINATE` in magnitude.
 pub fn drop_map<R: Threads + Sync>(
     rt: &R,
     alloc: Global,
@@ -31,30 +31,11 @@ pub fn drop_map<R: Threads + Sync>(
     requires cells_ok { cells.now ≡ sorted_of part.now }
     requires cutter_ok { IsCutter cutter }
     requires lattice_ok { IsMapLattice lattice.now }
-    requires floor_ok { Within MAX_TEXT_COORDINATE floor }
-    ensures { IfOk result (λ heights. AreDropHeights cutter part.now floor lattice.now heights.items) }
-{
-    Ok(heights(rt, alloc, part, cells, cutter, lattice, floor)?)
-}
-
-/// The same, whose only error is the allocator's.
-fn heights<R: Threads + Sync>(
-    rt: &R,
-    alloc: Global,
-    part: &Part,
-    cells: &Cells,
-    cutter: Cutter,
-    lattice: &Lattice,
-    floor: i32,
-) -> Result<Vec<i32>, AllocError>
-    requires cells_ok { cells.now ≡ sorted_of part.now }
-    requires cutter_ok { IsCutter cutter }
-    requires lattice_ok { IsMapLattice lattice.now }
-    requires floor_ok { Within MAX_TEXT_COORDINATE floor }
+    requires floor_ok { Within MAX_COORDINATE floor }
     ensures { IfOk result (λ heights. AreDropHeights cutter part.now floor lattice.now heights.items) }
 {
     let nodes = lattice.nodes() as u32;
-    (0..nodes)
+    let heights = (0..nodes)
         .into_par_iter()
         .map(
             |number: u32| -> i32
@@ -62,7 +43,8 @@ fn heights<R: Threads + Sync>(
                 ensures { IsHeightAt cutter part.entry.now floor (node_at lattice.entry.now number) result }
             { height_at(part, cells, cutter, lattice, floor, number) },
         )
-        .collect(rt, alloc)
+        .collect(rt, alloc)?;
+    Ok(heights)
 }
 
 /// The drop height at the node of this number.

@@ -1,6 +1,6 @@
 ghost use Rattle.std.specs.Prelude.{◌≡◌};
 ghost use Rattle.mill_base.specs.Numbers.{Within};
-ghost use Rattle.mill_base.specs.declared.limits.TheConstants.{MAX_TEXT_COORDINATE};
+ghost use Rattle.mill_base.specs.declared.limits.TheConstants.{MAX_COORDINATE};
 ghost use Rattle.mill_base.specs.Sizes.{IsCutter};
 ghost use Rattle.mill_cells.specs.Sorted.{sorted_of};
 ghost use Rattle.mill_drop.specs.Drops.{IsRaised};
@@ -15,8 +15,8 @@ use mill_part::Part;
 /// The square about the place in which a cutter over it is.
 pub fn square_around(cutter: Cutter, x: i32, y: i32) -> Box2
     requires cutter_ok { IsCutter cutter }
-    requires x_ok { Within MAX_TEXT_COORDINATE x }
-    requires y_ok { Within MAX_TEXT_COORDINATE y }
+    requires x_ok { Within MAX_COORDINATE x }
+    requires y_ok { Within MAX_COORDINATE y }
     ensures { result ≡ square_about cutter x y }
 {
     let radius = cutter.radius();
@@ -45,10 +45,10 @@ fn only(x: i32, y: i32) -> Box2
 pub fn raised_near(part: &Part, cells: &Cells, spindle: Spindle, area: Box2, from: i32) -> i32
     requires cells_ok { cells.now ≡ sorted_of part.now }
     requires spindle_ok { IsSpindle spindle }
-    requires from_ok { Within MAX_TEXT_COORDINATE from }
+    requires from_ok { Within MAX_COORDINATE from }
     ensures raised { IsRaised spindle.cutter part.now spindle.x spindle.y from result }
     ensures free { AreFree spindle.cutter part.now area spindle.x spindle.y result }
-    ensures bound { Within MAX_TEXT_COORDINATE result }
+    ensures bound { Within MAX_COORDINATE result }
 {
     let tris = part.tris();
     let mut height = from;
@@ -67,9 +67,9 @@ pub fn raised_near(part: &Part, cells: &Cells, spindle: Spindle, area: Box2, fro
 pub fn start_height(part: &Part, cells: &Cells, spindle: Spindle, from: i32) -> i32
     requires cells_ok { cells.now ≡ sorted_of part.now }
     requires spindle_ok { IsSpindle spindle }
-    requires from_ok { Within MAX_TEXT_COORDINATE from }
+    requires from_ok { Within MAX_COORDINATE from }
     ensures raised { IsRaised spindle.cutter part.now spindle.x spindle.y from result }
-    ensures bound { Within MAX_TEXT_COORDINATE result }
+    ensures bound { Within MAX_COORDINATE result }
 {
     let area = only(spindle.x, spindle.y);
     let height = raised_near(part, cells, spindle, area, from);
@@ -84,9 +84,9 @@ pub fn start_height(part: &Part, cells: &Cells, spindle: Spindle, from: i32) -> 
 fn edge_height(part: &Part, cells: &Cells, spindle: Spindle, from: i32) -> i32
     requires cells_ok { cells.now ≡ sorted_of part.now }
     requires spindle_ok { IsSpindle spindle }
-    requires from_ok { Within MAX_TEXT_COORDINATE from }
+    requires from_ok { Within MAX_COORDINATE from }
     ensures raised { IsRaised spindle.cutter part.now spindle.x spindle.y from result }
-    ensures bound { Within MAX_TEXT_COORDINATE result }
+    ensures bound { Within MAX_COORDINATE result }
 {
     let Spindle { cutter, x, y } = spindle;
     let Box2 { x0, x1, .. } = square_around(cutter, x, y);

@@ -1,5 +1,5 @@
 ghost use Rattle.mill_base.specs.Numbers.{Within};
-ghost use Rattle.mill_base.specs.declared.limits.TheConstants.{MAX_TEXT_COORDINATE};
+ghost use Rattle.mill_base.specs.declared.limits.TheConstants.{MAX_COORDINATE};
 ghost use Rattle.mill_base.specs.Sizes.{IsCutter};
 ghost use Rattle.mill_drop.specs.Drops.{IsDropHeight};
 
@@ -11,11 +11,11 @@ use mill_part::Part;
 /// single place that is less work than making cells.
 pub fn drop_once(part: &Part, cutter: Cutter, x: i32, y: i32, floor: i32) -> i32
     requires cutter_ok { IsCutter cutter }
-    requires x_ok { Within MAX_TEXT_COORDINATE x }
-    requires y_ok { Within MAX_TEXT_COORDINATE y }
-    requires floor_ok { Within MAX_TEXT_COORDINATE floor }
+    requires x_ok { Within MAX_COORDINATE x }
+    requires y_ok { Within MAX_COORDINATE y }
+    requires floor_ok { Within MAX_COORDINATE floor }
     ensures drop { IsDropHeight cutter part.now x y floor result }
-    ensures bound { Within MAX_TEXT_COORDINATE result }
+    ensures bound { Within MAX_COORDINATE result }
 {
     let spindle = Spindle { cutter, x, y };
     let mut height = floor;

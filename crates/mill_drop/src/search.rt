@@ -1,13 +1,13 @@
 ghost use Rattle.std.specs.Prelude.{◌≡◌, ◌⊎◌, ◌+ℤ◌, ◌-ℤ◌, ◌≤ℤ◌, ◌<ℤ◌, pos, false, IsTrue};
 ghost use Rattle.mill_base.specs.Numbers.{Within};
-ghost use Rattle.mill_base.specs.declared.limits.TheConstants.{MAX_TEXT_COORDINATE};
+ghost use Rattle.mill_base.specs.declared.limits.TheConstants.{MAX_COORDINATE};
 ghost use Rattle.mill_base.specs.Points.{highest as highest_of};
-ghost use Rattle.mill_base.specs.Ranges.{TriInTextRange};
+ghost use Rattle.mill_base.specs.Ranges.{TriInRange};
 ghost use Rattle.mill_drop.specs.Drops.{TouchesAt};
 ghost use Rattle.mill_drop.specs.inner.Spindles.{IsSpindle};
 
-use crate::contact::holds_some;
 use mill_base::{Cutter, Pt3, Tri};
+use mill_sweep::holds_some;
 
 /// A cutter over a place, whose height is looked for.
 #[derive(Clone, Copy)]
@@ -21,8 +21,8 @@ impl Spindle {
     /// Whether some point of the triangle is strictly inside the cutter with its tip at height `z`.
     fn holds_some(self, tri: &Tri, z: i32) -> bool
         requires self_ok { IsSpindle self }
-        requires tri_ok { TriInTextRange tri.now }
-        requires z_ok { Within MAX_TEXT_COORDINATE z }
+        requires tri_ok { TriInRange tri.now }
+        requires z_ok { Within MAX_COORDINATE z }
         ensures yes { IsTrue result → TouchesAt self.cutter tri.now self.x self.y z }
         ensures no { result ≡ false → ¬ TouchesAt self.cutter tri.now self.x self.y z }
     {
@@ -35,74 +35,31 @@ impl Spindle {
     }
 
     /// The least height over `low` at which the triangle is free, where the cutter holds some of it
-    /// at `low` and none at `high`.
-    fn least_free(self, tri: &Tri, low: i32, high: i32) -> i32
+    /// at `low` and none at `top`.
+    fn least_free(self, tri: &Tri, low: i32, top: i32) -> i32
         requires self_ok { IsSpindle self }
-        requires tri_ok { TriInTextRange tri.now }
-        requires low_ok { Within MAX_TEXT_COORDINATE low }
-        requires high_ok { Within MAX_TEXT_COORDINATE high }
-        requires order { low <ℤ high }
+        requires tri_ok { TriInRange tri.now }
+        requires low_ok { Within MAX_COORDINATE low }
+        requires top_ok { Within MAX_COORDINATE top }
+        requires order { low <ℤ top }
         requires held { TouchesAt self.cutter tri.now self.x self.y low }
-        requires free { ¬ TouchesAt self.cutter tri.now self.x self.y high }
+        requires free { ¬ TouchesAt self.cutter tri.now self.x self.y top }
         ensures over { low <ℤ result }
-        ensures under { result ≤ℤ high }
+        ensures under { result ≤ℤ top }
         ensures free { ¬ TouchesAt self.cutter tri.now self.x self.y result }
         ensures least { TouchesAt self.cutter tri.now self.x self.y (result -ℤ pos 1) }
     {
         let mut low = low;
-        let mut high = high;
+        let mut high = top;
         while low + 1 < high {
-            let middle = middle(low, high);
-            if self.holds_some(tri, middle) {
-                low = middle;
+            let tried = between(self.cutter, low, high, top);
+            if self.holds_some(tri, tried) {
+                low = tried;
             } else {
-                high = middle;
+                high = tried;
             }
         }
         high
-    }
-
-    /// The same for a flat cutter, whose tip stands on the triangle's top wherever the highest corner is
-    /// under it: so one unit under `high` is tried first.
-    fn least_free_flat(self, tri: &Tri, low: i32, high: i32) -> i32
-        requires self_ok { IsSpindle self }
-        requires tri_ok { TriInTextRange tri.now }
-        requires low_ok { Within MAX_TEXT_COORDINATE low }
-        requires high_ok { Within MAX_TEXT_COORDINATE high }
-        requires order { low <ℤ high }
-        requires held { TouchesAt self.cutter tri.now self.x self.y low }
-        requires free { ¬ TouchesAt self.cutter tri.now self.x self.y high }
-        ensures over { low <ℤ result }
-        ensures under { result ≤ℤ high }
-        ensures free { ¬ TouchesAt self.cutter tri.now self.x self.y result }
-        ensures least { TouchesAt self.cutter tri.now self.x self.y (result -ℤ pos 1) }
-    {
-        let below = high - 1;
-        if self.holds_some(tri, below) {
-            return high;
-        }
-        self.least_free(tri, low, below)
-    }
-
-    /// The same for any cutter.
-    fn least_free_under(self, tri: &Tri, low: i32, high: i32) -> i32
-        requires self_ok { IsSpindle self }
-        requires tri_ok { TriInTextRange tri.now }
-        requires low_ok { Within MAX_TEXT_COORDINATE low }
-        requires high_ok { Within MAX_TEXT_COORDINATE high }
-        requires order { low <ℤ high }
-        requires held { TouchesAt self.cutter tri.now self.x self.y low }
-        requires free { ¬ TouchesAt self.cutter tri.now self.x self.y high }
-        ensures over { low <ℤ result }
-        ensures under { result ≤ℤ high }
-        ensures free { ¬ TouchesAt self.cutter tri.now self.x self.y result }
-        ensures least { TouchesAt self.cutter tri.now self.x self.y (result -ℤ pos 1) }
-    {
-        match self.cutter {
-            Cutter::Flat { .. } => self.least_free_flat(tri, low, high),
-            Cutter::Ball { .. } => self.least_free(tri, low, high),
-            Cutter::Cone { .. } => self.least_free(tri, low, high),
-        }
     }
 
     /// The least height, from `from` on, at which the triangle is free.
@@ -111,10 +68,10 @@ impl Spindle {
     /// their heights, and of the others most by one test.
     pub fn raised(self, tri: &Tri, from: i32) -> i32
         requires self_ok { IsSpindle self }
-        requires tri_ok { TriInTextRange tri.now }
-        requires from_ok { Within MAX_TEXT_COORDINATE from }
+        requires tri_ok { TriInRange tri.now }
+        requires from_ok { Within MAX_COORDINATE from }
         ensures kept { from ≤ℤ result }
-        ensures bound { Within MAX_TEXT_COORDINATE result }
+        ensures bound { Within MAX_COORDINATE result }
         ensures free { ¬ TouchesAt self.cutter tri.now self.x self.y result }
         ensures least { (result ≡ from) ⊎ TouchesAt self.cutter tri.now self.x self.y (result -ℤ pos 1) }
     {
@@ -125,19 +82,25 @@ impl Spindle {
         if !self.holds_some(tri, from) {
             return from;
         }
-        self.least_free_under(tri, from, top)
+        self.least_free(tri, from, top)
     }
 }
 
-/// A height between two others.
-fn middle(low: i32, high: i32) -> i32
-    requires low_ok { Within MAX_TEXT_COORDINATE low }
-    requires high_ok { Within MAX_TEXT_COORDINATE high }
+/// The height between two others that is tried next: mostly one in the middle.
+///
+/// A flat cutter stands on a triangle's top wherever the highest corner is under it, so for a flat
+/// cutter one unit under the top is tried first.
+fn between(cutter: Cutter, low: i32, high: i32, top: i32) -> i32
+    requires low_ok { Within MAX_COORDINATE low }
+    requires high_ok { Within MAX_COORDINATE high }
     requires room { (low +ℤ pos 1) <ℤ high }
     ensures over { low <ℤ result }
     ensures under { result <ℤ high }
 {
-    low + (high - low) / 2
+    match cutter {
+        Cutter::Flat { .. } if high == top => high - 1,
+        _ => low + (high - low) / 2,
+    }
 }
 
 /// The greatest of a triangle's three heights.

@@ -15,14 +15,14 @@ use Rattle.mill_geom.specs.declared.touch.Touch.{Touch}
 use Rattle.mill_geom.specs.declared.touch.Touch.TheVariants.{Inside, Apart}
 use Rattle.mill_geom.specs.Offsets.{mean3, IsOffset}
 use Rattle.mill_geom.specs.Contacts.{TouchesTriangle}
-use Rattle.mill_geom.specs.Sides.{IsOnSide, IsTouch, TouchesAt, along, slid_by, turned_to}
+use Rattle.mill_geom.specs.Sides.{IsOnSide, IsTouch, TouchesSlid, along, slid_by, turned_to}
 use Rattle.mill_geom.proofs.LevelCerts.{near_same}
 use Rattle.mill_geom.proofs.PlaceCerts.{swap_near}
 use Rattle.mill_geom.proofs.StripCerts.{unslid}
 use Rattle.mill_geom.proofs.Places.{touch_place, place_touch}
 
 -- a touch is one at the position 0
-pub touch_here : (r : ℤ) (a b c : Offset) → TouchesTriangle r a b c → TouchesAt r a b c (pos 0)
+pub touch_here : (r : ℤ) (a b c : Offset) → TouchesTriangle r a b c → TouchesSlid r a b c (pos 0)
 touch_here r a b c v = record {
   u = v.u;
   v = v.v;
@@ -78,7 +78,7 @@ offset_y d p tip t o = record { x_is = o.x_is; y_is = moved d.y p.y tip.y t o.y_
 
 -- the touches of a triangle's offsets, turned to the axis, are those of the triangle at the tips along it
 pub at_along : (r : ℤ) (tri : Tri) (tip : Pt3) (axis : Axis) (a b c : Offset) (t : ℤ) → IsOffset a tri.a tip → IsOffset b tri.b tip → IsOffset c tri.c tip
-    → TouchesAt r (turned_to axis a) (turned_to axis b) (turned_to axis c) t → Touches (Flat r) (pos 1) (along axis tip t) tri
+    → TouchesSlid r (turned_to axis a) (turned_to axis b) (turned_to axis c) t → Touches (Flat r) (pos 1) (along axis tip t) tri
 unfolding slid_y
 at_along r tri tip X a b c t oa ob oc v = touch_place r tri (along X tip t) (slid_by t a) (slid_by t b) (slid_by t c) (offset_x a tri.a tip t oa) (offset_x b tri.b tip t ob) (offset_x c tri.c tip t oc) v
 at_along r tri tip Y a b c t oa ob oc v =
@@ -86,7 +86,7 @@ at_along r tri tip Y a b c t oa ob oc v =
     (swap_touch r (slid_by t (turned_to Y a)) (slid_by t (turned_to Y b)) (slid_by t (turned_to Y c)) v)
 
 pub along_at : (r : ℤ) (tri : Tri) (tip : Pt3) (axis : Axis) (a b c : Offset) (t : ℤ) → IsOffset a tri.a tip → IsOffset b tri.b tip → IsOffset c tri.c tip
-    → Touches (Flat r) (pos 1) (along axis tip t) tri → TouchesAt r (turned_to axis a) (turned_to axis b) (turned_to axis c) t
+    → Touches (Flat r) (pos 1) (along axis tip t) tri → TouchesSlid r (turned_to axis a) (turned_to axis b) (turned_to axis c) t
 unfolding slid_y
 along_at r tri tip X a b c t oa ob oc v = place_touch r tri (along X tip t) (slid_by t a) (slid_by t b) (slid_by t c) (offset_x a tri.a tip t oa) (offset_x b tri.b tip t ob) (offset_x c tri.c tip t oc) v
 along_at r tri tip Y a b c t oa ob oc v =
@@ -95,7 +95,7 @@ along_at r tri tip Y a b c t oa ob oc v =
 
 -- an answer about the turned offsets is one about the triangle
 pub touch_along : (s : Touch) (r : ℤ) (tri : Tri) (tip : Pt3) (axis : Axis) (a b c : Offset) → IsOffset a tri.a tip → IsOffset b tri.b tip → IsOffset c tri.c tip
-    → IsTouch s (TouchesAt r (turned_to axis a) (turned_to axis b) (turned_to axis c)) → IsTouch s (λ t. Touches (Flat r) (pos 1) (along axis tip t) tri)
+    → IsTouch s (TouchesSlid r (turned_to axis a) (turned_to axis b) (turned_to axis c)) → IsTouch s (λ t. Touches (Flat r) (pos 1) (along axis tip t) tri)
 touch_along s r tri tip axis a b c oa ob oc h =
-    touch_carried s (TouchesAt r (turned_to axis a) (turned_to axis b) (turned_to axis c)) (λ t. Touches (Flat r) (pos 1) (along axis tip t) tri)
+    touch_carried s (TouchesSlid r (turned_to axis a) (turned_to axis b) (turned_to axis c)) (λ t. Touches (Flat r) (pos 1) (along axis tip t) tri)
     (at_along r tri tip axis a b c (pos 0) oa ob oc) (λ t. along_at r tri tip axis a b c t oa ob oc) h

@@ -1,4 +1,5 @@
--- Polynomial facts behind points of a triangle on the level; written by tools/certificates.py from tools/certificates/mill_geom_cut.spec.
+-- Polynomial facts behind points of a triangle on the level.
+-- Written by tools/certificates.py from tools/certificates/mill_geom_cut.spec.
 use Rattle.std.proofs.Common.{◌≡◌, [], ◌∷◌, refl}
 use lib.IntN.{ℤ, pos, negsuc, ◌+ℤ◌, ◌-ℤ◌, ◌*ℤ◌}
 use lib.Signed.{◌<ℤ◌, ◌≤ℤ◌}

@@ -1,4 +1,5 @@
--- Polynomial facts behind moving the weights of a point along a direction; written by tools/certificates.py from tools/certificates/mill_geom_descend.spec.
+-- Polynomial facts behind moving the weights of a point along a direction.
+-- Written by tools/certificates.py from tools/certificates/mill_geom_descend.spec.
 use Rattle.std.proofs.Common.{◌≡◌, [], ◌∷◌, refl}
 use lib.IntN.{ℤ, pos, ◌+ℤ◌, ◌*ℤ◌}
 use lib.Signed.{◌<ℤ◌, ◌≤ℤ◌}

@@ -1,4 +1,5 @@
--- Polynomial facts behind the box of three corners; written by tools/certificates.py from tools/certificates/mill_geom_gap.spec.
+-- Polynomial facts behind the box of three corners.
+-- Written by tools/certificates.py from tools/certificates/mill_geom_gap.spec.
 use Rattle.std.proofs.Common.{◌≡◌, [], ◌∷◌, refl}
 use lib.IntN.{ℤ, pos, ◌+ℤ◌, ◌-ℤ◌, ◌*ℤ◌}
 use lib.Signed.{◌≤ℤ◌}

@@ -1,4 +1,5 @@
--- Polynomial facts behind the line in which a plane meets the level; written by tools/certificates.py from tools/certificates/mill_geom_level.spec.
+-- Polynomial facts behind the line in which a plane meets the level.
+-- Written by tools/certificates.py from tools/certificates/mill_geom_level.spec.
 use Rattle.std.proofs.Common.{◌≡◌, [], ◌∷◌, refl}
 use lib.IntN.{ℤ, pos, negsuc, ◌+ℤ◌, ◌-ℤ◌, ◌*ℤ◌}
 use lib.Signed.{◌<ℤ◌, ◌≤ℤ◌}

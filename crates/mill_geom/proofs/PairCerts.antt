@@ -1,4 +1,5 @@
--- Polynomial facts behind the signs of a quadratic form at weights that are not negative; written by tools/certificates.py from tools/certificates/mill_geom_pair.spec.
+-- Polynomial facts behind the signs of a quadratic form at weights that are not negative.
+-- Written by tools/certificates.py from tools/certificates/mill_geom_pair.spec.
 use Rattle.std.proofs.Common.{[], ◌∷◌, refl}
 use lib.IntN.{ℤ, pos, ◌+ℤ◌, ◌-ℤ◌, ◌*ℤ◌}
 use lib.Signed.{◌<ℤ◌, ◌≤ℤ◌}

@@ -1,4 +1,5 @@
--- Polynomial facts behind triangles beside the cylinder, and offsets from a centre; written by tools/certificates.py from tools/certificates/mill_geom_place.spec.
+-- Polynomial facts behind triangles beside the cylinder, and offsets from a centre.
+-- Written by tools/certificates.py from tools/certificates/mill_geom_place.spec.
 use Rattle.std.proofs.Common.{◌≡◌, [], ◌∷◌, refl}
 use lib.IntN.{ℤ, pos, ◌+ℤ◌, ◌-ℤ◌, ◌*ℤ◌}
 use lib.Signed.{◌<ℤ◌, ◌≤ℤ◌}

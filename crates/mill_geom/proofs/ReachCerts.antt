@@ -1,4 +1,5 @@
--- Polynomial facts behind points on the level or over it; written by tools/certificates.py from tools/certificates/mill_geom_reach.spec.
+-- Polynomial facts behind points on the level or over it.
+-- Written by tools/certificates.py from tools/certificates/mill_geom_reach.spec.
 use Rattle.std.proofs.Common.{◌≡◌, [], ◌∷◌, refl}
 use lib.IntN.{ℤ, pos, ◌+ℤ◌, ◌-ℤ◌, ◌*ℤ◌}
 use lib.Signed.{◌<ℤ◌, ◌≤ℤ◌}

@@ -1,4 +1,5 @@
--- Polynomial facts behind a segment against the cylinder; written by tools/certificates.py from tools/certificates/mill_geom_segment.spec.
+-- Polynomial facts behind a segment against the cylinder.
+-- Written by tools/certificates.py from tools/certificates/mill_geom_segment.spec.
 use Rattle.std.proofs.Common.{◌≡◌, [], ◌∷◌, refl}
 use lib.IntN.{ℤ, pos, ◌+ℤ◌, ◌-ℤ◌, ◌*ℤ◌}
 use lib.Signed.{◌<ℤ◌, ◌≤ℤ◌}

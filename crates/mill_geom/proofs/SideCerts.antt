@@ -1,4 +1,5 @@
--- Polynomial facts behind the positions along an axis; written by tools/certificates.py from tools/certificates/mill_geom_sides.spec.
+-- Polynomial facts behind the positions along an axis.
+-- Written by tools/certificates.py from tools/certificates/mill_geom_sides.spec.
 use Rattle.std.proofs.Common.{◌≡◌, [], ◌∷◌, refl}
 use lib.IntN.{ℤ, pos, ◌+ℤ◌, ◌-ℤ◌, ◌*ℤ◌}
 use lib.Signed.{◌<ℤ◌, ◌≤ℤ◌}

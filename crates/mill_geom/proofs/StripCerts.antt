@@ -1,4 +1,5 @@
--- Polynomial facts behind points near the vertical plane along x; written by tools/certificates.py from tools/certificates/mill_geom_strip.spec.
+-- Polynomial facts behind points near the vertical plane along x.
+-- Written by tools/certificates.py from tools/certificates/mill_geom_strip.spec.
 use Rattle.std.proofs.Common.{◌≡◌, [], ◌∷◌, refl}
 use lib.IntN.{ℤ, pos, ◌+ℤ◌, ◌-ℤ◌, ◌*ℤ◌}
 use lib.Signed.{◌<ℤ◌}

@@ -12,7 +12,7 @@ use Rattle.mill_geom.specs.Offsets.{mean3}
 use Rattle.mill_geom.specs.Forms.{IsOver}
 use Rattle.mill_geom.specs.Contacts.{TouchesTriangle}
 use Rattle.mill_geom.specs.Spots.{IsSpot, AllBeyond}
-use Rattle.mill_geom.specs.Sides.{TouchesAt, IsUnder, IsBetween, slid_by, mirrored_of}
+use Rattle.mill_geom.specs.Sides.{TouchesSlid, IsSpotUnder, IsBetween, slid_by, mirrored_of}
 use Rattle.mill_geom.proofs.DescendCerts.{lin}
 use Rattle.mill_geom.proofs.PlaceCerts.{far_high, swap_near}
 use Rattle.mill_geom.proofs.SideCerts.{sum_time, side_weight}
@@ -24,7 +24,7 @@ weak : (x : ℤ) → (pos 0) <ℤ x → (pos 0) ≤ℤ x
 weak x h = omega (arith, ints)
 
 -- with every point on the level or over it beyond r, there is no touch at any place along x
-pub beyond_never : (r : ℤ) (a b c : Offset) → (pos 0) <ℤ r → AllBeyond r a b c → (t : ℤ) → TouchesAt r a b c t → ⊥
+pub beyond_never : (r : ℤ) (a b c : Offset) → (pos 0) <ℤ r → AllBeyond r a b c → (t : ℤ) → TouchesSlid r a b c t → ⊥
 beyond_never r a b c hr far t v =
     let n = (v.u +ℤ v.v) +ℤ v.w in
     let x = (mean3 v.u v.v v.w (slid_by t a) (slid_by t b) (slid_by t c)).x in
@@ -48,12 +48,12 @@ mirror_touch r a b c v = record {
 }
 
 -- with every point's mirror image beyond r, there is none either
-pub mirror_never : (r : ℤ) (a b c : Offset) → (pos 0) <ℤ r → AllBeyond r (mirrored_of a) (mirrored_of b) (mirrored_of c) → (t : ℤ) → TouchesAt r a b c t → ⊥
+pub mirror_never : (r : ℤ) (a b c : Offset) → (pos 0) <ℤ r → AllBeyond r (mirrored_of a) (mirrored_of b) (mirrored_of c) → (t : ℤ) → TouchesSlid r a b c t → ⊥
 mirror_never r a b c hr far t v =
     beyond_never r (mirrored_of a) (mirrored_of b) (mirrored_of c) hr far t (mirror_touch r (slid_by t a) (slid_by t b) (slid_by t c) v)
 
 -- the first spot itself is in the strip
-pub low_between : (r : ℤ) (low high : Spot) → IsUnder r low → (pos 0 -ℤ r *ℤ low.n) <ℤ low.y → IsBetween r low high low.x
+pub low_between : (r : ℤ) (low high : Spot) → IsSpotUnder r low → (pos 0 -ℤ r *ℤ low.n) <ℤ low.y → IsBetween r low high low.x
 low_between r low high s h = record {
   k = pos 1;
   m = pos 0;
@@ -65,7 +65,7 @@ low_between r low high s h = record {
 }
 
 -- the second one's mirror image is
-pub high_between : (r : ℤ) (low high : Spot) → IsUnder r high → (pos 0 -ℤ r *ℤ high.n) <ℤ high.y → IsBetween r low high high.x
+pub high_between : (r : ℤ) (low high : Spot) → IsSpotUnder r high → (pos 0 -ℤ r *ℤ high.n) <ℤ high.y → IsBetween r low high high.x
 high_between r low high s h = record {
   k = pos 0;
   m = pos 1;
@@ -87,7 +87,7 @@ added : (x y : ℤ) → (pos 0) <ℤ x → (pos 0) <ℤ y → (pos 0) <ℤ (x +�
 added x y hx hy = omega (arith, ints)
 
 -- else they are weighed so that the sum is on the plane along x
-pub mixed_between : (r : ℤ) (low high : Spot) (x : ℤ) → (pos 0) <ℤ r → IsUnder r low → IsUnder r high → low.y ≤ℤ (pos 0 -ℤ r *ℤ low.n) → high.y ≤ℤ (pos 0 -ℤ r *ℤ high.n)
+pub mixed_between : (r : ℤ) (low high : Spot) (x : ℤ) → (pos 0) <ℤ r → IsSpotUnder r low → IsSpotUnder r high → low.y ≤ℤ (pos 0 -ℤ r *ℤ low.n) → high.y ≤ℤ (pos 0 -ℤ r *ℤ high.n)
     → x ≡ (pos 0 -ℤ high.y) *ℤ low.x +ℤ (pos 0 -ℤ low.y) *ℤ high.x → IsBetween r low high x
 mixed_between r low high x hr sl sh hl hh e =
     let k_some = under r high.n high.y hr sh.some hh in
@@ -167,14 +167,14 @@ axis_touch r a b c hr over s =
     })
 
 -- a point of the strip at a greater x shows that the cylinder misses the triangle at each lesser position, too
-pub strip_more : (r : ℤ) (a b c : Offset) (x : ℤ) → (pos 0) <ℤ r → (TouchesTriangle r a b c → ⊥) → StripAt r a b c x → (pos 0) <ℤ x → (t : ℤ) → t ≤ℤ pos 0 → TouchesAt r a b c t → ⊥
+pub strip_more : (r : ℤ) (a b c : Offset) (x : ℤ) → (pos 0) <ℤ r → (TouchesTriangle r a b c → ⊥) → StripAt r a b c x → (pos 0) <ℤ x → (t : ℤ) → t ≤ℤ pos 0 → TouchesSlid r a b c t → ⊥
 strip_more r a b c x hr apart s hx t ht v = apart (more_side r a b c t hr s.strip (subst (λ z. (pos 0) <ℤ z) (sym s.x_is) hx) ht v)
 
 zero : (x : ℤ) → x ≤ℤ pos 0 → (pos 0) ≤ℤ x → x ≡ pos 0
 zero x h k = omega (arith, ints)
 
 -- and one at any other x that it does so at each greater position: at 0 there would be a touch
-pub strip_less : (r : ℤ) (a b c : Offset) (x : ℤ) → (pos 0) <ℤ r → IsOver a b c → (TouchesTriangle r a b c → ⊥) → StripAt r a b c x → x ≤ℤ pos 0 → (t : ℤ) → (pos 0) ≤ℤ t → TouchesAt r a b c t → ⊥
+pub strip_less : (r : ℤ) (a b c : Offset) (x : ℤ) → (pos 0) <ℤ r → IsOver a b c → (TouchesTriangle r a b c → ⊥) → StripAt r a b c x → x ≤ℤ pos 0 → (t : ℤ) → (pos 0) ≤ℤ t → TouchesSlid r a b c t → ⊥
 strip_less r a b c x hr over apart s hx t ht v = elim (split_lt x (pos 0)) [
   | inl l ↦ apart (less_side r a b c t hr s.strip (subst (λ z. z <ℤ pos 0) (sym s.x_is) l) ht v)
   | inr l ↦ absurd (apart (axis_touch r a b c hr over (record { strip = s.strip; x_is = s.x_is ∙ zero x hx l })))

@@ -1,4 +1,5 @@
--- Polynomial facts behind the place where the axis meets a triangle; written by tools/certificates.py from tools/certificates/mill_geom_triangle.spec.
+-- Polynomial facts behind the place where the axis meets a triangle.
+-- Written by tools/certificates.py from tools/certificates/mill_geom_triangle.spec.
 use Rattle.std.proofs.Common.{◌≡◌, [], ◌∷◌, refl}
 use lib.IntN.{ℤ, pos, negsuc, ◌+ℤ◌, ◌-ℤ◌, ◌*ℤ◌}
 use lib.Signed.{◌<ℤ◌, ◌≤ℤ◌}

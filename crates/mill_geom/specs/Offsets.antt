@@ -6,18 +6,18 @@ use Rattle.mill_base.specs.declared.points.Pt3.{Pt3}
 use Rattle.mill_geom.specs.Widths.{farthest, most_lift}
 use Rattle.mill_geom.specs.declared.offset.Offset.{Offset}
 
--- each coordinate of the offset is within the greatest magnitude
+-- each coordinate of the offset is within the greatest magnitude of one
 pub record OffsetInRange (p : Offset) : Type 0 where
   pub x_ok : Within farthest p.x
   pub y_ok : Within farthest p.y
   pub z_ok : Within farthest p.z
 
--- x and y are, whatever the height
+-- x and y of the offset are within the greatest magnitude of a coordinate; its height may be any
 pub record PlanInRange (p : Offset) : Type 0 where
   pub x_ok : Within farthest p.x
   pub y_ok : Within farthest p.y
 
--- and the height may be a scaled one
+-- x and y of the offset are within the greatest magnitude of a coordinate, and its height within that of a scaled one
 pub record LiftedInRange (p : Offset) : Type 0 where
   pub x_ok : Within farthest p.x
   pub y_ok : Within farthest p.y
@@ -51,7 +51,7 @@ pub record AllTo (bound a b c : ℤ) : Type 0 where
   pub second : b ≤ℤ bound
   pub third : c ≤ℤ bound
 
--- the centre is as low as the lowest tip at most, and otherwise in the range that calls take
+-- each coordinate of the centre is one that calls take, save that its height may go down to the lowest tip
 pub record IsCentre (p : Pt3) : Type 0 where
   pub x_ok : Within MAX_COORDINATE p.x
   pub y_ok : Within MAX_COORDINATE p.y

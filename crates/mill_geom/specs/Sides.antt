@@ -44,11 +44,11 @@ abbrev pub slid_by : ℤ → Offset → Offset
 slid_by t p = record { x = p.x -ℤ t; y = p.y; z = p.z }
 
 -- with the centre t further along x, some point of the triangle is nearer to the axis than r and over the level
-abbrev pub TouchesAt : ℤ → Offset → Offset → Offset → ℤ → Type 0
-TouchesAt r a b c t = TouchesTriangle r (slid_by t a) (slid_by t b) (slid_by t c)
+abbrev pub TouchesSlid : ℤ → Offset → Offset → Offset → ℤ → Type 0
+TouchesSlid r a b c t = TouchesTriangle r (slid_by t a) (slid_by t b) (slid_by t c)
 
 -- the spot has a denominator over 0, and its y is less than r
-pub record IsUnder (r : ℤ) (s : Spot) : Type 0 where
+pub record IsSpotUnder (r : ℤ) (s : Spot) : Type 0 where
   pub some : (pos 0) <ℤ s.n
   pub under : s.y <ℤ (r *ℤ s.n)
 

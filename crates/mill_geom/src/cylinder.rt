@@ -2,7 +2,7 @@ ghost use Rattle.std.specs.Prelude.{◌≡◌, ◌-ℤ◌, ◌<ℤ◌, pos, fals
 ghost use Rattle.mill_base.specs.Numbers.{Within};
 ghost use Rattle.mill_geom.specs.Widths.{farthest, widest};
 ghost use Rattle.mill_geom.specs.Offsets.{OffsetInRange, AllFrom, AllTo};
-ghost use Rattle.mill_geom.specs.Sides.{IsOnSide, TouchesAt, IsBoxNear};
+ghost use Rattle.mill_geom.specs.Sides.{IsOnSide, TouchesSlid, IsBoxNear};
 
 use crate::offset::Offset;
 use crate::touch::Side;
@@ -54,7 +54,7 @@ pub fn box_side(a: Offset, b: Offset, c: Offset, radius: i64) -> Option<Side>
     requires c_ok { OffsetInRange c }
     requires r_ok { Within widest radius }
     requires r_least { pos 0 <ℤ radius }
-    ensures apart { IfSome result (λ side. IsOnSide side (TouchesAt radius a b c)) }
+    ensures apart { IfSome result (λ side. IsOnSide side (TouchesSlid radius a b c)) }
     ensures near { result ≡ None → IsBoxNear radius a b c }
 {
     if !is_over(a, b, c) {

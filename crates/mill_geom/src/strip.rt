@@ -4,7 +4,7 @@ ghost use Rattle.mill_geom.specs.Widths.{most_mixed_place, widest};
 ghost use Rattle.mill_geom.specs.Offsets.{OffsetInRange};
 ghost use Rattle.mill_geom.specs.Contacts.{TouchesTriangle};
 ghost use Rattle.mill_geom.specs.Spots.{SpotInRange};
-ghost use Rattle.mill_geom.specs.Sides.{IsOnSide, TouchesAt, IsUnder, IsBetween};
+ghost use Rattle.mill_geom.specs.Sides.{IsOnSide, TouchesSlid, IsSpotUnder, IsBetween};
 
 use crate::offset::Offset;
 use crate::spot::{Spot, spot_below};
@@ -39,8 +39,8 @@ fn between_x(low: Spot, high: Spot, radius: i64) -> i128
     requires high_ok { SpotInRange high }
     requires r_ok { Within widest radius }
     requires r_least { pos 0 <ℤ radius }
-    requires low_under { IsUnder radius low }
-    requires high_under { IsUnder radius high }
+    requires low_under { IsSpotUnder radius low }
+    requires high_under { IsSpotUnder radius high }
     ensures between { IsBetween radius low high result }
     ensures bound { Within most_mixed_place result }
 {
@@ -66,7 +66,7 @@ pub fn side(a: Offset, b: Offset, c: Offset, radius: i64) -> Side
     requires r_ok { Within widest radius }
     requires r_least { pos 0 <ℤ radius }
     requires apart { ¬ TouchesTriangle radius a b c }
-    ensures { IsOnSide result (TouchesAt radius a b c) }
+    ensures { IsOnSide result (TouchesSlid radius a b c) }
 {
     if !is_over(a, b, c) {
         return Side::Never;

@@ -10,14 +10,14 @@ use lib.Signed.{◌≤ℤ◌}
 use Rattle.mill_base.specs.Numbers.{lesser, greater}
 use Rattle.mill_base.specs.Points.{highest}
 use Rattle.mill_base.specs.Covers.{IsUnder}
-use Rattle.mill_base.specs.Ranges.{MoveInTextRange, TriInTextRange, TrisInTextRange}
+use Rattle.mill_base.specs.Ranges.{MoveInRange, TriInRange, TrisInRange}
 use Rattle.mill_base.specs.Sizes.{IsCutter, radius_of}
 use Rattle.mill_base.specs.declared.points.Tri.{Tri}
 use Rattle.mill_base.specs.declared.points.Box2.{Box2}
 use Rattle.mill_base.specs.declared.motion.Move.{Move}
 use Rattle.mill_base.specs.declared.cutter.Cutter.{Cutter}
 use Rattle.mill_cells.specs.Boxes.{Meet, IsNear, box_of, origin_box}
-use Rattle.mill_cells.specs.Sorted.{Sorted, sorted_of, height_at}
+use Rattle.mill_cells.specs.Sorted.{Sorted, sorted_of, top_at}
 use Rattle.mill_cells.specs.Ahead.{Ahead, Comes, NoneComes}
 use Rattle.mill_cells.proofs.PassedLemmas.{top_is}
 use Rattle.mill_sweep.specs.Halving.{FailsAt, Passes, Blocks}
@@ -120,7 +120,7 @@ far_or_near cutter m tri ok =
     wide r h = omega (h, arith, ints)
 
 -- a move that stays over the part's top clears the part
-pub over_clears : (cutter : Cutter) (m : Move) (part : List Tri) (top : ℤ) → FarPasses → IsCutter cutter → MoveInTextRange m → IsUnder part top → IsOver m top
+pub over_clears : (cutter : Cutter) (m : Move) (part : List Tri) (top : ℤ) → FarPasses → IsCutter cutter → MoveInRange m → IsUnder part top → IsOver m top
     → PassesPart cutter m part
 over_clears cutter m part top far ok ranged under over t inside =
     let h = under (tri_at part t) (Contains-get_or part t _ inside) in
@@ -139,7 +139,7 @@ pub record IsFound (cutter : Cutter) (m : Move) (part : List Tri) (gouge : Gouge
   pub blocked : Blocks cutter (span_of m gouge.leaf.d gouge.leaf.k) (tri_at part gouge.tri)
 
 -- a triangle whose top isn't over the lower of the move's ends is passed
-low_passes : (cutter : Cutter) (m : Move) (tri : Tri) → FarPasses → IsCutter cutter → MoveInTextRange m → highest tri ≤ℤ lesser m.from.z m.to.z → Passes cutter m tri
+low_passes : (cutter : Cutter) (m : Move) (tri : Tri) → FarPasses → IsCutter cutter → MoveInRange m → highest tri ≤ℤ lesser m.from.z m.to.z → Passes cutter m tri
 low_passes cutter m tri far ok ranged low =
     let h = corners tri.a.z tri.b.z tri.c.z in
     far cutter m tri ok ranged (inl (record {
@@ -176,7 +176,7 @@ pub record IsLooking (cutter : Cutter) (m : Move) (part : List Tri) (near : Ahea
   pub others : (t : ℕ) → t < length part → ComesBefore t first → Passes cutter m (tri_at part t) ⊎ Contains near.numbers t
 
 -- before the first triangle, those near are left
-pub look_starts : (cutter : Cutter) (m : Move) (part : List Tri) (sorted : Sorted) (near : Ahead) → FarPasses → IsCutter cutter → MoveInTextRange m → sorted ≡ sorted_of part
+pub look_starts : (cutter : Cutter) (m : Move) (part : List Tri) (sorted : Sorted) (near : Ahead) → FarPasses → IsCutter cutter → MoveInRange m → sorted ≡ sorted_of part
     → near.tops ≡ sorted.tops → ((i : ℕ) → Contains near.numbers i ↔ IsNear sorted.boxes (area_of cutter m) i) → IsLooking cutter m part near None
 look_starts cutter m part sorted near far ok ranged e tops each = record {
   tops = tops ∙ ap (λ (s : Sorted). s.tops) e;
@@ -195,16 +195,16 @@ pub next_within : (cutter : Cutter) (m : Move) (part : List Tri) (low : ℤ) (ne
 next_within cutter m part low near later i first next h = h.within i next.number
 
 -- each triangle that is read is in range
-pub tri_in_range : (tris part : List Tri) (i : ℕ) (d : Tri) → tris ≡ part → i < length tris → TrisInTextRange part → TriInTextRange (get_or tris i d)
+pub tri_in_range : (tris part : List Tri) (i : ℕ) (d : Tri) → tris ≡ part → i < length tris → TrisInRange part → TriInRange (get_or tris i d)
 tri_in_range tris part i d e h ok = ok _ (subst (λ (l : List Tri). Contains l (get_or tris i d)) e (Contains-get_or tris i d h))
 
 -- a triangle whose top isn't over the height of the move's lower end is passed
-passed_by : (cutter : Cutter) (m : Move) (part : List Tri) (low : ℤ) (tops : List ℤ) (t : ℕ) → FarPasses → IsCutter cutter → MoveInTextRange m
-    → low ≡ lesser m.from.z m.to.z → tops ≡ map highest part → t < length part → height_at tops t ≤ℤ low → Passes cutter m (tri_at part t)
+passed_by : (cutter : Cutter) (m : Move) (part : List Tri) (low : ℤ) (tops : List ℤ) (t : ℕ) → FarPasses → IsCutter cutter → MoveInRange m
+    → low ≡ lesser m.from.z m.to.z → tops ≡ map highest part → t < length part → top_at tops t ≤ℤ low → Passes cutter m (tri_at part t)
 passed_by cutter m part low tops t far ok ranged low_is tops_are inside under =
     low_passes cutter m (tri_at part t) far ok ranged
     (subst (λ (h : ℤ). highest (tri_at part t) ≤ℤ h) low_is
-    (subst (λ (h : ℤ). h ≤ℤ low) (top_is part t _ inside) (subst (λ (l : List ℤ). height_at l t ≤ℤ low) tops_are under)))
+    (subst (λ (h : ℤ). h ≤ℤ low) (top_is part t _ inside) (subst (λ (l : List ℤ). top_at l t ≤ℤ low) tops_are under)))
 
 -- what a sweep of the move says of a triangle, the move says
 pub passes_swept : (s : Swept) (cutter : Cutter) (m : Move) (t : Tri) → s ≡ record { cutter = cutter; move = m } → Passes s.cutter s.move t → Passes cutter m t
@@ -218,7 +218,7 @@ pub earlier_swept : (s : Swept) (cutter : Cutter) (m : Move) (t : Tri) (i : ℕ)
 earlier_swept s cutter m t i first next same h = subst (λ (v : Swept). IsEarlier v.cutter v.move t i first next) same h
 
 -- one more triangle
-pub look_goes_on : (cutter : Cutter) (m : Move) (part : List Tri) (low : ℤ) (near later : Ahead) (i : ℕ) (first next : Option Gouge) → FarPasses → IsCutter cutter → MoveInTextRange m
+pub look_goes_on : (cutter : Cutter) (m : Move) (part : List Tri) (low : ℤ) (near later : Ahead) (i : ℕ) (first next : Option Gouge) → FarPasses → IsCutter cutter → MoveInRange m
     → low ≡ lesser m.from.z m.to.z → Comes low near i later → IsLooking cutter m part near first
     → IsEarlier cutter m (tri_at part i) i first next → IsLooking cutter m part later next
 look_goes_on cutter m part low near later i first next far ok ranged low_is e h new = elim new [
@@ -290,7 +290,7 @@ look_goes_on cutter m part low near later i first next far ok ranged low_is e h 
     })
 
 -- after the last one, each triangle that is left is under the move, and what was found is first
-pub look_ends : (cutter : Cutter) (m : Move) (part : List Tri) (low : ℤ) (near later : Ahead) (first : Option Gouge) → FarPasses → IsCutter cutter → MoveInTextRange m
+pub look_ends : (cutter : Cutter) (m : Move) (part : List Tri) (low : ℤ) (near later : Ahead) (first : Option Gouge) → FarPasses → IsCutter cutter → MoveInRange m
     → low ≡ lesser m.from.z m.to.z → NoneComes low near later → IsLooking cutter m part near first
     → MatchOption first (PassesPart cutter m part) (IsFirstGouge cutter m part)
 look_ends cutter m part low near later first far ok ranged low_is e h = by first h

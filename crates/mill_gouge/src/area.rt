@@ -1,19 +1,16 @@
 ghost use Rattle.std.specs.Prelude.{◌≡◌, ◌+ℤ◌, ◌-ℤ◌, IsTrue, false};
 ghost use Rattle.mill_base.specs.Numbers.{Within, greater, lesser};
-ghost use Rattle.mill_base.specs.declared.limits.TheConstants.{MAX_TEXT_COORDINATE};
-ghost use Rattle.mill_base.specs.Ranges.{MoveInTextRange};
+ghost use Rattle.mill_base.specs.declared.limits.TheConstants.{MAX_COORDINATE};
+ghost use Rattle.mill_base.specs.Ranges.{MoveInRange};
 ghost use Rattle.mill_base.specs.Sizes.{IsCutter};
 ghost use Rattle.mill_gouge.specs.inner.Near.{IsOver, area_of, margin_of};
 
-use mill_base::{Box2, Cutter, Move};
-
-/// How far beyond the cutter's radius a triangle may lie from a move and still block it.
-const REACH_AT_DEPTH: i32 = 2;
+use mill_base::{Box2, Cutter, MAX_LAST_REACH, Move};
 
 /// The area in x and y about a move outside of which each triangle lies far from it.
 pub fn area_about(cutter: Cutter, step: &Move) -> Box2
     requires cutter_ok { IsCutter cutter }
-    requires move_ok { MoveInTextRange step.now }
+    requires move_ok { MoveInRange step.now }
     ensures { result ≡ area_of cutter step.now }
 {
     let margin = margin(cutter);
@@ -29,16 +26,16 @@ pub fn area_about(cutter: Cutter, step: &Move) -> Box2
 fn margin(cutter: Cutter) -> i32
     requires { IsCutter cutter }
     ensures value { result ≡ margin_of cutter }
-    ensures bound { Within MAX_TEXT_COORDINATE result }
+    ensures bound { Within MAX_COORDINATE result }
 {
-    cutter.radius() + REACH_AT_DEPTH
+    cutter.radius() + MAX_LAST_REACH as i32
 }
 
 /// The lesser of two coordinates, less a margin.
 fn under_both(from: i32, to: i32, margin: i32) -> i32
-    requires from_ok { Within MAX_TEXT_COORDINATE from }
-    requires to_ok { Within MAX_TEXT_COORDINATE to }
-    requires margin_ok { Within MAX_TEXT_COORDINATE margin }
+    requires from_ok { Within MAX_COORDINATE from }
+    requires to_ok { Within MAX_COORDINATE to }
+    requires margin_ok { Within MAX_COORDINATE margin }
     ensures { result ≡ lesser from to -ℤ margin }
 {
     from.min(to) - margin
@@ -46,9 +43,9 @@ fn under_both(from: i32, to: i32, margin: i32) -> i32
 
 /// The greater of two coordinates, and a margin more.
 fn over_both(from: i32, to: i32, margin: i32) -> i32
-    requires from_ok { Within MAX_TEXT_COORDINATE from }
-    requires to_ok { Within MAX_TEXT_COORDINATE to }
-    requires margin_ok { Within MAX_TEXT_COORDINATE margin }
+    requires from_ok { Within MAX_COORDINATE from }
+    requires to_ok { Within MAX_COORDINATE to }
+    requires margin_ok { Within MAX_COORDINATE margin }
     ensures { result ≡ greater from to +ℤ margin }
 {
     from.max(to) + margin

@@ -1,5 +1,5 @@
 ghost use Rattle.std.specs.Prelude.{◌≡◌, ◌↔◌, IsTrue, false};
-ghost use Rattle.mill_base.specs.Ranges.{MoveInTextRange, TriInTextRange};
+ghost use Rattle.mill_base.specs.Ranges.{MoveInRange, TriInRange};
 ghost use Rattle.mill_base.specs.Sizes.{IsCutter};
 ghost use Rattle.mill_cells.specs.Sorted.{sorted_of};
 ghost use Rattle.mill_sweep.specs.Halving.{Passes};
@@ -19,7 +19,7 @@ use mill_sweep::Sweep;
 pub fn clears(cutter: Cutter, part: &Part, cells: &Cells, step: &Move) -> bool
     requires cutter_ok { IsCutter cutter }
     requires cells_ok { cells.now ≡ sorted_of part.now }
-    requires move_ok { MoveInTextRange step.now }
+    requires move_ok { MoveInRange step.now }
     ensures { IsTrue result ↔ PassesPart cutter step.now part.now }
 {
     let part_top = lid(part);
@@ -40,7 +40,7 @@ pub fn clears(cutter: Cutter, part: &Part, cells: &Cells, step: &Move) -> bool
 
 /// Whether the move passes the triangle.
 fn passes(sweep: &Sweep, tri: &Tri) -> bool
-    requires { TriInTextRange tri.now }
+    requires { TriInRange tri.now }
     ensures yes { IsTrue result → Passes sweep.now.cutter sweep.now.move tri.now }
     ensures no { result ≡ false → ¬ Passes sweep.now.cutter sweep.now.move tri.now }
 {

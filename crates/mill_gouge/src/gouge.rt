@@ -1,5 +1,5 @@
 ghost use Rattle.std.specs.Prelude.{◌≡◌, MatchOption};
-ghost use Rattle.mill_base.specs.Ranges.{MoveInTextRange, TriInTextRange};
+ghost use Rattle.mill_base.specs.Ranges.{MoveInRange, TriInRange};
 ghost use Rattle.mill_base.specs.Sizes.{IsCutter};
 ghost use Rattle.mill_cells.specs.Sorted.{sorted_of};
 ghost use Rattle.mill_gouge.specs.inner.Firsts.{IsEarlier};
@@ -27,11 +27,11 @@ pub struct Gouge {
 /// part's triangles, and that come over the lower of the move's ends. No triangle is tried where the
 /// move stays over the part's highest corner.
 ///
-/// Lengths are in units of 0.01 mm, and the ends of the move of at most 131,071 in magnitude.
+/// Lengths are in units of 0.01 mm, and the ends of the move of at most 524,287 in magnitude.
 pub fn first_gouge(cutter: Cutter, part: &Part, cells: &Cells, step: &Move) -> Option<Gouge>
     requires cutter_ok { IsCutter cutter }
     requires cells_ok { cells.now ≡ sorted_of part.now }
-    requires move_ok { MoveInTextRange step.now }
+    requires move_ok { MoveInRange step.now }
     ensures { MatchOption
         result
         (PassesPart cutter step.now part.now)
@@ -56,7 +56,7 @@ pub fn first_gouge(cutter: Cutter, part: &Part, cells: &Cells, step: &Move) -> O
 ///
 /// The cells give the triangles in no order; one that comes after the first gouge isn't tried.
 fn earlier(first: Option<Gouge>, sweep: &Sweep, tri: &Tri, number: u32) -> Option<Gouge>
-    requires { TriInTextRange tri.now }
+    requires { TriInRange tri.now }
     ensures { IsEarlier sweep.now.cutter sweep.now.move tri.now number first result }
 {
     if let Some(gouge) = first {

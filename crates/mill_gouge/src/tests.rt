@@ -1,5 +1,5 @@
 ghost use Rattle.std.specs.Prelude.{◌≡◌};
-ghost use Rattle.mill_base.specs.Ranges.{IsInTextRange, MoveInTextRange, TriInTextRange};
+ghost use Rattle.mill_base.specs.Ranges.{IsInRange, MoveInRange, TriInRange};
 ghost use Rattle.mill_cells.specs.Sorted.{sorted_of};
 
 use crate::{clears, first_gouge};
@@ -9,7 +9,7 @@ use mill_part::Part;
 use std::test::Fail;
 
 fn at(x: i16, y: i16, z: i16) -> Pt3
-    ensures { IsInTextRange result }
+    ensures { IsInRange result }
 {
     Pt3 {
         x: i32::from(x),
@@ -28,7 +28,7 @@ struct Shape {
 
 /// A post of no width at (x, 0), up to this height.
 fn post(x: i16, height: i16) -> Tri
-    ensures { TriInTextRange result }
+    ensures { TriInRange result }
 {
     let top = at(x, 0, height);
     Tri {
@@ -51,7 +51,7 @@ fn posts<R: AllocGlobal>(rt: &R) -> Result<Shape, Fail> {
 
 /// A move from (-500, y) to (1500, y) at this height.
 fn along(y: i16, z: i16) -> Move
-    ensures { MoveInTextRange result }
+    ensures { MoveInRange result }
 {
     Move {
         kind: Kind::Feed,
@@ -63,7 +63,7 @@ fn along(y: i16, z: i16) -> Move
 impl Shape {
     /// The number of the first post that a flat cutter of radius 100 doesn't pass.
     fn first_post(&self, step: &Move) -> Option<u32>
-        requires { MoveInTextRange step.now }
+        requires { MoveInRange step.now }
     {
         let cutter = Cutter::Flat { radius: 100 };
         let gouge = first_gouge(cutter, &self.part, &self.cells, step)?;
@@ -72,7 +72,7 @@ impl Shape {
 
     /// Whether that cutter passes both.
     fn clears(&self, step: &Move) -> bool
-        requires { MoveInTextRange step.now }
+        requires { MoveInRange step.now }
     {
         let cutter = Cutter::Flat { radius: 100 };
         clears(cutter, &self.part, &self.cells, step)

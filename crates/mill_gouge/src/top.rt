@@ -1,10 +1,10 @@
-ghost use Rattle.mill_gouge.specs.inner.Near.{IsLid};
+ghost use Rattle.mill_base.specs.Covers.{IsUnder};
 
 use mill_part::Part;
 
 /// The height of the part's highest corner, in units of 0.01 mm; any where the part has none.
 pub fn lid(part: &Part) -> i32
-    ensures { IsLid part.now result }
+    ensures { IsUnder part.now result }
 {
     part.top().unwrap_or(0)
 }

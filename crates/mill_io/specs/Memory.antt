@@ -67,7 +67,7 @@ abbrev pub shelf_view : MemShelf → StoreView
 shelf_view s = record { tells = true; contents = contents_of s; read_faults = s.read_faults; write_faults = s.write_faults }
 
 -- a shelf that tells its contents, which are those of these files, and of which no call has failed
-pub record Holds (files : List MemFile) (view : StoreView) : Type 0 where
+pub record HoldsFiles (files : List MemFile) (view : StoreView) : Type 0 where
   pub tells : IsTrue view.tells
   pub contents : (name : List ℕ) → view.contents name ≡ find_file name files
   pub read_faults : view.read_faults ≡ 0

@@ -13,8 +13,8 @@ IsWhole told limit (Err ReadFault) = Unit {0}
 IsWhole told limit (Err WantOfMemory) = Unit {0}
 
 -- ReadFault says that the count of read faults rose, and each other answer that it stayed
-abbrev pub EndsBy : ℕ → ℕ → Result (Vec ℕ Global) ReadEnd → Type 0
-EndsBy before now (Ok v) = now ≡ before
-EndsBy before now (Err TooLong) = now ≡ before
-EndsBy before now (Err ReadFault) = Rose before now
-EndsBy before now (Err WantOfMemory) = now ≡ before
+abbrev pub ReadEndsBy : ℕ → ℕ → Result (Vec ℕ Global) ReadEnd → Type 0
+ReadEndsBy before now (Ok v) = now ≡ before
+ReadEndsBy before now (Err TooLong) = now ≡ before
+ReadEndsBy before now (Err ReadFault) = Rose before now
+ReadEndsBy before now (Err WantOfMemory) = now ≡ before

@@ -2,7 +2,7 @@ ghost use Rattle.std.specs.Prelude.{◌≡◌, ◌+◌, ◌<◌, ◌≤◌, [], 
 ghost use Rattle.std.specs.Option.{option_copied};
 ghost use Rattle.mill_io.specs.Causes.{HasCause};
 ghost use Rattle.mill_io.specs.Contents.{GivesFrom, Appended, AppendedPart, Emptied};
-ghost use Rattle.mill_io.specs.Memory.{Holds, IsFresh, CountsCall, contents_of, find_file, out_name_of, shelf_capacity, shelf_script, shelf_view, read_fails, create_fails, append_fails};
+ghost use Rattle.mill_io.specs.Memory.{HoldsFiles, IsFresh, CountsCall, contents_of, find_file, out_name_of, shelf_capacity, shelf_script, shelf_view, read_fails, create_fails, append_fails};
 ghost use Rattle.mill_io.specs.Views.{ReadsOnly, WritesOnly};
 
 use crate::room::Room;
@@ -47,7 +47,7 @@ impl MemShelf {
         capacity: usize,
         fails: &[u64],
     ) -> Result<MemShelf, WantOfMemory>
-        ensures shows { IfOk result (λ s. Holds files.items (⟦<MemShelf as Shelf>⟧.shows s)) }
+        ensures shows { IfOk result (λ s. HoldsFiles files.items (⟦<MemShelf as Shelf>⟧.shows s)) }
         ensures reads { IfOk result (λ s. ⟦<MemShelf as Shelf>⟧.reads s ≡ 0) }
         ensures out { IfOk result (λ s. out_name_of s ≡ out_name.now) }
         ensures capacity { IfOk result (λ s. shelf_capacity s ≡ capacity) }

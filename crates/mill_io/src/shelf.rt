@@ -43,8 +43,7 @@ pub trait Shelf {
     ///
     /// After a failure they are as before, or empty.
     fn create(&mut self, name: &str) -> Result<(), Failed>
-        ensures emptied {
-            Emptied ((shows self.old).contents name.now) ((shows self.new).contents name.now) result }
+        ensures emptied { Emptied ((shows self.old).contents name.now) ((shows self.new).contents name.now) result }
         ensures told { IsTrue (shows self.old).tells →
             OnOk result ((shows self.new).contents name.now ≡ Some []) }
         ensures only { WritesOnly name.now (shows self.old) (shows self.new) }

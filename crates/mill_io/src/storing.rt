@@ -28,8 +28,7 @@ fn append_whole<S: Shelf>(shelf: &mut S, name: &str, bytes: &[u8]) -> Result<(),
     ensures part { OnErr result (AppendedPart bytes.now
         ((S.shows shelf.old).contents name.now) ((S.shows shelf.new).contents name.now)) }
     ensures only { WritesOnly name.now (S.shows shelf.old) (S.shows shelf.new) }
-    ensures cause {
-        HasCause (S.shows shelf.old).write_faults (S.shows shelf.new).write_faults result }
+    ensures cause { HasCause (S.shows shelf.old).write_faults (S.shows shelf.new).write_faults result }
 {
     let mut done = 0;
     while done < bytes.len() {

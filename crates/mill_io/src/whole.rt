@@ -1,6 +1,6 @@
 ghost use Rattle.std.specs.Prelude.{◌≡◌, ◌+◌, ◌<◌, ◌≤◌, length, OnOk, OnErr};
 ghost use Rattle.mill_io.specs.Views.{ReadsOnly, IsWritten, IsPartWritten};
-ghost use Rattle.mill_io.specs.Whole.{IsWhole, EndsBy};
+ghost use Rattle.mill_io.specs.Whole.{IsWhole, ReadEndsBy};
 ghost use Rattle.mill_io.specs.declared.whole.ReadEnd.TheVariants.{WantOfMemory};
 
 use crate::{Failed, Shelf, Sink};
@@ -44,7 +44,7 @@ pub fn read_whole<S: Shelf>(
     limit: u64,
 ) -> Result<Vec<u8>, ReadEnd>
     ensures whole { IsWhole ((S.shows shelf.old).contents name.now) limit result }
-    ensures cause { EndsBy (S.shows shelf.old).read_faults (S.shows shelf.new).read_faults result }
+    ensures cause { ReadEndsBy (S.shows shelf.old).read_faults (S.shows shelf.new).read_faults result }
     ensures only { ReadsOnly (S.shows shelf.old) (S.shows shelf.new) }
     ensures few { S.reads shelf.new ≤ S.reads shelf.old + limit + 2 }
 {
@@ -62,7 +62,7 @@ fn read_pieces<S: Shelf>(
 ) -> Result<Vec<u8>, ReadEnd>
     requires { 0 < length buf.old }
     ensures whole { IsWhole ((S.shows shelf.old).contents name.now) limit result }
-    ensures cause { EndsBy (S.shows shelf.old).read_faults (S.shows shelf.new).read_faults result }
+    ensures cause { ReadEndsBy (S.shows shelf.old).read_faults (S.shows shelf.new).read_faults result }
     ensures only { ReadsOnly (S.shows shelf.old) (S.shows shelf.new) }
     ensures few { S.reads shelf.new ≤ S.reads shelf.old + limit + 2 }
 {

@@ -1,6 +1,6 @@
 -- A text means one thing: a text that is a job has no fault, and the other way round.
 use Rattle.std.proofs.Common.{◌≡◌, ◌∙◌, ◌≢◌, ℕ, List, Result, Ok, Err, inl, inr, refl, sym}
-use Rattle.mill_job.specs.Documents.{IsJobOf, Gives}
+use Rattle.mill_job.specs.Documents.{IsJobOf, GivesJob}
 use Rattle.mill_job.specs.declared.job.Job.{Job}
 use Rattle.mill_job.specs.declared.fault.JobFault.{JobFault}
 use Rattle.mill_job.specs.declared.fault.JobFault.TheVariants.{Syntax, Unknown, Missing, WrongKind, Range, Relation, WantOfMemory}
@@ -19,7 +19,7 @@ no_job text fault refused job reads =
     cc
 
 -- a fault that was answered is the text's, if it isn't want of memory
-pub given_fault : (text : List ℕ) (fault : JobFault) → fault ≢ WantOfMemory → Gives text (Err fault) → IsJobOf text (Err fault)
+pub given_fault : (text : List ℕ) (fault : JobFault) → fault ≢ WantOfMemory → GivesJob text (Err fault) → IsJobOf text (Err fault)
 given_fault text Syntax other given = given
 given_fault text (Unknown name) other given = given
 given_fault text (Missing key) other given = given

@@ -112,6 +112,6 @@ abbrev pub IsJobOf : List ℕ → Result Job JobFault → Type 0
 IsJobOf text answer = (IsUtf8 text × (answer ≡ job_of text)) ⊎ ((¬ IsUtf8 text) × (answer ≡ Err Syntax))
 
 -- the answer is what the text means, or there was not enough memory
-abbrev pub Gives : List ℕ → Result Job JobFault → Type 0
-Gives text (Err WantOfMemory) = Unit {0}
-Gives text answer = IsJobOf text answer
+abbrev pub GivesJob : List ℕ → Result Job JobFault → Type 0
+GivesJob text (Err WantOfMemory) = Unit {0}
+GivesJob text answer = IsJobOf text answer

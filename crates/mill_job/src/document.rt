@@ -1,7 +1,7 @@
 ghost use Rattle.std.specs.Prelude.{◌≡◌, ◌⊎◌, IsUtf8, IfOk, IfErr, Err, Some, option_map, string_bytes};
 ghost use Rattle.toml.specs.Parse.{parse_document};
 ghost use Rattle.toml.specs.View.{table_view};
-ghost use Rattle.mill_job.specs.Documents.{Gives};
+ghost use Rattle.mill_job.specs.Documents.{GivesJob};
 ghost use Rattle.mill_job.specs.Keys.{is_known as is_known_text, unknown_in};
 
 use crate::fault::JobFault;
@@ -12,7 +12,7 @@ use toml::Table;
 /// The document that a text is.
 pub fn document(alloc: Global, text: &[u8]) -> Result<Table, JobFault>
     ensures ok { IfOk result (λ table. IsUtf8 text.now × (parse_document text.now ≡ Some (table_view table))) }
-    ensures err { IfErr result (λ fault. Gives text.now (Err fault)) }
+    ensures err { IfErr result (λ fault. GivesJob text.now (Err fault)) }
 {
     let Ok(text) = str::from_utf8(text) else {
         return Err(JobFault::Syntax);

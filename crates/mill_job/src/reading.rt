@@ -4,7 +4,7 @@ ghost use Rattle.mill_base.specs.declared.limits.TheConstants.{MAX_TEXT_COORDINA
 ghost use Rattle.mill_base.specs.Sizes.{radius_of};
 ghost use Rattle.toml.specs.View.{table_view};
 ghost use Rattle.mill_job.specs.Columns.{row_count, column_count};
-ghost use Rattle.mill_job.specs.Documents.{Gives, cutter_faults, has_many_layers as many_layers_in, job_from, key_faults, relation_faults};
+ghost use Rattle.mill_job.specs.Documents.{GivesJob, cutter_faults, has_many_layers as many_layers_in, job_from, key_faults, relation_faults};
 ghost use Rattle.mill_job.specs.Jobs.{HasFewLayers, IsFrom, IsJob};
 ghost use Rattle.mill_job.specs.Tables.{IsArea, checked, first};
 
@@ -142,7 +142,7 @@ fn job(table: &Table) -> Result<Job, JobFault>
 /// bytes; for each key in the order of [`Key`], that it is missing, of a wrong kind or out of
 /// range; a relation that fails.
 pub fn read_job(alloc: Global, text: &[u8]) -> Result<Job, JobFault>
-    ensures gives { Gives text.now result }
+    ensures gives { GivesJob text.now result }
     ensures in_range { IfOk result IsJob }
 {
     let table = document(alloc, text)?;

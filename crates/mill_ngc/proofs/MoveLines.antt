@@ -20,11 +20,11 @@ use Rattle.mill_ngc.specs.declared.profile.Mode.TheVariants.{Off, On}
 use Rattle.mill_ngc.specs.declared.progress.Frame.TheVariants.{Framed}
 use Rattle.mill_ngc.specs.declared.progress.Progress.{Progress}
 use Rattle.mill_ngc.specs.declared.said.Said.{Said}
-use Rattle.mill_ngc.specs.Numbers.{units_of, whole_of}
+use Rattle.mill_ngc.specs.Numbers.{axis_units, whole_of}
 use Rattle.mill_ngc.specs.Profile.{entry_of}
 use Rattle.mill_ngc.specs.Said.{after_entry, said_from, said_by}
 use Rattle.mill_ngc.specs.Motion.{target, moved, acted}
-use Rattle.mill_ngc.specs.Programs.{is_percent, lines_of, after_words, after_line, start_at, read_from, program_of}
+use Rattle.mill_ngc.specs.Programs.{is_percent, lines_of, after_words, after_line, start_at, moves_from, program_of}
 
 -- ---- the words of a move's line
 
@@ -92,10 +92,10 @@ times_one n = omega arith
 not_negative : (n : ℕ) → int_lt (pos n) (pos 0) ≡ false
 not_negative n = grind (arith, nat_tests)
 
-units_of-num : (line : ℕ) (z : ℤ) → Within MAX_TEXT_COORDINATE z → units_of line (units_num z) ≡ Ok z
-unfolding units_of
-units_of-num line (pos n) fits = rw (times_one n, not_over n fits.within, not_negative n) refl
-units_of-num line (negsuc n) fits = rw (times_one (suc n), not_over (suc n) fits.within) refl
+axis_units-num : (line : ℕ) (z : ℤ) → Within MAX_TEXT_COORDINATE z → axis_units line (units_num z) ≡ Ok z
+unfolding axis_units
+axis_units-num line (pos n) fits = rw (times_one n, not_over n fits.within, not_negative n) refl
+axis_units-num line (negsuc n) fits = rw (times_one (suc n), not_over (suc n) fits.within) refl
 
 room : (moves : ℕ) → moves < MAX_MOVES → nat_le MAX_MOVES moves ≡ false
 room moves few = grind (arith, nat_tests)
@@ -105,7 +105,7 @@ acted-move : (here : Pt3) (mode : Mode) (positioned : Bool) (moves line : ℕ) (
     ≡ Ok (going to (On kind) true (moves + 1) line, Some (record { kind = kind; from = here; to = to }))
 unfolding acted moved target
 acted-move here mode positioned moves line kind to fits few =
-    rw (units_of-num line to.x fits.x_ok, units_of-num line to.y fits.y_ok, units_of-num line to.z fits.z_ok, room moves few) refl
+    rw (axis_units-num line to.x fits.x_ok, axis_units-num line to.y fits.y_ok, axis_units-num line to.z fits.z_ok, room moves few) refl
 
 not_long : (n : ℕ) → n ≤ 256 → nat_lt 256 n ≡ false
 not_long n short = grind (arith, nat_tests)
@@ -123,34 +123,34 @@ abbrev end_lines : List (List ℕ)
 end_lines = codes "M2" ∷ codes "%" ∷ [] ∷ []
 
 -- what a program says behind its header, up to its end
-read_from-end : (here : Pt3) (mode : Mode) (positioned : Bool) (count number : ℕ) (done : List Move)
-    → read_from (going here mode positioned count number) done end_lines ≡ Ok (done ++ [])
-unfolding read_from after_line after_words line_of read_marks marks_from grown_word finished started said_from after_entry entry_of whole_of acted
-read_from-end here mode true count number done = refl
-read_from-end here mode false count number done = refl
+moves_from-end : (here : Pt3) (mode : Mode) (positioned : Bool) (count number : ℕ) (done : List Move)
+    → moves_from (going here mode positioned count number) done end_lines ≡ Ok (done ++ [])
+unfolding moves_from after_line after_words line_of read_marks marks_from grown_word finished started said_from after_entry entry_of whole_of acted
+moves_from-end here mode true count number done = refl
+moves_from-end here mode false count number done = refl
 
-read_from-move : (m : Move) (here : Pt3) (mode : Mode) (positioned : Bool) (count number : ℕ) (done : List Move) (line : List ℕ) (lines : List (List ℕ))
+moves_from-move : (m : Move) (here : Pt3) (mode : Mode) (positioned : Bool) (count number : ℕ) (done : List Move) (line : List ℕ) (lines : List (List ℕ))
     → m.from ≡ here → IsInTextRange m.to → count < MAX_MOVES → IsMoveLine m line
-    → read_from (going here mode positioned count number) done (line ∷ lines) ≡ read_from (going m.to (On m.kind) true (count + 1) (number + 1)) (done ++ m ∷ []) lines
-unfolding read_from
-read_from-move m here mode positioned count number done line lines follow fits few is_line =
+    → moves_from (going here mode positioned count number) done (line ∷ lines) ≡ moves_from (going m.to (On m.kind) true (count + 1) (number + 1)) (done ++ m ∷ []) lines
+unfolding moves_from
+moves_from-move m here mode positioned count number done line lines follow fits few is_line =
     rw (← follow, after_line-move m mode positioned count number line fits few is_line) refl
 
-read_from-moves : (line : Move → List ℕ) → ((m : Move) → MoveInTextRange m → IsMoveLine m (line m))
+moves_from-moves : (line : Move → List ℕ) → ((m : Move) → MoveInTextRange m → IsMoveLine m (line m))
     → (moves : List Move) (here : Pt3) (mode : Mode) (positioned : Bool) (count number : ℕ) (done : List Move)
     → Follow here moves → MovesInTextRange moves → count + length moves ≤ MAX_MOVES
-    → read_from (going here mode positioned count number) done (map line moves ++ end_lines) ≡ Ok (done ++ moves)
-read_from-moves line is_line [] here mode positioned count number done follow fits few = read_from-end here mode positioned count number done
-read_from-moves line is_line (m ∷ moves) here mode positioned count number done follow fits few =
+    → moves_from (going here mode positioned count number) done (map line moves ++ end_lines) ≡ Ok (done ++ moves)
+moves_from-moves line is_line [] here mode positioned count number done follow fits few = moves_from-end here mode positioned count number done
+moves_from-moves line is_line (m ∷ moves) here mode positioned count number done follow fits few =
     let first : MoveInTextRange m = fits m (search rules) in
     let others : MovesInTextRange moves = λ n member. fits n (Contains-append_right (m ∷ []) moves n member) in
-    read_from-move m here mode positioned count number done (line m) (map line moves ++ end_lines) follow.0 first.to_ok (omega arith) (is_line m first)
-    ∙ read_from-moves line is_line moves m.to (On m.kind) true (count + 1) (number + 1) (done ++ m ∷ []) follow.1 others (omega arith)
+    moves_from-move m here mode positioned count number done (line m) (map line moves ++ end_lines) follow.0 first.to_ok (omega arith) (is_line m first)
+    ∙ moves_from-moves line is_line moves m.to (On m.kind) true (count + 1) (number + 1) (done ++ m ∷ []) follow.1 others (omega arith)
     ∙ ap (λ (ms : List Move). Ok ms) (append_assoc done (m ∷ []) moves)
 
-read_from-header : (start : Pt3) (lines : List (List ℕ)) → read_from (start_at start) [] (codes "%" ∷ codes "G17 G21 G90" ∷ lines) ≡ read_from (going start Off false 0 2) [] lines
-unfolding read_from after_line after_words line_of read_marks marks_from grown_word finished started said_from after_entry entry_of whole_of acted
-read_from-header start lines = refl
+moves_from-header : (start : Pt3) (lines : List (List ℕ)) → moves_from (start_at start) [] (codes "%" ∷ codes "G17 G21 G90" ∷ lines) ≡ moves_from (going start Off false 0 2) [] lines
+unfolding moves_from after_line after_words line_of read_marks marks_from grown_word finished started said_from after_entry entry_of whole_of acted
+moves_from-header start lines = refl
 
 -- a program of these lines means the moves, which follow on each other from the start
 pub program_of-moves : (line : Move → List ℕ) → ((m : Move) → MoveInTextRange m → IsMoveLine m (line m))
@@ -158,4 +158,4 @@ pub program_of-moves : (line : Move → List ℕ) → ((m : Move) → MoveInText
     → lines_of text ≡ codes "%" ∷ codes "G17 G21 G90" ∷ (map line moves ++ end_lines) → program_of start text ≡ Ok moves
 unfolding program_of
 program_of-moves line is_line start moves text follow fits few lines =
-    rw lines (read_from-header start (map line moves ++ end_lines) ∙ read_from-moves line is_line moves start Off false 0 2 [] follow fits (omega arith))
+    rw lines (moves_from-header start (map line moves ++ end_lines) ∙ moves_from-moves line is_line moves start Off false 0 2 [] follow fits (omega arith))

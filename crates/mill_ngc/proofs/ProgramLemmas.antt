@@ -12,44 +12,44 @@ use Rattle.mill_ngc.specs.declared.fault.NgcFault.{NgcFault}
 use Rattle.mill_ngc.specs.declared.fault.NgcFault.TheVariants as fault
 use Rattle.mill_ngc.specs.declared.progress.Progress.{Progress}
 use Rattle.mill_ngc.specs.Said.{◌>>=◌}
-use Rattle.mill_ngc.specs.Programs.{begun, after_line, made_list, read_from}
-use Rattle.mill_ngc.specs.Readings.{Reads}
+use Rattle.mill_ngc.specs.Programs.{line_begun, after_line, made_list, moves_from}
+use Rattle.mill_ngc.specs.Readings.{ReadsMoves}
 use Rattle.mill_ngc.specs.inner.Bounds.{KeepsMove, MakesMove, MakesNone}
 
 -- ---- the meaning of the rest
 
 abbrev behind : List Move → List (List ℕ) → Result (Progress × Option Move) NgcFault → Result (List Move) NgcFault
-behind moves lines so_far = so_far >>= λ s. read_from s.0 (moves ++ made_list s.1) lines
+behind moves lines so_far = so_far >>= λ s. moves_from s.0 (moves ++ made_list s.1) lines
 
-read_from-line : (p : Progress) (moves : List Move) (line : List ℕ) (lines : List (List ℕ)) → p.ended ≡ false
-    → read_from p moves (line ∷ lines) ≡ behind moves lines (after_line p line)
-unfolding read_from
-read_from-line p moves line lines going = rw going refl
+moves_from-line : (p : Progress) (moves : List Move) (line : List ℕ) (lines : List (List ℕ)) → p.ended ≡ false
+    → moves_from p moves (line ∷ lines) ≡ behind moves lines (after_line p line)
+unfolding moves_from
+moves_from-line p moves line lines going = rw going refl
 
 -- it is that from the next line on
-pub read_from-next : (p q : Progress) (moves : List Move) (made : Option Move) (line : List ℕ) (lines : List (List ℕ)) (total : Result (List Move) NgcFault)
+pub moves_from-next : (p q : Progress) (moves : List Move) (made : Option Move) (line : List ℕ) (lines : List (List ℕ)) (total : Result (List Move) NgcFault)
     → p.ended ≡ false → after_line p line ≡ Ok (q, made)
-    → read_from p moves (line ∷ lines) ≡ total → read_from q (moves ++ made_list made) lines ≡ total
-read_from-next p q moves made line lines total going h so_far =
-    sym (read_from-line p moves line lines going ∙ ap (behind moves lines) h) ∙ so_far
+    → moves_from p moves (line ∷ lines) ≡ total → moves_from q (moves ++ made_list made) lines ≡ total
+moves_from-next p q moves made line lines total going h so_far =
+    sym (moves_from-line p moves line lines going ∙ ap (behind moves lines) h) ∙ so_far
 
 -- or the line's fault
-pub read_from-fault : (p : Progress) (moves : List Move) (line : List ℕ) (lines : List (List ℕ)) (f : NgcFault) (total : Result (List Move) NgcFault)
+pub moves_from-fault : (p : Progress) (moves : List Move) (line : List ℕ) (lines : List (List ℕ)) (f : NgcFault) (total : Result (List Move) NgcFault)
     → p.ended ≡ false → after_line p line ≡ Err f
-    → read_from p moves (line ∷ lines) ≡ total → total ≡ Err f
-read_from-fault p moves line lines f total going h so_far =
-    sym so_far ∙ read_from-line p moves line lines going ∙ ap (behind moves lines) h
+    → moves_from p moves (line ∷ lines) ≡ total → total ≡ Err f
+moves_from-fault p moves line lines f total going h so_far =
+    sym so_far ∙ moves_from-line p moves line lines going ∙ ap (behind moves lines) h
 
 -- where the program has ended, it is the moves so far
-pub read_from-ended : (p : Progress) (moves : List Move) (lines : List (List ℕ)) → p.ended ≡ true → read_from p moves lines ≡ Ok moves
-unfolding read_from
-read_from-ended p moves [] over = rw over refl
-read_from-ended p moves (line ∷ lines) over = rw over refl
+pub moves_from-ended : (p : Progress) (moves : List Move) (lines : List (List ℕ)) → p.ended ≡ true → moves_from p moves lines ≡ Ok moves
+unfolding moves_from
+moves_from-ended p moves [] over = rw over refl
+moves_from-ended p moves (line ∷ lines) over = rw over refl
 
 -- where the lines end before the program, it is that fault
-pub read_from-end : (p : Progress) (moves : List Move) → p.ended ≡ false → read_from p moves [] ≡ Err (fault.NoEnd p.line)
-unfolding read_from
-read_from-end p moves going = rw going refl
+pub moves_from-end : (p : Progress) (moves : List Move) → p.ended ≡ false → moves_from p moves [] ≡ Err (fault.NoEnd p.line)
+unfolding moves_from
+moves_from-end p moves going = rw going refl
 
 -- ---- the moves so far
 
@@ -110,9 +110,9 @@ so_far-line start p q moves None s keeps = so_far-none start p q moves s keeps
 so_far-line start p q moves (Some m) s keeps = so_far-move start p q moves m s keeps
 
 -- a line begins with what holds before it
-pub so_far-begun : (start : Pt3) (p : Progress) (moves : List Move) → SoFar start p moves → SoFar start (begun p) moves
+pub so_far-begun : (start : Pt3) (p : Progress) (moves : List Move) → SoFar start p moves → SoFar start (line_begun p) moves
 so_far-begun start p moves s = record { here = s.here; in_range = s.in_range; follow = s.follow; end = s.end; count = s.count; few = s.few }
 
 -- the answer at a fault
-pub reads-fault : (meant : Result (List Move) NgcFault) (f : NgcFault) (result : Result (Vec Move Global) NgcFault) → meant ≡ Err f → result ≡ Err f → Reads meant result
+pub reads-fault : (meant : Result (List Move) NgcFault) (f : NgcFault) (result : Result (Vec Move Global) NgcFault) → meant ≡ Err f → result ≡ Err f → ReadsMoves meant result
 reads-fault meant f result e told = rw told (λ _. e)

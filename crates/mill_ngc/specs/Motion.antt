@@ -11,7 +11,7 @@ use Rattle.mill_ngc.specs.declared.profile.Mode.{Mode}
 use Rattle.mill_ngc.specs.declared.profile.Mode.TheVariants.{Off, On}
 use Rattle.mill_ngc.specs.declared.said.Said.{Said}
 use Rattle.mill_ngc.specs.declared.progress.Progress.{Progress}
-use Rattle.mill_ngc.specs.Numbers.{units_of}
+use Rattle.mill_ngc.specs.Numbers.{axis_units}
 use Rattle.mill_ngc.specs.Said.{◌>>=◌, has_axis, has_motion}
 
 -- the settings of a line take effect
@@ -21,7 +21,7 @@ settled p s = record p { mode = unwrap_or s.mode p.mode; millimetres = p.millime
 -- a coordinate of a move's end: the number of its axis, or that of the present point
 abbrev pub coordinate : ℕ → ℤ → Option Num → Result ℤ NgcFault
 coordinate line here None = Ok here
-coordinate line here (Some n) = units_of line n
+coordinate line here (Some n) = axis_units line n
 
 -- where a line's move ends; x is checked before y, and y before z
 unfoldable pub target : Progress → Said → Result Pt3 NgcFault
@@ -32,14 +32,14 @@ target p s =
     Ok (record { x = x; y = y; z = z })
 
 -- a move to this point, unless there are 1,000,000 already
-abbrev pub moved_to : Progress → Kind → Pt3 → Result (Progress × Option Move) NgcFault
-moved_to p kind to =
+abbrev pub made_move : Progress → Kind → Pt3 → Result (Progress × Option Move) NgcFault
+made_move p kind to =
     if nat_le MAX_MOVES p.moves then Err (fault.TooManyMoves p.line) else
     Ok (record p { here = to; positioned = true; moves = p.moves + 1 }, Some (record { kind = kind; from = p.here; to = to }))
 
 abbrev pub moved_by : Mode → Progress → Said → Result (Progress × Option Move) NgcFault
 moved_by Off p s = Err (fault.NoMotion p.line)
-moved_by (On kind) p s = target p s >>= moved_to p kind
+moved_by (On kind) p s = target p s >>= made_move p kind
 
 -- what a line with an axis word does behind its settings
 unfoldable pub moved : Progress → Said → Result (Progress × Option Move) NgcFault

@@ -23,7 +23,7 @@ abbrev pub signed : Bool → ℕ → ℤ
 signed neg n = if neg then neg_ℤ (pos n) else pos n
 
 -- the units of 0.01 mm of an axis number, on this line
-unfoldable pub units_of : ℕ → Num → Result ℤ NgcFault
-units_of line n =
+unfoldable pub axis_units : ℕ → Num → Result ℤ NgcFault
+axis_units line n =
     if not (is_on_grid n) then Err (fault.OffGrid line) else
     (if nat_lt MAX_TEXT_COORDINATE (hundredths n) then Err (fault.OutOfRange line) else Ok (signed n.neg (hundredths n)))

@@ -76,8 +76,8 @@ words_or_fault line (Ok l) = Ok l
 words_or_fault line (Err f) = Err (fault.Word line f)
 
 -- the next line begins
-abbrev pub begun : Progress → Progress
-begun p = record p { line = p.line + 1 }
+abbrev pub line_begun : Progress → Progress
+line_begun p = record p { line = p.line + 1 }
 
 abbrev pub line_in : Progress → List ℕ → Result (Progress × Option Move) NgcFault
 line_in p line =
@@ -87,7 +87,7 @@ line_in p line =
 
 -- what the next line does: the progress behind it, and its move, if it makes one
 unfoldable pub after_line : Progress → List ℕ → Result (Progress × Option Move) NgcFault
-after_line p line = line_in (begun p) line
+after_line p line = line_in (line_begun p) line
 
 -- ---- a text
 
@@ -100,12 +100,12 @@ made_list None = []
 made_list (Some m) = m ∷ []
 
 -- the moves so far, and those of the lines that follow up to the program's end
-unfoldable pub read_from : Progress → List Move → List (List ℕ) → Result (List Move) NgcFault
-read_from p moves [] = if p.ended then Ok moves else Err (fault.NoEnd p.line)
-read_from p moves (line ∷ lines) =
+unfoldable pub moves_from : Progress → List Move → List (List ℕ) → Result (List Move) NgcFault
+moves_from p moves [] = if p.ended then Ok moves else Err (fault.NoEnd p.line)
+moves_from p moves (line ∷ lines) =
     if p.ended then Ok moves else
-    (after_line p line >>= λ s. read_from s.0 (moves ++ made_list s.1) lines)
+    (after_line p line >>= λ s. moves_from s.0 (moves ++ made_list s.1) lines)
 
 -- what a program's text means from a start
 unfoldable pub program_of : Pt3 → List ℕ → Result (List Move) NgcFault
-program_of start text = read_from (start_at start) [] (lines_of text)
+program_of start text = moves_from (start_at start) [] (lines_of text)

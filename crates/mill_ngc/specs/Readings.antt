@@ -6,6 +6,6 @@ use Rattle.mill_ngc.specs.declared.fault.NgcFault.{NgcFault}
 use Rattle.mill_ngc.specs.declared.fault.NgcFault.TheVariants.{WantOfMemory}
 
 -- an Ok has exactly the moves that the text means, and a fault is exactly its first, unless memory ran out
-abbrev pub Reads : Result (List Move) NgcFault → Result (Vec Move Global) NgcFault → Type 0
-Reads meant (Ok moves) = meant ≡ Ok moves.items
-Reads meant (Err fault) = fault ≢ WantOfMemory → meant ≡ Err fault
+abbrev pub ReadsMoves : Result (List Move) NgcFault → Result (Vec Move Global) NgcFault → Type 0
+ReadsMoves meant (Ok moves) = meant ≡ Ok moves.items
+ReadsMoves meant (Err fault) = fault ≢ WantOfMemory → meant ≡ Err fault

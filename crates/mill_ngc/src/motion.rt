@@ -4,7 +4,7 @@ ghost use Rattle.mill_base.specs.Numbers.{Within};
 ghost use Rattle.mill_base.specs.declared.limits.TheConstants.{MAX_TEXT_COORDINATE};
 ghost use Rattle.mill_base.specs.Ranges.{IsInTextRange};
 ghost use Rattle.mill_words.specs.Words.{FitsNum};
-ghost use Rattle.mill_ngc.specs.Motion.{settled, coordinate as coordinate_of, target as target_of, moved_to, moved_by, moved, acted};
+ghost use Rattle.mill_ngc.specs.Motion.{settled, coordinate as coordinate_of, target as target_of, made_move, moved_by, moved, acted};
 ghost use Rattle.mill_ngc.specs.inner.Bounds.{FitsSaid, Keeps};
 
 use crate::fault::NgcFault;
@@ -87,8 +87,8 @@ impl Progress {
     fn move_to(&mut self, kind: Kind, to: Pt3) -> Result<Option<Move>, NgcFault>
         requires here { IsInTextRange self.old.here }
         requires to { IsInTextRange to }
-        ensures ok { IfOk result (λ made. moved_to self.old kind to ≡ Ok (self.new, made)) }
-        ensures fault { IfErr result (λ f. moved_to self.old kind to ≡ Err f) }
+        ensures ok { IfOk result (λ made. made_move self.old kind to ≡ Ok (self.new, made)) }
+        ensures fault { IfErr result (λ f. made_move self.old kind to ≡ Err f) }
         ensures keeps { IfOk result (λ made. Keeps self.old made self.new) }
     {
         if self.moves >= MAX_MOVES as u64 {

@@ -3,7 +3,7 @@ ghost use Rattle.std.specs.Prelude.{◌≡◌, ◌^◌, ◌≤◌, ◌<◌, IfOk
 ghost use Rattle.mill_words.specs.Words.{FitsNum};
 ghost use Rattle.mill_base.specs.Numbers.{Within};
 ghost use Rattle.mill_base.specs.declared.limits.TheConstants.{MAX_TEXT_COORDINATE};
-ghost use Rattle.mill_ngc.specs.Numbers.{whole_of as whole_number_of, hundredths as hundredths_of, is_on_grid as is_on_grid_number, units_of as units_by, signed as signed_by};
+ghost use Rattle.mill_ngc.specs.Numbers.{whole_of as whole_number_of, hundredths as hundredths_of, is_on_grid as is_on_grid_number, axis_units as units_by, signed as signed_by};
 
 use crate::fault::NgcFault;
 use mill_base::MAX_TEXT_COORDINATE;
@@ -26,7 +26,7 @@ pub(crate) fn whole_of(num: Num) -> Option<u64>
 }
 
 /// The units of 0.01 mm of an axis number, on this line.
-#[tactic(auto, unfolding(crate::specs::Numbers::units_of))]
+#[tactic(auto, unfolding(crate::specs::Numbers::axis_units))]
 pub(crate) fn units_of(line: u64, num: Num) -> Result<i32, NgcFault>
     requires { FitsNum 18 num }
     ensures value { result ≡ units_by line num }

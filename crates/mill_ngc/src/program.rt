@@ -3,7 +3,7 @@ ghost use Rattle.mill_base.specs.declared.limits.TheConstants.{MAX_MOVES};
 ghost use Rattle.mill_base.specs.Motion.{Follow};
 ghost use Rattle.mill_base.specs.Ranges.{IsInTextRange, MovesInTextRange};
 ghost use Rattle.mill_ngc.specs.Programs.{program_of, made_list};
-ghost use Rattle.mill_ngc.specs.Readings.{Reads};
+ghost use Rattle.mill_ngc.specs.Readings.{ReadsMoves};
 ghost use Rattle.mill_ngc.specs.declared.fault.NgcFault.TheVariants as faults;
 
 use crate::fault::NgcFault;
@@ -12,7 +12,7 @@ use crate::reader::Reader;
 use mill_base::{MAX_MOVES, Move, Pt3};
 use std::alloc::Global;
 
-/// Reads a program text as moves, the first of which begins at `start`.
+/// ReadsMoves a program text as moves, the first of which begins at `start`.
 ///
 /// Each line feed ends a line. Where the first line that isn't blank holds only `%`, the program
 /// ends with the next such line; `M2` or `M30` ends it at the end of its line in any case (NISTIR
@@ -27,7 +27,7 @@ use std::alloc::Global;
 /// line. `WantOfMemory` comes where there is no memory for the moves.
 pub fn read_program(alloc: Global, text: &[u8], start: Pt3) -> Result<Vec<Move>, NgcFault>
     requires { IsInTextRange start }
-    ensures reads { Reads (program_of start text.now) result }
+    ensures reads { ReadsMoves (program_of start text.now) result }
     ensures in_range { IfOk result (λ moves. MovesInTextRange moves.items) }
     ensures follow { IfOk result (λ moves. Follow start moves.items) }
     ensures few { IfOk result (λ moves. length moves.items ≤ MAX_MOVES) }

@@ -6,7 +6,7 @@ ghost use Rattle.mill_words.specs.Lines.{line_of};
 ghost use Rattle.mill_words.specs.Words.{Line};
 ghost use Rattle.mill_words.specs.Marks.{is_blank as is_blank_byte};
 ghost use Rattle.mill_ngc.specs.declared.progress.Progress.{Progress};
-ghost use Rattle.mill_ngc.specs.Programs.{start_at, is_percent as is_percent_line, percent_step as percent_step_by, has_frame, with_percent, with_line, begun, after_line, after_words, words_or_fault};
+ghost use Rattle.mill_ngc.specs.Programs.{start_at, is_percent as is_percent_line, percent_step as percent_step_by, has_frame, with_percent, with_line, line_begun, after_line, after_words, words_or_fault};
 ghost use Rattle.mill_ngc.specs.inner.Bounds.{Keeps};
 
 use crate::fault::NgcFault;
@@ -81,7 +81,7 @@ impl Reader {
         requires number { self.old.line < 2 ^ 63 }
         ensures ok { IfOk result (λ made. after_line self.old line.now ≡ Ok (self.new, made)) }
         ensures fault { IfErr result (λ f. after_line self.old line.now ≡ Err f) }
-        ensures keeps { IfOk result (λ made. Keeps (begun self.old) made self.new) }
+        ensures keeps { IfOk result (λ made. Keeps (line_begun self.old) made self.new) }
     {
         self.progress.line += 1;
         if line.len() > LONGEST {

@@ -1,4 +1,4 @@
--- Written by tools/certificates.py from tools/certificates/mill_part_ColumnCerts.spec.
+-- Written by tools/certificates.py from tools/certificates/mill_part_column.spec.
 -- Polynomial facts behind the lemmas on triangles over a column.
 use Rattle.std.proofs.Common.{◌≡◌, [], ◌∷◌, refl}
 use lib.IntN.{ℤ, pos, negsuc, ◌+ℤ◌, ◌-ℤ◌, ◌*ℤ◌}

@@ -1,4 +1,4 @@
--- Written by tools/certificates.py from tools/certificates/mill_part_LineCerts.spec.
+-- Written by tools/certificates.py from tools/certificates/mill_part_line.spec.
 -- Polynomial facts behind the lemmas on edges, and on triangles that are seen as a line.
 use Rattle.std.proofs.Common.{◌≡◌, [], ◌∷◌, refl}
 use lib.IntN.{ℤ, pos, negsuc, neg_ℤ, ◌+ℤ◌, ◌-ℤ◌, ◌*ℤ◌}

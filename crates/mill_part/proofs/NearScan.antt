@@ -16,7 +16,7 @@ use Rattle.mill_base.specs.declared.points.Tri.{Tri}
 use Rattle.mill_base.specs.declared.points.Box2.{Box2}
 use Rattle.mill_cells.specs.Ahead.{Ahead, Comes, NoneComes, AreDealt}
 use Rattle.mill_cells.specs.Boxes.{Meet, IsNear, box_of, boxes_of, origin_box}
-use Rattle.mill_cells.specs.Sorted.{Sorted, sorted_of, height_at}
+use Rattle.mill_cells.specs.Sorted.{Sorted, sorted_of, top_at}
 use Rattle.mill_cells.proofs.PassedLemmas.{deals_on, deals_last, top_is}
 use Rattle.mill_part.specs.inner.Columns.{CoversColumn, square_about}
 use Rattle.mill_part.proofs.Below.{covered_below}
@@ -61,9 +61,9 @@ pub next_within : (part : List Tri) (d : Tri) (floor band x y : ℤ) (near later
 next_within part d floor band x y near later i z height h s = s.within i h.number
 
 -- a triangle whose top isn't over a height covers none over it
-low_top : (part : List Tri) (d : Tri) (band x y height : ℤ) (tops : List ℤ) (j : ℕ) → tops ≡ map highest part → height_at tops j ≤ℤ height → IsLow part d band x y height j
+low_top : (part : List Tri) (d : Tri) (band x y height : ℤ) (tops : List ℤ) (j : ℕ) → tops ≡ map highest part → top_at tops j ≤ℤ height → IsLow part d band x y height j
 low_top part d band x y height tops j e le inside h over =
-    let top = ap (λ (ts : List ℤ). height_at ts j) e ∙ top_is part j d inside in
+    let top = ap (λ (ts : List ℤ). top_at ts j) e ∙ top_is part j d inside in
     through h (highest (get_or part j d)) height (under_highest (get_or part j d) band x y h over) (subst (λ z. z ≤ℤ height) top le)
 
 pub scan_goes_on : (part : List Tri) (d : Tri) (floor band x y : ℤ) (near later : Ahead) (i : ℕ) (height new : ℤ) → Comes height near i later → CoversSoFar part d floor band x y near height
@@ -127,9 +127,9 @@ search_starts part d band x y h s near e same each = record {
 }
 
 -- a triangle whose top isn't over the next lower height doesn't cover the height
-too_low : (part : List Tri) (d : Tri) (band x y h : ℤ) (tops : List ℤ) (j : ℕ) → tops ≡ map highest part → height_at tops j ≤ℤ (h -ℤ pos 1) → IsMissed part d band x y h j
+too_low : (part : List Tri) (d : Tri) (band x y h : ℤ) (tops : List ℤ) (j : ℕ) → tops ≡ map highest part → top_at tops j ≤ℤ (h -ℤ pos 1) → IsMissed part d band x y h j
 too_low part d band x y h tops j e le inside over =
-    let top = ap (λ (ts : List ℤ). height_at ts j) e ∙ top_is part j d inside in
+    let top = ap (λ (ts : List ℤ). top_at ts j) e ∙ top_is part j d inside in
     clash h (highest (get_or part j d)) (under_highest (get_or part j d) band x y h over) (subst (λ z. z ≤ℤ (h -ℤ pos 1)) top le)
   where
     clash : (h z : ℤ) → h ≤ℤ z → z ≤ℤ (h -ℤ pos 1) → ⊥
@@ -141,7 +141,7 @@ search_goes_on part d band x y h lower near later i is c s missed = record {
   tops = c.tops ∙ s.tops;
   within = λ j k. s.within j (c.rest j k);
   dealt = deals_on (IsNearBy part band x y) (IsMissed part d band x y h) (IsMissed part d band x y h) lower near later i c (λ j m. m) (λ inside. missed)
-      (λ j le. too_low part d band x y h near.tops j s.tops (subst (λ z. height_at near.tops j ≤ℤ z) is le))
+      (λ j le. too_low part d band x y h near.tops j s.tops (subst (λ z. top_at near.tops j ≤ℤ z) is le))
       s.dealt;
 }
 
@@ -152,5 +152,5 @@ search_ends part d band x y h lower near later least is none s over =
     let m = over.member in
     let place = get_or_default part m.0 d over.tri m.1 ∙ m.2 in
     let covers = subst (λ (t : Tri). CoversColumn t band x y h) (sym place) (covers_of_point part band x y h over) in
-    deals_last (IsNearBy part band x y) (IsMissed part d band x y h) lower near later none (λ j le. too_low part d band x y h near.tops j s.tops (subst (λ z. height_at near.tops j ≤ℤ z) is le))
+    deals_last (IsNearBy part band x y) (IsMissed part d band x y h) lower near later none (λ j le. too_low part d band x y h near.tops j s.tops (subst (λ z. top_at near.tops j ≤ℤ z) is le))
     s.dealt m.0 (is_near_by part d band x y h m.0 m.1 least covers) m.1 covers

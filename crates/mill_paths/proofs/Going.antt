@@ -28,7 +28,7 @@ use Rattle.mill_sweep.proofs.Far.{top_passes}
 use Rattle.mill_sweep.proofs.Vertical.{vertical_passes}
 use Rattle.mill_paths.specs.Links.{at_height, feed_to, rapid_to, is_over_place, climb, cross, descend, plunge, detour, MayFeed, IsLink, way_home}
 use Rattle.mill_paths.specs.Tours.{AreLinks, last_place}
-use Rattle.mill_paths.specs.Safety.{IsSafe, AreSafe, Connect, IsFreePlace, IsEndOf, IsReached, GoSafely, LinkIsSafe, TourIsSafe, WayHomeIsSafe}
+use Rattle.mill_paths.specs.Safety.{IsSafeMove, AreSafe, Connect, IsFreePlace, IsEndOf, IsReached, GoSafely, LinkIsSafe, TourIsSafe, WayHomeIsSafe}
 use Rattle.mill_paths.specs.declared.visit.Visit.{Visit}
 use Rattle.mill_paths.proofs.Points.{same_pair}
 
@@ -62,7 +62,7 @@ module _ (job : Job) (part : List Tri) where
     reached = subst (λ p. IsReached job part (done ++ []) p) (sym same) (subst (λ l. IsReached job part l from) (sym (append-nil done)) at);
   }
 
-  go_once : (done : List Move) (m : Move) → IsSafe job part done m → IsReached job part (done ++ m ∷ []) m.to → GoSafely job part done m.from (m ∷ []) m.to
+  go_once : (done : List Move) (m : Move) → IsSafeMove job part done m → IsReached job part (done ++ m ∷ []) m.to → GoSafely job part done m.from (m ∷ []) m.to
   go_once done m safe at = record { safe = (safe, tt); connect = (refl, refl); reached = at }
 
   pub go_on : (done : List Move) (from mid to : Pt3) (ms ns : List Move) → GoSafely job part done from ms mid → GoSafely job part (done ++ ms) mid ns to
@@ -76,7 +76,7 @@ module _ (job : Job) (part : List Tri) where
 -- the moves themselves
 module _ (job : Job) (part : List Tri) (ok : IsJob job) (under : IsUnder part job.top) where
   -- a move over the stock
-  over_safe : (done : List Move) (m : Move) → MoveInTextRange m → job.top ≤ℤ m.from.z → job.top ≤ℤ m.to.z → IsSafe job part done m
+  over_safe : (done : List Move) (m : Move) → MoveInTextRange m → job.top ≤ℤ m.from.z → job.top ≤ℤ m.to.z → IsSafeMove job part done m
   over_safe done m ranged from to = record {
     ranged = ranged;
     floor_from = through _ _ _ ok.stock from;
@@ -122,7 +122,7 @@ module _ (job : Job) (part : List Tri) (ok : IsJob job) (under : IsUnder part jo
   }
 
   -- up
-  climb_safe : (done : List Move) (from : Pt3) → IsFreePlace job part from → IsEndOf done from → IsSafe job part done (rapid_to from (at_height from job.clear))
+  climb_safe : (done : List Move) (from : Pt3) → IsFreePlace job part from → IsEndOf done from → IsSafeMove job part done (rapid_to from (at_height from job.clear))
   climb_safe done from at end = record {
     ranged = record { from_ok = at.ranged; to_ok = raised_range from job.clear at.ranged ok.clear_ok };
     floor_from = at.floor;
@@ -144,7 +144,7 @@ module _ (job : Job) (part : List Tri) (ok : IsJob job) (under : IsUnder part jo
   climb_goes : (done : List Move) (from : Pt3) → IsReached job part done from → GoSafely job part done from (climb job from) (at_height from job.clear)
   climb_goes done from at = by (int_lt from.z job.clear) refl
     where
-      up : int_lt from.z job.clear ≡ true → IsSafe job part done (rapid_to from (at_height from job.clear))
+      up : int_lt from.z job.clear ≡ true → IsSafeMove job part done (rapid_to from (at_height from job.clear))
       up low = elim at.place [
         | inl high ↦ absurd (clash from.z job.clear low high)
         | inr free ↦ climb_safe done from free.0 free.1
@@ -186,7 +186,7 @@ module _ (job : Job) (part : List Tri) (ok : IsJob job) (under : IsUnder part jo
           (at_clear _ at at_ok)
 
   -- down
-  plunge_safe : (done : List Move) (at : Pt3) → IsFreePlace job part at → IsSafe job part done (plunge job at)
+  plunge_safe : (done : List Move) (at : Pt3) → IsFreePlace job part at → IsSafeMove job part done (plunge job at)
   plunge_safe done at free = record {
     ranged = record { from_ok = raised_range at job.top free.ranged ok.top_ok; to_ok = free.ranged };
     floor_from = ok.stock;

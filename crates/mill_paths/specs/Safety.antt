@@ -19,7 +19,7 @@ use Rattle.mill_paths.specs.Tours.{IsTour, last_place}
 use Rattle.mill_paths.specs.declared.visit.Visit.{Visit}
 
 -- after the moves done so far, this one is safe
-pub record IsSafe (job : Job) (part : List Tri) (done : List Move) (m : Move) : Type 0 where
+pub record IsSafeMove (job : Job) (part : List Tri) (done : List Move) (m : Move) : Type 0 where
   pub ranged : MoveInTextRange m
   pub floor_from : job.floor ≤ℤ m.from.z
   pub floor_to : job.floor ≤ℤ m.to.z
@@ -29,7 +29,7 @@ pub record IsSafe (job : Job) (part : List Tri) (done : List Move) (m : Move) : 
 -- so are these moves, each after those before it
 abbrev pub AreSafe : Job → List Tri → List Move → List Move → Type 0
 AreSafe job part done [] = Unit {0}
-AreSafe job part done (m ∷ ms) = IsSafe job part done m × AreSafe job part (done ++ m ∷ []) ms
+AreSafe job part done (m ∷ ms) = IsSafeMove job part done m × AreSafe job part (done ++ m ∷ []) ms
 
 -- the moves go from one place to another, each from where the one before it ends
 abbrev pub Connect : Pt3 → List Move → Pt3 → Type 0

@@ -9,24 +9,25 @@ use Rattle.mill_base.specs.declared.points.Pt3.{Pt3}
 use Rattle.mill_base.specs.declared.points.Tri.{Tri}
 use Rattle.mill_job.specs.Columns.{column_x, column_y}
 use Rattle.mill_job.specs.declared.job.Job.{Job}
-use Rattle.mill_paths.specs.Safety.{AreSafe, Connect, GoSafely, IsSafe}
-use Rattle.mill_verify.specs.Tests.{GoodBefore, move_at}
+use Rattle.mill_paths.specs.Safety.{AreSafe, Connect, GoSafely, IsSafeMove}
+use Rattle.mill_verify.specs.Tests.{GoodBefore}
+use Rattle.mill_dexel.specs.Turns.{move_at}
 use Rattle.mill_verify.specs.Verdicts.{IsRejection}
 use Rattle.mill_verify.specs.declared.verdict.Reason.{Reason}
 use Rattle.mill_verify.specs.declared.verdict.Reason.TheVariants.{Floor, Gouge, Rapid as RapidCut, Left}
 
 module _ (job : Job) (part : List Tri) where
   -- the move of each number is safe after those before it
-  safe_at : (done ms : List Move) (k : ℕ) → AreSafe job part done ms → k < length ms → IsSafe job part (done ++ take k ms) (move_at ms k)
+  safe_at : (done ms : List Move) (k : ℕ) → AreSafe job part done ms → k < length ms → IsSafeMove job part (done ++ take k ms) (move_at ms k)
   safe_at done [] k safe inside = absurd (omega arith)
-  safe_at done (m ∷ ms) zero safe inside = subst (λ (before : List Move). IsSafe job part before m) (sym (append-nil done)) safe.0
+  safe_at done (m ∷ ms) zero safe inside = subst (λ (before : List Move). IsSafeMove job part before m) (sym (append-nil done)) safe.0
   safe_at done (m ∷ ms) (suc k) safe inside =
-      subst (λ (before : List Move). IsSafe job part before (move_at ms k)) (append_assoc done (m ∷ []) (take k ms))
+      subst (λ (before : List Move). IsSafeMove job part before (move_at ms k)) (append_assoc done (m ∷ []) (take k ms))
       (safe_at (done ++ m ∷ []) ms k safe.1 (omega arith))
 
   pub good : (from to : Pt3) (moves : List Move) → GoSafely job part [] from moves to → GoodBefore job part moves (length moves)
   good from to moves go k inside =
-      let safe : IsSafe job part (take k moves) (move_at moves k) = safe_at [] moves k go.safe inside in
+      let safe : IsSafeMove job part (take k moves) (move_at moves k) = safe_at [] moves k go.safe inside in
       record {
         floor = record { start = safe.floor_from; «end» = safe.floor_to };
         clears = safe.passes;

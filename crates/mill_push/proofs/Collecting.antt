@@ -1,5 +1,5 @@
 -- The stretches of the triangles near a fiber, one triangle after another.
-use Rattle.std.proofs.Common.{◌≡◌, ◌⊎◌, ◌↔◌, inl, inr, refl, ℕ, zero, suc, ◌+◌, ◌*◌, ◌<◌, ◌≤◌, Option, Some, None, List, [], ◌∷◌, ◌++◌, length, get_or, map, sym, subst, ap, ◌∙◌, arith}
+use Rattle.std.proofs.Common.{◌≡◌, ◌↔◌, inl, inr, refl, ℕ, zero, suc, ◌+◌, ◌*◌, ◌<◌, ◌≤◌, List, [], ◌∷◌, ◌++◌, length, get_or, map, sym, subst, ap, ◌∙◌, arith}
 use Rattle.std.specs.Prelude.{◌^◌, nat_eq, Bool, true, false}
 use Rattle.std.specs.List.{Contains, IsDistinct}
 use Rattle.std.proofs.lemmas.Bool.{eqb-true, eq-eqb}
@@ -12,7 +12,7 @@ use Rattle.std.proofs.lemmas.Map.Views.{Contains-from_any}
 use lib.IntN.{ℤ, pos}
 use lib.Signed.{◌<ℤ◌, ◌≤ℤ◌}
 use Rattle.mill_base.specs.Numbers.{Within}
-use Rattle.mill_base.specs.declared.limits.TheConstants.{MAX_TEXT_COORDINATE}
+use Rattle.mill_base.specs.declared.limits.TheConstants.{MAX_COORDINATE}
 use Rattle.mill_base.specs.Points.{highest, point_at, point_tri}
 use Rattle.mill_base.specs.Sizes.{IsCutter}
 use Rattle.mill_base.specs.declared.points.Tri.{Tri}
@@ -27,8 +27,8 @@ use Rattle.mill_push.specs.declared.fiber.Fiber.{Fiber}
 use Rattle.mill_push.specs.declared.fiber.Run.{Run}
 use Rattle.mill_push.specs.Fibers.{IsTouched, IsBlocked}
 use Rattle.mill_push.specs.Runs.{StandsIn}
-use Rattle.mill_push.specs.Stretches.{IsStretch, IsStretchAnswer, IsClear}
-use Rattle.mill_push.specs.Touches.{IsNearFiber, IsTried, TouchesFew, position_count, strip_of, tri_at}
+use Rattle.mill_push.specs.Stretches.{IsStretch, IsClear}
+use Rattle.mill_push.specs.Touches.{IsTried, TouchesFew, position_count, strip_of, tri_at}
 use Rattle.mill_push.specs.inner.Unions.{AreSpans, IsSpan, AreStretches}
 use Rattle.mill_push.proofs.Meeting.{touched_near}
 
@@ -227,12 +227,12 @@ module _ (cutter : Cutter) (part : List Tri) (fiber : Fiber) (from to : ℤ) whe
   collect_cost near found old now s = record { numbers = s.numbers; once = s.each_once; tried = s.tried; bound = s.bound }
 
 -- at most 40 touches for each triangle of the part
-pub few_touches : (cutter : Cutter) (part : List Tri) (fiber : Fiber) (from to : ℤ) (old new : ℕ) → Within MAX_TEXT_COORDINATE from → Within MAX_TEXT_COORDINATE to → TouchesFew cutter part fiber from to old new
+pub few_touches : (cutter : Cutter) (part : List Tri) (fiber : Fiber) (from to : ℤ) (old new : ℕ) → Within MAX_COORDINATE from → Within MAX_COORDINATE to → TouchesFew cutter part fiber from to old new
     → new ≤ old + 40 * length part
 few_touches cutter part fiber from to old new h k t =
     let few = few_below t.numbers (length part) t.once (λ i c. (t.tried i c).within) in
     let steps = t.bound 20 (short from to h k) in
     omega arith
   where
-    short : (from to : ℤ) → Within MAX_TEXT_COORDINATE from → Within MAX_TEXT_COORDINATE to → position_count from to < 1048576
+    short : (from to : ℤ) → Within MAX_COORDINATE from → Within MAX_COORDINATE to → position_count from to < 1048576
     short from to h k = let a = h.within in let b = k.within in omega (arith, ints)

@@ -1,6 +1,7 @@
 -- Runs that overlap or touch, in the order of their first positions, joined to the maximal runs of the positions that stand in them.
-use Rattle.std.proofs.Common.{◌≡◌, ◌⊎◌, inl, inr, ℕ, zero, suc, ◌+◌, ◌<◌, ◌≤◌, List, [], ◌∷◌, ◌++◌, length, get_or, refl, sym, subst, ap, ◌∙◌, arith}
+use Rattle.std.proofs.Common.{◌≡◌, ◌⊎◌, inl, inr, ℕ, suc, ◌+◌, ◌<◌, ◌≤◌, List, [], ◌∷◌, ◌++◌, length, get_or, refl, sym, subst, ap, ◌∙◌, arith}
 use Rattle.std.specs.Prelude.{int_lt, Bool, true, false, ◌↔◌}
+use Rattle.std.specs.Int.{int_max}
 use Rattle.std.specs.List.{Contains}
 use Rattle.std.proofs.lemmas.Bool.{cases_lt}
 use Rattle.std.proofs.lemmas.Int.{ints, by_lt_z}
@@ -8,6 +9,7 @@ use Rattle.std.proofs.lemmas.List.{get_or_default}
 use Rattle.std.proofs.lemmas.List.Elements.{Contains-get_or}
 use lib.IntN.{ℤ, pos, ◌+ℤ◌, ◌-ℤ◌}
 use lib.Signed.{◌<ℤ◌, ◌≤ℤ◌}
+use Rattle.mill_base.specs.Numbers.{Within}
 use Rattle.mill_push.specs.declared.fiber.Run.{Run}
 use Rattle.mill_push.specs.Runs.{FreeUpTo, IsNextRun, RunsOf, StandsIn}
 use Rattle.mill_push.specs.inner.Unions.{IsSpan, AreSpans, AreOrdered}
@@ -96,10 +98,10 @@ module _ (xs : List Run) where
     leads = h.leads;
     after = h.after;
     some = through run.first run.last last h.some kept;
-    within = elim one [ | inl e ↦ as_it e h.within | inr e ↦ as_it e span.within ];
+    within = elim one [ inl e ↦ as_it e h.within | inr e ↦ as_it e span.within ];
     before = h.before;
     blocks = λ v a b. by_lt_z run.last v
-        (λ past. record { run = s; member = (k, less, it); first = reached v past; last = elim one [ | inl e ↦ absurd (not_past v past b e) | inr e ↦ bound b e ] })
+        (λ past. record { run = s; member = (k, less, it); first = reached v past; last = elim one [ inl e ↦ absurd (not_past v past b e) | inr e ↦ bound b e ] })
         (λ under. h.blocks v a under);
     taken = λ j d small inside. elim (cases_lt j k) [
       | inl before ↦ through (get_or xs j d).last run.last last (h.taken j d before inside) kept
@@ -187,8 +189,7 @@ module _ (xs : List Run) where
   -- after the last one
   pub grown_all : AreOrdered xs → (from to : ℤ) (k : ℕ) (runs : List Run) (run : Run) → length xs ≤ k → GrownSoFar from to k runs run → RunsOf (StandsIn xs) from to (runs ++ run ∷ [])
   grown_all ordered from to k runs run all h =
-      leads_all (StandsIn xs) from to h.here runs (run ∷ []) h.leads
-      (
+      leads_all (StandsIn xs) from to h.here runs (run ∷ []) h.leads (
         next_run ordered from to k runs run (λ v e j d le inside. absurd (none j le inside)) h,
         λ v a b. gap k run v h.taken (past v a) (λ j d le inside. absurd (none j le inside)),
       )
@@ -241,3 +242,34 @@ runs_as P Q from to (run ∷ runs) same h = (
 
     later : (v : ℤ) → (run.last +ℤ pos 1) ≤ℤ v → from ≤ℤ v
     later v a = let f = n.after in let s = n.some in omega (arith, ints)
+
+-- the first of a list, and a later one
+pub at_head : (xs others : List Run) (s : Run) → xs ≡ s ∷ others → (0 < length xs) × (get_or xs 0 s ≡ s)
+at_head xs others s e = (subst (λ (ys : List Run). 0 < length ys) (sym e) (omega arith), subst (λ (ys : List Run). get_or ys 0 s ≡ s) (sym e) refl)
+
+pub at_later : (xs others : List Run) (first d : Run) (k : ℕ) → xs ≡ first ∷ others → k < length others → (k + 1 < length xs) × (get_or xs (k + 1) (get_or others k d) ≡ get_or others k d)
+at_later xs others first d k e less = (subst (λ (ys : List Run). k + 1 < length ys) (sym e) (omega (arith, less)), subst (λ (ys : List Run). get_or ys (k + 1) (get_or others k d) ≡ get_or others k d) (sym e) there)
+  where
+    there : get_or (first ∷ others) (k + 1) (get_or others k d) ≡ get_or others k d
+    there = let next : suc k ≡ k + 1 = omega arith in subst (λ m. get_or (first ∷ others) m (get_or others k d) ≡ get_or others k d) next (get_or_default others k (get_or others k d) d less)
+
+pub all_taken : (xs others : List Run) (first : Run) (k : ℕ) → xs ≡ first ∷ others → length others ≤ k → length xs ≤ k + 1
+all_taken xs others first k e all = subst (λ (ys : List Run). length ys ≤ k + 1) (sym e) (omega (arith, all))
+
+-- the greater of two numbers is one of them
+pub one_of_two : (a b : ℤ) → (int_max a b ≡ a) ⊎ (int_max a b ≡ b)
+one_of_two a b = by (int_lt b a) refl
+  where
+    by : (t : Bool) → int_lt b a ≡ t → (int_max a b ≡ a) ⊎ (int_max a b ≡ b)
+    by true e = inl (rw e refl)
+    by false e = inr (rw e refl)
+
+pub most_of_two : (a b : ℤ) → (a ≤ℤ int_max a b) × (b ≤ℤ int_max a b)
+most_of_two a b = (grind (arith, ints), grind (arith, ints))
+
+pub most_within : (m : ℕ) (a b : ℤ) → Within m a → Within m b → Within m (int_max a b)
+most_within m a b h k = by (one_of_two a b)
+  where
+    by : (int_max a b ≡ a) ⊎ (int_max a b ≡ b) → Within m (int_max a b)
+    by (inl e) = subst (λ (v : ℤ). Within m v) (sym e) h
+    by (inr e) = subst (λ (v : ℤ). Within m v) (sym e) k

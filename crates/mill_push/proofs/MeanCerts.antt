@@ -1,9 +1,9 @@
 -- Written by tools/certificates.py from tools/certificates/mill_push_mean.spec.
-use Rattle.std.proofs.Common.{◌≡◌, List, [], ◌∷◌, refl}
-use lib.IntN.{ℤ, pos, negsuc, neg_ℤ, ◌+ℤ◌, ◌-ℤ◌, ◌*ℤ◌}
+use Rattle.std.proofs.Common.{◌≡◌, [], ◌∷◌, refl}
+use lib.IntN.{ℤ, pos, ◌+ℤ◌, ◌-ℤ◌, ◌*ℤ◌}
 use lib.Signed.{◌<ℤ◌, ◌≤ℤ◌}
-use Rattle.mill_base.proofs.Ring.{E, Var, Num, Add, Sub, Mul, Neg, ring}
-use Rattle.mill_base.proofs.Cert.{H, Le, Lt, Eq, C, Hyp, TimesEq, Sq, Lit, Plus, Times, refute, prove_le, prove_le_by, prove_lt_by}
+use Rattle.mill_base.proofs.Ring.{Var, Num, Add, Sub, Mul, ring}
+use Rattle.mill_base.proofs.Cert.{Le, Lt, Hyp, Sq, Lit, Plus, Times, prove_le_by, prove_lt_by}
 
 pub weights_mixed : (i j u v w r s t : ℤ) → ((i *ℤ ((u +ℤ v) +ℤ w)) +ℤ (j *ℤ ((r +ℤ s) +ℤ t))) ≡ ((((i *ℤ u) +ℤ (j *ℤ r)) +ℤ ((i *ℤ v) +ℤ (j *ℤ s))) +ℤ ((i *ℤ w) +ℤ (j *ℤ t)))
 weights_mixed i j u v w r s t = ring (i ∷ j ∷ u ∷ v ∷ w ∷ r ∷ s ∷ t ∷ []) (Add (Mul (Var 0) (Add (Add (Var 2) (Var 3)) (Var 4))) (Mul (Var 1) (Add (Add (Var 5) (Var 6)) (Var 7)))) (Add (Add (Add (Mul (Var 0) (Var 2)) (Mul (Var 1) (Var 5))) (Add (Mul (Var 0) (Var 3)) (Mul (Var 1) (Var 6)))) (Add (Mul (Var 0) (Var 4)) (Mul (Var 1) (Var 7)))) refl
@@ -67,4 +67,3 @@ moved_across p q n m i j c = ring (p ∷ q ∷ n ∷ m ∷ i ∷ j ∷ c ∷ [])
 
 pub one_mixed : (n m i j : ℤ) → ((pos 1) *ℤ ((i *ℤ n) +ℤ (j *ℤ m))) ≡ ((i *ℤ ((pos 1) *ℤ n)) +ℤ (j *ℤ ((pos 1) *ℤ m)))
 one_mixed n m i j = ring (n ∷ m ∷ i ∷ j ∷ []) (Mul (Num (pos 1)) (Add (Mul (Var 2) (Var 0)) (Mul (Var 3) (Var 1)))) (Add (Mul (Var 2) (Mul (Num (pos 1)) (Var 0))) (Mul (Var 3) (Mul (Num (pos 1)) (Var 1)))) refl
-

@@ -1,13 +1,11 @@
 -- A triangle is touched between two positions at which it is: a mean of two points that a cutter holds is held.
-use Rattle.std.proofs.Common.{◌≡◌, ◌⊎◌, inl, inr, refl, sym, ap, ap₂, ◌∙◌, subst, subst₂, arith}
-use Rattle.std.specs.Prelude.{int_lt, Bool, true, false}
+use Rattle.std.proofs.Common.{◌≡◌, ◌⊎◌, inl, inr, sym, ap₂, ◌∙◌, subst, subst₂, arith}
 use Rattle.std.proofs.lemmas.Int.{ints, by_lt_z}
 use lib.IntN.{ℤ, pos, ◌+ℤ◌, ◌-ℤ◌, ◌*ℤ◌}
 use lib.Signed.{◌<ℤ◌, ◌≤ℤ◌}
 use Rattle.mill_base.specs.Numbers.{square}
-use Rattle.mill_base.specs.Points.{IsPointOf, point_at, plus, minus, times}
-use Rattle.mill_base.specs.Cutters.{Inside, InFlat, InBall, InCone, apart}
-use Rattle.mill_base.specs.Contact.{Holds, Touches}
+use Rattle.mill_base.specs.Points.{IsPointOf, plus, minus, times}
+use Rattle.mill_base.specs.Cutters.{Inside, InBall, apart}
 use Rattle.mill_base.specs.declared.points.Pt3.{Pt3}
 use Rattle.mill_base.specs.declared.points.Tri.{Tri}
 use Rattle.mill_base.specs.declared.cutter.Cutter.{Cutter}

@@ -1,9 +1,9 @@
 -- Written by tools/certificates.py from tools/certificates/mill_push_near.spec.
-use Rattle.std.proofs.Common.{◌≡◌, List, [], ◌∷◌, refl}
-use lib.IntN.{ℤ, pos, negsuc, neg_ℤ, ◌+ℤ◌, ◌-ℤ◌, ◌*ℤ◌}
+use Rattle.std.proofs.Common.{[], ◌∷◌, refl}
+use lib.IntN.{ℤ, pos, ◌+ℤ◌, ◌-ℤ◌, ◌*ℤ◌}
 use lib.Signed.{◌<ℤ◌, ◌≤ℤ◌}
-use Rattle.mill_base.proofs.Ring.{E, Var, Num, Add, Sub, Mul, Neg, ring}
-use Rattle.mill_base.proofs.Cert.{H, Le, Lt, Eq, C, Hyp, TimesEq, Sq, Lit, Plus, Times, refute, prove_le, prove_le_by, prove_lt_by}
+use Rattle.mill_base.proofs.Ring.{Var, Num, Add, Sub, Mul}
+use Rattle.mill_base.proofs.Cert.{Le, Lt, Hyp, Plus, Times, refute, prove_le_by}
 
 -- vars u v w a b c z; hyp hu: 0 <= u; hyp hv: 0 <= v; hyp hw: 0 <= w; hyp ha: z <= a; hyp hb: z <= b; hyp hc: z <= c; goal ((u+v)+w)*z <= (u*a+v*b)+w*c; mul hu * ha; mul hv * hb; mul hw * hc
 pub mean_high : (u v w a b c z : ℤ) → (pos 0) ≤ℤ u → (pos 0) ≤ℤ v → (pos 0) ≤ℤ w → z ≤ℤ a → z ≤ℤ b → z ≤ℤ c → (((u +ℤ v) +ℤ w) *ℤ z) ≤ℤ (((u *ℤ a) +ℤ (v *ℤ b)) +ℤ (w *ℤ c))
@@ -20,4 +20,3 @@ reaches_up n x r p l hn hp hl hx = refute (n ∷ x ∷ r ∷ p ∷ l ∷ []) (Lt
 -- vars n x r p h; hyp hn: 0 < n; hyp hp: n*x - p < r*n; hyp hl: p <= n*h; hyp hx: h <= x - r; goal false; mul hn * hx; mul hx
 pub reaches_down : (n x r p h : ℤ) → (pos 0) <ℤ n → ((n *ℤ x) -ℤ p) <ℤ (r *ℤ n) → p ≤ℤ (n *ℤ h) → h ≤ℤ (x -ℤ r) → ⊥
 reaches_down n x r p h hn hp hl hx = refute (n ∷ x ∷ r ∷ p ∷ h ∷ []) (Lt (Num (pos 0)) (Var 0) ∷ Lt (Sub (Mul (Var 0) (Var 1)) (Var 3)) (Mul (Var 2) (Var 0)) ∷ Le (Var 3) (Mul (Var 0) (Var 4)) ∷ Le (Var 4) (Sub (Var 1) (Var 2)) ∷ []) (Plus (Hyp 1) (Plus (Hyp 2) (Plus (Hyp 3) (Times (Hyp 0) (Hyp 3))))) 0 (hn, (hp, (hl, (hx, tt)))) refl
-

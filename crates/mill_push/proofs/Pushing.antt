@@ -1,12 +1,12 @@
 -- A cutter that is pushed along a fiber.
-use Rattle.std.proofs.Common.{◌≡◌, ℕ, refl, sym, subst, arith}
+use Rattle.std.proofs.Common.{◌≡◌, refl, sym, subst, arith}
 use Rattle.std.proofs.lemmas.Int.{ints}
 use lib.IntN.{ℤ, pos, ◌+ℤ◌}
 use lib.Signed.{◌≤ℤ◌}
 use Rattle.mill_base.specs.Contact.{Touches}
 use Rattle.mill_base.specs.Numbers.{Within}
 use Rattle.mill_base.specs.Sizes.{IsCutter, IsWideCutter, radius_of}
-use Rattle.mill_base.specs.declared.limits.TheConstants.{MAX_TEXT_COORDINATE}
+use Rattle.mill_base.specs.declared.limits.TheConstants.{LOWEST_TIP, MAX_COORDINATE}
 use Rattle.mill_base.specs.declared.points.Tri.{Tri}
 use Rattle.mill_base.specs.declared.points.Pt3.{Pt3}
 use Rattle.mill_base.specs.declared.cutter.Cutter.{Cutter}
@@ -42,15 +42,18 @@ most_radius (Ball r) h = h.within
 most_radius (Cone r a b) h = h.0.within
 
 -- the tips of a fiber are in range
-within_centre : (v : ℤ) → Within MAX_TEXT_COORDINATE v → Within 160000 v
-within_centre v h = let w = h.within in record { within = omega (arith, ints) }
+over_lowest : (z : ℤ) → Within MAX_COORDINATE z → LOWEST_TIP ≤ℤ z
+over_lowest z h = let w = h.within in omega (arith, ints)
 
-pub tip_centre : (fiber : Fiber) (v : ℤ) → IsFiber fiber → Within MAX_TEXT_COORDINATE v → IsCentre (tip_on fiber v)
+under_most : (z : ℤ) → Within MAX_COORDINATE z → z ≤ℤ pos MAX_COORDINATE
+under_most z h = let w = h.within in omega (arith, ints)
+
+pub tip_centre : (fiber : Fiber) (v : ℤ) → IsFiber fiber → Within MAX_COORDINATE v → IsCentre (tip_on fiber v)
 tip_centre fiber v h k = by fiber.axis
   where
     by : (axis : Axis) → IsCentre (place_on axis fiber.at fiber.z v)
-    by X = record { x_ok = within_centre v k; y_ok = within_centre fiber.at h.at_ok; z_ok = within_centre fiber.z h.z_ok }
-    by Y = record { x_ok = within_centre fiber.at h.at_ok; y_ok = within_centre v k; z_ok = within_centre fiber.z h.z_ok }
+    by X = record { x_ok = k; y_ok = h.at_ok; z_from = over_lowest fiber.z h.z_ok; z_to = under_most fiber.z h.z_ok }
+    by Y = record { x_ok = h.at_ok; y_ok = k; z_from = over_lowest fiber.z h.z_ok; z_to = under_most fiber.z h.z_ok }
 
 -- t further along the axis than the tip at v is the tip at v + t
 along_is : (axis : Axis) (across z v t : ℤ) → along axis (place_on axis across z v) t ≡ place_on axis across z (v +ℤ t)

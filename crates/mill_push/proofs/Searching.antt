@@ -10,9 +10,8 @@ use Rattle.mill_geom.specs.declared.touch.Side.{Side}
 use Rattle.mill_geom.specs.declared.touch.Side.TheVariants.{Less, More, Never}
 use Rattle.mill_geom.specs.Sides.{IsOnSide}
 use Rattle.mill_push.specs.declared.fiber.Fiber.{Fiber}
-use Rattle.mill_push.specs.declared.fiber.Run.{Run}
 use Rattle.mill_push.specs.Fibers.{IsTouched}
-use Rattle.mill_push.specs.Stretches.{IsClear, IsHeld, IsStretch}
+use Rattle.mill_push.specs.Stretches.{IsClear, IsHeld, IsTouchedStretch}
 use Rattle.mill_push.proofs.Halving.{IsPaid, IsPaidTwice, paid_first, paid_half, twice_first, twice_half, twice_last, twice_ends}
 use Rattle.mill_push.proofs.Means.{touched_between}
 
@@ -307,7 +306,7 @@ module _ (cutter : Cutter) (tri : Tri) (fiber : Fiber) where
   -- the middle is touched, and both ends are found from it
   pub found_stretch : (from to low high middle first last : ℤ) (old now : ℕ) → low ≤ℤ first → first ≤ℤ middle → middle ≤ℤ last → last ≤ℤ high
       → IsHeld cutter tri fiber first middle → IsHeld cutter tri fiber middle last → IsClear cutter tri fiber low (first -ℤ pos 1) → IsClear cutter tri fiber (last +ℤ pos 1) high
-      → WindowSoFar from to low high old now → IsStretch cutter tri fiber from to (record { first = first; last = last })
+      → WindowSoFar from to low high old now → IsTouchedStretch cutter tri fiber from to (record { first = first; last = last })
   found_stretch from to low high middle first last old now a b c d left right clear_left clear_right h = record {
     after = through from low first h.after a;
     some = through first middle last b c;

@@ -1,19 +1,29 @@
 -- What a sort by the first positions gives.
-use Rattle.std.proofs.Common.{◌≡◌, ℕ, zero, suc, ◌+◌, ◌-◌, ◌<◌, ◌≤◌, Bool, true, false, cond, Bor, List, length, get_or, refl, ap, subst, arith}
-use Rattle.std.specs.Prelude.{int_lt, ◌↔◌, IsPermutation}
+use Rattle.std.proofs.Common.{◌≡◌, ℕ, zero, suc, ◌+◌, ◌-◌, ◌<◌, Bool, true, false, cond, Bor, List, length, get_or, refl, ap, subst, arith}
+use Rattle.std.specs.Prelude.{int_lt, ◌↔◌, IsPermutation, Result, Ok, Err, IfOk}
 use Rattle.std.specs.Fn.{Called, ComputesKey}
 use Rattle.std.specs.List.{Contains}
 use Rattle.std.specs.List.Sorted.{IsSortedByKey}
-use Rattle.std.specs.Ordering.{int_cmp, is_lt, Less, Equal, Greater}
+use Rattle.std.specs.Ordering.{int_cmp, is_lt}
+use Rattle.std.specs.declared.cmp.Ordering.TheVariants.{Less, Equal, Greater}
 use Rattle.std.proofs.lemmas.Fn.{always_returns_same}
 use Rattle.std.proofs.lemmas.Int.{ints}
 use Rattle.std.proofs.lemmas.List.Sorted.{Contains-permutation, IsPermutation-sym}
 use denote.Param.Members.{Mut}
-use lib.IntN.{ℤ, pos}
-use lib.Signed.{◌<ℤ◌, ◌≤ℤ◌}
+use lib.IntN.{ℤ}
+use lib.Signed.{◌≤ℤ◌}
 use Rattle.mill_push.specs.declared.fiber.Run.{Run}
 use Rattle.mill_push.specs.Runs.{StandsIn}
-use Rattle.mill_push.specs.inner.Unions.{AreOrdered}
+use Rattle.mill_base.specs.Numbers.{Within}
+use Rattle.mill_base.specs.declared.limits.TheConstants.{MAX_COORDINATE}
+use Rattle.mill_base.specs.declared.points.Tri.{Tri}
+use Rattle.mill_base.specs.declared.cutter.Cutter.{Cutter}
+use Rattle.mill_push.specs.declared.fiber.Fiber.{Fiber}
+use Rattle.mill_push.specs.Fibers.{IsBlocked}
+use Rattle.mill_push.specs.Runs.{RunsOf, AreRuns}
+use Rattle.mill_push.specs.inner.Unions.{AreOrdered, AreSpans, AreStretches}
+use Rattle.mill_push.proofs.Joining.{runs_as}
+use Rattle.mill_push.proofs.Stored.{within_between, through}
 
 not_before : (a b : ℤ) → is_lt (int_cmp a b) ≡ false → b ≤ℤ a
 not_before a b h = by (int_lt a b) (int_lt b a) refl refl h
@@ -51,3 +61,24 @@ stand_moved xs ys v p = (go xs ys p, go ys xs (IsPermutation-sym xs ys p))
   where
     go : (rs others : List Run) → IsPermutation rs others → StandsIn rs v → StandsIn others v
     go rs others q s = record { run = s.run; member = Contains-permutation rs others s.run q s.member; first = s.first; last = s.last }
+
+pub spans_moved : (xs ys : List Run) (from to : ℤ) → IsPermutation xs ys → AreSpans from to xs → AreSpans from to ys
+spans_moved xs ys from to p spans run c = spans run (Contains-permutation ys xs run (IsPermutation-sym xs ys p) c)
+
+-- the ends of runs between two positions in range are in range
+pub first_within : (xs : List Run) (from to : ℤ) → Within MAX_COORDINATE from → Within MAX_COORDINATE to → AreSpans from to xs → (run : Run) → Contains xs run → Within MAX_COORDINATE run.first
+first_within xs from to h k spans run c = let s = spans run c in within_between from run.first to h k s.after (through run.first run.last to s.some s.within)
+
+pub last_within : (xs : List Run) (from to : ℤ) → Within MAX_COORDINATE from → Within MAX_COORDINATE to → AreSpans from to xs → (run : Run) → Contains xs run → Within MAX_COORDINATE run.last
+last_within xs from to h k spans run c = let s = spans run c in within_between from run.last to h k (through from run.first run.last s.after s.some) s.within
+
+-- the runs of the stretches, in whatever order, are those of the blocked positions
+pub runs_from_stretches : (cutter : Cutter) (part : List Tri) (fiber : Fiber) (from to : ℤ) (xs ys runs : List Run) → AreStretches cutter part fiber from to xs → IsPermutation xs ys
+    → RunsOf (StandsIn ys) from to runs → AreRuns cutter part fiber from to runs
+runs_from_stretches cutter part fiber from to xs ys runs s p h =
+    runs_as (StandsIn ys) (IsBlocked cutter part fiber) from to runs (λ v a b. (λ c. (s.blocked v a b).1 ((stand_moved xs ys v p).1 c), λ g. (stand_moved xs ys v p).0 ((s.blocked v a b).0 g))) h
+
+-- what follows from a fact of the value, if there is one
+pub IfOk-more : {T E : Type 0} (r : Result T E) (P Q : T → Type 0) → ((v : T) → P v → Q v) → IfOk r P → IfOk r Q
+IfOk-more (Ok v) P Q go h = go v h
+IfOk-more (Err e) P Q go h = h

@@ -20,7 +20,7 @@ abbrev pub IsHeld : Cutter → Tri → Fiber → ℤ → ℤ → Type 0
 IsHeld cutter tri fiber a b = (v : ℤ) → a ≤ℤ v → v ≤ℤ b → IsTouched cutter tri fiber v
 
 -- the triangle is touched at this run's positions, and at no other from `from` to `to`
-pub record IsStretch (cutter : Cutter) (tri : Tri) (fiber : Fiber) (from to : ℤ) (run : Run) : Type 0 where
+pub record IsTouchedStretch (cutter : Cutter) (tri : Tri) (fiber : Fiber) (from to : ℤ) (run : Run) : Type 0 where
   pub after : from ≤ℤ run.first
   pub some : run.first ≤ℤ run.last
   pub within : run.last ≤ℤ to
@@ -30,4 +30,4 @@ pub record IsStretch (cutter : Cutter) (tri : Tri) (fiber : Fiber) (from to : �
 
 -- what is answered of one triangle: none where it is touched nowhere, else where it is
 abbrev pub IsStretchAnswer : Cutter → Tri → Fiber → ℤ → ℤ → Option Run → Type 0
-IsStretchAnswer cutter tri fiber from to answer = MatchOption answer (IsClear cutter tri fiber from to) (IsStretch cutter tri fiber from to)
+IsStretchAnswer cutter tri fiber from to answer = MatchOption answer (IsClear cutter tri fiber from to) (IsTouchedStretch cutter tri fiber from to)

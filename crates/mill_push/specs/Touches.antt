@@ -4,7 +4,7 @@ use Rattle.std.specs.List.{IsDistinct}
 use Rattle.mill_base.specs.Numbers.{Within}
 use Rattle.mill_base.specs.Points.{highest, point_at, point_tri}
 use Rattle.mill_base.specs.Sizes.{radius_of}
-use Rattle.mill_base.specs.declared.limits.TheConstants.{MAX_TEXT_COORDINATE}
+use Rattle.mill_base.specs.declared.limits.TheConstants.{MAX_COORDINATE}
 use Rattle.mill_base.specs.declared.points.Tri.{Tri}
 use Rattle.mill_base.specs.declared.points.Box2.{Box2}
 use Rattle.mill_base.specs.declared.cutter.Cutter.{Cutter}
@@ -23,8 +23,8 @@ strip_of cutter fiber from to = strip_along fiber.axis fiber.at (radius_of cutte
 
 -- the fiber's coordinates are in range
 pub record IsFiber (fiber : Fiber) : Type 0 where
-  pub at_ok : Within MAX_TEXT_COORDINATE fiber.at
-  pub z_ok : Within MAX_TEXT_COORDINATE fiber.z
+  pub at_ok : Within MAX_COORDINATE fiber.at
+  pub z_ok : Within MAX_COORDINATE fiber.z
 
 -- the triangle's box meets the strip, and some corner of it is over the fiber's height
 pub record IsNearFiber (cutter : Cutter) (fiber : Fiber) (from to : ℤ) (tri : Tri) : Type 0 where

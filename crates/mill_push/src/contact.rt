@@ -1,6 +1,6 @@
 ghost use Rattle.std.specs.Prelude.{◌≡◌, ◌+◌, pos};
 ghost use Rattle.mill_base.specs.Contact.{Touches};
-ghost use Rattle.mill_base.specs.Ranges.{TriInTextRange};
+ghost use Rattle.mill_base.specs.Ranges.{TriInRange};
 ghost use Rattle.mill_base.specs.Sizes.{IsWideCutter};
 ghost use Rattle.mill_geom.specs.Offsets.{IsCentre};
 ghost use Rattle.mill_geom.specs.Sides.{IsTouch, along};
@@ -21,7 +21,7 @@ pub fn counted_touch<L: Ledger>(
     axis: Axis,
     steps: &mut Steps<L>,
 ) -> Touch
-    requires tri_ok { TriInTextRange tri.now }
+    requires tri_ok { TriInRange tri.now }
     requires cutter_ok { IsWideCutter cutter }
     requires tip_ok { IsCentre tip }
     ensures touch { IsTouch result (λ t. Touches cutter (pos 1) (along axis tip t) tri.now) }

@@ -11,10 +11,7 @@ mod fiber;
 mod laws;
 mod near;
 mod runs;
-
 mod stretch;
-
-
 mod union;
 
 pub use contact::counted_touch;

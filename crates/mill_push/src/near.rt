@@ -1,6 +1,6 @@
 ghost use Rattle.std.specs.Prelude.{◌≡◌, ◌≤ℤ◌, IfOk};
 ghost use Rattle.mill_base.specs.Numbers.{Within};
-ghost use Rattle.mill_base.specs.declared.limits.TheConstants.{MAX_TEXT_COORDINATE};
+ghost use Rattle.mill_base.specs.declared.limits.TheConstants.{MAX_COORDINATE};
 ghost use Rattle.mill_cells.specs.Sorted.{sorted_of};
 ghost use Rattle.mill_push.specs.inner.Pushers.{IsPusher};
 ghost use Rattle.mill_push.specs.Touches.{TouchesFew, strip_of};
@@ -19,8 +19,8 @@ impl Pusher {
     /// The rectangle that the cutter may come over from `from` to `to`.
     fn strip(self, from: i32, to: i32) -> Box2
         requires self_ok { IsPusher self }
-        requires from_ok { Within MAX_TEXT_COORDINATE from }
-        requires to_ok { Within MAX_TEXT_COORDINATE to }
+        requires from_ok { Within MAX_COORDINATE from }
+        requires to_ok { Within MAX_COORDINATE to }
         ensures { result ≡ strip_of self.cutter self.fiber from to }
     {
         let radius = self.cutter.radius();
@@ -54,8 +54,8 @@ impl Pusher {
     ) -> Result<Vec<Run>, WantOfMemory>
         requires self_ok { IsPusher self }
         requires cells_ok { cells.now ≡ sorted_of part.now }
-        requires from_ok { Within MAX_TEXT_COORDINATE from }
-        requires to_ok { Within MAX_TEXT_COORDINATE to }
+        requires from_ok { Within MAX_COORDINATE from }
+        requires to_ok { Within MAX_COORDINATE to }
         requires order { from ≤ℤ to }
         ensures stretches { IfOk result (λ runs. AreStretches self.cutter part.now self.fiber from to runs.items) }
         ensures cost { TouchesFew self.cutter part.now self.fiber from to steps.old steps.new }

@@ -1,6 +1,6 @@
 ghost use Rattle.std.specs.Prelude.{◌≡◌, ◌+◌, ◌*◌, ◌≤◌, ◌≤ℤ◌, length, IfOk};
 ghost use Rattle.mill_base.specs.Numbers.{Within};
-ghost use Rattle.mill_base.specs.declared.limits.TheConstants.{MAX_TEXT_COORDINATE};
+ghost use Rattle.mill_base.specs.declared.limits.TheConstants.{MAX_COORDINATE};
 ghost use Rattle.mill_base.specs.Sizes.{IsCutter};
 ghost use Rattle.mill_cells.specs.Sorted.{sorted_of};
 ghost use Rattle.mill_push.specs.Runs.{AreRuns};
@@ -20,7 +20,8 @@ use std::sync::ledger::Ledger;
 ///
 /// `cells` are those of the part's triangles, and `steps` counts the touches: at most 40 for each
 /// triangle, and none of one that isn't near the fiber or isn't over its height. Lengths are in
-/// units of 0.01 mm. The only error is want of memory; the steps so far are counted then.
+/// units of 0.01 mm, of at most `MAX_COORDINATE` in magnitude. The only error is want of memory; the
+/// touches made before it are counted.
 pub fn push<L: Ledger>(
     alloc: Global,
     part: &Part,
@@ -34,8 +35,8 @@ pub fn push<L: Ledger>(
     requires cells_ok { cells.now ≡ sorted_of part.now }
     requires cutter_ok { IsCutter cutter }
     requires fiber_ok { IsFiber fiber }
-    requires from_ok { Within MAX_TEXT_COORDINATE from }
-    requires to_ok { Within MAX_TEXT_COORDINATE to }
+    requires from_ok { Within MAX_COORDINATE from }
+    requires to_ok { Within MAX_COORDINATE to }
     requires order { from ≤ℤ to }
     ensures runs { IfOk result (λ runs. AreRuns cutter part.now fiber from to runs.items) }
     ensures cost { steps.new ≤ steps.old + 40 * length part.now }

@@ -1,7 +1,7 @@
 ghost use Rattle.std.specs.Prelude.{◌≡◌, ◌+◌, ◌*◌, ◌^◌, ◌<◌, ◌≤◌, ◌≤ℤ◌, ◌+ℤ◌, ◌-ℤ◌, ◌*ℤ◌, ℕ, pos, nat_abs, false, IsTrue};
 ghost use Rattle.mill_base.specs.Numbers.{Within};
-ghost use Rattle.mill_base.specs.declared.limits.TheConstants.{MAX_TEXT_COORDINATE};
-ghost use Rattle.mill_base.specs.Ranges.{TriInTextRange};
+ghost use Rattle.mill_base.specs.declared.limits.TheConstants.{MAX_COORDINATE};
+ghost use Rattle.mill_base.specs.Ranges.{TriInRange};
 ghost use Rattle.mill_geom.specs.Sides.{IsTouch};
 ghost use Rattle.mill_push.specs.Fibers.{IsTouched, tip_on};
 ghost use Rattle.mill_push.specs.inner.Pushers.{IsPusher};
@@ -45,25 +45,19 @@ impl Pusher {
     /// How the triangle lies to the cutter at this position, by one touch.
     fn touch_at<L: Ledger>(self, tri: &Tri, at: i32, steps: &mut Steps<L>) -> Touch
         requires self_ok { IsPusher self }
-        requires tri_ok { TriInTextRange tri.now }
-        requires at_ok { Within MAX_TEXT_COORDINATE at }
+        requires tri_ok { TriInRange tri.now }
+        requires at_ok { Within MAX_COORDINATE at }
         ensures touch { IsTouch result (λ t. IsTouched self.cutter tri.now self.fiber (at +ℤ t)) }
         ensures step { steps.new ≡ steps.old + 1 }
     {
-        counted_touch(
-            tri,
-            self.cutter,
-            self.fiber.tip(at),
-            self.fiber.axis,
-            steps,
-        )
+        counted_touch(tri, self.cutter, self.fiber.tip(at), self.fiber.axis, steps)
     }
 
     /// Whether some point of the triangle is strictly inside the cutter at this position.
     fn is_touched<L: Ledger>(self, tri: &Tri, at: i32, steps: &mut Steps<L>) -> bool
         requires self_ok { IsPusher self }
-        requires tri_ok { TriInTextRange tri.now }
-        requires at_ok { Within MAX_TEXT_COORDINATE at }
+        requires tri_ok { TriInRange tri.now }
+        requires at_ok { Within MAX_COORDINATE at }
         ensures yes { IsTrue result → IsTouched self.cutter tri.now self.fiber at }
         ensures no { result ≡ false → ¬ IsTouched self.cutter tri.now self.fiber at }
         ensures step { steps.new ≡ steps.old + 1 }
@@ -75,17 +69,11 @@ impl Pusher {
     }
 
     /// The first position from `low` on at which the triangle is touched, where it is at `found`.
-    fn first_touched<L: Ledger>(
-        self,
-        tri: &Tri,
-        low: i32,
-        found: i32,
-        steps: &mut Steps<L>,
-    ) -> i32
+    fn first_touched<L: Ledger>(self, tri: &Tri, low: i32, found: i32, steps: &mut Steps<L>) -> i32
         requires self_ok { IsPusher self }
-        requires tri_ok { TriInTextRange tri.now }
-        requires low_ok { Within MAX_TEXT_COORDINATE low }
-        requires found_ok { Within MAX_TEXT_COORDINATE found }
+        requires tri_ok { TriInRange tri.now }
+        requires low_ok { Within MAX_COORDINATE low }
+        requires found_ok { Within MAX_COORDINATE found }
         requires order { low ≤ℤ found }
         requires held { IsTouched self.cutter tri.now self.fiber found }
         ensures from { low ≤ℤ result }
@@ -108,17 +96,11 @@ impl Pusher {
     }
 
     /// The last position up to `high` at which the triangle is touched, where it is at `found`.
-    fn last_touched<L: Ledger>(
-        self,
-        tri: &Tri,
-        found: i32,
-        high: i32,
-        steps: &mut Steps<L>,
-    ) -> i32
+    fn last_touched<L: Ledger>(self, tri: &Tri, found: i32, high: i32, steps: &mut Steps<L>) -> i32
         requires self_ok { IsPusher self }
-        requires tri_ok { TriInTextRange tri.now }
-        requires found_ok { Within MAX_TEXT_COORDINATE found }
-        requires high_ok { Within MAX_TEXT_COORDINATE high }
+        requires tri_ok { TriInRange tri.now }
+        requires found_ok { Within MAX_COORDINATE found }
+        requires high_ok { Within MAX_COORDINATE high }
         requires order { found ≤ℤ high }
         requires held { IsTouched self.cutter tri.now self.fiber found }
         ensures from { found ≤ℤ result }
@@ -153,9 +135,9 @@ impl Pusher {
         steps: &mut Steps<L>,
     ) -> Option<Run>
         requires self_ok { IsPusher self }
-        requires tri_ok { TriInTextRange tri.now }
-        requires from_ok { Within MAX_TEXT_COORDINATE from }
-        requires to_ok { Within MAX_TEXT_COORDINATE to }
+        requires tri_ok { TriInRange tri.now }
+        requires from_ok { Within MAX_COORDINATE from }
+        requires to_ok { Within MAX_COORDINATE to }
         requires order { from ≤ℤ to }
         ensures stretch { IsStretchAnswer self.cutter tri.now self.fiber from to result }
         ensures cost { (n : ℕ) → position_count from to < 2 ^ n → steps.new ≤ steps.old + 2 * n }
@@ -182,8 +164,8 @@ impl Pusher {
 /// The middle of the positions from `low` to `high`: at most half of them are before it, and at most
 /// half after it.
 fn middle(low: i32, high: i32) -> i32
-    requires low_ok { Within MAX_TEXT_COORDINATE low }
-    requires high_ok { Within MAX_TEXT_COORDINATE high }
+    requires low_ok { Within MAX_COORDINATE low }
+    requires high_ok { Within MAX_COORDINATE high }
     requires order { low ≤ℤ high }
     ensures from { low ≤ℤ result }
     ensures to { result ≤ℤ high }

@@ -1,6 +1,6 @@
 ghost use Rattle.std.specs.Prelude.{ℤ, IfOk, Contains};
 ghost use Rattle.mill_base.specs.Numbers.{Within};
-ghost use Rattle.mill_base.specs.declared.limits.TheConstants.{MAX_TEXT_COORDINATE};
+ghost use Rattle.mill_base.specs.declared.limits.TheConstants.{MAX_COORDINATE};
 ghost use Rattle.mill_push.specs.Runs.{RunsOf, StandsIn};
 ghost use Rattle.mill_push.specs.inner.Unions.{AreOrdered, AreSpans};
 ghost use Rattle.mill_push.specs.declared.fiber.Run.{Run};
@@ -13,7 +13,8 @@ use std::alloc::Global;
 /// their first positions.
 pub fn union(alloc: Global, stretches: &[Run]) -> Result<Vec<Run>, WantOfMemory>
     requires ordered { AreOrdered stretches.now }
-    requires ends { (run : Run) → Contains stretches.now run → Within MAX_TEXT_COORDINATE run.last }
+    requires firsts { (run : Run) → Contains stretches.now run → Within MAX_COORDINATE run.first }
+    requires lasts { (run : Run) → Contains stretches.now run → Within MAX_COORDINATE run.last }
     ensures { IfOk result (λ runs. (from to : ℤ) → AreSpans from to stretches.now → RunsOf (StandsIn stretches.now) from to runs.items) }
 {
     let mut runs = Vec::new(alloc);
@@ -22,12 +23,12 @@ pub fn union(alloc: Global, stretches: &[Run]) -> Result<Vec<Run>, WantOfMemory>
     };
     let mut run = *first;
     for stretch in others {
-        if stretch.first > run.last + 1 {
-            runs.push(run)?;
-            run = *stretch;
-        } else {
+        if stretch.first <= run.last + 1 {
             run.last = run.last.max(stretch.last);
+            continue;
         }
+        runs.push(run)?;
+        run = *stretch;
     }
     runs.push(run)?;
     Ok(runs)

@@ -1,4 +1,5 @@
--- Polynomial facts behind the greatest height that a cutter leaves; written by tools/certificates.py from tools/certificates/mill_shape_CutCerts.spec.
+-- Polynomial facts behind the greatest height that a cutter leaves.
+-- Written by tools/certificates.py from tools/certificates/mill_shape_cut.spec.
 use Rattle.std.proofs.Common.{[], ◌∷◌, refl}
 use lib.IntN.{ℤ, pos, ◌+ℤ◌, ◌-ℤ◌, ◌*ℤ◌}
 use lib.Signed.{◌<ℤ◌, ◌≤ℤ◌}

@@ -1,4 +1,5 @@
--- Polynomial facts behind the lemmas on points that a cutter holds; written by tools/certificates.py from tools/certificates/mill_shape_HoldingCerts.spec.
+-- Polynomial facts behind the lemmas on points that a cutter holds.
+-- Written by tools/certificates.py from tools/certificates/mill_shape_holding.spec.
 use Rattle.std.proofs.Common.{[], ◌∷◌, refl}
 use lib.IntN.{ℤ, pos, ◌+ℤ◌, ◌-ℤ◌, ◌*ℤ◌}
 use lib.Signed.{◌<ℤ◌, ◌≤ℤ◌}

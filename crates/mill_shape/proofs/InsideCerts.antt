@@ -1,4 +1,5 @@
--- Polynomial facts behind the tests of what is inside a cutter; written by tools/certificates.py from tools/certificates/mill_shape_InsideCerts.spec.
+-- Polynomial facts behind the tests of what is inside a cutter.
+-- Written by tools/certificates.py from tools/certificates/mill_shape_inside.spec.
 use Rattle.std.proofs.Common.{◌≡◌, [], ◌∷◌, refl}
 use lib.IntN.{ℤ, ◌+ℤ◌, ◌-ℤ◌, ◌*ℤ◌}
 use lib.Signed.{◌<ℤ◌}

@@ -1,4 +1,5 @@
--- Polynomial facts behind the law that a cutter holds what is straight over a point that it holds; written by tools/certificates.py from tools/certificates/mill_shape_OverCerts.spec.
+-- Polynomial facts behind the law that a cutter holds what is straight over a point that it holds.
+-- Written by tools/certificates.py from tools/certificates/mill_shape_over.spec.
 use Rattle.std.proofs.Common.{◌≡◌, [], ◌∷◌, refl}
 use lib.IntN.{ℤ, pos, ◌+ℤ◌, ◌-ℤ◌, ◌*ℤ◌}
 use lib.Signed.{◌<ℤ◌, ◌≤ℤ◌}

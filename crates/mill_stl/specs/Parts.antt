@@ -97,6 +97,6 @@ Fails WantOfMemory meaning = Unit {0}
 Fails fault meaning = meaning ≡ Err fault
 
 -- the answer is what the text means, or memory ran out
-abbrev pub Gives : Result StlRead StlFault → Result Part StlFault → Type 0
-Gives (Ok read) meaning = meaning ≡ Ok (record { tris = read.tris.items; rounded = read.rounded })
-Gives (Err fault) meaning = Fails fault meaning
+abbrev pub GivesPart : Result StlRead StlFault → Result Part StlFault → Type 0
+GivesPart (Ok read) meaning = meaning ≡ Ok (record { tris = read.tris.items; rounded = read.rounded })
+GivesPart (Err fault) meaning = Fails fault meaning

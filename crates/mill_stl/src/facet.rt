@@ -5,7 +5,7 @@ ghost use Rattle.mill_base.specs.Numbers.{Within};
 ghost use Rattle.mill_base.specs.declared.limits.TheConstants.{MAX_TEXT_COORDINATE, MAX_TRIANGLES};
 ghost use Rattle.mill_base.specs.Ranges.{TriInTextRange};
 ghost use Rattle.mill_stl.specs.Facets.{is_keyword as is_keyword_of, moved_to, with_name, after_keyword, after_solid, begun_facet, after_facet_or_end, stage_after_ignored as stage_after_ignored_of, stage_after_coord as stage_after_coord_of, rounded_after as rounded_after_of, with_coord, after_coord, tri_of as tri_of_coords, after_end_facet, at_stage as at_stage_of, after_word};
-ghost use Rattle.mill_stl.specs.inner.Bounds.{FitsStage, CoordsInRange, Fits, IsStep, stepped, Does};
+ghost use Rattle.mill_stl.specs.inner.Bounds.{FitsStage, CoordsInRange, FitsCursor, IsStep, stepped, Does};
 
 use crate::fault::{StlFault, What};
 use crate::state::{Progress, Stage};
@@ -39,7 +39,7 @@ fn is_exactly(word: &[u8], keyword: &[u8]) -> bool
 }
 
 fn move_to(progress: &mut Progress, next: Stage)
-    requires fits { Fits progress.old }
+    requires fits { FitsCursor progress.old }
     requires next_fits { FitsStage next progress.old.facets progress.old.rounded }
     ensures value { stepped progress.new None ≡ moved_to progress.old next }
     ensures step { IsStep progress.old (stepped progress.new None) }
@@ -48,7 +48,7 @@ fn move_to(progress: &mut Progress, next: Stage)
 }
 
 fn begin_name(progress: &mut Progress, line: u64, next: Stage)
-    requires fits { Fits progress.old }
+    requires fits { FitsCursor progress.old }
     requires next_fits { FitsStage next progress.old.facets progress.old.rounded }
     ensures value { stepped progress.new None ≡ with_name progress.old line next }
     ensures step { IsStep progress.old (stepped progress.new None) }
@@ -65,7 +65,7 @@ fn expect(
     what: What,
     next: Stage,
 ) -> Result<Option<Tri>, StlFault>
-    requires fits { Fits progress.old }
+    requires fits { FitsCursor progress.old }
     requires next_fits { FitsStage next progress.old.facets progress.old.rounded }
     ensures value { Does progress.new result (after_keyword progress.old line word.now keyword.now what next) }
     ensures step { IfOk result (λ tri. IsStep progress.old (stepped progress.new tri)) }
@@ -83,7 +83,7 @@ fn begin_solid(
     word: &[u8],
     what: What,
 ) -> Result<Option<Tri>, StlFault>
-    requires fits { Fits progress.old }
+    requires fits { FitsCursor progress.old }
     requires next_fits { FitsStage Stage.FacetOrEnd progress.old.facets progress.old.rounded }
     ensures value { Does progress.new result (after_solid progress.old line word.now what) }
     ensures step { IfOk result (λ tri. IsStep progress.old (stepped progress.new tri)) }
@@ -96,7 +96,7 @@ fn begin_solid(
 }
 
 fn begin_facet(progress: &mut Progress, line: u64) -> Result<Option<Tri>, StlFault>
-    requires fits { Fits progress.old }
+    requires fits { FitsCursor progress.old }
     requires stage { progress.old.stage ≡ Stage.FacetOrEnd }
     ensures value { Does progress.new result (begun_facet progress.old line) }
     ensures step { IfOk result (λ tri. IsStep progress.old (stepped progress.new tri)) }
@@ -109,7 +109,7 @@ fn begin_facet(progress: &mut Progress, line: u64) -> Result<Option<Tri>, StlFau
 }
 
 fn facet_or_end(progress: &mut Progress, line: u64, word: &[u8]) -> Result<Option<Tri>, StlFault>
-    requires fits { Fits progress.old }
+    requires fits { FitsCursor progress.old }
     requires stage { progress.old.stage ≡ Stage.FacetOrEnd }
     ensures value { Does progress.new result (after_facet_or_end progress.old line word.now) }
     ensures step { IfOk result (λ tri. IsStep progress.old (stepped progress.new tri)) }
@@ -166,7 +166,7 @@ fn rounded_after(count: u64, rounded: bool) -> u64
 }
 
 fn put_coord(progress: &mut Progress, number: u8, units: i32, rounded: bool)
-    requires fits { Fits progress.old }
+    requires fits { FitsCursor progress.old }
     requires stage { progress.old.stage ≡ Stage.Coord number }
     requires in_range { Within MAX_TEXT_COORDINATE units }
     ensures value { stepped progress.new None ≡ with_coord progress.old number units rounded }
@@ -184,7 +184,7 @@ fn take_coord(
     number: u8,
     word: &[u8],
 ) -> Result<Option<Tri>, StlFault>
-    requires fits { Fits progress.old }
+    requires fits { FitsCursor progress.old }
     requires stage { progress.old.stage ≡ Stage.Coord number }
     ensures value { Does progress.new result (after_coord snap progress.old line number word.now) }
     ensures step { IfOk result (λ tri. IsStep progress.old (stepped progress.new tri)) }
@@ -224,7 +224,7 @@ fn tri_of(coords: [i32; 9]) -> Tri
 }
 
 fn end_facet(progress: &mut Progress, line: u64, word: &[u8]) -> Result<Option<Tri>, StlFault>
-    requires fits { Fits progress.old }
+    requires fits { FitsCursor progress.old }
     requires stage { progress.old.stage ≡ Stage.EndFacet }
     ensures value { Does progress.new result (after_end_facet progress.old line word.now) }
     ensures step { IfOk result (λ tri. IsStep progress.old (stepped progress.new tri)) }
@@ -247,7 +247,7 @@ fn at_stage(
     line: u64,
     word: &[u8],
 ) -> Result<Option<Tri>, StlFault>
-    requires fits { Fits progress.old }
+    requires fits { FitsCursor progress.old }
     requires stage { stage ≡ progress.old.stage }
     ensures value { Does progress.new result (at_stage_of snap stage progress.old line word.now) }
     ensures step { IfOk result (λ tri. IsStep progress.old (stepped progress.new tri)) }
@@ -287,7 +287,7 @@ pub(crate) fn take_word(
     line: u64,
     word: &[u8],
 ) -> Result<Option<Tri>, StlFault>
-    requires { Fits progress.old }
+    requires { FitsCursor progress.old }
     ensures value { Does progress.new result (after_word snap progress.old line word.now) }
     ensures step { IfOk result (λ tri. IsStep progress.old (stepped progress.new tri)) }
 {

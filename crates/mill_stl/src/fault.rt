@@ -27,10 +27,10 @@ pub enum What {
 }
 
 impl fmt::Display for What {
-    ghost use Rattle.mill_stl.specs.Faults.{name_of};
+    ghost use Rattle.mill_stl.specs.Faults.{name_of_expected};
     ghost use Rattle.std.specs.Prelude.{Some};
 
-    ghost output = { λ what. Some (name_of what) };
+    ghost output = { λ what. Some (name_of_expected what) };
 
     fn fmt<W: fmt::Write>(&self, f: &mut fmt::Formatter<W>) -> fmt::Result {
         f.write_str(match self {

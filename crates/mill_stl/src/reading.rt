@@ -3,7 +3,7 @@
 ghost use Rattle.std.specs.Prelude.{◌≡◌, ◌≤◌, ◌<◌, ◌*◌, [], length, IfOk, OnOk, IfErr, Ok};
 ghost use Rattle.mill_base.specs.declared.limits.TheConstants.{MAX_TRIANGLES};
 ghost use Rattle.mill_base.specs.Ranges.{TrisInTextRange};
-ghost use Rattle.mill_stl.specs.Parts.{is_end as is_end_stage, start, reached_at, with_tri, with_word, whole_part, part_of, Fails, Gives};
+ghost use Rattle.mill_stl.specs.Parts.{is_end as is_end_stage, start, reached_at, with_tri, with_word, whole_part, part_of, Fails, GivesPart};
 ghost use Rattle.mill_stl.specs.inner.Bounds.{IsSound, IsBeforeWord, meaning_from};
 
 use crate::facet::take_word;
@@ -105,7 +105,7 @@ fn take_next(
 // The text ends.
 fn end_text(line: u64, progress: Progress, tris: Vec<Tri>) -> Result<StlRead, StlFault>
     requires { IsSound progress tris.items }
-    ensures gives { Gives result (whole_part line (reached_at progress tris.items)) }
+    ensures gives { GivesPart result (whole_part line (reached_at progress tris.items)) }
     ensures in_range { IfOk result (λ read. TrisInTextRange read.tris.items) }
     ensures few { IfOk result (λ read. length read.tris.items ≤ MAX_TRIANGLES) }
     ensures few_rounded { IfOk result (λ read. read.rounded ≤ 9 * length read.tris.items) }
@@ -130,7 +130,7 @@ fn end_text(line: u64, progress: Progress, tris: Vec<Tri>) -> Result<StlRead, St
 /// A text of another form is refused for its first bad place; [`StlFault`] says which there are.
 #[tactic(auto, unfolding(crate::specs::Parts::part_of))]
 pub fn read_stl(alloc: Global, text: &[u8], snap: Snap) -> Result<StlRead, StlFault>
-    ensures gives { Gives result (part_of snap text.now) }
+    ensures gives { GivesPart result (part_of snap text.now) }
     ensures in_range { IfOk result (λ read. TrisInTextRange read.tris.items) }
     ensures few { IfOk result (λ read. length read.tris.items ≤ MAX_TRIANGLES) }
     ensures few_rounded { IfOk result (λ read. read.rounded ≤ 9 * length read.tris.items) }

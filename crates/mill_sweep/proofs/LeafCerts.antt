@@ -1,4 +1,5 @@
--- Polynomial facts behind where a leaf of a move lies; written by tools/certificates.py from tools/certificates/mill_sweep_leaf.spec.
+-- Polynomial facts behind where a leaf of a move lies.
+-- Written by tools/certificates.py from tools/certificates/mill_sweep_leaf.spec.
 use Rattle.std.proofs.Common.{[], ◌∷◌, refl}
 use lib.IntN.{ℤ, pos, ◌+ℤ◌, ◌-ℤ◌, ◌*ℤ◌}
 use lib.Signed.{◌<ℤ◌, ◌≤ℤ◌}

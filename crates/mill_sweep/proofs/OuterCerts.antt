@@ -1,4 +1,5 @@
--- Polynomial facts behind the law that a leaf's outer cutter holds what the cutter holds; written by tools/certificates.py from tools/certificates/mill_sweep_outer.spec.
+-- Polynomial facts behind the law that a leaf's outer cutter holds what the cutter holds.
+-- Written by tools/certificates.py from tools/certificates/mill_sweep_outer.spec.
 use Rattle.std.proofs.Common.{[], ◌∷◌, refl}
 use lib.IntN.{ℤ, pos, ◌+ℤ◌, ◌-ℤ◌, ◌*ℤ◌}
 use lib.Signed.{◌<ℤ◌, ◌≤ℤ◌}

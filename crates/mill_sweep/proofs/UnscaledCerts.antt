@@ -1,4 +1,5 @@
--- Polynomial facts behind a point over another denominator; written by tools/certificates.py from tools/certificates/mill_sweep_unscaled.spec.
+-- Polynomial facts behind a point over another denominator.
+-- Written by tools/certificates.py from tools/certificates/mill_sweep_unscaled.spec.
 use Rattle.std.proofs.Common.{◌≡◌, [], ◌∷◌, refl}
 use lib.IntN.{ℤ, pos, ◌+ℤ◌, ◌-ℤ◌, ◌*ℤ◌}
 use lib.Signed.{◌<ℤ◌, ◌≤ℤ◌}

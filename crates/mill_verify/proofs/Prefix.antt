@@ -12,8 +12,9 @@ use Rattle.mill_sweep.specs.declared.leaf.Leaf.{Leaf}
 use Rattle.mill_job.specs.declared.job.Job.{Job}
 use Rattle.mill_job.specs.Columns.{IsColumn}
 use Rattle.mill_dexel.specs.Tops.{top_point}
-use Rattle.mill_verify.specs.Tests.{move_at, ClearsStock, GoodBefore}
-use Rattle.mill_verify.specs.Verdicts.{FailsStock, IsStopped, IsRejection}
+use Rattle.mill_verify.specs.Tests.{ClearsStock, GoodBefore}
+use Rattle.mill_dexel.specs.Turns.{move_at}
+use Rattle.mill_verify.specs.Verdicts.{FailsStock, StopsMove, IsRejection}
 use Rattle.mill_dexel.specs.Rows.{RowState}
 use Rattle.mill_verify.specs.inner.Stock.{IsStock}
 use Rattle.mill_verify.specs.inner.Firsts.{ClearsStockThrough, IsFirstStop, IsLimit}
@@ -56,7 +57,7 @@ module _ (job : Job) (part : List Tri) (moves : List Move) (limit : Limit) (ok :
         fails = at_prefix (λ (m : Move) (ms : List Move). FailsAt job.cutter m (point_tri (top_point job ms j i)) leaf) moves limit.passed k h s.fails;
       }
 
-  pub stopped_stock : (k j i : ℕ) (leaf : Leaf) → IsFirstStop job (take limit.passed moves) k j i leaf → IsStopped job moves k j i leaf
+  pub stopped_stock : (k j i : ℕ) (leaf : Leaf) → IsFirstStop job (take limit.passed moves) k j i leaf → StopsMove job moves k j i leaf
   stopped_stock k j i leaf s =
       at_prefix (λ (m : Move) (ms : List Move). Blocks job.cutter (span_of m leaf.d leaf.k) (point_tri (top_point job ms j i))) moves limit.passed k (stop_there k s.there) s.blocked
 

@@ -3,7 +3,7 @@ use Rattle.std.specs.Prelude.{◌≡◌, ℕ, ◌<◌, List, length, slice_index
 use Rattle.std.proofs.Common.{subst}
 use Rattle.std.proofs.lemmas.List.{get_or_default}
 use Rattle.mill_base.specs.declared.motion.Move.{Move}
-use Rattle.mill_verify.specs.Tests.{move_at}
+use Rattle.mill_dexel.specs.Turns.{move_at}
 
 move_read : (moves : List Move) (k : ℕ) (d : Move) → k < length moves → slice_index_or moves k d ≡ move_at moves k
 move_read moves k d h = get_or_default moves k d _ h

@@ -21,7 +21,9 @@ use Rattle.mill_job.specs.Columns.{IsColumn, column_x, column_y}
 use Rattle.mill_dexel.specs.Tops.{top_after, top_point}
 use Rattle.mill_dexel.specs.Laws.{OverTopIsRemoved}
 use Rattle.mill_verify.proofs.Ranges.{column_within, top_within}
-use Rattle.mill_verify.specs.Tests.{move_at, tri_at, GoodBefore, PassesTri}
+use Rattle.mill_verify.specs.Tests.{GoodBefore, PassesTri}
+use Rattle.mill_dexel.specs.Turns.{move_at}
+use Rattle.mill_gouge.specs.Gouges.{tri_at}
 use Rattle.mill_verify.specs.Verdicts.{Accepts}
 use Rattle.mill_verify.specs.Claims.{NeverGouges, RapidsMissStock, LeftIsCovered, PartIsLeft, CutsSafely, LeavesPoint, IsColumnPoint}
 

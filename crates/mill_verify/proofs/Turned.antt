@@ -13,11 +13,11 @@ use Rattle.mill_job.specs.declared.job.Job.{Job}
 use Rattle.mill_job.specs.Columns.{row_count, column_count, column_x, column_y}
 use Rattle.mill_dexel.specs.Tops.{row_after, top_point}
 use Rattle.mill_dexel.specs.Rows.{RowState, row_point}
-use Rattle.mill_dexel.specs.Turns.{tops_after, row_before, IsRunOn, EndsAt}
+use Rattle.mill_dexel.specs.Turns.{move_at, tops_after, row_before, IsRunOn, TurnsEndAt}
 use Rattle.mill_dexel.specs.declared.fail.RowFail.{RowFail}
 use Rattle.mill_dexel.proofs.RowLaws.{row_after-at, row_after_none, row_after_more}
-use Rattle.mill_verify.specs.Tests.{move_at, PassesColumn}
-use Rattle.mill_verify.specs.Verdicts.{IsStopped}
+use Rattle.mill_verify.specs.Tests.{PassesColumn}
+use Rattle.mill_verify.specs.Verdicts.{StopsMove}
 use Rattle.mill_verify.specs.inner.Stock.{IsRow, IsStock, uncut_row, AreTurned}
 use Rattle.mill_verify.specs.inner.Firsts.{ClearsStockThrough}
 
@@ -52,14 +52,14 @@ pub record IsRowStop (job : Job) (moves : List Move) (k j i : ℕ) (leaf : Leaf)
   pub column : i < column_count job
   pub before : (e : ℕ) → e < i → PassesColumn job moves k j e
   pub fails : FailsAt job.cutter (move_at moves k) (point_tri (top_point job (take k moves) j i)) leaf
-  pub blocked : IsStopped job moves k j i leaf
+  pub blocked : StopsMove job moves k j i leaf
 
 -- the moves that had their turn in a row passed test (iii) there
 pub row_passes : {job : Job} {moves : List Move} {j : ℕ} {row : RowState} (k : ℕ) → IsRunOn job moves (uncut_row job j) row → k < row.done → RowClears job moves k j
 row_passes {job} {moves} {j} k run h rapid i there = subst (λ (p : Pt3). PassesPoint job.cutter (move_at moves k) p) (point_is job moves j k i there) ((run.passed k (omega arith) h).clears rapid i there)
 
 -- why the turns of an uncut row end, where it failed
-stop_at : (job : Job) (moves : List Move) (j k : ℕ) (fail : RowFail) → EndsAt job moves (uncut_row job j) k (Some fail) → IsRowStop job moves k j fail.col fail.leaf
+stop_at : (job : Job) (moves : List Move) (j k : ℕ) (fail : RowFail) → TurnsEndAt job moves (uncut_row job j) k (Some fail) → IsRowStop job moves k j fail.col fail.leaf
 stop_at job moves j k fail ends =
     let stop = ends.1 in
     let here = point_is job moves j k fail.col stop.column.column in
@@ -89,7 +89,7 @@ pub record IsFailed (job : Job) (moves : List Move) (j : ℕ) (row : RowState) (
 
 pub row_fails : {job : Job} {moves : List Move} {j : ℕ} {row : RowState} (fail : RowFail) → IsRunOn job moves (uncut_row job j) row → row.failed ≡ Some fail → IsFailed job moves j row fail
 row_fails {job} {moves} {j} {row} fail run failed =
-    let ends : EndsAt job moves (uncut_row job j) row.done (Some fail) = subst (EndsAt job moves (uncut_row job j) row.done) failed run.ends in
+    let ends : TurnsEndAt job moves (uncut_row job j) row.done (Some fail) = subst (TurnsEndAt job moves (uncut_row job j) row.done) failed run.ends in
     let turns : row.done ≡ fail.at = sym ends.1.move in
     record {
       there = subst (λ (n : ℕ). n < length moves) turns ends.0;
@@ -99,7 +99,7 @@ row_fails {job} {moves} {j} {row} fail run failed =
 
 -- a row that didn't fail went through all moves
 pub row_ends : {job : Job} {moves : List Move} {j : ℕ} {row : RowState} → IsRunOn job moves (uncut_row job j) row → row.failed ≡ None → length moves ≤ row.done
-row_ends {job} {moves} {j} {row} run failed = subst (EndsAt job moves (uncut_row job j) row.done) failed run.ends
+row_ends {job} {moves} {j} {row} run failed = subst (TurnsEndAt job moves (uncut_row job j) row.done) failed run.ends
 
 -- its tops are those after all moves
 row_after_all : {job : Job} {moves : List Move} {j : ℕ} {row : RowState} → IsRunOn job moves (uncut_row job j) row → length moves ≤ row.done → IsRow job moves j row

@@ -12,7 +12,9 @@ use Rattle.mill_sweep.specs.Leaves.{depth_of}
 use Rattle.mill_job.specs.declared.job.Job.{Job}
 use Rattle.mill_job.specs.Columns.{IsBefore}
 use Rattle.mill_dexel.specs.Tops.{top_point}
-use Rattle.mill_verify.specs.Tests.{move_at, tri_at, IsOverFloor, ClearsPart, IsGood, GoodBefore}
+use Rattle.mill_verify.specs.Tests.{IsOverFloor, ClearsPart, IsGood, GoodBefore}
+use Rattle.mill_dexel.specs.Turns.{move_at}
+use Rattle.mill_gouge.specs.Gouges.{tri_at}
 use Rattle.mill_verify.specs.Verdicts.{FailsFloor, FailsPart, FailsStock, FailsCut, Accepts, IsRejection, IsVerdict}
 use Rattle.mill_verify.specs.declared.verdict.Verdict.{Verdict}
 use Rattle.mill_verify.specs.declared.verdict.Verdict.TheVariants.{Accept, Reject}

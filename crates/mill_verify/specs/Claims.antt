@@ -8,7 +8,7 @@ use Rattle.mill_base.specs.Contact.{GougesOn, Removes, IsLeft}
 use Rattle.mill_base.specs.Covers.{Covered, HasPointOver}
 use Rattle.mill_job.specs.declared.job.Job.{Job}
 use Rattle.mill_job.specs.Columns.{IsColumn, column_x, column_y}
-use Rattle.mill_verify.specs.Tests.{move_at}
+use Rattle.mill_dexel.specs.Turns.{move_at}
 
 -- h is a whole height of the column (j, i), from the floor to the top
 pub record IsColumnPoint (job : Job) (j i : ℕ) (h : ℤ) : Type 0 where

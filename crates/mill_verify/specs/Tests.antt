@@ -1,21 +1,15 @@
 -- The written tests of a program against a job and a part.
-use Rattle.std.specs.Prelude.{◌≡◌, ℕ, ◌<◌, pos, ◌-ℤ◌, ◌≤ℤ◌, List, length, take, slice_index_or}
+use Rattle.std.specs.Prelude.{◌≡◌, ℕ, ◌<◌, ◌-ℤ◌, ◌≤ℤ◌, List, take}
 use Rattle.mill_base.specs.declared.points.Tri.{Tri}
 use Rattle.mill_base.specs.declared.motion.Move.{Move}
-use Rattle.mill_base.specs.declared.motion.Kind.TheVariants.{Rapid, Feed}
-use Rattle.mill_base.specs.Points.{point_tri, point_at}
+use Rattle.mill_base.specs.declared.motion.Kind.TheVariants.{Rapid}
 use Rattle.mill_sweep.specs.Halving.{Passes, PassesPoint}
 use Rattle.mill_base.specs.Covers.{Covered}
 use Rattle.mill_job.specs.declared.job.Job.{Job}
 use Rattle.mill_job.specs.Columns.{IsColumn, column_x, column_y}
 use Rattle.mill_dexel.specs.Tops.{top_after, top_point}
-
--- move k and triangle t; there is none past the end, so what stands there is never looked at
-abbrev pub move_at : List Move → ℕ → Move
-move_at moves k = slice_index_or moves k (record { kind = Feed; from = point_at (pos 0) (pos 0) (pos 0); to = point_at (pos 0) (pos 0) (pos 0) })
-
-abbrev pub tri_at : List Tri → ℕ → Tri
-tri_at part t = slice_index_or part t (point_tri (point_at (pos 0) (pos 0) (pos 0)))
+use Rattle.mill_dexel.specs.Turns.{move_at}
+use Rattle.mill_gouge.specs.Gouges.{PassesPart, tri_at}
 
 -- test (i): both ends of move k are at or over the floor
 pub record IsOverFloor (job : Job) (moves : List Move) (k : ℕ) : Type 0 where
@@ -28,7 +22,7 @@ PassesTri job part moves k t = Passes job.cutter (move_at moves k) (tri_at part 
 
 -- test (ii): move k passes each triangle
 abbrev pub ClearsPart : Job → List Tri → List Move → ℕ → Type 0
-ClearsPart job part moves k = (t : ℕ) → t < length part → PassesTri job part moves k t
+ClearsPart job part moves k = PassesPart job.cutter (move_at moves k) part
 
 -- test (iii) of one column: move k passes, by halving, the point at the top that the moves before it left
 abbrev pub PassesColumn : Job → List Move → ℕ → ℕ → ℕ → Type 0

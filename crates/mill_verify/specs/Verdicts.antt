@@ -11,7 +11,9 @@ use Rattle.mill_base.specs.Covers.{IsHighestCovered}
 use Rattle.mill_job.specs.declared.job.Job.{Job}
 use Rattle.mill_job.specs.Columns.{IsColumn, IsBefore, column_x, column_y, row_count, column_count}
 use Rattle.mill_dexel.specs.Tops.{top_after, top_point}
-use Rattle.mill_verify.specs.Tests.{move_at, tri_at, IsOverFloor, PassesTri, ClearsPart, PassesColumn, IsCut, GoodBefore}
+use Rattle.mill_verify.specs.Tests.{IsOverFloor, PassesTri, ClearsPart, PassesColumn, IsCut, GoodBefore}
+use Rattle.mill_dexel.specs.Turns.{move_at}
+use Rattle.mill_gouge.specs.Gouges.{tri_at}
 use Rattle.mill_verify.specs.declared.verdict.Verdict.{Verdict}
 use Rattle.mill_verify.specs.declared.verdict.Verdict.TheVariants.{Accept, Reject}
 use Rattle.mill_verify.specs.declared.verdict.Reason.{Reason}
@@ -85,18 +87,18 @@ IsVerdict job part moves (Accept count columns left) = Accepts job part moves co
 IsVerdict job part moves (Reject reason) = IsRejection job part moves reason
 
 -- triangle t blocks this leaf of move k: it comes over the leaf's lower end, and some point of it is strictly inside the leaf's outer cutter
-abbrev pub IsBlocked : Job → List Tri → List Move → ℕ → ℕ → Leaf → Type 0
-IsBlocked job part moves k t leaf = Blocks job.cutter (span_of (move_at moves k) leaf.d leaf.k) (tri_at part t)
+abbrev pub BlocksMove : Job → List Tri → List Move → ℕ → ℕ → Leaf → Type 0
+BlocksMove job part moves k t leaf = Blocks job.cutter (span_of (move_at moves k) leaf.d leaf.k) (tri_at part t)
 
 -- the point at the top of column (j, i) before move k blocks this leaf of the move
-abbrev pub IsStopped : Job → List Move → ℕ → ℕ → ℕ → Leaf → Type 0
-IsStopped job moves k j i leaf = Blocks job.cutter (span_of (move_at moves k) leaf.d leaf.k) (point_tri (top_point job (take k moves) j i))
+abbrev pub StopsMove : Job → List Move → ℕ → ℕ → ℕ → Leaf → Type 0
+StopsMove job moves k j i leaf = Blocks job.cutter (span_of (move_at moves k) leaf.d leaf.k) (point_tri (top_point job (take k moves) j i))
 
 -- a rejection by test (ii) or (iii) names a leaf that is blocked
 abbrev pub ShowsBlock : Job → List Tri → List Move → Reason → Type 0
 ShowsBlock job part moves (Floor k) = Unit {0}
-ShowsBlock job part moves (Gouge k t leaf) = IsBlocked job part moves k t leaf
-ShowsBlock job part moves (RapidCut k j i leaf) = IsStopped job moves k j i leaf
+ShowsBlock job part moves (Gouge k t leaf) = BlocksMove job part moves k t leaf
+ShowsBlock job part moves (RapidCut k j i leaf) = StopsMove job moves k j i leaf
 ShowsBlock job part moves (Left j i top) = Unit {0}
 
 abbrev pub ShowsBlocks : Job → List Tri → List Move → Verdict → Type 0

@@ -10,7 +10,7 @@ ghost use Rattle.mill_verify.specs.Claims.{CutsSafely};
 ghost use Rattle.mill_verify.specs.inner.Firsts.{IsLimit};
 ghost use Rattle.mill_verify.specs.inner.Stock.{AreTurned, IsStock};
 ghost use Rattle.mill_verify.specs.Tests.{GoodBefore};
-ghost use Rattle.mill_verify.specs.Verdicts.{IsBlocked, IsStopped, IsVerdict, ShowsBlocks};
+ghost use Rattle.mill_verify.specs.Verdicts.{BlocksMove, StopsMove, IsVerdict, ShowsBlocks};
 
 use crate::left::stock_left;
 use crate::limit::{Limit, part_limit};
@@ -63,10 +63,10 @@ pub fn verify<R: Threads + Sync>(
         → CutsSafely job.now part.now moves.now }
     ensures blocked { (number tri : ℕ) (leaf : Leaf)
         → result ≡ Ok (Verdict.Reject (Reason.Gouge number tri leaf))
-        → IsBlocked job.now part.now moves.now number tri leaf }
+        → BlocksMove job.now part.now moves.now number tri leaf }
     ensures stopped { (number row col : ℕ) (leaf : Leaf)
         → result ≡ Ok (Verdict.Reject (Reason.Rapid number row col leaf))
-        → IsStopped job.now moves.now number row col leaf }
+        → StopsMove job.now moves.now number row col leaf }
 {
     let part = SortedPart::new(alloc, part)?;
     verify_sorted(rt, alloc, job, &part, moves, workers)
@@ -94,10 +94,10 @@ pub fn verify_sorted<R: Threads + Sync>(
         → CutsSafely job.now part.now moves.now }
     ensures blocked { (number tri : ℕ) (leaf : Leaf)
         → result ≡ Ok (Verdict.Reject (Reason.Gouge number tri leaf))
-        → IsBlocked job.now part.now moves.now number tri leaf }
+        → BlocksMove job.now part.now moves.now number tri leaf }
     ensures stopped { (number row col : ℕ) (leaf : Leaf)
         → result ≡ Ok (Verdict.Reject (Reason.Rapid number row col leaf))
-        → IsStopped job.now moves.now number row col leaf }
+        → StopsMove job.now moves.now number row col leaf }
 {
     let limit = part_limit(rt, job, part, moves, workers);
     let rows = turned_rows(rt, alloc, job, &moves[..limit.passed], workers)?;

@@ -1,6 +1,6 @@
 // `drop`: the line and the status of each answer.
-use crate::ending::Status;
 use crate::run::run;
+use crate::status::Status;
 use crate::tests::{BALL_JOB, CORNER, EMPTY, HIGH, JOB, PEAK, WIDE_JOB, store, words};
 use mill_io::MemSink;
 use std::test::Fail;

@@ -1,6 +1,6 @@
 // `verify` where a file or the output fails, or a file is too long.
-use crate::ending::Status;
 use crate::run::run;
+use crate::status::Status;
 use crate::tests::{JOB, PLATE, file, store, words};
 use mill_io::{MemFile, MemShelf, MemSink};
 use std::test::Fail;

@@ -1,8 +1,8 @@
 // `plan`: the line, the status and the stored text of each answer, and what a failed write leaves.
 ghost use Rattle.std.specs.Prelude.{◌≡◌, IfOk};
 
-use crate::ending::Status;
 use crate::run::run;
+use crate::status::Status;
 use crate::tests::{CORNER, FINE_JOB, GROOVE, GROOVE_JOB, HIGH, JOB, PLATE, file, words};
 use mill_io::{MemShelf, MemSink, Shelf, read_whole};
 use std::alloc::Global;

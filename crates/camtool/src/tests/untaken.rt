@@ -1,7 +1,7 @@
 // Words that aren't taken as a command. Clap's text isn't part of any promise: only a piece of it
 // is looked for.
-use crate::ending::Status;
 use crate::run::run;
+use crate::status::Status;
 use crate::tests::{JOB, PLATE, store, words};
 use mill_io::MemSink;
 use std::test::Fail;

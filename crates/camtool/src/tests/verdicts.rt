@@ -1,6 +1,6 @@
 // `verify`: the line and the status of each answer.
-use crate::ending::Status;
 use crate::run::run;
+use crate::status::Status;
 use crate::tests::{
     BAND_50_JOB, BAND_51_JOB, BAND_151_JOB, CORNER, EMPTY, FLAT_JOB, HIGH, JOB, LOW_CLEAR_JOB,
     NARROW, PLATE, WIDE_JOB, store, words,

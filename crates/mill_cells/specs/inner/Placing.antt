@@ -2,7 +2,7 @@
 use Rattle.std.specs.Prelude.{◌≡◌, ℕ, zero, suc, ◌+◌, ◌^◌, ◌<◌, ◌≤◌, List, ℤ, length, slice_index, slice_range, All}
 use Rattle.mill_base.specs.declared.points.Box2.{Box2}
 use Rattle.mill_cells.specs.Frames.{cell_count}
-use Rattle.mill_cells.specs.Sorted.{height_at, AreUnder}
+use Rattle.mill_cells.specs.Sorted.{top_at, AreUnder}
 use Rattle.mill_cells.specs.Grids.{numbers, start_of}
 use Rattle.mill_cells.specs.declared.frame.Frame.{Frame}
 
@@ -45,4 +45,4 @@ pub record IsPlacing (f : Frame) (boxes : List Box2) (starts entries : List ℕ)
 
 -- each lid is no lower than the tops of the numbers in its cell
 abbrev pub AreLids : List ℕ → List ℕ → List ℤ → List ℤ → Type 0
-AreLids starts entries tops lids = (k : ℕ) → k < length lids → AreUnder tops (height_at lids k) (slice_range entries (slice_index starts k) (slice_index starts (k + 1)))
+AreLids starts entries tops lids = (k : ℕ) → k < length lids → AreUnder tops (top_at lids k) (slice_range entries (slice_index starts k) (slice_index starts (k + 1)))

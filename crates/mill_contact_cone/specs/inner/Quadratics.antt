@@ -1,7 +1,8 @@
 -- The forms that decide whether a segment comes into the cone cutter, and the part of the segment on which each decides.
 use Rattle.std.specs.Prelude.{◌≡◌, ◌⊎◌, ℤ, pos, ◌+ℤ◌, ◌-ℤ◌, ◌*ℤ◌, ◌<ℤ◌, ◌≤ℤ◌}
 use Rattle.mill_base.specs.Numbers.{Within}
-use Rattle.mill_contact_cone.specs.inner.Widths.{most_over, most_cone_form}
+use Rattle.mill_geom.specs.Widths.{most_lift}
+use Rattle.mill_contact_cone.specs.inner.Widths.{most_cone_form}
 use Rattle.mill_contact_cone.specs.declared.corner.Cone.{Cone}
 use Rattle.mill_contact_cone.specs.declared.corner.Corner.{Corner}
 use Rattle.mill_contact_cone.specs.declared.quadratic.Form.{Form}
@@ -15,8 +16,8 @@ pub record FormInRange (f : Form) : Type 0 where
 
 -- the weights of a blend are small, and not negative
 pub record BlendInRange (p : Blend) : Type 0 where
-  pub u_ok : Within most_over p.u
-  pub v_ok : Within most_over p.v
+  pub u_ok : Within most_lift p.u
+  pub v_ok : Within most_lift p.v
   pub u_least : (pos 0) ≤ℤ p.u
   pub v_least : (pos 0) ≤ℤ p.v
 

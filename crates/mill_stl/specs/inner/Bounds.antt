@@ -42,7 +42,7 @@ abbrev pub CoordsInRange : List ℤ → Type 0
 CoordsInRange coords = All (λ z. Within MAX_TEXT_COORDINATE z) coords
 
 -- the stage and the coordinates fit
-pub record Fits (p : Progress) : Type 0 where
+pub record FitsCursor (p : Progress) : Type 0 where
   pub stage_ok : FitsStage p.stage p.facets p.rounded
   pub coords_ok : CoordsInRange p.coords
 
@@ -53,13 +53,13 @@ count_after facets (Some tri) = facets + 1
 
 -- a step keeps what fits, counts its triangle, and has it in range
 pub record IsStep (p : Progress) (s : Step) : Type 0 where
-  pub fits : Fits s.progress
+  pub fits : FitsCursor s.progress
   pub count : s.progress.facets ≡ count_after p.facets s.tri
   pub tri_ok : IfSome s.tri TriInTextRange
 
 -- the progress fits, and the triangles so far are as many as the facets and in range
 pub record IsSound (p : Progress) (tris : List Tri) : Type 0 where
-  pub fits : Fits p
+  pub fits : FitsCursor p
   pub count : length tris ≡ p.facets
   pub tris_ok : All TriInTextRange tris
 

@@ -13,8 +13,9 @@ use Rattle.mill_job.specs.Columns.{IsColumn, IsBefore, column_x, column_y, colum
 use Rattle.mill_dexel.specs.Tops.{top_after, top_point}
 use Rattle.mill_dexel.specs.declared.fail.RowFail.{RowFail}
 use Rattle.mill_gouge.specs.Gouges.{IsFirstGouge}
-use Rattle.mill_verify.specs.Tests.{move_at, ClearsPart, PassesColumn, ClearsStock, IsOverFloor, IsCut, GoodBefore}
-use Rattle.mill_verify.specs.Verdicts.{IsLeftOver, IsMostLeft, IsRejection, IsStopped, ShowsBlock}
+use Rattle.mill_verify.specs.Tests.{ClearsPart, PassesColumn, ClearsStock, IsOverFloor, IsCut, GoodBefore}
+use Rattle.mill_dexel.specs.Turns.{move_at}
+use Rattle.mill_verify.specs.Verdicts.{IsLeftOver, IsMostLeft, IsRejection, StopsMove, ShowsBlock}
 use Rattle.mill_verify.specs.declared.limit.Limit.{Limit}
 use Rattle.mill_verify.specs.declared.gouge.PartFail.{PartFail}
 use Rattle.mill_verify.specs.declared.gouge.Stripes.{Stripes}
@@ -100,7 +101,7 @@ pub record IsFirstStop (job : Job) (moves : List Move) (k j i : ℕ) (leaf : Lea
   pub column : IsColumn job j i
   pub first : (a b : ℕ) → IsColumn job a b → IsBefore a b j i → PassesColumn job moves k a b
   pub fails : FailsAt job.cutter (move_at moves k) (point_tri (top_point job (take k moves) j i)) leaf
-  pub blocked : IsStopped job moves k j i leaf
+  pub blocked : StopsMove job moves k j i leaf
 
 -- there is a stop so far, at move k or before it
 abbrev pub IsStoppedBy : ℕ → Option Stop → Type 0

@@ -3,11 +3,11 @@ use Rattle.std.specs.Prelude.{FitsSigned, IfOk}
 use Rattle.std.proofs.lemmas.Int.{to_z-of_z}
 use Rattle.mill_drop.specs.Drops.{IsDropHeight}
 use Rattle.camtool.specs.Answers.{answer_line, dropped}
-use Rattle.camtool.proofs.Works.{made_came}
+use Rattle.camtool.proofs.Serving.{made_prints}
 use Rattle.camtool.proofs.drop.tell_drop.Goals as goal
 
-pub returns-clause-tells : goal.returns-clause-tells
-returns-clause-tells g c =
+pub returns : goal.returns
+returns g c =
     let x_fits : FitsSigned w32 c.args.place.x = search rules in
     let y_fits : FitsSigned w32 c.args.place.y = search rules in
     let floor_fits : FitsSigned w32 c.args.setup.now.job.floor = search rules in
@@ -18,5 +18,5 @@ returns-clause-tells g c =
     record {
       height = c.drop_once-height.result;
       is = least;
-      shown = made_came c.line_of_height.result (dropped c.drop_once-height.result) _ _ _ _ refl line c.tell_made.ensures.came;
+      printed = made_prints c.line_of_height.result (dropped c.drop_once-height.result) _ _ _ _ refl line c.tell_made.ensures;
     }

@@ -1,12 +1,21 @@
 use Rattle.std.proofs.Common.{refl, inl, ◌∙◌}
-use Rattle.camtool.proofs.Planning.{stored_delivers}
+use Rattle.camtool.specs.declared.status.Status.TheVariants as status
+use Rattle.camtool.specs.Calls.{Call, call_of}
+use Rattle.camtool.proofs.Planning.{stored_shows, unstored_shows}
 use Rattle.camtool.proofs.plan.store_plan.Goals as goal
 
-pub returns-in-Ok-store-clause-delivers : goal.returns-in-Ok-store-clause-delivers
-returns-in-Ok-store-clause-delivers g c =
+pub returns-in-Ok-store : goal.returns-in-Ok-store
+returns-in-Ok-store g c =
     let made = c.args.planned.now in
-    let whole = rw c.deref.ensures.value at c.in-Ok-store.ensures.whole in
-    let told = rw c.deref.ensures.value at c.in-Ok-store.ensures.told in
+    let call : Call = call_of c.tell-in-Ok-store.result (g.S.Shelf.shows c.args.shelf.now) (g.S.Shelf.shows c.store.new.shelf) (g.O.Sink.shows c.args.out.now) (g.O.Sink.shows c.tell-in-Ok-store.new.out) in
     inl
-    (stored_delivers _ c.args.name.now c.deref-in-Ok-store.result.now made.program.items made.moves made.columns made.most_left c.tell-in-Ok-store.result refl
-    (c.deref-in-Ok-store.ensures.value ∙ c.in-Ok.ensures) (whole, told) (λ e. c.tell-in-Ok-store.ensures.write.0 e) c.tell-in-Ok-store.ensures.shown)
+    (stored_shows call c.args.name.now c.deref-in-Ok-store.result.now made.program.items made.moves made.columns made.most_left
+    (c.deref-in-Ok-store.ensures.value ∙ c.in-Ok.ensures) (rw c.deref.ensures.value at c.in-Ok-store.ensures.whole) c.tell-in-Ok-store.ensures)
+
+pub returns : goal.returns
+returns g c =
+    let made = c.args.planned.now in
+    let call : Call = call_of status.WriteFault (g.S.Shelf.shows c.args.shelf.now) (g.S.Shelf.shows c.store.new.shelf) (g.O.Sink.shows c.args.out.now) (g.O.Sink.shows c.args.out.now) in
+    inl
+    (unstored_shows call c.args.name.now made.program.items made.moves made.columns made.most_left refl refl c.requires.counts
+    (rw c.deref.ensures.value at c.in-Err-store.ensures.part))

@@ -1,18 +1,28 @@
-use Rattle.camtool.proofs.Outcomes.{outcome_of, headline_of, blamed, is_read}
-use Rattle.camtool.proofs.PlanOutcomes.{plan_outcome_of, plan_headline_of}
+use Rattle.camtool.proofs.Blaming.{blames_writes, blames_reads, keeps}
+use Rattle.camtool.proofs.Outcomes.{answers_of, completes_of, untaken_of}
+use Rattle.camtool.proofs.Headlines.{headline_of, plan_headline_of}
 use Rattle.camtool.proofs.run.run.Goals as goal
 
-pub returns-clause-outcome : goal.returns-clause-outcome
-returns-clause-outcome g c =
-    outcome_of _ (record { write = λ none e. blamed _ _ _ _ _ (c.work.ensures.kept none) c.work.ensures.write.0 e; read = λ e. (c.work.ensures.read.0 (is_read _ e)).0 }) c.work.ensures.ends
+pub returns-clause-write : goal.returns-clause-write
+returns-clause-write g c = blames_writes _ c.work.ensures.outcome.outcome c.work.ensures.outcome.shows
+
+pub returns-clause-read : goal.returns-clause-read
+returns-clause-read g c = blames_reads _ c.work.ensures.outcome.outcome c.work.ensures.outcome.shows
+
+pub returns-clause-kept : goal.returns-clause-kept
+returns-clause-kept g c = λ none. keeps _ _ c.work.ensures.outcome none
+
+pub returns-clause-answers : goal.returns-clause-answers
+returns-clause-answers g c = answers_of _ _ c.work.ensures.outcome
+
+pub returns-clause-completes : goal.returns-clause-completes
+returns-clause-completes g c = completes_of _ _ c.work.ensures.outcome
+
+pub returns-clause-untaken : goal.returns-clause-untaken
+returns-clause-untaken g c = untaken_of _ _ c.work.ensures.outcome
 
 pub returns-clause-headline : goal.returns-clause-headline
-returns-clause-headline g c =
-    headline_of c.one_verdict.ensures _
-    (record { write = λ none e. blamed _ _ _ _ _ (c.work.ensures.kept none) c.work.ensures.write.0 e; read = λ e. (c.work.ensures.read.0 (is_read _ e)).0 }) c.work.ensures.ends
-
-pub returns-clause-plan_outcome : goal.returns-clause-plan_outcome
-returns-clause-plan_outcome g c = plan_outcome_of _ (λ e. (c.work.ensures.read.0 (is_read _ e)).0) c.work.ensures.plans
+returns-clause-headline g c = headline_of c.one_verdict.ensures _ _ c.work.ensures.outcome
 
 pub returns-clause-plan_headline : goal.returns-clause-plan_headline
-returns-clause-plan_headline g c = plan_headline_of _ c.work.ensures.plans
+returns-clause-plan_headline g c = plan_headline_of _ _ c.work.ensures.outcome

@@ -1,7 +1,7 @@
 use Rattle.std.proofs.Common.{◌^◌, ℕ, ℤ, pos, refl, sym, subst, arith}
 use Rattle.std.specs.Prelude.{nat_abs, ◌<ℤ◌, ◌≤ℤ◌}
 use Rattle.std.proofs.lemmas.Nat.{pow_pos}
-use Rattle.mill_cells.specs.Sizes.{Fits, IsCellSize}
+use Rattle.mill_cells.specs.Sizes.{IsSmallGrid, IsCellSize}
 use Rattle.mill_cells.proofs.SizeLemmas.{shifted, least_power, works_on, greatest_fits}
 use Rattle.mill_cells.proofs.size.size_for.Goals as goal
 
@@ -16,18 +16,18 @@ returns-then-fits-clause-power c = (c.loop-doublings.doublings, (shifted c.loop-
 pub returns-then-fits-clause-fits : goal.returns-then-fits-clause-fits
 returns-then-fits-clause-fits c =
     let k = shifted c.loop-doublings.doublings _ c.loop-doublings-test.true refl in
-    subst (λ (z : ℤ). Fits c.args.tris.now (nat_abs z)) (sym k.2) (subst (Fits c.args.tris.now) k.0 (c.fits.ensures.0 c.if-fits.true))
+    subst (λ (z : ℤ). IsSmallGrid c.args.tris.now (nat_abs z)) (sym k.2) (subst (IsSmallGrid c.args.tris.now) k.0 (c.fits.ensures.0 c.if-fits.true))
 
 pub returns-then-fits-clause-least : goal.returns-then-fits-clause-least
 returns-then-fits-clause-least c =
     let k = shifted c.loop-doublings.doublings _ c.loop-doublings-test.true refl in
-    subst (λ (z : ℤ). (k : ℕ) → (pos (2 ^ k)) <ℤ z → ¬ Fits c.args.tris.now (2 ^ k)) (sym k.2) (least_power c.args.tris.now c.loop-doublings.doublings c.loop-doublings.invariant)
+    subst (λ (z : ℤ). (k : ℕ) → (pos (2 ^ k)) <ℤ z → ¬ IsSmallGrid c.args.tris.now (2 ^ k)) (sym k.2) (least_power c.args.tris.now c.loop-doublings.doublings c.loop-doublings.invariant)
 
 pub returns-then-fits-clause-works : goal.returns-then-fits-clause-works
 returns-then-fits-clause-works c =
     let k = shifted c.loop-doublings.doublings _ c.loop-doublings-test.true refl in
     subst (λ (z : ℤ). (size : ℤ) → z ≤ℤ size → IsCellSize c.args.tris.now size) (sym k.2)
-    (λ size le. works_on c.args.tris.now (2 ^ c.loop-doublings.doublings) size (pow_pos c.loop-doublings.doublings) (subst (Fits c.args.tris.now) k.0 (c.fits.ensures.0 c.if-fits.true)) le)
+    (λ size le. works_on c.args.tris.now (2 ^ c.loop-doublings.doublings) size (pow_pos c.loop-doublings.doublings) (subst (IsSmallGrid c.args.tris.now) k.0 (c.fits.ensures.0 c.if-fits.true)) le)
 
 pub returns-clause-fits : goal.returns-clause-fits
 returns-clause-fits c = greatest_fits c.args.tris.now c.requires.in_range

@@ -1,8 +1,8 @@
 use Rattle.std.proofs.Common.{ℕ, List, [], ◌∷◌, refl, w64}
 use Rattle.mill_base.proofs.Machine.{Read, Diff, Prod, exact, stays, diff_fits, prod_fits}
 use Rattle.mill_contact_cone.proofs.Sizes.{radius_within, rise_within, run_within}
-use Rattle.mill_geom.specs.Widths.{farthest, widest}
-use Rattle.mill_contact_cone.specs.inner.Widths.{steepest, most_over}
+use Rattle.mill_geom.specs.Widths.{farthest, widest, most_lift}
+use Rattle.mill_contact_cone.specs.inner.Widths.{steepest}
 use Rattle.mill_contact_cone.proofs.corner.over.Goals as goal
 
 -- how far each number is from 0
@@ -27,4 +27,4 @@ returns-clause-value c = exact (c.args.z ∷ c.args.cone.radius ∷ c.args.cone.
 
 pub returns-clause-bound : goal.returns-clause-bound
 unfolding bounds
-returns-clause-bound c = record { within = stays (c.args.z ∷ c.args.cone.radius ∷ c.args.cone.rise ∷ c.args.cone.run ∷ []) bounds (Diff w64 (Prod w64 (Read w64 3) (Read w64 0)) (Prod w64 (Read w64 2) (Read w64 1))) most_over (c.requires.z_ok.within, (radius_within c.args.cone c.requires.cone_ok, (rise_within c.args.cone c.requires.cone_ok, (run_within c.args.cone c.requires.cone_ok, tt)))) refl }
+returns-clause-bound c = record { within = stays (c.args.z ∷ c.args.cone.radius ∷ c.args.cone.rise ∷ c.args.cone.run ∷ []) bounds (Diff w64 (Prod w64 (Read w64 3) (Read w64 0)) (Prod w64 (Read w64 2) (Read w64 1))) most_lift (c.requires.z_ok.within, (radius_within c.args.cone c.requires.cone_ok, (rise_within c.args.cone c.requires.cone_ok, (run_within c.args.cone c.requires.cone_ok, tt)))) refl }

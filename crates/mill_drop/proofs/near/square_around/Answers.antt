@@ -1,26 +1,26 @@
 use Rattle.std.proofs.Common.{◌<◌, FitsSigned, rules, refl, w32, arith}
 use Rattle.std.specs.Prelude.{nat_abs}
 use Rattle.std.proofs.lemmas.Int.{ints, to_z-of_z, fits_signed_from_abs}
-use lib.IntN.{ℤ, pos, ◌+ℤ◌, ◌-ℤ◌}
+use lib.IntN.{ℤ, ◌+ℤ◌, ◌-ℤ◌}
 use Rattle.mill_base.specs.Numbers.{Within}
-use Rattle.mill_base.specs.declared.limits.TheConstants.{MAX_TEXT_COORDINATE}
+use Rattle.mill_base.specs.declared.limits.TheConstants.{MAX_COORDINATE, MAX_RADIUS}
 use Rattle.mill_base.specs.Sizes.{HasRadius, IsCutter, radius_of}
 use Rattle.mill_base.specs.declared.cutter.Cutter.{Cutter}
 use Rattle.mill_base.specs.declared.cutter.Cutter.TheVariants.{Flat, Ball, Cone}
 use Rattle.mill_drop.proofs.near.square_around.Goals as goal
 
-sized : (cutter : Cutter) → IsCutter cutter → HasRadius (radius_of cutter) (pos 10000)
+sized : (cutter : Cutter) → IsCutter cutter → HasRadius (radius_of cutter) MAX_RADIUS
 sized (Flat r) h = h
 sized (Ball r) h = h
 sized (Cone r a b) h = h.0
 
-less_fits : (x r : ℤ) → Within MAX_TEXT_COORDINATE x → HasRadius r (pos 10000) → FitsSigned w32 (x -ℤ r)
+less_fits : (x r : ℤ) → Within MAX_COORDINATE x → HasRadius r MAX_RADIUS → FitsSigned w32 (x -ℤ r)
 less_fits x r h k = fits_signed_from_abs w32 (x -ℤ r) small
   where
     small : nat_abs (x -ℤ r) < 2147483648
     small = let a = h.within in let b = k.least in let d = k.within in omega (arith, ints)
 
-more_fits : (x r : ℤ) → Within MAX_TEXT_COORDINATE x → HasRadius r (pos 10000) → FitsSigned w32 (x +ℤ r)
+more_fits : (x r : ℤ) → Within MAX_COORDINATE x → HasRadius r MAX_RADIUS → FitsSigned w32 (x +ℤ r)
 more_fits x r h k = fits_signed_from_abs w32 (x +ℤ r) small
   where
     small : nat_abs (x +ℤ r) < 2147483648

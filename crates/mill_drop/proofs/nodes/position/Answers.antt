@@ -3,17 +3,17 @@ use Rattle.std.specs.Prelude.{nat_abs}
 use Rattle.std.proofs.lemmas.Int.{ints, to_z-of_z, to_z_pos, fits_signed_from_abs}
 use lib.IntN.{ℤ, ◌-ℤ◌}
 use Rattle.mill_base.specs.Numbers.{Within}
-use Rattle.mill_base.specs.declared.limits.TheConstants.{MAX_TEXT_COORDINATE}
+use Rattle.mill_base.specs.declared.limits.TheConstants.{MAX_COORDINATE}
 use Rattle.mill_drop.proofs.NodeLemmas.{get_or-positions, position_within}
 use Rattle.mill_drop.proofs.nodes.position.Goals as goal
 
-small : (a b : ℤ) (n : ℕ) → Within MAX_TEXT_COORDINATE a → Within MAX_TEXT_COORDINATE b → min n (nat_abs (b -ℤ a)) < 2147483648
+small : (a b : ℤ) (n : ℕ) → Within MAX_COORDINATE a → Within MAX_COORDINATE b → min n (nat_abs (b -ℤ a)) < 2147483648
 small a b n ha hb = let k = ha.within in let l = hb.within in omega (arith, ints)
 
-fits : (z : ℤ) → Within MAX_TEXT_COORDINATE z → FitsSigned w32 z
+fits : (z : ℤ) → Within MAX_COORDINATE z → FitsSigned w32 z
 fits z h = fits_signed_from_abs w32 z (less z h)
   where
-    less : (z : ℤ) → Within MAX_TEXT_COORDINATE z → nat_abs z < 2147483648
+    less : (z : ℤ) → Within MAX_COORDINATE z → nat_abs z < 2147483648
     less z h = let k = h.within in omega (arith, ints)
 
 pub returns-clause-value : goal.returns-clause-value

@@ -69,11 +69,9 @@ returns-then-cut_mid-ge0 c =
     let t = tests_are c.args.radius c.args.p c.args.q _ _ _ c.cut_end.result c.cut_mid.result c.requires.up c.requires.down (rw kr at c.form-a.ensures.value) (rw kr at c.form-h.ensures.value) (rw kr at c.form-b.ensures.value) ee em in
     (λ x. absurd (false≢true x), λ x. absurd (no_test c.form-a.result c.form-h.result c.form-b.result c.cut_end.result c.cut_mid.result (omega (arith, ints)) (omega (arith, ints)) (omega (arith, ints)) (t.1 x)))
 
--- src/lib.rt:89:5
 pub overflow_mul-result : goal.overflow_mul-result
 overflow_mul-result c = prod_fits w128 (c.form-a.result ∷ c.form-h.result ∷ c.form-b.result ∷ []) (most_form ∷ most_form ∷ most_form ∷ []) (Read w128 0) (Read w128 2) (c.form-a.ensures.bound.within, (c.form-h.ensures.bound.within, (c.form-b.ensures.bound.within, tt))) refl
 
--- src/lib.rt:89:13
 pub overflow_mul-result-2 : goal.overflow_mul-result-2
 overflow_mul-result-2 c = prod_fits w128 (c.form-a.result ∷ c.form-h.result ∷ c.form-b.result ∷ []) (most_form ∷ most_form ∷ most_form ∷ []) (Read w128 1) (Read w128 1) (c.form-a.ensures.bound.within, (c.form-h.ensures.bound.within, (c.form-b.ensures.bound.within, tt))) refl
 

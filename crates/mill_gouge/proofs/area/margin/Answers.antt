@@ -6,14 +6,15 @@ use Rattle.mill_base.proofs.Machine.{Read, Lit, Sum, exact, stays}
 use Rattle.mill_base.specs.Sizes.{HasRadius, IsCutter, radius_of}
 use Rattle.mill_base.specs.declared.cutter.Cutter.{Cutter}
 use Rattle.mill_base.specs.declared.cutter.Cutter.TheVariants.{Flat, Ball, Cone}
+use Rattle.mill_base.specs.declared.limits.TheConstants.{MAX_COORDINATE, MAX_RADIUS}
 use Rattle.mill_gouge.proofs.area.margin.Goals as goal
 
-sized : (cutter : Cutter) → IsCutter cutter → HasRadius (radius_of cutter) (pos 10000)
+sized : (cutter : Cutter) → IsCutter cutter → HasRadius (radius_of cutter) MAX_RADIUS
 sized (Flat r) h = h
 sized (Ball r) h = h
 sized (Cone r a b) h = h.0
 
-small : (r : ℤ) → HasRadius r (pos 10000) → nat_abs r ≤ 10000
+small : (r : ℤ) → HasRadius r MAX_RADIUS → nat_abs r ≤ 10000
 small r h = let a = h.least in let b = h.within in omega (a, b, arith, ints)
 
 pub returns-clause-value : goal.returns-clause-value
@@ -24,4 +25,4 @@ returns-clause-value c =
 pub returns-clause-bound : goal.returns-clause-bound
 returns-clause-bound c =
     let radius = subst (λ (r : ℤ). nat_abs r ≤ 10000) (sym c.radius.ensures) (small _ (sized c.args.cutter c.requires)) in
-    record { within = stays (c.radius.result ∷ []) (10000 ∷ []) (Sum w32 (Read w32 0) (Lit (pos 2))) 131071 (radius, tt) refl }
+    record { within = stays (c.radius.result ∷ []) (10000 ∷ []) (Sum w32 (Read w32 0) (Lit (pos 2))) MAX_COORDINATE (radius, tt) refl }

@@ -15,7 +15,7 @@ use Rattle.mill_gouge.proofs.clear.clears.Goals as goal
 pub returns-then-is_over : goal.returns-then-is_over
 returns-then-is_over c =
     let m = c.args.step.now in
-    let clear = over_clears c.args.cutter m c.args.part.now c.lid-part_top.result far_passes c.requires.cutter_ok c.requires.move_ok c.lid-part_top.ensures.under
+    let clear = over_clears c.args.cutter m c.args.part.now c.lid-part_top.result far_passes c.requires.cutter_ok c.requires.move_ok c.lid-part_top.ensures
     (subst (λ (z : ℤ). IsOver m z) (to_z-of_z w32 c.lid-part_top.result (search rules)) (c.is_over.ensures.yes c.if-is_over.true)) in
     (λ _. clear, λ _. refl)
 

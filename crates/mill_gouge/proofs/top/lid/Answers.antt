@@ -4,18 +4,18 @@ use Rattle.std.proofs.Common.{FitsSigned, rules, sym, ◌∙◌, subst, w32, ari
 use Rattle.std.proofs.lemmas.Int.{to_z-of_z}
 use Rattle.mill_base.specs.declared.points.Tri.{Tri}
 use Rattle.mill_part.specs.Tops.{IsTop}
-use Rattle.mill_gouge.specs.inner.Near.{IsLid}
+use Rattle.mill_base.specs.Covers.{IsUnder}
 use Rattle.mill_gouge.proofs.top.lid.Goals as goal
 
 nothing : (k n : ℕ) → k < n → n ≡ 0 → ⊥
 nothing k n h e = omega (h, e, arith)
 
-lid_of : (part : List Tri) (top : Option ℤ) (other : ℤ) → (IsNone top → length part ≡ 0) → IfSome top (IsTop part) → IsLid part (unwrap_or top other)
-lid_of part None other none some = record { under = λ tri m. absurd (nothing m.0 (length part) m.1 (none refl)) }
-lid_of part (Some top) other none some = record { under = some.under }
+lid_of : (part : List Tri) (top : Option ℤ) (other : ℤ) → (IsNone top → length part ≡ 0) → IfSome top (IsTop part) → IsUnder part (unwrap_or top other)
+lid_of part None other none some = λ tri m. absurd (nothing m.0 (length part) m.1 (none refl))
+lid_of part (Some top) other none some = some.under
 
 pub returns : goal.returns
 returns c =
     let part = c.args.part.now in
     let fits : FitsSigned w32 c.unwrap_or.result = search rules in
-    subst (λ (z : ℤ). IsLid part z) (sym (to_z-of_z w32 c.unwrap_or.result fits ∙ c.unwrap_or.ensures)) (lid_of part c.top.result (pos 0) c.top.ensures.none.0 c.top.ensures.greatest)
+    subst (λ (z : ℤ). IsUnder part z) (sym (to_z-of_z w32 c.unwrap_or.result fits ∙ c.unwrap_or.ensures)) (lid_of part c.top.result (pos 0) c.top.ensures.none.0 c.top.ensures.greatest)

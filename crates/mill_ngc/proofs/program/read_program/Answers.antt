@@ -1,6 +1,6 @@
 use Rattle.std.proofs.Common.{◌≡◌, ◌<◌, [], ◌++◌, ◌∙◌, length, Ok, ap, sym, refl, rules, arith}
 use Rattle.std.specs.Prelude.{option_copied}
-use Rattle.mill_ngc.specs.Programs.{program_of, lines_of, lines_behind, made_list, begun}
+use Rattle.mill_ngc.specs.Programs.{program_of, lines_of, lines_behind, made_list, line_begun}
 use Rattle.mill_ngc.proofs.ProgramLemmas.{read_from-next, read_from-fault, read_from-ended, read_from-end, so_far-begun, so_far-line, reads-fault}
 use Rattle.mill_ngc.proofs.program.read_program.Goals as goal
 
@@ -33,13 +33,13 @@ returns-then-has_ended-clause-reads c =
 
 pub returns-then-has_ended-clause-in_range : goal.returns-then-has_ended-clause-in_range
 returns-then-has_ended-clause-in_range c =
-    let here = so_far-line c.args.start (begun c.loop-moves.reader) c.read_line.new.self c.loop-moves.moves.items c.in_ok-made.made
+    let here = so_far-line c.args.start (line_begun c.loop-moves.reader) c.read_line.new.self c.loop-moves.moves.items c.in_ok-made.made
     (so_far-begun c.args.start c.loop-moves.reader c.loop-moves.moves.items c.loop-moves.invariant.moves_so_far) c.in_ok-made.ensures.keeps.move_is in
     rw c.in_ok-add.ensures.ok here.in_range
 
 pub returns-then-has_ended-clause-follow : goal.returns-then-has_ended-clause-follow
 returns-then-has_ended-clause-follow c =
-    let here = so_far-line c.args.start (begun c.loop-moves.reader) c.read_line.new.self c.loop-moves.moves.items c.in_ok-made.made
+    let here = so_far-line c.args.start (line_begun c.loop-moves.reader) c.read_line.new.self c.loop-moves.moves.items c.in_ok-made.made
     (so_far-begun c.args.start c.loop-moves.reader c.loop-moves.moves.items c.loop-moves.invariant.moves_so_far) c.in_ok-made.ensures.keeps.move_is in
     rw c.in_ok-add.ensures.ok here.follow
 
@@ -55,7 +55,7 @@ loop-moves-preserved c =
       so_far = rw more at rest;
       going = search rules;
       lines = omega (arith, shorter, c.in_ok-made.ensures.keeps.same_line, c.loop-moves.invariant.lines);
-      moves_so_far = so_far-line c.args.start (begun c.loop-moves.reader) c.read_line.new.self c.loop-moves.moves.items c.in_ok-made.made
+      moves_so_far = so_far-line c.args.start (line_begun c.loop-moves.reader) c.read_line.new.self c.loop-moves.moves.items c.in_ok-made.made
           (so_far-begun c.args.start c.loop-moves.reader c.loop-moves.moves.items c.loop-moves.invariant.moves_so_far) c.in_ok-made.ensures.keeps.move_is;
     })
 

@@ -1,6 +1,6 @@
 use Rattle.std.proofs.Common.{◌≡◌, ◌≤◌, ◌^◌, sym, subst, ap, ◌∙◌, arith}
 use Rattle.mill_cells.specs.Walks.{IsWalk}
-use Rattle.mill_cells.specs.Frames.{IsBlock, block_of, area_of}
+use Rattle.mill_cells.specs.Frames.{IsBlock, block_of, frame_area}
 use Rattle.mill_cells.proofs.FrameLemmas.{block_is, block_in, area_le, itself_inside}
 use Rattle.mill_cells.proofs.Given.{new_walk, walk_each, walk_none, walk_once}
 use Rattle.mill_cells.proofs.walk.Walk.new.Goals as goal
@@ -12,7 +12,7 @@ pub overflow_cast-cells : goal.overflow_cast-cells
 overflow_cast-cells c =
     let f = c.args.grid.now.frame in
     let le = area_le f (block_of f c.in-Some.part) (block_in f c.in-Some.part c.requires.frame c.in-Some.ensures.inside) in
-    let e : c.cells.result ≡ area_of (block_of f c.in-Some.part) = c.cells.ensures.value ∙ ap area_of c.block-block.ensures in
+    let e : c.cells.result ≡ frame_area (block_of f c.in-Some.part) = c.cells.ensures.value ∙ ap frame_area c.block-block.ensures in
     let small : c.cells.result ≤ 2 ^ 20 = omega (arith, le, e, c.requires.frame.few) in
     omega arith
 

@@ -2,18 +2,16 @@ use Rattle.std.proofs.Common.{arith}
 use Rattle.std.proofs.lemmas.Int.{ints}
 use lib.IntN.{ℤ}
 use Rattle.mill_base.specs.Numbers.{Within}
-use Rattle.mill_base.specs.declared.limits.TheConstants.{MAX_TEXT_COORDINATE}
+use Rattle.mill_base.specs.declared.limits.TheConstants.{MAX_COORDINATE}
 use Rattle.mill_base.specs.Points.{point_at}
 use Rattle.mill_geom.specs.Offsets.{IsCentre}
 use Rattle.mill_part.proofs.Stored.{coordinate}
 use Rattle.mill_drop.proofs.Heights.{is_wide}
 use Rattle.mill_drop.proofs.search.Spindle.holds_some.Goals as goal
 
-wider : (z : ℤ) → Within MAX_TEXT_COORDINATE z → Within 160000 z
-wider z h = let k = h.within in record { within = omega (arith, ints) }
-
-is_centre : (x y z : ℤ) → Within MAX_TEXT_COORDINATE x → Within MAX_TEXT_COORDINATE y → Within MAX_TEXT_COORDINATE z → IsCentre (point_at x y z)
-is_centre x y z hx hy hz = record { x_ok = wider x hx; y_ok = wider y hy; z_ok = wider z hz }
+-- a height in range is one of a tip
+is_centre : (x y z : ℤ) → Within MAX_COORDINATE x → Within MAX_COORDINATE y → Within MAX_COORDINATE z → IsCentre (point_at x y z)
+is_centre x y z hx hy hz = let k = hz.within in record { x_ok = hx; y_ok = hy; z_from = omega (arith, ints); z_to = omega (arith, ints) }
 
 pub holds_some-requires-clause-cutter_ok : goal.holds_some-requires-clause-cutter_ok
 holds_some-requires-clause-cutter_ok c = is_wide c.args.self.cutter c.requires.self_ok.cutter_ok

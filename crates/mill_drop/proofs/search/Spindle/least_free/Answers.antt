@@ -4,7 +4,7 @@ use lib.IntN.{ℤ, pos, ◌+ℤ◌, ◌-ℤ◌, nat_abs}
 use lib.Signed.{◌<ℤ◌, ◌≤ℤ◌, lt_z}
 use Rattle.std.proofs.lemmas.Int.{ints, to_z-of_z, fits_signed_from_abs}
 use Rattle.mill_base.specs.Numbers.{Within}
-use Rattle.mill_base.specs.declared.limits.TheConstants.{MAX_TEXT_COORDINATE}
+use Rattle.mill_base.specs.declared.limits.TheConstants.{MAX_COORDINATE}
 use Rattle.mill_drop.specs.Drops.{TouchesAt}
 use Rattle.mill_drop.proofs.search.Spindle.least_free.Goals as goal
 
@@ -14,7 +14,7 @@ from_over a b c h k = omega (arith, ints)
 next : (low high : ℤ) → low <ℤ high → lt_z (low +ℤ pos 1) high ≡ false → low ≡ high -ℤ pos 1
 next low high h test = omega (arith, ints)
 
-next_fits : (start low high end : ℤ) → Within MAX_TEXT_COORDINATE start → Within MAX_TEXT_COORDINATE end → start ≤ℤ low → low <ℤ high → high ≤ℤ end → FitsSigned w32 (low +ℤ pos 1)
+next_fits : (start low high end : ℤ) → Within MAX_COORDINATE start → Within MAX_COORDINATE end → start ≤ℤ low → low <ℤ high → high ≤ℤ end → FitsSigned w32 (low +ℤ pos 1)
 next_fits start low high end hs he from order to = fits_signed_from_abs w32 (low +ℤ pos 1) small
   where
     small : nat_abs (low +ℤ pos 1) < 2147483648
@@ -23,20 +23,20 @@ next_fits start low high end hs he from order to = fits_signed_from_abs w32 (low
 pub loop-low-preserved-then-holds_some : goal.loop-low-preserved-then-holds_some
 loop-low-preserved-then-holds_some c =
     let i = c.loop-low.invariant in
-    let fits : FitsSigned w32 c.middle-middle.result = search rules in
-    let stored = to_z-of_z w32 c.middle-middle.result fits in
+    let fits : FitsSigned w32 c.between-tried.result = search rules in
+    let stored = to_z-of_z w32 c.between-tried.result fits in
     record {
       held = c.holds_some.ensures.yes c.if-holds_some.true;
       free = i.free;
-      order = rw stored c.middle-middle.ensures.under;
-      from = rw stored (from_over _ _ _ i.from c.middle-middle.ensures.over);
+      order = rw stored c.between-tried.ensures.under;
+      from = rw stored (from_over _ _ _ i.from c.between-tried.ensures.over);
       to = i.to;
     }
 
 pub returns-clause-least : goal.returns-clause-least
 returns-clause-least c =
     let i = c.loop-low.invariant in
-    let fits = next_fits c.args.low (to_z w32 c.loop-low.low-bits) (to_z w32 c.loop-low.high-bits) c.args.high c.requires.low_ok c.requires.high_ok
-    (rw (to_z-of_z w32 c.args.low c.ranges.low) at i.from) i.order (rw (to_z-of_z w32 c.args.high c.ranges.high) at i.to) in
+    let fits = next_fits c.args.low (to_z w32 c.loop-low.low-bits) (to_z w32 c.loop-low.high-bits) c.args.top c.requires.low_ok c.requires.top_ok
+    (rw (to_z-of_z w32 c.args.low c.ranges.low) at i.from) i.order (rw (to_z-of_z w32 c.args.top c.ranges.top) at i.to) in
     let test = rw (to_z-of_z w32 (to_z w32 c.loop-low.low-bits +ℤ pos 1) fits) at c.loop-low-test.false in
     subst (TouchesAt c.args.self.cutter c.args.tri.now c.args.self.x c.args.self.y) (next _ _ i.order test) i.held

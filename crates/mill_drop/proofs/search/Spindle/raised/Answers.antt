@@ -4,7 +4,7 @@ use lib.IntN.{ℤ}
 use lib.Signed.{◌<ℤ◌, ◌≤ℤ◌, le_z}
 use Rattle.std.proofs.lemmas.Int.{ints, to_z-of_z}
 use Rattle.mill_base.specs.Numbers.{Within}
-use Rattle.mill_base.specs.declared.limits.TheConstants.{MAX_TEXT_COORDINATE}
+use Rattle.mill_base.specs.declared.limits.TheConstants.{MAX_COORDINATE}
 use Rattle.mill_drop.proofs.Heights.{highest_within, over_top_free}
 use Rattle.mill_drop.proofs.search.Spindle.raised.Goals as goal
 
@@ -18,13 +18,13 @@ returns-then-top-from-clause-free c =
     let from = to_z-of_z w32 c.args.from c.ranges.from in
     rw from (over_top_free c.args.self.cutter c.args.tri.now c.args.self.x c.args.self.y c.args.from c.requires.self_ok.cutter_ok (at_most _ _ _ _ (stored ∙ c.highest-top.ensures) from c.if-top-from.true))
 
-pub least_free_under-requires-clause-high_ok : goal.least_free_under-requires-clause-high_ok
-least_free_under-requires-clause-high_ok c =
+pub least_free-requires-clause-top_ok : goal.least_free-requires-clause-top_ok
+least_free-requires-clause-top_ok c =
     let fits : FitsSigned w32 c.highest-top.result = search rules in
     rw (to_z-of_z w32 c.highest-top.result fits, c.highest-top.ensures) (highest_within c.args.tri.now c.requires.tri_ok)
 
-pub least_free_under-requires-clause-free : goal.least_free_under-requires-clause-free
-least_free_under-requires-clause-free c =
+pub least_free-requires-clause-free : goal.least_free-requires-clause-free
+least_free-requires-clause-free c =
     let fits : FitsSigned w32 c.highest-top.result = search rules in
     let stored = to_z-of_z w32 c.highest-top.result fits in
     over_top_free c.args.self.cutter c.args.tri.now c.args.self.x c.args.self.y _ c.requires.self_ok.cutter_ok (same _ _ (stored ∙ c.highest-top.ensures))
@@ -32,13 +32,13 @@ least_free_under-requires-clause-free c =
     same : (z h : ℤ) → z ≡ h → h ≤ℤ z
     same z h e = omega (arith, ints)
 
-between : (low z high : ℤ) → Within MAX_TEXT_COORDINATE low → Within MAX_TEXT_COORDINATE high → low <ℤ z → z ≤ℤ high → Within MAX_TEXT_COORDINATE z
+between : (low z high : ℤ) → Within MAX_COORDINATE low → Within MAX_COORDINATE high → low <ℤ z → z ≤ℤ high → Within MAX_COORDINATE z
 between low z high hl hh h k = let l = hl.within in let m = hh.within in record { within = omega (arith, ints) }
 
 pub returns-clause-bound : goal.returns-clause-bound
 returns-clause-bound c =
     let top : FitsSigned w32 c.highest-top.result = search rules in
-    let fits : FitsSigned w32 c.least_free_under.result = search rules in
+    let fits : FitsSigned w32 c.least_free.result = search rules in
     let from = to_z-of_z w32 c.args.from c.ranges.from in
-    let under = rw (to_z-of_z w32 c.highest-top.result top, c.highest-top.ensures) at c.least_free_under.ensures.under in
-    rw (to_z-of_z w32 c.least_free_under.result fits) (between c.args.from c.least_free_under.result _ c.requires.from_ok (highest_within c.args.tri.now c.requires.tri_ok) (rw from at c.least_free_under.ensures.over) under)
+    let under = rw (to_z-of_z w32 c.highest-top.result top, c.highest-top.ensures) at c.least_free.ensures.under in
+    rw (to_z-of_z w32 c.least_free.result fits) (between c.args.from c.least_free.result _ c.requires.from_ok (highest_within c.args.tri.now c.requires.tri_ok) (rw from at c.least_free.ensures.over) under)

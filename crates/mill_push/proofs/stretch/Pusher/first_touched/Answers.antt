@@ -1,8 +1,8 @@
 use Rattle.std.proofs.Common.{FitsSigned, rules, refl, to_z}
 use mir.Syntax.{w32}
 use Rattle.std.proofs.lemmas.Int.{to_z-of_z}
-use Rattle.mill_push.proofs.Searching.{first_starts, first_inside, first_apart, first_clear, fewer_before, fewer_after}
-use Rattle.mill_push.proofs.Stored.{less_from, at_most_from, within_between, less_one, and_one, through, up_to_before}
+use Rattle.mill_push.proofs.Searching.{first_starts, first_inside, first_apart, fewer_before, fewer_after}
+use Rattle.mill_push.proofs.Stored.{less_from, within_between, less_one, and_one, through, up_to_before}
 use Rattle.mill_push.proofs.stretch.Pusher.first_touched.Goals as goal
 
 pub loop-free-init : goal.loop-free-init
@@ -44,7 +44,7 @@ loop-free-smaller g c =
     let inside = within_between c.args.low first c.args.found c.requires.low_ok c.requires.found_ok (through c.args.low free first i.from i.order) i.to in
     let e = rw (less_one first inside) at c.middle-middle.ensures in
     let near = within_between c.args.low c.middle-middle.result c.args.found c.requires.low_ok c.requires.found_ok
-        (through c.args.low free c.middle-middle.result i.from e.from) (through c.middle-middle.result first c.args.found (up_to_before c.middle-middle.result first e.to) i.to) in
+    (through c.args.low free c.middle-middle.result i.from e.from) (through c.middle-middle.result first c.args.found (up_to_before c.middle-middle.result first e.to) i.to) in
     rw (middle, and_one c.middle-middle.result near) (fewer_after free first c.middle-middle.result e.from e.to)
 
 pub loop-free-preserved : goal.loop-free-preserved
@@ -59,7 +59,7 @@ loop-free-preserved g c =
     let inside = within_between c.args.low first c.args.found c.requires.low_ok c.requires.found_ok (through c.args.low free first i.from i.order) i.to in
     let e = rw (less_one first inside) at c.middle-middle.ensures in
     let near = within_between c.args.low c.middle-middle.result c.args.found c.requires.low_ok c.requires.found_ok
-        (through c.args.low free c.middle-middle.result i.from e.from) (through c.middle-middle.result first c.args.found (up_to_before c.middle-middle.result first e.to) i.to) in
+    (through c.args.low free c.middle-middle.result i.from e.from) (through c.middle-middle.result first c.args.found (up_to_before c.middle-middle.result first e.to) i.to) in
     let apart = rw middle at c.if-is_touched.ensures.no in
     rw (low, found, middle, and_one c.middle-middle.result near) (first_apart c.args.self.cutter c.args.tri.now c.args.self.fiber c.args.low c.args.found free first c.middle-middle.result c.args.steps.now c.loop-free.steps c.is_touched.new.steps
     (less_from free first c.loop-free-test.true) e.from e.to e.after c.is_touched.ensures.step (apart refl) i)

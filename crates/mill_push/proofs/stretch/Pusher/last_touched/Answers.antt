@@ -49,7 +49,7 @@ loop-last-smaller g c =
     let inside = within_between c.args.found last c.args.high c.requires.found_ok c.requires.high_ok i.from (through last free c.args.high i.order i.to) in
     let e = rw (and_one last inside) at c.middle-middle.ensures in
     let near = within_between c.args.found c.middle-middle.result c.args.high c.requires.found_ok c.requires.high_ok
-        (through c.args.found last c.middle-middle.result i.from (from_after last c.middle-middle.result e.from)) (through c.middle-middle.result free c.args.high e.to i.to) in
+    (through c.args.found last c.middle-middle.result i.from (from_after last c.middle-middle.result e.from)) (through c.middle-middle.result free c.args.high e.to i.to) in
     rw (middle, less_one c.middle-middle.result near) (fewer_up_to last free c.middle-middle.result e.from e.to)
 
 pub loop-last-preserved : goal.loop-last-preserved
@@ -64,7 +64,7 @@ loop-last-preserved g c =
     let inside = within_between c.args.found last c.args.high c.requires.found_ok c.requires.high_ok i.from (through last free c.args.high i.order i.to) in
     let e = rw (and_one last inside) at c.middle-middle.ensures in
     let near = within_between c.args.found c.middle-middle.result c.args.high c.requires.found_ok c.requires.high_ok
-        (through c.args.found last c.middle-middle.result i.from (from_after last c.middle-middle.result e.from)) (through c.middle-middle.result free c.args.high e.to i.to) in
+    (through c.args.found last c.middle-middle.result i.from (from_after last c.middle-middle.result e.from)) (through c.middle-middle.result free c.args.high e.to i.to) in
     let apart = rw middle at c.if-is_touched.ensures.no in
     rw (found, high, middle, less_one c.middle-middle.result near) (last_apart c.args.self.cutter c.args.tri.now c.args.self.fiber c.args.found c.args.high last free c.middle-middle.result c.args.steps.now c.loop-last.steps c.is_touched.new.steps
     (less_from last free c.loop-last-test.true) e.from e.to e.before c.is_touched.ensures.step (apart refl) i)

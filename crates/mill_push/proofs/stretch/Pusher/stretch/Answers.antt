@@ -59,7 +59,7 @@ loop-low-smaller-in-Apart-Less g c =
     let middle = to_z-of_z w32 c.middle-middle.result fits in
     let e = c.middle-middle.ensures in
     let near = within_between c.args.from c.middle-middle.result c.args.to c.requires.from_ok c.requires.to_ok
-        (through c.args.from low c.middle-middle.result i.after e.from) (through c.middle-middle.result high c.args.to e.to i.within) in
+    (through c.args.from low c.middle-middle.result i.after e.from) (through c.middle-middle.result high c.args.to e.to i.within) in
     rw (middle, less_one c.middle-middle.result near) (fewer_low low high c.middle-middle.result e.from e.to)
 
 pub loop-low-preserved-in-Apart-Less : goal.loop-low-preserved-in-Apart-Less
@@ -72,7 +72,7 @@ loop-low-preserved-in-Apart-Less g c =
     let e = c.middle-middle.ensures in
     let some : low ≤ℤ high = omega (c.loop-low-test.true, arith, ints) in
     let near = within_between c.args.from c.middle-middle.result c.args.to c.requires.from_ok c.requires.to_ok
-        (through c.args.from low c.middle-middle.result i.after e.from) (through c.middle-middle.result high c.args.to e.to i.within) in
+    (through c.args.from low c.middle-middle.result i.after e.from) (through c.middle-middle.result high c.args.to e.to i.within) in
     let none = rw (c.in-Apart-Less.field-0-is, middle) at c.in-Apart-Less.ensures.touch in
     rw (stored c.args.from c.requires.from_ok, stored c.args.to c.requires.to_ok, middle, less_one c.middle-middle.result near) (window_less c.args.self.cutter c.args.tri.now c.args.self.fiber c.args.from c.args.to low high c.middle-middle.result c.args.steps.now c.loop-low.steps c.touch_at.new.steps
     some e.from e.to e.before c.touch_at.ensures.step none i)
@@ -86,7 +86,7 @@ loop-low-smaller g c =
     let middle = to_z-of_z w32 c.middle-middle.result fits in
     let e = c.middle-middle.ensures in
     let near = within_between c.args.from c.middle-middle.result c.args.to c.requires.from_ok c.requires.to_ok
-        (through c.args.from low c.middle-middle.result i.after e.from) (through c.middle-middle.result high c.args.to e.to i.within) in
+    (through c.args.from low c.middle-middle.result i.after e.from) (through c.middle-middle.result high c.args.to e.to i.within) in
     rw (middle, and_one c.middle-middle.result near) (fewer_high low high c.middle-middle.result e.from e.to)
 
 pub loop-low-preserved : goal.loop-low-preserved
@@ -99,7 +99,7 @@ loop-low-preserved g c =
     let e = c.middle-middle.ensures in
     let some : low ≤ℤ high = omega (c.loop-low-test.true, arith, ints) in
     let near = within_between c.args.from c.middle-middle.result c.args.to c.requires.from_ok c.requires.to_ok
-        (through c.args.from low c.middle-middle.result i.after e.from) (through c.middle-middle.result high c.args.to e.to i.within) in
+    (through c.args.from low c.middle-middle.result i.after e.from) (through c.middle-middle.result high c.args.to e.to i.within) in
     let none = rw (c.in-Apart-More.field-0-is, middle) at c.in-Apart-More.ensures.touch in
     rw (stored c.args.from c.requires.from_ok, stored c.args.to c.requires.to_ok, middle, and_one c.middle-middle.result near) (window_more c.args.self.cutter c.args.tri.now c.args.self.fiber c.args.from c.args.to low high c.middle-middle.result c.args.steps.now c.loop-low.steps c.touch_at.new.steps
     some e.from e.to e.after c.touch_at.ensures.step none i)

@@ -1,4 +1,3 @@
-use Rattle.std.proofs.Common.{subst}
 use mir.Syntax.{w32}
 use Rattle.std.proofs.lemmas.Int.{to_z-of_z}
 use Rattle.mill_push.proofs.Pushing.{is_wide, tip_centre, touch_on}

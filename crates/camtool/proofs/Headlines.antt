@@ -1,0 +1,109 @@
+-- What status 0 and status 3 mean.
+use Rattle.std.proofs.Common.{◌≡◌, ◌≢◌, ◌⊎◌, ℕ, List, Option, Some, refl, sym, ap, subst, ◌∙◌, inl, inr, arith}
+use Rattle.std.specs.Prelude.{ℤ}
+use Rattle.mill_base.specs.declared.points.Tri.{Tri}
+use Rattle.mill_base.specs.declared.motion.Move.{Move}
+use Rattle.mill_command.specs.Requests.{verify, plan}
+use Rattle.mill_io.specs.Views.{IsStored, IsWritten}
+use Rattle.mill_job.specs.declared.job.Job.{Job}
+use Rattle.mill_plan.specs.Plans.{done, too_many_nodes, too_many_moves, uncut}
+use Rattle.mill_verify.specs.Verdicts.{IsVerdict, IsRejection, OneVerdict}
+use Rattle.mill_verify.specs.declared.verdict.Verdict.{Verdict}
+use Rattle.mill_verify.specs.declared.verdict.Verdict.TheVariants.{Accept, Reject}
+use Rattle.mill_verify.specs.declared.verdict.Reason.{Reason}
+use Rattle.camtool.specs.Answers.{Answer, refused_word, unfit, judged, planned, dropped, answer_status, answer_line, answer_file, IsAnswer}
+use Rattle.camtool.specs.Calls.{Call, NoFault, Stores}
+use Rattle.camtool.specs.Headline.{Answered, AcceptsSafely, RejectsFirst, Headline, StoresSafely, PlanHeadline}
+use Rattle.camtool.specs.Outcomes.{HasOutcome}
+use Rattle.camtool.specs.Plan.{Plans, plan_line}
+use Rattle.camtool.specs.Setup.{setup_texts}
+use Rattle.camtool.specs.Verify.{texts_of, verdict_status}
+use Rattle.camtool.specs.Words.{Files, PlanFiles}
+use Rattle.camtool.proofs.Answering.{HasVerdict, is_judged}
+use Rattle.camtool.proofs.Blaming.{no, on}
+use Rattle.camtool.proofs.Lengths.{plan_fits}
+use Rattle.camtool.proofs.Outcomes.{answered_by, answers_of}
+
+-- a status that is one number isn't another
+apart : (n a b : ℕ) → n ≡ a → a ≢ b → n ≢ b
+apart n a b e ne f = ne (sym e ∙ f)
+
+-- ---- `verify`
+
+accepts_by : (contents : List ℕ → Option (List ℕ)) (files : Files) (workers : ℕ) (a : Answer) → IsAnswer contents (verify files.job files.part files.program workers) a
+    → answer_status a ≡ 0 → AcceptsSafely (texts_of contents files)
+accepts_by contents files workers (refused_word coordinate fault) is e = absurd is
+accepts_by contents files workers (unfit fault) is e = absurd (on 4 0 (omega arith) e)
+accepts_by contents files workers (judged job part moves (Accept count columns left)) is e =
+    record { job = job; part = part; moves = moves; all_read = is.all_read; safe = is.safe }
+accepts_by contents files workers (judged job part moves (Reject reason)) is e = absurd (on 3 0 (omega arith) e)
+accepts_by contents files workers (planned name answer) is e = absurd is
+accepts_by contents files workers (dropped height) is e = absurd is
+
+rejects_by : (call : Call) (files : Files) (workers : ℕ) (a : Answer) → IsAnswer call.store.contents (verify files.job files.part files.program workers) a
+    → answer_status a ≡ 3 → IsWritten (answer_line a) call.sink call.sink_after → RejectsFirst call (texts_of call.store.contents files)
+rejects_by call files workers (refused_word coordinate fault) is e printed = absurd is
+rejects_by call files workers (unfit fault) is e printed = absurd (on 4 3 (omega arith) e)
+rejects_by call files workers (judged job part moves (Accept count columns left)) is e printed = absurd (no 0 3 (omega arith) e)
+rejects_by call files workers (judged job part moves (Reject reason)) is e printed =
+    record { job = job; part = part; moves = moves; reason = reason; all_read = is.all_read; first = is.is; printed = printed }
+rejects_by call files workers (planned name answer) is e printed = absurd is
+rejects_by call files workers (dropped height) is e printed = absurd is
+
+pub headline_of : OneVerdict → (words : List (List ℕ)) (call : Call) → HasOutcome words call → Headline words call
+headline_of one words call has = record {
+  accepts = λ files asks e.
+      let a = answered_by words call (verify files.job files.part files.program asks.0) has asks.1
+      (apart _ 0 5 e (no 0 5 (omega arith))) (apart _ 0 6 e (no 0 6 (omega arith))) (apart _ 0 7 e (no 0 7 (omega arith))) in
+      accepts_by call.store.contents files asks.0 a.answer a.is (sym a.status ∙ e);
+  rejects = λ files asks e.
+      let a = answered_by words call (verify files.job files.part files.program asks.0) has asks.1
+      (apart _ 3 5 e (no 3 5 (omega arith))) (apart _ 3 6 e (no 3 6 (omega arith))) (apart _ 3 7 e (no 3 7 (omega arith))) in
+      rejects_by call files asks.0 a.answer a.is (sym a.status ∙ e) a.printed;
+  exactly = λ files job part moves reason asks told read rejected fine n5.
+      let a = answers_of words call has (verify files.job files.part files.program asks.0) asks.1 fine n5 in
+      let v = is_judged call.store.contents files asks.0 job part moves a.answer told read a.is in
+      a.status ∙ v.same ∙ ap verdict_status (one job part moves v.verdict (Reject reason) v.is rejected);
+}
+
+-- ---- `plan`
+
+done_safely : (call : Call) (files : PlanFiles) (text : List ℕ) (count columns : ℕ) (left : ℤ) → Plans (setup_texts call.store.contents files.job files.part) (done text count columns left)
+    → IsStored files.out text call.store call.store_after → IsWritten (plan_line (done text count columns left)) call.sink call.sink_after → StoresSafely call files
+done_safely call files text count columns left p stored printed = record {
+  job = p.job;
+  part = p.part;
+  moves = p.is.moves;
+  text = text;
+  columns = columns;
+  left = left;
+  stored = stored;
+  accepted = record {
+    all_read = record {
+      setup_is = p.setup_is;
+      moves_are = record { fits = plan_fits p.is.moves text p.is.in_range p.is.plan.few p.is.written; reads = p.is.reads };
+    };
+    is = subst (λ (n : ℕ). IsVerdict p.job p.part p.is.moves (Accept n columns left)) p.is.accepted.all_moves p.is.accepted;
+    safe = p.is.safe;
+  };
+  safe = p.is.safe;
+  printed = subst (λ (n : ℕ). IsWritten (plan_line (done text n columns left)) call.sink call.sink_after) p.is.accepted.all_moves printed;
+}
+
+plans_by : (call : Call) (files : PlanFiles) (workers : ℕ) (a : Answer) → IsAnswer call.store.contents (plan files.job files.part files.out workers) a
+    → answer_status a ≡ 0 → IsWritten (answer_line a) call.sink call.sink_after → Stores call (answer_file a) → StoresSafely call files
+plans_by call files workers (refused_word coordinate fault) is e printed stored = absurd is
+plans_by call files workers (unfit fault) is e printed stored = absurd (on 4 0 (omega arith) e)
+plans_by call files workers (judged job part moves verdict) is e printed stored = absurd is
+plans_by call files workers (planned name (done text count columns left)) is e printed stored =
+    done_safely call files text count columns left is.1 (subst (λ (n : List ℕ). IsStored n text call.store call.store_after) is.0 stored) printed
+plans_by call files workers (planned name (uncut row col top)) is e printed stored = absurd (on 8 0 (omega arith) e)
+plans_by call files workers (planned name (too_many_nodes nodes)) is e printed stored = absurd (on 9 0 (omega arith) e)
+plans_by call files workers (planned name too_many_moves) is e printed stored = absurd (on 9 0 (omega arith) e)
+plans_by call files workers (dropped height) is e printed stored = absurd is
+
+pub plan_headline_of : (words : List (List ℕ)) (call : Call) → HasOutcome words call → PlanHeadline words call
+plan_headline_of words call has = λ files asks e.
+    let a = answered_by words call (plan files.job files.part files.out asks.0) has asks.1
+    (apart _ 0 5 e (no 0 5 (omega arith))) (apart _ 0 6 e (no 0 6 (omega arith))) (apart _ 0 7 e (no 0 7 (omega arith))) in
+    plans_by call files asks.0 a.answer a.is (sym a.status ∙ e) a.printed a.stored

@@ -1,0 +1,133 @@
+-- The command `verify`: what its three files say, each where the store tells it, and the verdict on them.
+use Rattle.std.specs.Prelude.{◌≡◌, ℕ, ◌<◌, codes, decimal, List, [], ◌∷◌, length, Option, IsSome, IfSome, Ok, Err}
+use Rattle.mill_base.specs.declared.points.Tri.{Tri}
+use Rattle.mill_base.specs.declared.motion.Move.{Move}
+use Rattle.mill_decimal.specs.Decimals.{canonical}
+use Rattle.mill_sweep.specs.declared.leaf.Leaf.{Leaf}
+use Rattle.mill_ngc.specs.Programs.{program_of}
+use Rattle.mill_ngc.specs.declared.fault.NgcFault.{NgcFault}
+use Rattle.mill_job.specs.declared.job.Job.{Job}
+use Rattle.mill_job.specs.Columns.{home}
+use Rattle.mill_dexel.specs.Turns.{move_at}
+use Rattle.mill_verify.specs.Claims.{CutsSafely}
+use Rattle.mill_verify.specs.Verdicts.{IsVerdict}
+use Rattle.mill_verify.specs.declared.verdict.Verdict.{Verdict}
+use Rattle.mill_verify.specs.declared.verdict.Verdict.TheVariants.{Accept, Reject}
+use Rattle.mill_verify.specs.declared.verdict.Reason.{Reason}
+use Rattle.mill_verify.specs.declared.verdict.Reason.TheVariants.{Floor, Gouge, Rapid as RapidCut, Left}
+use Rattle.camtool.specs.declared.file.File.{File}
+use Rattle.camtool.specs.declared.file.File.TheVariants.{Program as ProgramFile}
+use Rattle.camtool.specs.declared.load.Unfit.{Unfit}
+use Rattle.camtool.specs.declared.load.Unfit.TheVariants.{TooLong, ProgramRefused}
+use Rattle.camtool.specs.Printed.{line}
+use Rattle.camtool.specs.Setup.{SetupTexts, setup_texts, AreSetupTold, Fits, IsTooLong, ReadsSetup, IsUnfit, IsReadBefore}
+use Rattle.camtool.specs.Words.{Files}
+
+-- what the store tells of the three files
+pub record Texts : Type 0 where
+  pub setup : SetupTexts
+  pub program : Option (List ℕ)
+
+abbrev pub texts_of : (List ℕ → Option (List ℕ)) → Files → Texts
+texts_of contents files = record { setup = setup_texts contents files.job files.part; program = contents files.program }
+
+-- it tells all three
+pub record AreTold (texts : Texts) : Type 0 where
+  pub setup : AreSetupTold texts.setup
+  pub program : IsSome texts.program
+
+-- ---- the program
+
+-- a text within the limit that reads, from the job's home, as these moves
+pub record IsProgramText (job : Job) (text : List ℕ) (moves : List Move) : Type 0 where
+  pub fits : Fits text
+  pub reads : program_of (home job) text ≡ Ok moves
+
+-- a text within the limit that is refused, with its first fault
+pub record IsRefusedProgram (job : Job) (text : List ℕ) (fault : NgcFault) : Type 0 where
+  pub fits : Fits text
+  pub refused : program_of (home job) text ≡ Err fault
+
+-- where the program's file is told, it reads, from the job's home, as these moves
+abbrev pub ReadsProgram : Texts → Job → List Move → Type 0
+ReadsProgram texts job moves = IfSome texts.program (λ text. IsProgramText job text moves)
+
+-- each of the three files, where it is told, reads as this job, this part and these moves, and the part isn't over the job's top
+pub record Reads (texts : Texts) (job : Job) (part : List Tri) (moves : List Move) : Type 0 where
+  pub setup_is : ReadsSetup texts.setup job part
+  pub moves_are : ReadsProgram texts job moves
+
+-- ---- what keeps it from a verdict
+
+-- job and part are read, and the part isn't too high; where the program's file is told, it is too long
+pub record LongProgram (texts : Texts) : Type 0 where
+  pub job : Job
+  pub part : List Tri
+  pub setup_is : ReadsSetup texts.setup job part
+  pub long : IfSome texts.program IsTooLong
+
+-- job and part are read, and the part isn't too high; where the program's file is told, it is refused
+pub record RefusesProgram (texts : Texts) (fault : NgcFault) : Type 0 where
+  pub job : Job
+  pub part : List Tri
+  pub setup_is : ReadsSetup texts.setup job part
+  pub refused : IfSome texts.program (λ text. IsRefusedProgram job text fault)
+
+-- the first check of the three files that fails
+abbrev pub IsUnfitProgram : Texts → Unfit → Type 0
+IsUnfitProgram texts (TooLong ProgramFile) = LongProgram texts
+IsUnfitProgram texts (ProgramRefused fault) = RefusesProgram texts fault
+IsUnfitProgram texts unfit = IsUnfit texts.setup unfit
+
+-- all that is read and checked before one of the three files holds
+abbrev pub IsReadBeforeProgram : Texts → File → Type 0
+IsReadBeforeProgram texts ProgramFile = (job : Job) × (part : List Tri) × ReadsSetup texts.setup job part
+IsReadBeforeProgram texts file = IsReadBefore texts.setup file
+
+-- ---- the verdict
+
+-- a program that is accepted cuts safely
+abbrev pub IsSafe : Job → List Tri → List Move → Verdict → Type 0
+IsSafe job part moves (Accept count columns left) = CutsSafely job part moves
+IsSafe job part moves (Reject reason) = Unit {0}
+
+-- all is read, this is the verdict on the moves, and if they are accepted they cut safely
+pub record Judges (texts : Texts) (job : Job) (part : List Tri) (moves : List Move) (verdict : Verdict) : Type 0 where
+  pub all_read : Reads texts job part moves
+  pub is : IsVerdict job part moves verdict
+  pub safe : IsSafe job part moves verdict
+
+-- ---- how it is shown
+
+abbrev pub verdict_status : Verdict → ℕ
+verdict_status (Accept count columns left) = 0
+verdict_status (Reject reason) = 3
+
+-- the words that name a segment of a move
+abbrev pub leaf_words : Leaf → List (List ℕ)
+leaf_words leaf = codes "leaf" ∷ decimal leaf.d ∷ decimal leaf.k ∷ []
+
+-- the line of a rejection; a floor's has the height of the move's end
+abbrev pub rejection_line : List Move → Reason → List ℕ
+rejection_line moves (Floor k) = line (codes "rejected" ∷ codes "floor" ∷ codes "move" ∷ decimal k ∷ codes "z" ∷ canonical (move_at moves k).to.z ∷ [])
+rejection_line moves (Gouge k t leaf) = line (codes "rejected" ∷ codes "gouge" ∷ codes "move" ∷ decimal k ∷ codes "triangle" ∷ decimal t ∷ leaf_words leaf)
+rejection_line moves (RapidCut k j i leaf) = line (codes "rejected" ∷ codes "rapid" ∷ codes "move" ∷ decimal k ∷ codes "row" ∷ decimal j ∷ codes "column" ∷ decimal i ∷ leaf_words leaf)
+rejection_line moves (Left j i top) = line (codes "rejected" ∷ codes "left" ∷ codes "row" ∷ decimal j ∷ codes "column" ∷ decimal i ∷ codes "top" ∷ canonical top ∷ [])
+
+-- the end of a line that names a segment of a move
+abbrev pub leaf_end : Leaf → List ℕ
+leaf_end leaf = 32 ∷ line (leaf_words leaf)
+
+-- the end of an acceptance's line
+abbrev pub tolerances_end : Job → List ℕ
+tolerances_end job = 32 ∷ line (codes "band" ∷ canonical job.band ∷ codes "allowance" ∷ canonical job.allowance ∷ [])
+
+-- the move that a verdict's line shows the height of is there
+abbrev pub NamesMove : List Move → Verdict → Type 0
+NamesMove moves (Reject (Floor k)) = k < length moves
+NamesMove moves _ = Unit {0}
+
+-- the line of a verdict
+abbrev pub verdict_line : Job → List Move → Verdict → List ℕ
+verdict_line job moves (Accept count columns left) = line (codes "accepted" ∷ codes "moves" ∷ decimal count ∷ codes "columns" ∷ decimal columns ∷ codes "left" ∷ canonical left ∷ codes "band" ∷ canonical job.band ∷ codes "allowance" ∷ canonical job.allowance ∷ [])
+verdict_line job moves (Reject reason) = rejection_line moves reason

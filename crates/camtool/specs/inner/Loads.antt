@@ -1,0 +1,138 @@
+-- What reading a file or a word comes to, and what reading all that a command needs comes to.
+use Rattle.std.specs.Prelude.{◌≡◌, ◌≤◌, ℕ, ℤ, ◌<ℤ◌, List, length, Option, Some, None, IfSome, Result, Ok, Err}
+use Rattle.std.specs.Global.{Vec}
+use Rattle.mill_base.specs.declared.limits.TheConstants.{MAX_TEXT_COORDINATE, MAX_MOVES, MAX_WORKERS}
+use Rattle.mill_base.specs.declared.points.Tri.{Tri}
+use Rattle.mill_base.specs.declared.motion.Move.{Move}
+use Rattle.mill_base.specs.Motion.{Follow}
+use Rattle.mill_base.specs.Ranges.{MovesInTextRange}
+use Rattle.mill_base.specs.Covers.{IsUnder}
+use Rattle.mill_base.specs.Numbers.{Within}
+use Rattle.mill_decimal.specs.declared.snap.Snap.{Snap}
+use Rattle.mill_io.specs.Causes.{Rose}
+use Rattle.mill_io.specs.Views.{StoreView, ReadsOnly}
+use Rattle.mill_part.specs.Tops.{IsTop}
+use Rattle.mill_part.specs.declared.part.Part.{Part}
+use Rattle.mill_job.specs.declared.job.Job.{Job}
+use Rattle.mill_job.specs.Columns.{home}
+use Rattle.mill_job.specs.Jobs.{IsJob}
+use Rattle.camtool.specs.declared.file.File.{File}
+use Rattle.camtool.specs.declared.file.File.TheVariants.{Job as JobFile, Part as PartFile, Program as ProgramFile}
+use Rattle.camtool.specs.declared.load.LoadFault.{LoadFault}
+use Rattle.camtool.specs.declared.load.LoadFault.TheVariants.{Memory, ReadFault, Unfit}
+use Rattle.camtool.specs.declared.load.Unfit.TheVariants.{TooLong, JobRefused, PartRefused, ProgramRefused}
+use Rattle.camtool.specs.declared.load.Setup.{Setup}
+use Rattle.camtool.specs.declared.verify.Loaded.{Loaded}
+use Rattle.camtool.specs.declared.place.Place.{Place}
+use Rattle.camtool.specs.declared.place.WordFault.{WordFault}
+use Rattle.camtool.specs.Drop.{ReadsPlace, RefusesWord}
+use Rattle.camtool.specs.Setup.{SetupTexts, Fits, IsTooLong, IsJobText, IsRefusedJob, IsPartText, IsRefusedPart, ReadsSetup, IsUnfit, IsReadBefore}
+use Rattle.camtool.specs.Verify.{Texts, IsProgramText, IsRefusedProgram, Reads, IsUnfitProgram, IsReadBeforeProgram}
+
+-- ---- one file
+
+-- the bytes of a file, or why there are none
+abbrev pub ReadsFile : Option (List ℕ) → File → Result (Vec ℕ) LoadFault → Type 0
+ReadsFile told file (Ok v) = IfSome told (λ text. v.items ≡ text)
+ReadsFile told file (Err Memory) = Unit {0}
+ReadsFile told file (Err (ReadFault f)) = f ≡ file
+ReadsFile told file (Err (Unfit (TooLong f))) = (f ≡ file) × IfSome told IsTooLong
+ReadsFile told file (Err (Unfit _)) = ⊥
+
+-- the job of a file, or why there is none
+abbrev pub LoadsJob : Option (List ℕ) → Result Job LoadFault → Type 0
+LoadsJob told (Ok job) = IfSome told (λ text. IsJobText text job)
+LoadsJob told (Err Memory) = Unit {0}
+LoadsJob told (Err (ReadFault JobFile)) = Unit {0}
+LoadsJob told (Err (Unfit (TooLong JobFile))) = IfSome told IsTooLong
+LoadsJob told (Err (Unfit (JobRefused fault))) = IfSome told (λ text. IsRefusedJob text fault)
+LoadsJob told (Err _) = ⊥
+
+-- the part of a file, or why there is none
+abbrev pub LoadsPart : Snap → Option (List ℕ) → Result Part LoadFault → Type 0
+LoadsPart snap told (Ok part) = IfSome told (λ text. IsPartText snap text part)
+LoadsPart snap told (Err Memory) = Unit {0}
+LoadsPart snap told (Err (ReadFault PartFile)) = Unit {0}
+LoadsPart snap told (Err (Unfit (TooLong PartFile))) = IfSome told IsTooLong
+LoadsPart snap told (Err (Unfit (PartRefused fault))) = IfSome told (λ text. IsRefusedPart snap text fault)
+LoadsPart snap told (Err _) = ⊥
+
+-- the moves of a file, or why there are none
+abbrev pub LoadsProgram : Job → Option (List ℕ) → Result (Vec Move) LoadFault → Type 0
+LoadsProgram job told (Ok moves) = IfSome told (λ text. IsProgramText job text moves.items)
+LoadsProgram job told (Err Memory) = Unit {0}
+LoadsProgram job told (Err (ReadFault ProgramFile)) = Unit {0}
+LoadsProgram job told (Err (Unfit (TooLong ProgramFile))) = IfSome told IsTooLong
+LoadsProgram job told (Err (Unfit (ProgramRefused fault))) = IfSome told (λ text. IsRefusedProgram job text fault)
+LoadsProgram job told (Err _) = ⊥
+
+-- ---- all that a command needs
+
+-- job and part, or why there are none
+abbrev pub LoadsSetup : SetupTexts → Result Setup LoadFault → Type 0
+LoadsSetup texts (Ok s) = ReadsSetup texts s.job s.part
+LoadsSetup texts (Err Memory) = Unit {0}
+LoadsSetup texts (Err (ReadFault file)) = IsReadBefore texts file
+LoadsSetup texts (Err (Unfit fault)) = IsUnfit texts fault
+
+-- job, part and moves, or why there are none
+abbrev pub Loads : Texts → Result Loaded LoadFault → Type 0
+Loads texts (Ok l) = Reads texts l.job l.part l.moves.items
+Loads texts (Err Memory) = Unit {0}
+Loads texts (Err (ReadFault file)) = IsReadBeforeProgram texts file
+Loads texts (Err (Unfit fault)) = IsUnfitProgram texts fault
+
+-- ---- what reading does to the store
+
+-- the count of failed reads rose where the fault is a read fault, and else stays
+abbrev pub CountsFault : {T : Type 0} → ℕ → ℕ → Result T LoadFault → Type 0
+CountsFault before now (Ok _) = now ≡ before
+CountsFault before now (Err Memory) = now ≡ before
+CountsFault before now (Err (ReadFault file)) = Rose before now
+CountsFault before now (Err (Unfit fault)) = now ≡ before
+
+-- nothing but the count of failed reads changes, and that rises with a read fault alone
+pub record OnlyLoads {T : Type 0} (old new : StoreView) (result : Result T LoadFault) : Type 0 where
+  pub only : ReadsOnly old new
+  pub reads : CountsFault old.read_faults new.read_faults result
+
+-- ---- what was read
+
+-- a job, and a part that isn't over its top
+pub record IsSetup (s : Setup) : Type 0 where
+  pub job_ok : IsJob s.job
+  pub under : IsUnder s.part s.job.top
+
+-- moves within the ranges that the verifier asks for
+pub record AreMoves (job : Job) (moves : List Move) : Type 0 where
+  pub in_range : MovesInTextRange moves
+  pub follow : Follow (home job) moves
+  pub few : length moves ≤ MAX_MOVES
+
+-- all that the verifier asks for
+pub record IsReady (l : Loaded) : Type 0 where
+  pub job_ok : IsJob l.job
+  pub under : IsUnder l.part l.job.top
+  pub moves_ok : AreMoves l.job l.moves.items
+
+-- a number of workers that a command may have
+pub record AreWorkers (workers : ℕ) : Type 0 where
+  pub some : 1 ≤ workers
+  pub few : workers ≤ MAX_WORKERS
+
+-- the answer is the part's greatest height, where that is over the job's top, and none where the part is under it
+abbrev pub IsLow : Job → List Tri → Option ℤ → Type 0
+IsLow job part None = IsUnder part job.top
+IsLow job part (Some height) = IsTop part height × (job.top <ℤ height)
+
+-- ---- words
+
+-- what the words for x and y come to
+abbrev pub PlaceFrom : List ℕ → List ℕ → Result Place WordFault → Type 0
+PlaceFrom x y (Ok place) = ReadsPlace x y place
+PlaceFrom x y (Err f) = RefusesWord x y f.coordinate f.fault
+
+-- the place is in range
+pub record IsPlace (place : Place) : Type 0 where
+  pub x_ok : Within MAX_TEXT_COORDINATE place.x
+  pub y_ok : Within MAX_TEXT_COORDINATE place.y

@@ -1,0 +1,103 @@
+-- What printing a line comes to.
+use Rattle.std.specs.Prelude.{◌⊎◌, ◌≡◌, ◌<◌, ℕ, ℤ, List, Result, Ok, Err, string_bytes}
+use Rattle.std.specs.Global.{Vec}
+use Rattle.mill_base.specs.declared.memory.WantOfMemory.{WantOfMemory}
+use Rattle.mill_command.specs.declared.refusal.Refusal.{Refusal}
+use Rattle.mill_command.specs.declared.refusal.Refusal.TheVariants as refusal
+use Rattle.mill_drop.specs.Drops.{IsDropHeight}
+use Rattle.mill_io.specs.Contents.{AppendedPart}
+use Rattle.mill_io.specs.Views.{SinkView, IsWritten}
+use Rattle.mill_plan.specs.Plans.{PlanAnswer, too_many_nodes, too_many_moves, uncut, IsPlanAnswer}
+use Rattle.mill_plan.specs.declared.fault.PlanFault.{PlanFault}
+use Rattle.mill_plan.specs.declared.fault.PlanFault.TheVariants as plan_fault
+use Rattle.mill_verify.specs.declared.verdict.Verdict.{Verdict}
+use Rattle.mill_verify.specs.Verdicts.{IsVerdict}
+use Rattle.camtool.specs.declared.load.LoadFault.{LoadFault}
+use Rattle.camtool.specs.declared.load.LoadFault.TheVariants as load_fault
+use Rattle.camtool.specs.declared.load.Setup.{Setup}
+use Rattle.camtool.specs.declared.place.Place.{Place}
+use Rattle.camtool.specs.declared.verify.Loaded.{Loaded}
+use Rattle.camtool.specs.Answers.{unfit, judged, planned, dropped}
+use Rattle.camtool.specs.Calls.{Call}
+use Rattle.camtool.specs.Outcomes.{Outcome, help, bad_words, no_memory, read_fault, answered, outcome_status, outcome_line, Shows}
+use Rattle.camtool.specs.Verify.{IsSafe}
+
+-- the line was printed, and the status is the one that was wanted
+pub record PrintsWhole (line : List ℕ) (wanted status : ℕ) (sink sink_after : SinkView) : Type 0 where
+  pub wanted_is : status ≡ wanted
+  pub written : IsWritten line sink sink_after
+
+-- the printing failed after a prefix of the line, and the status is that of a failed write
+pub record PrintsPart (line : List ℕ) (status : ℕ) (sink sink_after : SinkView) : Type 0 where
+  pub failed : status ≡ 7
+  pub written : AppendedPart line sink.written sink_after.written
+  pub risen : sink.faults < sink_after.faults
+
+abbrev pub Prints : List ℕ → ℕ → ℕ → SinkView → SinkView → Type 0
+Prints line wanted status sink sink_after = PrintsWhole line wanted status sink sink_after ⊎ PrintsPart line status sink sink_after
+
+-- the line and the status of this outcome
+abbrev pub PrintsOutcome : Outcome → ℕ → SinkView → SinkView → Type 0
+PrintsOutcome outcome status sink sink_after = Prints (outcome_line outcome) (outcome_status outcome) status sink sink_after
+
+-- those of this outcome, or that memory was short
+abbrev pub PrintsOr : Outcome → ℕ → SinkView → SinkView → Type 0
+PrintsOr outcome status sink sink_after = PrintsOutcome outcome status sink sink_after ⊎ PrintsOutcome no_memory status sink sink_after
+
+-- the line that was made, with this status, or that memory was short
+abbrev pub PrintsMade : Result (Vec ℕ) WantOfMemory → ℕ → ℕ → SinkView → SinkView → Type 0
+PrintsMade (Ok line) wanted status sink sink_after = Prints line.items wanted status sink sink_after
+PrintsMade (Err failed) wanted status sink sink_after = PrintsOutcome no_memory status sink sink_after
+
+-- ---- which outcome a fault of the code is
+
+abbrev pub fault_outcome : LoadFault → Outcome
+fault_outcome load_fault.Memory = no_memory
+fault_outcome (load_fault.ReadFault file) = read_fault file
+fault_outcome (load_fault.Unfit fault) = answered (unfit fault)
+
+-- the line of a load fault; that of a read fault takes no memory
+abbrev pub PrintsFault : LoadFault → ℕ → SinkView → SinkView → Type 0
+PrintsFault load_fault.Memory status sink sink_after = PrintsOutcome no_memory status sink sink_after
+PrintsFault (load_fault.ReadFault file) status sink sink_after = PrintsOutcome (read_fault file) status sink sink_after
+PrintsFault (load_fault.Unfit fault) status sink sink_after = PrintsOr (answered (unfit fault)) status sink sink_after
+
+abbrev pub refusal_outcome : Refusal → Outcome
+refusal_outcome (refusal.Help text) = help (string_bytes text)
+refusal_outcome (refusal.NotTaken text) = bad_words (string_bytes text)
+refusal_outcome refusal.WantOfMemory = no_memory
+
+-- the outcome of a plan that didn't come to a program; the name is the one that it was to be stored under
+abbrev pub plan_fault_outcome : List ℕ → PlanFault → Outcome
+plan_fault_outcome name (plan_fault.TooManyNodes nodes) = answered (planned name (too_many_nodes nodes))
+plan_fault_outcome name plan_fault.TooManyMoves = answered (planned name too_many_moves)
+plan_fault_outcome name (plan_fault.Uncut row col top) = answered (planned name (uncut row col top))
+plan_fault_outcome name plan_fault.WantOfMemory = no_memory
+
+-- ---- the work of a command on what was read
+
+-- the verdict on what was read is printed, or that memory was short
+pub record PrintsVerdict (l : Loaded) (status : ℕ) (sink sink_after : SinkView) : Type 0 where
+  pub verdict : Verdict
+  pub is : IsVerdict l.job l.part l.moves.items verdict
+  pub safe : IsSafe l.job l.part l.moves.items verdict
+  pub printed : PrintsOr (answered (judged l.job l.part l.moves.items verdict)) status sink sink_after
+
+abbrev pub TriesVerdict : Loaded → ℕ → SinkView → SinkView → Type 0
+TriesVerdict l status sink sink_after = PrintsVerdict l status sink sink_after ⊎ PrintsOutcome no_memory status sink sink_after
+
+-- the drop height at a place is printed, or that memory was short
+pub record PrintsHeight (s : Setup) (place : Place) (status : ℕ) (sink sink_after : SinkView) : Type 0 where
+  pub height : ℤ
+  pub is : IsDropHeight s.job.cutter s.part place.x place.y s.job.floor height
+  pub printed : PrintsOr (answered (dropped height)) status sink sink_after
+
+-- the planner's answer to what was read is shown and its text stored
+pub record ShowsPlan (s : Setup) (name : List ℕ) (call : Call) : Type 0 where
+  pub answer : PlanAnswer
+  pub is : IsPlanAnswer s.job s.part answer
+  pub shows : Shows call (answered (planned name answer))
+
+-- so it is, or it is shown that memory was short
+abbrev pub ShowsPlanOr : Setup → List ℕ → Call → Type 0
+ShowsPlanOr s name call = ShowsPlan s name call ⊎ Shows call no_memory
