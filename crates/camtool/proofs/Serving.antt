@@ -1,9 +1,9 @@
 -- What was read and what was printed, put together as the work on a request.
-use Rattle.std.proofs.Common.{◌≡◌, ℕ, List, Option, Some, None, Result, Ok, Err, refl, sym, ap, subst, ◌∙◌, inl, inr}
-use Rattle.std.specs.Prelude.{◌<◌, IfOk, string_bytes, ℤ}
+use Rattle.std.proofs.Common.{◌≡◌, ℕ, List, Option, Some, None, Result, Ok, Err, refl, sym, ap, subst, inl, inr}
+use Rattle.std.specs.Prelude.{IfOk}
 use Rattle.std.specs.Global.{Vec}
 use Rattle.mill_base.specs.declared.memory.WantOfMemory.{WantOfMemory}
-use Rattle.mill_command.specs.Requests.{ReadsWords, Request, request, verify, plan, drop}
+use Rattle.mill_command.specs.Requests.{Reads, Request, request, verify, drop}
 use Rattle.mill_command.specs.declared.refusal.Refusal.{Refusal}
 use Rattle.mill_command.specs.declared.refusal.Refusal.TheVariants as refusal
 use Rattle.mill_decimal.specs.declared.fault.DecFault.{DecFault}
@@ -21,8 +21,8 @@ use Rattle.camtool.specs.Answers.{Answer, refused_word, unfit, judged, dropped, 
 use Rattle.camtool.specs.Calls.{Call, CanCount, NamedText, Stores}
 use Rattle.camtool.specs.Drop.{ReadsPlace, RefusesWord}
 use Rattle.camtool.specs.Faults.{unfit_line}
-use Rattle.camtool.specs.inner.Loads.{Loads, LoadsSetup, OnlyLoads, PlaceFrom}
-use Rattle.camtool.specs.Outcomes.{Outcome, help, bad_words, no_memory, read_fault, answered, outcome_file, outcome_status, outcome_line, IsOutcome, IsOutcomeOf, CountsReads, Shows, ShowsOr, Serves, HasOutcome}
+use Rattle.camtool.specs.inner.Loads.{Loads, LoadsSetup, OnlyLoads}
+use Rattle.camtool.specs.Outcomes.{Outcome, help, bad_words, no_memory, read_fault, answered, outcome_file, IsOutcome, IsOutcomeOf, CountsReads, Shows, ShowsOr, Serves, HasOutcome}
 use Rattle.camtool.specs.inner.Prints.{Prints, PrintsOutcome, PrintsOr, PrintsMade, PrintsFault, fault_outcome, refusal_outcome, TriesVerdict, PrintsHeight}
 use Rattle.camtool.specs.Setup.{setup_texts}
 use Rattle.camtool.specs.Verify.{texts_of}
@@ -126,7 +126,7 @@ served_outcome words asked call taken s = record { outcome = s.outcome; is = of_
     of_words (read_fault file) is = record { asked = asked; taken = taken; is = is }
     of_words (answered answer) is = record { asked = asked; taken = taken; is = is }
 
-refusal_is : (words : List (List ℕ)) (contents : List ℕ → Option (List ℕ)) (r : Refusal) → ReadsWords words (Err r) → IsOutcomeOf words contents (refusal_outcome r)
+refusal_is : (words : List (List ℕ)) (contents : List ℕ → Option (List ℕ)) (r : Refusal) → Reads words (Err r) → IsOutcomeOf words contents (refusal_outcome r)
 refusal_is words contents (refusal.Help text) h = record { untaken = h.0; asks = h.1 }
 refusal_is words contents (refusal.NotTaken text) h = record { untaken = h.0; mistaken = h.1 }
 refusal_is words contents refusal.WantOfMemory h = tt
@@ -141,7 +141,7 @@ refusal_reads (refusal.Help text) a b e = e
 refusal_reads (refusal.NotTaken text) a b e = e
 refusal_reads refusal.WantOfMemory a b e = e
 
-pub refused_outcome : (words : List (List ℕ)) (call : Call) (r : Refusal) → ReadsWords words (Err r) → call.store_after ≡ call.store
+pub refused_outcome : (words : List (List ℕ)) (call : Call) (r : Refusal) → Reads words (Err r) → call.store_after ≡ call.store
     → PrintsOutcome (refusal_outcome r) call.status call.sink call.sink_after → HasOutcome words call
 refused_outcome words call r h same p = record {
   outcome = refusal_outcome r;
