@@ -3,7 +3,7 @@ use Rattle.std.proofs.Common.{◌≡◌, ℕ, List, Option, Some, None, Result, 
 use Rattle.std.specs.Prelude.{IfOk}
 use Rattle.std.specs.Global.{Vec}
 use Rattle.mill_base.specs.declared.memory.WantOfMemory.{WantOfMemory}
-use Rattle.mill_command.specs.Requests.{Reads, Request, request, verify, drop}
+use Rattle.mill_command.specs.Requests.{ReadsWords, Request, request, verify, drop}
 use Rattle.mill_command.specs.declared.refusal.Refusal.{Refusal}
 use Rattle.mill_command.specs.declared.refusal.Refusal.TheVariants as refusal
 use Rattle.mill_decimal.specs.declared.fault.DecFault.{DecFault}
@@ -126,7 +126,7 @@ served_outcome words asked call taken s = record { outcome = s.outcome; is = of_
     of_words (read_fault file) is = record { asked = asked; taken = taken; is = is }
     of_words (answered answer) is = record { asked = asked; taken = taken; is = is }
 
-refusal_is : (words : List (List ℕ)) (contents : List ℕ → Option (List ℕ)) (r : Refusal) → Reads words (Err r) → IsOutcomeOf words contents (refusal_outcome r)
+refusal_is : (words : List (List ℕ)) (contents : List ℕ → Option (List ℕ)) (r : Refusal) → ReadsWords words (Err r) → IsOutcomeOf words contents (refusal_outcome r)
 refusal_is words contents (refusal.Help text) h = record { untaken = h.0; asks = h.1 }
 refusal_is words contents (refusal.NotTaken text) h = record { untaken = h.0; mistaken = h.1 }
 refusal_is words contents refusal.WantOfMemory h = tt
@@ -141,7 +141,7 @@ refusal_reads (refusal.Help text) a b e = e
 refusal_reads (refusal.NotTaken text) a b e = e
 refusal_reads refusal.WantOfMemory a b e = e
 
-pub refused_outcome : (words : List (List ℕ)) (call : Call) (r : Refusal) → Reads words (Err r) → call.store_after ≡ call.store
+pub refused_outcome : (words : List (List ℕ)) (call : Call) (r : Refusal) → ReadsWords words (Err r) → call.store_after ≡ call.store
     → PrintsOutcome (refusal_outcome r) call.status call.sink call.sink_after → HasOutcome words call
 refused_outcome words call r h same p = record {
   outcome = refusal_outcome r;
