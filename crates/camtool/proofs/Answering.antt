@@ -1,23 +1,19 @@
 -- Where the files are told, what was read decides the answer.
-use Rattle.std.proofs.Common.{◌≡◌, ◌≢◌, ◌⊎◌, ℕ, List, Option, Some, None, Result, Ok, Err, refl, sym, ap, subst, ◌∙◌, inl, inr, arith}
+use Rattle.std.proofs.Common.{◌≡◌, ◌⊎◌, ℕ, List, Option, Result, Ok, Err, refl, sym, ap, subst, ◌∙◌, inl, inr, arith}
 use Rattle.std.specs.Prelude.{◌<◌, ◌≤◌, ℤ, ◌≤ℤ◌, ◌<ℤ◌, IsSome}
 use Rattle.std.proofs.lemmas.Int.{ints}
-use Rattle.mill_base.specs.declared.limits.TheConstants.{MAX_FILE_BYTES}
 use Rattle.mill_base.specs.declared.points.Tri.{Tri}
 use Rattle.mill_base.specs.declared.motion.Move.{Move}
 use Rattle.mill_base.specs.Covers.{IsUnder}
 use Rattle.mill_part.specs.Tops.{IsTop, HasCornerAt}
-use Rattle.mill_stl.specs.Parts.{Part, part_of}
+use Rattle.mill_stl.specs.Parts.{Part}
 use Rattle.mill_stl.specs.declared.fault.StlFault.{StlFault}
-use Rattle.mill_ngc.specs.Programs.{program_of}
 use Rattle.mill_ngc.specs.declared.fault.NgcFault.{NgcFault}
 use Rattle.mill_job.specs.declared.job.Job.{Job}
 use Rattle.mill_job.specs.declared.fault.JobFault.{JobFault}
-use Rattle.mill_job.specs.Columns.{home}
 use Rattle.mill_job.proofs.OneAnswer.{one_answer}
-use Rattle.mill_verify.specs.Verdicts.{IsVerdict, OneVerdict}
+use Rattle.mill_verify.specs.Verdicts.{IsVerdict}
 use Rattle.mill_verify.specs.declared.verdict.Verdict.{Verdict}
-use Rattle.mill_verify.specs.declared.verdict.Verdict.TheVariants.{Accept, Reject}
 use Rattle.mill_plan.specs.Plans.{done, too_many_nodes, too_many_moves, uncut}
 use Rattle.mill_command.specs.Requests.{verify, plan, drop}
 use Rattle.camtool.specs.declared.file.File.TheVariants.{Job as JobFile, Part as PartFile, Program as ProgramFile}

@@ -1,25 +1,20 @@
 -- What status 0 and status 3 mean.
-use Rattle.std.proofs.Common.{◌≡◌, ◌≢◌, ◌⊎◌, ℕ, List, Option, Some, refl, sym, ap, subst, ◌∙◌, inl, inr, arith}
+use Rattle.std.proofs.Common.{◌≡◌, ◌≢◌, ℕ, List, Option, sym, ap, subst, ◌∙◌, arith}
 use Rattle.std.specs.Prelude.{ℤ}
-use Rattle.mill_base.specs.declared.points.Tri.{Tri}
-use Rattle.mill_base.specs.declared.motion.Move.{Move}
 use Rattle.mill_command.specs.Requests.{verify, plan}
 use Rattle.mill_io.specs.Views.{IsStored, IsWritten}
-use Rattle.mill_job.specs.declared.job.Job.{Job}
 use Rattle.mill_plan.specs.Plans.{done, too_many_nodes, too_many_moves, uncut}
-use Rattle.mill_verify.specs.Verdicts.{IsVerdict, IsRejection, OneVerdict}
-use Rattle.mill_verify.specs.declared.verdict.Verdict.{Verdict}
+use Rattle.mill_verify.specs.Verdicts.{IsVerdict, OneVerdict}
 use Rattle.mill_verify.specs.declared.verdict.Verdict.TheVariants.{Accept, Reject}
-use Rattle.mill_verify.specs.declared.verdict.Reason.{Reason}
 use Rattle.camtool.specs.Answers.{Answer, refused_word, unfit, judged, planned, dropped, answer_status, answer_line, answer_file, IsAnswer}
-use Rattle.camtool.specs.Calls.{Call, NoFault, Stores}
-use Rattle.camtool.specs.Headline.{Answered, AcceptsSafely, RejectsFirst, Headline, StoresSafely, PlanHeadline}
+use Rattle.camtool.specs.Calls.{Call, Stores}
+use Rattle.camtool.specs.Headline.{AcceptsSafely, RejectsFirst, Headline, StoresSafely, PlanHeadline}
 use Rattle.camtool.specs.Outcomes.{HasOutcome}
 use Rattle.camtool.specs.Plan.{Plans, plan_line}
 use Rattle.camtool.specs.Setup.{setup_texts}
 use Rattle.camtool.specs.Verify.{texts_of, verdict_status}
 use Rattle.camtool.specs.Words.{Files, PlanFiles}
-use Rattle.camtool.proofs.Answering.{HasVerdict, is_judged}
+use Rattle.camtool.proofs.Answering.{is_judged}
 use Rattle.camtool.proofs.Blaming.{no, on}
 use Rattle.camtool.proofs.Lengths.{plan_fits}
 use Rattle.camtool.proofs.Outcomes.{answered_by, answers_of}

@@ -1,17 +1,14 @@
 -- What a call came to, where its words are taken and nothing of the outside is blamed.
-use Rattle.std.proofs.Common.{◌≡◌, ◌≢◌, ◌⊎◌, ℕ, List, Some, false, refl, sym, ap, subst, ◌∙◌, inl, inr, arith}
-use Rattle.mill_base.specs.declared.points.Tri.{Tri}
-use Rattle.mill_base.specs.declared.motion.Move.{Move}
+use Rattle.std.proofs.Common.{◌≡◌, ◌≢◌, ◌⊎◌, ℕ, List, Some, false, sym, ◌∙◌, inl, inr, arith}
 use Rattle.mill_command.specs.Requests.{Request, is_taken, request, verify, plan, drop}
-use Rattle.mill_job.specs.declared.job.Job.{Job}
 use Rattle.mill_verify.specs.declared.verdict.Verdict.{Verdict}
 use Rattle.mill_verify.specs.declared.verdict.Verdict.TheVariants.{Accept, Reject}
-use Rattle.camtool.specs.Answers.{Answer, answer_status}
+use Rattle.camtool.specs.Answers.{answer_status}
 use Rattle.camtool.specs.Calls.{Call, NoFault}
 use Rattle.camtool.specs.Headline.{Answered, Answers, Completes, Untaken}
-use Rattle.camtool.specs.Outcomes.{Outcome, help, bad_words, no_memory, read_fault, answered, outcome_status, IsOutcomeOf, ShowsHelp, RefusesWords, ShowsWhole, Shows, HasOutcome}
+use Rattle.camtool.specs.Outcomes.{Outcome, help, bad_words, no_memory, read_fault, answered, outcome_status, IsOutcomeOf, ShowsHelp, RefusesWords, ShowsWhole, HasOutcome}
 use Rattle.camtool.specs.Verify.{verdict_status}
-use Rattle.camtool.proofs.Answering.{HasVerdict, is_judged, is_planned, is_dropped}
+use Rattle.camtool.proofs.Answering.{is_judged, is_planned, is_dropped}
 use Rattle.camtool.proofs.Blaming.{no, on, answer_not_2, not_6, not_7, shown_whole}
 use Rattle.camtool.proofs.Taken.{not_taken, asked_outcome}
 

@@ -1,7 +1,7 @@
 -- The work on `plan`: what was read, stored and printed, put together.
-use Rattle.std.proofs.Common.{◌≡◌, ℕ, List, Option, Some, None, Result, Ok, Err, refl, sym, ap, subst, ◌∙◌, inl, inr}
+use Rattle.std.proofs.Common.{◌≡◌, ℕ, List, Option, Result, Ok, Err, refl, sym, ap, subst, inl, inr}
 use Rattle.std.proofs.Math.Path.{fun_ext}
-use Rattle.std.specs.Prelude.{◌<◌, ℤ}
+use Rattle.std.specs.Prelude.{ℤ}
 use Rattle.mill_command.specs.Requests.{plan}
 use Rattle.mill_io.specs.Views.{StoreView, ReadsOnly, IsStored, IsPartStored}
 use Rattle.mill_plan.specs.Plans.{PlanAnswer, done, too_many_nodes, too_many_moves, uncut, IsPlanAnswer, IsPlanFault}
@@ -10,12 +10,12 @@ use Rattle.mill_plan.specs.declared.fault.PlanFault.TheVariants as plan_fault
 use Rattle.camtool.specs.declared.load.LoadFault.{LoadFault}
 use Rattle.camtool.specs.declared.load.LoadFault.TheVariants as load_fault
 use Rattle.camtool.specs.declared.load.Setup.{Setup}
-use Rattle.camtool.specs.Answers.{Answer, planned}
+use Rattle.camtool.specs.Answers.{planned}
 use Rattle.camtool.specs.Calls.{Call, CanCount}
 use Rattle.camtool.specs.inner.Loads.{LoadsSetup, OnlyLoads}
 use Rattle.camtool.specs.Outcomes.{no_memory, answered, IsOutcome, Shows, ShowsOr, Serves}
 use Rattle.camtool.specs.Plan.{plan_line}
-use Rattle.camtool.specs.inner.Prints.{Prints, PrintsOutcome, PrintsOr, ShowsPlan, ShowsPlanOr, fault_outcome, plan_fault_outcome}
+use Rattle.camtool.specs.inner.Prints.{Prints, PrintsOutcome, PrintsOr, ShowsPlanOr, fault_outcome, plan_fault_outcome}
 use Rattle.camtool.specs.Setup.{setup_texts}
 use Rattle.camtool.proofs.Reading.{rises}
 use Rattle.camtool.proofs.Serving.{printed_shows, answer_shows}

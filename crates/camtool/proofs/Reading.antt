@@ -1,6 +1,6 @@
 -- What was read from the bytes of a file holds of what the store tells of it.
 use Rattle.std.proofs.Common.{◌≡◌, ℕ, List, Option, Some, None, Result, Ok, Err, refl, subst, arith}
-use Rattle.std.specs.Prelude.{◌<◌, ◌-◌, ◌^◌, ◌+◌, ◌≤◌, min, ℤ, IfSome}
+use Rattle.std.specs.Prelude.{◌<◌, ◌-◌, ◌^◌, ℤ, IfSome}
 use Rattle.std.specs.Global.{Vec}
 use Rattle.mill_base.specs.declared.points.Tri.{Tri}
 use Rattle.mill_base.specs.declared.motion.Move.{Move}
@@ -12,8 +12,6 @@ use Rattle.camtool.specs.declared.file.File.TheVariants.{Job as JobFile, Part as
 use Rattle.camtool.specs.declared.load.LoadFault.{LoadFault}
 use Rattle.camtool.specs.declared.load.LoadFault.TheVariants.{Memory, ReadFault, Unfit}
 use Rattle.camtool.specs.declared.load.Unfit.TheVariants.{TooLong, JobRefused, PartRefused, ProgramRefused, PartTop}
-use Rattle.camtool.specs.declared.load.Setup.{Setup}
-use Rattle.camtool.specs.declared.verify.Loaded.{Loaded}
 use Rattle.mill_io.specs.Views.{StoreView}
 use Rattle.mill_io.proofs.Read.{reads_on}
 use Rattle.camtool.specs.declared.load.Unfit.{Unfit as UnfitFault}

@@ -1,9 +1,9 @@
 -- What was read and what was printed, put together as the work on a request.
-use Rattle.std.proofs.Common.{◌≡◌, ℕ, List, Option, Some, None, Result, Ok, Err, refl, sym, ap, subst, ◌∙◌, inl, inr}
-use Rattle.std.specs.Prelude.{◌<◌, IfOk, string_bytes, ℤ}
+use Rattle.std.proofs.Common.{◌≡◌, ℕ, List, Option, Some, None, Result, Ok, Err, refl, sym, ap, subst, inl, inr}
+use Rattle.std.specs.Prelude.{IfOk}
 use Rattle.std.specs.Global.{Vec}
 use Rattle.mill_base.specs.declared.memory.WantOfMemory.{WantOfMemory}
-use Rattle.mill_command.specs.Requests.{ReadsWords, Request, request, verify, plan, drop}
+use Rattle.mill_command.specs.Requests.{ReadsWords, Request, request, verify, drop}
 use Rattle.mill_command.specs.declared.refusal.Refusal.{Refusal}
 use Rattle.mill_command.specs.declared.refusal.Refusal.TheVariants as refusal
 use Rattle.mill_decimal.specs.declared.fault.DecFault.{DecFault}
@@ -21,8 +21,8 @@ use Rattle.camtool.specs.Answers.{Answer, refused_word, unfit, judged, dropped, 
 use Rattle.camtool.specs.Calls.{Call, CanCount, NamedText, Stores}
 use Rattle.camtool.specs.Drop.{ReadsPlace, RefusesWord}
 use Rattle.camtool.specs.Faults.{unfit_line}
-use Rattle.camtool.specs.inner.Loads.{Loads, LoadsSetup, OnlyLoads, PlaceFrom}
-use Rattle.camtool.specs.Outcomes.{Outcome, help, bad_words, no_memory, read_fault, answered, outcome_file, outcome_status, outcome_line, IsOutcome, IsOutcomeOf, CountsReads, Shows, ShowsOr, Serves, HasOutcome}
+use Rattle.camtool.specs.inner.Loads.{Loads, LoadsSetup, OnlyLoads}
+use Rattle.camtool.specs.Outcomes.{Outcome, help, bad_words, no_memory, read_fault, answered, outcome_file, IsOutcome, IsOutcomeOf, CountsReads, Shows, ShowsOr, Serves, HasOutcome}
 use Rattle.camtool.specs.inner.Prints.{Prints, PrintsOutcome, PrintsOr, PrintsMade, PrintsFault, fault_outcome, refusal_outcome, TriesVerdict, PrintsHeight}
 use Rattle.camtool.specs.Setup.{setup_texts}
 use Rattle.camtool.specs.Verify.{texts_of}

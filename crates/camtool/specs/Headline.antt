@@ -16,7 +16,7 @@ use Rattle.camtool.specs.Calls.{Call, NoFault, Stores}
 use Rattle.camtool.specs.Drop.{ReadsPlace}
 use Rattle.camtool.specs.Outcomes.{ShowsHelp, RefusesWords}
 use Rattle.camtool.specs.Plan.{plan_line}
-use Rattle.camtool.specs.Setup.{SetupTexts, setup_texts, AreSetupTold, ReadsSetup}
+use Rattle.camtool.specs.Setup.{setup_texts, AreSetupTold, ReadsSetup}
 use Rattle.camtool.specs.Verify.{Texts, texts_of, AreTold, Reads, Judges, verdict_line}
 use Rattle.camtool.specs.Words.{Files, AsksVerify, PlanFiles, AsksPlan, DropWords, AsksDrop}
 

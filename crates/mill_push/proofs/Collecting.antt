@@ -20,14 +20,14 @@ use Rattle.mill_base.specs.declared.points.Box2.{Box2}
 use Rattle.mill_base.specs.declared.cutter.Cutter.{Cutter}
 use Rattle.mill_cells.specs.Boxes.{Meet, IsNear, box_of, boxes_of, origin_box}
 use Rattle.mill_cells.specs.Ahead.{Ahead, Comes, NoneComes, AreDealt}
-use Rattle.mill_cells.specs.Sorted.{Sorted, sorted_of, height_at}
+use Rattle.mill_cells.specs.Sorted.{Sorted, sorted_of, top_at}
 use Rattle.mill_cells.proofs.Lists.{nothing_in_nil, cons_cases, distinct-append, distinct-nil, distinct-one}
 use Rattle.mill_cells.proofs.PassedLemmas.{deals_on, deals_last, top_is}
 use Rattle.mill_push.specs.declared.fiber.Fiber.{Fiber}
 use Rattle.mill_push.specs.declared.fiber.Run.{Run}
 use Rattle.mill_push.specs.Fibers.{IsTouched, IsBlocked}
 use Rattle.mill_push.specs.Runs.{StandsIn}
-use Rattle.mill_push.specs.Stretches.{IsStretch, IsClear}
+use Rattle.mill_push.specs.Stretches.{IsTouchedStretch, IsClear}
 use Rattle.mill_push.specs.Touches.{IsTried, TouchesFew, position_count, strip_of, tri_at}
 use Rattle.mill_push.specs.inner.Unions.{AreSpans, IsSpan, AreStretches}
 use Rattle.mill_push.proofs.Meeting.{touched_near}
@@ -106,15 +106,15 @@ module _ (cutter : Cutter) (part : List Tri) (fiber : Fiber) (from to : ℤ) whe
         within = inside;
         near = record {
           meets = subst (λ (b : Box2). Meet b strip) (get_or-map box_of part i d origin_box inside) n.meets;
-          over = subst (λ z. fiber.z <ℤ z) (ap (λ (ts : List ℤ). height_at ts i) e ∙ top_is part i d inside) h.over;
+          over = subst (λ z. fiber.z <ℤ z) (ap (λ (ts : List ℤ). top_at ts i) e ∙ top_is part i d inside) h.over;
         };
       }
 
   -- a triangle that isn't over the fiber's height isn't touched
-  low_done : (tops : List ℤ) (found : List Run) (i : ℕ) → IsCutter cutter → tops ≡ map highest part → height_at tops i ≤ℤ fiber.z → IsDone found i
+  low_done : (tops : List ℤ) (found : List Run) (i : ℕ) → IsCutter cutter → tops ≡ map highest part → top_at tops i ≤ℤ fiber.z → IsDone found i
   low_done tops found i ok e low inside v a b t =
       let near = touched_near cutter (tri_at part i) fiber from to v ok a b t in
-      let top = ap (λ (ts : List ℤ). height_at ts i) e ∙ top_is part i (point_tri (point_at (pos 0) (pos 0) (pos 0))) inside in
+      let top = ap (λ (ts : List ℤ). top_at ts i) e ∙ top_is part i (point_tri (point_at (pos 0) (pos 0) (pos 0))) inside in
       absurd (against near.over (subst (λ z. z ≤ℤ fiber.z) top low))
     where
       against : {z h : ℤ} → z <ℤ h → h ≤ℤ z → ⊥
@@ -172,7 +172,7 @@ module _ (cutter : Cutter) (part : List Tri) (fiber : Fiber) (from to : ℤ) whe
       by (suc k) w e = absurd (omega (arith, w))
 
   pub goes_on_with : (near later : Ahead) (i : ℕ) (found : List Run) (r : Run) (old now then : ℕ) → IsCutter cutter → Comes fiber.z near i later → CollectedSoFar near found old now
-      → IsStretch cutter (tri_at part i) fiber from to r → ((n : ℕ) → position_count from to < 2 ^ n → then ≤ now + 2 * n) → CollectedSoFar later (found ++ r ∷ []) old then
+      → IsTouchedStretch cutter (tri_at part i) fiber from to r → ((n : ℕ) → position_count from to < 2 ^ n → then ≤ now + 2 * n) → CollectedSoFar later (found ++ r ∷ []) old then
   goes_on_with near later i found r old now then ok h s stretch cost =
       goes_on near later i found (found ++ r ∷ []) old now then ok h s spans sound (stands_before found r) done cost
     where

@@ -26,7 +26,7 @@ use Rattle.camtool.specs.declared.verify.Loaded.{Loaded}
 use Rattle.camtool.specs.declared.place.Place.{Place}
 use Rattle.camtool.specs.declared.place.WordFault.{WordFault}
 use Rattle.camtool.specs.Drop.{ReadsPlace, RefusesWord}
-use Rattle.camtool.specs.Setup.{SetupTexts, Fits, IsTooLong, IsJobText, IsRefusedJob, IsPartText, IsRefusedPart, ReadsSetup, IsUnfit, IsReadBefore}
+use Rattle.camtool.specs.Setup.{SetupTexts, IsTooLong, IsJobText, IsRefusedJob, IsPartText, IsRefusedPart, ReadsSetup, IsUnfit, IsReadBefore}
 use Rattle.camtool.specs.Verify.{Texts, IsProgramText, IsRefusedProgram, Reads, IsUnfitProgram, IsReadBeforeProgram}
 
 -- ---- one file

@@ -22,8 +22,8 @@ fn shelf(
     room: usize,
     fails: &[u64],
 ) -> Result<MemShelf, Fail>
-    ensures reads { IfOk result (λ s. ⟦<MemShelf as Shelf>⟧.read_faults s ≡ 0) }
-    ensures writes { IfOk result (λ s. ⟦<MemShelf as Shelf>⟧.write_faults s ≡ 0) }
+    ensures reads { IfOk result (λ s. (⟦<MemShelf as Shelf>⟧.shows s).read_faults ≡ 0) }
+    ensures writes { IfOk result (λ s. (⟦<MemShelf as Shelf>⟧.shows s).write_faults ≡ 0) }
 {
     let mut files = Vec::new(alloc);
     files.push(file(alloc, "job", texts.0)?)?;
