@@ -3,7 +3,7 @@ mod StockLemmas
 mod Turned
 mod Ranges
 mod Most
-mod Left
+mod Remaining
 mod Stops
 mod Prefix
 mod Stored

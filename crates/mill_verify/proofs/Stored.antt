@@ -19,7 +19,7 @@ use Rattle.mill_verify.specs.inner.Stock.{IsRow}
 use Rattle.mill_verify.specs.Tests.{IsCut}
 use Rattle.mill_verify.specs.inner.Firsts.{IsMostWith, IsRowUncut}
 use Rattle.mill_verify.proofs.Ranges.{top_within}
-use Rattle.mill_verify.proofs.Left.{IsCover}
+use Rattle.mill_verify.proofs.Remaining.{IsCover}
 use Rattle.mill_dexel.proofs.RowLaws.{row_after-at, length-row_after}
 
 -- the tops of row j of the stock

@@ -1,6 +1,6 @@
 use Rattle.std.proofs.Common.{◌+◌, arith}
 use Rattle.mill_verify.proofs.Ranges.{rows_few}
-use Rattle.mill_verify.proofs.Left.{both_told}
+use Rattle.mill_verify.proofs.Remaining.{both_told}
 use Rattle.mill_verify.proofs.left.+fn-rows_left-join+arg2+fn-rows_left-join+arg3+rows_left.Goals as goal
 
 pub share-requires-clause-count_ok : goal.share-requires-clause-count_ok

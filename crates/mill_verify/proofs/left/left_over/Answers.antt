@@ -1,6 +1,6 @@
 use Rattle.std.proofs.Common.{arith}
 use Rattle.std.proofs.lemmas.Int.{ints, clamps}
-use Rattle.mill_verify.proofs.Left.{isnt_cut, is_cut_to}
+use Rattle.mill_verify.proofs.Remaining.{isnt_cut, is_cut_to}
 use Rattle.mill_verify.proofs.Stored.{cover_stored, left_fits}
 use Rattle.mill_verify.proofs.left.left_over.Goals as goal
 

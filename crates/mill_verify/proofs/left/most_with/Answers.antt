@@ -1,7 +1,7 @@
 use mir.Syntax.{w32}
 use Rattle.std.proofs.Common.{refl, arith}
 use Rattle.std.proofs.lemmas.Int.{ints, clamps, to_z-of_z}
-use Rattle.mill_verify.proofs.Left.{is_most_kept, is_greater}
+use Rattle.mill_verify.proofs.Remaining.{is_most_kept, is_greater}
 use Rattle.mill_verify.proofs.Stored.{enough_fits, enough_stored}
 use Rattle.mill_verify.proofs.left.most_with.Goals as goal
 

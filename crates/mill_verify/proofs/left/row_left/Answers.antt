@@ -3,7 +3,7 @@ use Rattle.std.proofs.Common.{◌<◌, FitsSigned, rules, refl, arith}
 use Rattle.std.proofs.lemmas.Int.{to_z-of_z}
 use Rattle.mill_job.specs.Columns.{column_count}
 use Rattle.mill_verify.proofs.Ranges.{columns_few, some_columns}
-use Rattle.mill_verify.proofs.Left.{row_left_none, row_left_more, row_left_all}
+use Rattle.mill_verify.proofs.Remaining.{row_left_none, row_left_more, row_left_all}
 use Rattle.mill_verify.proofs.Stored.{tops_read, is_at, top_stored, most_stored, uncut_stored}
 use Rattle.mill_verify.proofs.left.row_left.Goals as goal
 

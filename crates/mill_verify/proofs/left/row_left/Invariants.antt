@@ -1,4 +1,4 @@
-use Rattle.mill_verify.proofs.Left.{IsRowLeftTo}
+use Rattle.mill_verify.proofs.Remaining.{IsRowLeftTo}
 use Rattle.mill_verify.proofs.left.row_left.Given as goal
 
 abbrev pub invariant-loop-index : goal.invariant-loop-index

@@ -3,7 +3,7 @@ use Rattle.std.proofs.lemmas.Int.{ints, clamps}
 use Rattle.mill_verify.proofs.Ranges.{rows_few}
 use Rattle.mill_verify.proofs.Most.{max_is}
 use Rattle.mill_verify.proofs.StockLemmas.{row_there, row_read}
-use Rattle.mill_verify.proofs.Left.{rows_left_none, rows_left_more, rows_left_end, row_uncut_of}
+use Rattle.mill_verify.proofs.Remaining.{rows_left_none, rows_left_more, rows_left_end, row_uncut_of}
 use Rattle.mill_verify.proofs.left.scan_rows.Goals as goal
 
 pub loop-index-init : goal.loop-index-init

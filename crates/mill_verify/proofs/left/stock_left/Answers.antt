@@ -1,5 +1,5 @@
 use Rattle.mill_verify.proofs.Ranges.{some_rows}
-use Rattle.mill_verify.proofs.Left.{stock_told}
+use Rattle.mill_verify.proofs.Remaining.{stock_told}
 use Rattle.mill_verify.proofs.left.stock_left.Goals as goal
 
 pub returns : goal.returns
