@@ -8,7 +8,7 @@ use Rattle.mill_base.specs.Numbers.{Within}
 use Rattle.mill_base.specs.declared.limits.TheConstants.{MAX_NODES, MAX_TEXT_COORDINATE}
 use Rattle.mill_base.specs.declared.lattice.Lattice.{Lattice}
 use Rattle.mill_drop.specs.Maps.{IsMapLattice}
-use Rattle.mill_part.proofs.Stored.{coordinate}
+use Rattle.mill_paths.proofs.Kept.{text_coordinate}
 use Rattle.mill_paths.specs.Limits.{change_count, most_changes, HasManyNodes, IsHeightsFault, IsListFault}
 use Rattle.mill_paths.specs.declared.fault.PathFault.{PathFault}
 use Rattle.mill_paths.specs.declared.fault.PathFault.TheVariants.{TooManyNodes, TooManyVisits, WantOfMemory}
@@ -90,7 +90,7 @@ list_without_layer v lattice layer none n = (λ e. absurd (ok_apart v (TooManyNo
 
 -- a layer whose stored form is 0 is 0, and another is over 0
 pub layer_none : (layer : ℤ) → Within MAX_TEXT_COORDINATE layer → of_z w32 layer ≡ 0 → layer ≡ pos 0
-layer_none layer within e = sym (coordinate layer within) ∙ ap (λ (n : ℕ). to_z w32 n) e
+layer_none layer within e = sym (text_coordinate layer within) ∙ ap (λ (n : ℕ). to_z w32 n) e
 
 pub layer_some : (layer : ℤ) → (pos 0) ≤ℤ layer → (of_z w32 layer ≡ 0 → ⊥) → (pos 0) <ℤ layer
 layer_some (pos zero) least apart = absurd (apart refl)

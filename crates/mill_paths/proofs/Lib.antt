@@ -14,3 +14,4 @@ pub mod Uniqueness
 pub mod Lengths
 pub mod Rounds
 mod Many
+mod Kept

@@ -2,6 +2,7 @@ ghost use Rattle.std.specs.Prelude.{◌≡◌, ◌<◌, ◌≤◌, [], ◌++◌,
 ghost use Rattle.mill_base.specs.declared.limits.TheConstants.{MAX_MOVES};
 ghost use Rattle.mill_base.specs.Covers.{IsUnder};
 ghost use Rattle.mill_base.specs.Ranges.{IsInTextRange};
+ghost use Rattle.mill_cells.specs.Sorted.{sorted_of};
 ghost use Rattle.mill_job.specs.Columns.{home as home_of};
 ghost use Rattle.mill_job.specs.Jobs.{IsJob};
 ghost use Rattle.mill_paths.specs.Safety.{GoSafely};
@@ -12,8 +13,9 @@ ghost use Rattle.mill_plan.specs.inner.Steps.{AddsTour, IsNodesFault, IsRound, I
 
 use crate::fault::PlanFault;
 use mill_base::{MAX_MOVES, MAX_NODES, Move, Pt3};
+use mill_cells::Cells;
 use mill_job::Job;
-use mill_part::SortedPart;
+use mill_part::Part;
 use mill_paths::{Visit, finish_lattice, finish_visits, home, link, rough_lattice, rough_visits};
 use std::alloc::Global;
 use std::thread::Threads;
@@ -46,9 +48,11 @@ pub(crate) fn planned_moves<R: Threads + Sync>(
     rt: &R,
     alloc: Global,
     job: &Job,
-    part: &SortedPart,
+    part: &Part,
+    cells: &Cells,
 ) -> Result<Vec<Move>, PlanFault>
     requires job_ok { IsJob job.now }
+    requires cells_ok { cells.now ≡ sorted_of part.now }
     requires under { IsUnder part.now job.now.top }
     requires nodes { HasFewNodes job.now }
     ensures plan { IfOk result (λ moves. HasPlan job.now part.now moves.items) }
@@ -57,9 +61,9 @@ pub(crate) fn planned_moves<R: Threads + Sync>(
         (λ moves. GoSafely job.now part.now [] (home_of job.now) moves.items (home_of job.now)) }
     ensures fault { IfErr result (IsPlanFault job.now part.now) }
 {
-    let rough = rough_visits(rt, alloc, job, part.part(), part.cells())?;
-    let finish = finish_visits(rt, alloc, job, part.part(), part.cells())?;
-    round_of(alloc, job, part, &rough, &finish)
+    let rough = rough_visits(rt, alloc, job, part, cells)?;
+    let finish = finish_visits(rt, alloc, job, part, cells)?;
+    round_of(alloc, job, part, cells, &rough, &finish)
 }
 
 /// The moves from home through the roughing and then the finishing visits, and home again, of which
@@ -67,11 +71,13 @@ pub(crate) fn planned_moves<R: Threads + Sync>(
 fn round_of(
     alloc: Global,
     job: &Job,
-    part: &SortedPart,
+    part: &Part,
+    cells: &Cells,
     rough: &[Visit],
     finish: &[Visit],
 ) -> Result<Vec<Move>, PlanFault>
     requires job_ok { IsJob job.now }
+    requires cells_ok { cells.now ≡ sorted_of part.now }
     requires rough_ok { All (IsVisit job.now part.now) rough.now }
     requires finish_ok { All (IsVisit job.now part.now) finish.now }
     ensures round { IfOk
@@ -81,8 +87,8 @@ fn round_of(
     ensures fault { IfErr result (IsRoundFault job.now part.now (rough.now ++ finish.now)) }
 {
     let mut moves = Vec::new(alloc);
-    let place = add_tour(job, part, job.home(), rough, &mut moves)?;
-    let place = add_tour(job, part, place, finish, &mut moves)?;
+    let place = add_tour(job, part, cells, job.home(), rough, &mut moves)?;
+    let place = add_tour(job, part, cells, place, finish, &mut moves)?;
     home(job, place, &mut moves)?;
     check_moves(&moves)?;
     Ok(moves)
@@ -93,12 +99,14 @@ fn round_of(
 /// It ends at the first link with which there are more than 1,000,000 moves.
 fn add_tour(
     job: &Job,
-    part: &SortedPart,
+    part: &Part,
+    cells: &Cells,
     from: Pt3,
     visits: &[Visit],
     moves: &mut Vec<Move>,
 ) -> Result<Pt3, PlanFault>
     requires job_ok { IsJob job.now }
+    requires cells_ok { cells.now ≡ sorted_of part.now }
     requires from_ok { IsInTextRange from }
     requires visits_ok { All (IsVisit job.now part.now) visits.now }
     requires few { length moves.old.items ≤ MAX_MOVES }
@@ -114,7 +122,7 @@ fn add_tour(
 {
     let mut place = from;
     for visit in visits {
-        link(job, part.part(), part.cells(), place, *visit, moves)?;
+        link(job, part, cells, place, *visit, moves)?;
         check_moves(moves)?;
         place = visit.at;
     }

@@ -1,6 +1,7 @@
 ghost use Rattle.std.specs.Prelude.{◌≡◌, ◌↔◌, ℕ, ◌≤◌, [], IfErr, IfOk, IsErrOf};
 ghost use Rattle.mill_base.specs.declared.limits.TheConstants.{MAX_WORKERS};
 ghost use Rattle.mill_base.specs.Covers.{IsUnder};
+ghost use Rattle.mill_cells.specs.Sorted.{sorted_of};
 ghost use Rattle.mill_job.specs.Columns.{home};
 ghost use Rattle.mill_job.specs.Jobs.{IsJob};
 ghost use Rattle.mill_paths.specs.Safety.{GoSafely};
@@ -11,10 +12,11 @@ use crate::fault::PlanFault;
 use crate::moves::{check_nodes, planned_moves};
 use crate::planned::Planned;
 use mill_base::Move;
+use mill_cells::Cells;
 use mill_job::Job;
 use mill_part::{Part, SortedPart};
 use mill_post::write_program;
-use mill_verify::{Reason, Verdict, verify_sorted};
+use mill_verify::{Reason, Verdict, verify_with_cells};
 use std::alloc::Global;
 use std::thread::Threads;
 
@@ -52,9 +54,9 @@ pub fn plan<R: Threads + Sync>(
     ensures nodes { (nodes : ℕ) → IsErrOf result (TooManyNodes nodes) ↔ IsOverNodes job.now nodes }
 {
     check_nodes(job)?;
-    let part = SortedPart::new(alloc, part)?;
-    let moves = planned_moves(rt, alloc, job, &part)?;
-    verified(rt, alloc, job, &part, &moves, workers)
+    let sorted = SortedPart::new(alloc, part)?;
+    let moves = planned_moves(rt, alloc, job, part, sorted.cells())?;
+    verified(rt, alloc, job, part, sorted.cells(), &moves, workers)
 }
 
 /// The planner's answer, from the verdict on the plan's moves.
@@ -62,11 +64,13 @@ fn verified<R: Threads + Sync>(
     rt: &R,
     alloc: Global,
     job: &Job,
-    part: &SortedPart,
+    part: &Part,
+    cells: &Cells,
     moves: &[Move],
     workers: u32,
 ) -> Result<Planned, PlanFault>
     requires job_ok { IsJob job.now }
+    requires cells_ok { cells.now ≡ sorted_of part.now }
     requires under { IsUnder part.now job.now.top }
     requires plan_ok { HasPlan job.now part.now moves.now }
     requires safe { GoSafely job.now part.now [] (home job.now) moves.now (home job.now) }
@@ -77,7 +81,7 @@ fn verified<R: Threads + Sync>(
         (λ planned. IsPlanAnswer job.now part.now (answer_of planned)) }
     ensures fault { IfErr result (IsPlanFault job.now part.now) }
 {
-    match verify_sorted(rt, alloc, job, part, moves, workers)? {
+    match verify_with_cells(rt, alloc, job, part, cells, moves, workers)? {
         Verdict::Accept {
             moves: count,
             columns,

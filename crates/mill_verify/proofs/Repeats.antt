@@ -6,7 +6,7 @@ use Rattle.std.proofs.lemmas.List.{append_assoc, length_push, append-nil}
 use Rattle.std.proofs.lemmas.List.Elements.{Contains-push_cases}
 use Rattle.mill_base.specs.Points.{point_at}
 use Rattle.mill_base.specs.Motion.{Follow}
-use Rattle.mill_base.specs.Ranges.{IsInTextRange, MoveInRange, MovesInRange}
+use Rattle.mill_base.specs.Ranges.{IsInRange, MoveInRange, MovesInRange}
 use Rattle.mill_base.specs.declared.points.Pt3.{Pt3}
 use Rattle.mill_base.specs.declared.motion.Move.{Move}
 use Rattle.mill_base.specs.declared.motion.Kind.TheVariants.{Feed}
@@ -29,7 +29,7 @@ turns_none e = subst (AreTurns 0) (sym e) (record { count = refl; range = λ m m
 in_range_push : (moves : List Move) (m : Move) → MovesInRange moves → MoveInRange m → MovesInRange (moves ++ m ∷ [])
 in_range_push moves m before here x member = elim (Contains-push_cases moves m x member) [ inl old ↦ before x old | inr new ↦ subst MoveInRange new here ]
 
-start_ok : IsInTextRange start
+start_ok : IsInRange start
 start_ok = record { x_ok = record { within = omega (arith, ints) }; y_ok = record { within = omega (arith, ints) }; z_ok = record { within = omega (arith, ints) } }
 
 -- down from the start to a point, and up again
@@ -40,7 +40,7 @@ abbrev pub up_from : Pt3 → Move
 up_from low = record { kind = Feed; from = low; to = start }
 
 -- one more turn
-pub turns_more : {n : ℕ} {moves halfway after : List Move} (low : Pt3) → IsInTextRange low → halfway ≡ moves ++ down_to low ∷ [] → after ≡ halfway ++ up_from low ∷ [] → AreTurns n moves → AreTurns (n + 1) after
+pub turns_more : {n : ℕ} {moves halfway after : List Move} (low : Pt3) → IsInRange low → halfway ≡ moves ++ down_to low ∷ [] → after ≡ halfway ++ up_from low ∷ [] → AreTurns n moves → AreTurns (n + 1) after
 turns_more {n} {moves} {halfway} {after} low low_ok first second before =
     subst (AreTurns (n + 1)) (sym (second ∙ ap (λ (ms : List Move). ms ++ up_from low ∷ []) first)) (record {
       count = omega (length_push (moves ++ down_to low ∷ []) (up_from low), length_push moves (down_to low), before.count, arith);

@@ -5,7 +5,7 @@ use Rattle.std.proofs.lemmas.Int.{ints, clamps}
 use Rattle.std.specs.Int.{int_min}
 use mir.Syntax.{w32}
 use Rattle.mill_base.specs.Numbers.{Within}
-use Rattle.mill_base.specs.declared.limits.TheConstants.{MAX_TEXT_COORDINATE}
+use Rattle.mill_base.specs.declared.limits.TheConstants.{MAX_COORDINATE, MAX_TEXT_COORDINATE}
 use Rattle.mill_base.specs.Covers.{Covered}
 use Rattle.mill_base.specs.declared.points.Tri.{Tri}
 use Rattle.mill_base.specs.declared.motion.Move.{Move}
@@ -57,12 +57,12 @@ cover_stored {part} {floor} {band} {x} {y} {covered} f_ok b_ok x_ok y_ok h =
     (at_stored (λ (a b c : ℤ). IsCover part a (stored w32 band) b c covered) _ _ _ floor x y (kept_in floor f_ok) (kept_in x x_ok) (kept_in y y_ok) (record { height = h }))
 
 -- what is left of a column fits
-pub left_fits : (top covered low : ℤ) → Within MAX_TEXT_COORDINATE top → Within MAX_TEXT_COORDINATE covered → low ≡ int_min (stored w32 top) (stored w32 covered) → FitsSigned w32 (stored w32 top -ℤ stored w32 low)
+pub left_fits : (top covered low : ℤ) → Within MAX_TEXT_COORDINATE top → Within MAX_COORDINATE covered → low ≡ int_min (stored w32 top) (stored w32 covered) → FitsSigned w32 (stored w32 top -ℤ stored w32 low)
 left_fits top covered low t_ok c_ok e =
-    diff_fits w32 (top ∷ low ∷ []) (131071 ∷ 131071 ∷ []) (Read w32 0) (Read w32 1)
-    (t_ok.within, (small top covered low t_ok.within c_ok.within (rw (kept_in top t_ok, kept_in covered c_ok) at e), tt)) refl
+    diff_fits w32 (top ∷ low ∷ []) (131071 ∷ 524287 ∷ []) (Read w32 0) (Read w32 1)
+    (t_ok.within, (small top covered low t_ok.within c_ok.within (rw (kept_in top t_ok, kept w32 covered MAX_COORDINATE c_ok.within refl) at e), tt)) refl
   where
-    small : (t c m : ℤ) → nat_abs t ≤ 131071 → nat_abs c ≤ 131071 → m ≡ int_min t c → nat_abs m ≤ 131071
+    small : (t c m : ℤ) → nat_abs t ≤ 131071 → nat_abs c ≤ 524287 → m ≡ int_min t c → nat_abs m ≤ 524287
     small t c m h k e = omega (e, h, k, arith, ints, clamps)
 
 -- the least of two numbers that a column may be left over is small

@@ -1,14 +1,16 @@
 ghost use Rattle.std.specs.Prelude.{◌≡◌, ◌+◌, ◌≤◌, ◌<◌, length, MatchOption};
 ghost use Rattle.mill_base.specs.declared.limits.TheConstants.{MAX_MOVES, MAX_WORKERS};
 ghost use Rattle.mill_base.specs.Ranges.{MovesInRange};
+ghost use Rattle.mill_cells.specs.Sorted.{sorted_of};
 ghost use Rattle.mill_job.specs.Jobs.{IsJob};
 ghost use Rattle.mill_verify.specs.inner.Firsts.{AreStripes, ClearsBetween, ClearsStripes, IsEarlierFail, IsFirstPartFail, IsFirstStripesFail};
 ghost use denote.Param.Send.{IsSync};
 
 use mill_base::Move;
+use mill_cells::Cells;
 use mill_gouge::{Gouge, first_gouge};
 use mill_job::Job;
-use mill_part::SortedPart;
+use mill_part::Part;
 use std::thread::{Threads, join};
 
 /// How many moves stand in a block. Moves near each other take about the same time, so blocks in
@@ -40,13 +42,15 @@ pub struct Stripes {
 pub fn first_part_fail<R: Threads + Sync>(
     rt: &R,
     job: &Job,
-    part: &SortedPart,
+    part: &Part,
+    cells: &Cells,
     moves: &[Move],
     start: usize,
     end: usize,
     workers: u32,
 ) -> Option<PartFail>
     requires job_ok { IsJob job.now }
+    requires cells_ok { cells.now ≡ sorted_of part.now }
     requires moves_ok { MovesInRange moves.now }
     requires order { start ≤ end }
     requires there { end ≤ length moves.now }
@@ -65,7 +69,7 @@ pub fn first_part_fail<R: Threads + Sync>(
         first: 0,
         last: count,
     };
-    first_in_stripes(rt, job, part, moves, stripes)
+    first_in_stripes(rt, job, part, cells, moves, stripes)
 }
 
 /// How many stripes this many moves are in: one for each worker, and no more than there are blocks.
@@ -84,11 +88,13 @@ fn stripe_count(moves: usize, workers: u32) -> usize
 fn first_in_stripes<R: Threads + Sync>(
     rt: &R,
     job: &Job,
-    part: &SortedPart,
+    part: &Part,
+    cells: &Cells,
     moves: &[Move],
     stripes: Stripes,
 ) -> Option<PartFail>
     requires job_ok { IsJob job.now }
+    requires cells_ok { cells.now ≡ sorted_of part.now }
     requires moves_ok { MovesInRange moves.now }
     requires few { length moves.now ≤ MAX_MOVES }
     requires stripes_ok { AreStripes moves.now stripes }
@@ -99,7 +105,7 @@ fn first_in_stripes<R: Threads + Sync>(
 {
     let some = stripes.last - stripes.first;
     if some <= 1 {
-        return scan_stripe(job, part, moves, stripes);
+        return scan_stripe(job, part, cells, moves, stripes);
     }
     let middle = stripes.first + some / 2;
     let left = Stripes {
@@ -115,6 +121,7 @@ fn first_in_stripes<R: Threads + Sync>(
         || -> Option<PartFail>
             requires sync { IsSync R.row }
             requires job_ok { IsJob job.now }
+            requires cells_ok { cells.now ≡ sorted_of part.now }
             requires moves_ok { MovesInRange moves.now }
             requires few { length moves.now ≤ MAX_MOVES }
             requires stripes_ok { AreStripes moves.now left }
@@ -122,10 +129,11 @@ fn first_in_stripes<R: Threads + Sync>(
                 result
                 (ClearsStripes job.entry.now part.entry.now moves.entry.now left)
                 (IsFirstStripesFail job.entry.now part.entry.now moves.entry.now left) }
-        { first_in_stripes(rt, job, part, moves, left) },
+        { first_in_stripes(rt, job, part, cells, moves, left) },
         || -> Option<PartFail>
             requires sync { IsSync R.row }
             requires job_ok { IsJob job.now }
+            requires cells_ok { cells.now ≡ sorted_of part.now }
             requires moves_ok { MovesInRange moves.now }
             requires few { length moves.now ≤ MAX_MOVES }
             requires stripes_ok { AreStripes moves.now right }
@@ -133,7 +141,7 @@ fn first_in_stripes<R: Threads + Sync>(
                 result
                 (ClearsStripes job.entry.now part.entry.now moves.entry.now right)
                 (IsFirstStripesFail job.entry.now part.entry.now moves.entry.now right) }
-        { first_in_stripes(rt, job, part, moves, right) },
+        { first_in_stripes(rt, job, part, cells, moves, right) },
     );
     earlier(left_fail, right_fail)
 }
@@ -155,8 +163,15 @@ fn earlier(left: Option<PartFail>, right: Option<PartFail>) -> Option<PartFail>
 }
 
 /// One worker's stripe, block by block.
-fn scan_stripe(job: &Job, part: &SortedPart, moves: &[Move], stripe: Stripes) -> Option<PartFail>
+fn scan_stripe(
+    job: &Job,
+    part: &Part,
+    cells: &Cells,
+    moves: &[Move],
+    stripe: Stripes,
+) -> Option<PartFail>
     requires job_ok { IsJob job.now }
+    requires cells_ok { cells.now ≡ sorted_of part.now }
     requires moves_ok { MovesInRange moves.now }
     requires few { length moves.now ≤ MAX_MOVES }
     requires stripe_ok { AreStripes moves.now stripe }
@@ -170,7 +185,7 @@ fn scan_stripe(job: &Job, part: &SortedPart, moves: &[Move], stripe: Stripes) ->
     let mut block = stripe.start + stripe.first * BLOCK;
     while block < stripe.end {
         let block_end = stripe.end.min(block + BLOCK);
-        if let Some(fail) = scan(job, part, moves, block, block_end) {
+        if let Some(fail) = scan(job, part, cells, moves, block, block_end) {
             return Some(fail);
         }
         block += turn;
@@ -179,8 +194,16 @@ fn scan_stripe(job: &Job, part: &SortedPart, moves: &[Move], stripe: Stripes) ->
 }
 
 /// The moves of a block, one by one.
-fn scan(job: &Job, part: &SortedPart, moves: &[Move], start: usize, end: usize) -> Option<PartFail>
+fn scan(
+    job: &Job,
+    part: &Part,
+    cells: &Cells,
+    moves: &[Move],
+    start: usize,
+    end: usize,
+) -> Option<PartFail>
     requires job_ok { IsJob job.now }
+    requires cells_ok { cells.now ≡ sorted_of part.now }
     requires moves_ok { MovesInRange moves.now }
     requires order { start ≤ end }
     requires there { end ≤ length moves.now }
@@ -190,7 +213,7 @@ fn scan(job: &Job, part: &SortedPart, moves: &[Move], start: usize, end: usize) 
         (IsFirstPartFail job.now part.now moves.now start end) }
 {
     for at in start..end {
-        if let Some(gouge) = first_gouge(job.cutter, part.part(), part.cells(), &moves[at]) {
+        if let Some(gouge) = first_gouge(job.cutter, part, cells, &moves[at]) {
             return Some(PartFail { at, gouge });
         }
     }

@@ -2,6 +2,7 @@ ghost use Rattle.std.specs.Prelude.{◌≡◌, ◌<◌, ◌≤◌, pos, ◌-ℤ�
 ghost use Rattle.mill_base.specs.Numbers.{Within};
 ghost use Rattle.mill_base.specs.declared.limits.TheConstants.{MAX_TEXT_COORDINATE, MAX_WORKERS};
 ghost use Rattle.mill_base.specs.Covers.{Covered};
+ghost use Rattle.mill_cells.specs.Sorted.{sorted_of};
 ghost use Rattle.mill_job.specs.Jobs.{IsJob, IsFrom};
 ghost use Rattle.mill_job.specs.Columns.{row_count};
 ghost use Rattle.mill_verify.specs.inner.Stock.{IsRow, IsStock};
@@ -9,9 +10,10 @@ ghost use Rattle.mill_verify.specs.inner.Firsts.{AreRowsLeft, IsBoth, IsCutTo, I
 ghost use denote.Param.Send.{IsSync};
 
 use mill_base::Move;
+use mill_cells::Cells;
 use mill_dexel::{Row, share};
 use mill_job::Job;
-use mill_part::SortedPart;
+use mill_part::Part;
 use std::thread::{Threads, join};
 
 /// A column that isn't cut, and its top.
@@ -27,12 +29,14 @@ pub struct Uncut {
 pub fn stock_left<R: Threads + Sync>(
     rt: &R,
     job: &Job,
-    part: &SortedPart,
+    part: &Part,
+    cells: &Cells,
     moves: &[Move],
     rows: &[Row],
     workers: u32,
 ) -> Result<i32, Uncut>
     requires job_ok { IsJob job.now }
+    requires cells_ok { cells.now ≡ sorted_of part.now }
     requires rows_ok { IsStock job.now moves.now rows.now }
     requires few_workers { workers ≤ MAX_WORKERS }
     ensures { MatchResult
@@ -41,7 +45,7 @@ pub fn stock_left<R: Threads + Sync>(
         (λ uncut. IsFirstUncut job.now part.now moves.now uncut.row uncut.col uncut.top) }
 {
     let end = rows.len();
-    rows_left(rt, job, part, moves, rows, 0, end, workers)
+    rows_left(rt, job, part, cells, moves, rows, 0, end, workers)
 }
 
 /// Test (iv) on the rows from number `start` to before `end`; 0 is left where there is none.
@@ -51,7 +55,8 @@ pub fn stock_left<R: Threads + Sync>(
 fn rows_left<R: Threads + Sync>(
     rt: &R,
     job: &Job,
-    part: &SortedPart,
+    part: &Part,
+    cells: &Cells,
     moves: &[Move],
     rows: &[Row],
     start: usize,
@@ -59,6 +64,7 @@ fn rows_left<R: Threads + Sync>(
     workers: u32,
 ) -> Result<i32, Uncut>
     requires job_ok { IsJob job.now }
+    requires cells_ok { cells.now ≡ sorted_of part.now }
     requires rows_ok { IsStock job.now moves.now rows.now }
     requires order { start ≤ end }
     requires there { end ≤ length rows.now }
@@ -77,7 +83,7 @@ fn rows_left<R: Threads + Sync>(
         uncut.top) }
 {
     if workers <= 1 || end - start <= 1 {
-        return scan_rows(job, part, moves, rows, start, end);
+        return scan_rows(job, part, cells, moves, rows, start, end);
     }
     let left_workers = workers / 2;
     let right_workers = workers - left_workers;
@@ -87,6 +93,7 @@ fn rows_left<R: Threads + Sync>(
         || -> Result<i32, Uncut>
             requires sync { IsSync R.row }
             requires job_ok { IsJob job.now }
+            requires cells_ok { cells.now ≡ sorted_of part.now }
             requires rows_ok { IsStock job.now moves.now rows.now }
             requires order { start ≤ middle }
             requires there { middle ≤ length rows.now }
@@ -103,10 +110,23 @@ fn rows_left<R: Threads + Sync>(
                 uncut.row
                 uncut.col
                 uncut.top) }
-        { rows_left(rt, job, part, moves, rows, start, middle, left_workers) },
+        {
+            rows_left(
+                rt,
+                job,
+                part,
+                cells,
+                moves,
+                rows,
+                start,
+                middle,
+                left_workers,
+            )
+        },
         || -> Result<i32, Uncut>
             requires sync { IsSync R.row }
             requires job_ok { IsJob job.now }
+            requires cells_ok { cells.now ≡ sorted_of part.now }
             requires rows_ok { IsStock job.now moves.now rows.now }
             requires order { middle ≤ end }
             requires there { end ≤ length rows.now }
@@ -123,7 +143,19 @@ fn rows_left<R: Threads + Sync>(
                 uncut.row
                 uncut.col
                 uncut.top) }
-        { rows_left(rt, job, part, moves, rows, middle, end, right_workers) },
+        {
+            rows_left(
+                rt,
+                job,
+                part,
+                cells,
+                moves,
+                rows,
+                middle,
+                end,
+                right_workers,
+            )
+        },
     );
     both(left, right)
 }
@@ -140,13 +172,15 @@ fn both(left: Result<i32, Uncut>, right: Result<i32, Uncut>) -> Result<i32, Uncu
 /// One worker's rows, one by one.
 fn scan_rows(
     job: &Job,
-    part: &SortedPart,
+    part: &Part,
+    cells: &Cells,
     moves: &[Move],
     rows: &[Row],
     start: usize,
     end: usize,
 ) -> Result<i32, Uncut>
     requires job_ok { IsJob job.now }
+    requires cells_ok { cells.now ≡ sorted_of part.now }
     requires rows_ok { IsStock job.now moves.now rows.now }
     requires order { start ≤ end }
     requires there { end ≤ length rows.now }
@@ -165,7 +199,7 @@ fn scan_rows(
 {
     let mut most = 0;
     for index in start..end {
-        match row_left(job, part, moves, index as u32, &rows[index]) {
+        match row_left(job, part, cells, moves, index as u32, &rows[index]) {
             Ok(left) => most = most.max(left),
             Err(uncut) => return Err(uncut),
         }
@@ -176,12 +210,14 @@ fn scan_rows(
 /// Test (iv) on the columns of row `number`.
 fn row_left(
     job: &Job,
-    part: &SortedPart,
+    part: &Part,
+    cells: &Cells,
     moves: &[Move],
     number: u32,
     row: &Row,
 ) -> Result<i32, Uncut>
     requires job_ok { IsJob job.now }
+    requires cells_ok { cells.now ≡ sorted_of part.now }
     requires there { number < row_count job.now }
     requires row_ok { IsRow job.now moves.now number row.now }
     ensures { MatchResult
@@ -194,7 +230,7 @@ fn row_left(
     let mut most = 0;
     for (index, top) in tops.iter().enumerate() {
         let col = index as u32;
-        match most_with(job, part, job.column_x(col), y, *top, most) {
+        match most_with(job, part, cells, job.column_x(col), y, *top, most) {
             Some(greater) => most = greater,
             None => {
                 return Err(Uncut {
@@ -213,8 +249,17 @@ fn row_left(
 ///
 /// Where no more than `most` and the allowance is left, one look whether the column is covered so
 /// high says so, and the greatest height isn't worked out.
-fn most_with(job: &Job, part: &SortedPart, x: i32, y: i32, top: i32, most: i32) -> Option<i32>
+fn most_with(
+    job: &Job,
+    part: &Part,
+    cells: &Cells,
+    x: i32,
+    y: i32,
+    top: i32,
+    most: i32,
+) -> Option<i32>
     requires job_ok { IsJob job.now }
+    requires cells_ok { cells.now ≡ sorted_of part.now }
     requires x_ok { Within MAX_TEXT_COORDINATE x }
     requires y_ok { Within MAX_TEXT_COORDINATE y }
     requires top_ok { Within MAX_TEXT_COORDINATE top }
@@ -225,20 +270,18 @@ fn most_with(job: &Job, part: &SortedPart, x: i32, y: i32, top: i32, most: i32) 
         (IsMostWith job.now part.now x y top most) }
 {
     let enough = top - most.min(job.allowance);
-    if part
-        .part()
-        .covered_near(part.cells(), job.floor, x, y, enough, job.band)
-    {
+    if part.covered_near(cells, job.floor, x, y, enough, job.band) {
         return Some(most);
     }
-    let left = left_over(job, part, x, y, top)?;
+    let left = left_over(job, part, cells, x, y, top)?;
     Some(most.max(left))
 }
 
 /// How much a column with this top is left over its greatest covered height; none where the top
 /// is more than the allowance over it.
-fn left_over(job: &Job, part: &SortedPart, x: i32, y: i32, top: i32) -> Option<i32>
+fn left_over(job: &Job, part: &Part, cells: &Cells, x: i32, y: i32, top: i32) -> Option<i32>
     requires job_ok { IsJob job.now }
+    requires cells_ok { cells.now ≡ sorted_of part.now }
     requires x_ok { Within MAX_TEXT_COORDINATE x }
     requires y_ok { Within MAX_TEXT_COORDINATE y }
     requires top_ok { Within MAX_TEXT_COORDINATE top }
@@ -247,9 +290,7 @@ fn left_over(job: &Job, part: &SortedPart, x: i32, y: i32, top: i32) -> Option<i
         (¬ Covered part.now job.now.floor job.now.band x y (top -ℤ job.now.allowance))
         (IsCutTo job.now part.now x y top) }
 {
-    let covered = part
-        .part()
-        .covered_height_near(part.cells(), job.floor, x, y, job.band);
+    let covered = part.covered_height_near(cells, job.floor, x, y, job.band);
     if top - job.allowance > covered {
         return None;
     }

@@ -1,6 +1,6 @@
 //! The verdict on a program: the first written test that fails, or acceptance.
 //!
-//! It stands on `mill_part`, `mill_gouge`, `mill_dexel` and `mill_job`. It promises that the answer is
+//! It stands on `mill_part`, `mill_cells`, `mill_gouge`, `mill_dexel` and `mill_job`. It promises that the answer is
 //! the verdict, for any number of workers, that there is at most one, that an accepted program cuts
 //! safely at every fraction of every move, and that a rejected move is blocked at the leaf that is
 //! named. Definitions: `specs/Tests` are the four tests, `specs/Verdicts` the verdict, `specs/Claims`
@@ -22,5 +22,5 @@ mod stock;
 mod verdict;
 
 pub use laws::one_verdict;
-pub use program::{verify, verify_sorted};
+pub use program::{verify, verify_with_cells};
 pub use verdict::{Reason, Verdict};

@@ -3,6 +3,7 @@ ghost use Rattle.mill_base.specs.declared.limits.TheConstants.{MAX_MOVES, MAX_WO
 ghost use Rattle.mill_base.specs.Covers.{IsUnder};
 ghost use Rattle.mill_base.specs.Motion.{Follow};
 ghost use Rattle.mill_base.specs.Ranges.{MovesInRange};
+ghost use Rattle.mill_cells.specs.Sorted.{sorted_of};
 ghost use Rattle.mill_job.specs.Columns.{home};
 ghost use Rattle.mill_job.specs.Jobs.{IsJob};
 ghost use Rattle.mill_sweep.specs.declared.leaf.Leaf.{Leaf};
@@ -18,6 +19,7 @@ use crate::rapid::first_stop;
 use crate::stock::turned_rows;
 use crate::verdict::{Reason, Verdict};
 use mill_base::{Move, WantOfMemory};
+use mill_cells::Cells;
 use mill_dexel::Row;
 use mill_job::Job;
 use mill_part::{Part, SortedPart};
@@ -68,20 +70,22 @@ pub fn verify<R: Threads + Sync>(
         → result ≡ Ok (Verdict.Reject (Reason.Rapid number row col leaf))
         → StopsMove job.now moves.now number row col leaf }
 {
-    let part = SortedPart::new(alloc, part)?;
-    verify_sorted(rt, alloc, job, &part, moves, workers)
+    let sorted = SortedPart::new(alloc, part)?;
+    verify_with_cells(rt, alloc, job, part, sorted.cells(), moves, workers)
 }
 
-/// The verdict of [`verify`], for a part whose triangles are sorted already.
-pub fn verify_sorted<R: Threads + Sync>(
+/// The verdict of [`verify`], by cells that the part's triangles are sorted into already.
+pub fn verify_with_cells<R: Threads + Sync>(
     rt: &R,
     alloc: Global,
     job: &Job,
-    part: &SortedPart,
+    part: &Part,
+    cells: &Cells,
     moves: &[Move],
     workers: u32,
 ) -> Result<Verdict, WantOfMemory>
     requires job_ok { IsJob job.now }
+    requires cells_ok { cells.now ≡ sorted_of part.now }
     requires moves_ok { MovesInRange moves.now }
     requires under { IsUnder part.now job.now.top }
     requires follow { Follow (home job.now) moves.now }
@@ -99,22 +103,24 @@ pub fn verify_sorted<R: Threads + Sync>(
         → result ≡ Ok (Verdict.Reject (Reason.Rapid number row col leaf))
         → StopsMove job.now moves.now number row col leaf }
 {
-    let limit = part_limit(rt, job, part, moves, workers);
+    let limit = part_limit(rt, job, part, cells, moves, workers);
     let rows = turned_rows(rt, alloc, job, &moves[..limit.passed], workers)?;
-    Ok(verdict_of(rt, job, part, moves, limit, &rows, workers))
+    Ok(verdict_of(rt, job, part, cells, moves, limit, &rows, workers))
 }
 
 /// The verdict, from how far the moves pass tests (i) and (ii), and the rows after those that do.
 fn verdict_of<R: Threads + Sync>(
     rt: &R,
     job: &Job,
-    part: &SortedPart,
+    part: &Part,
+    cells: &Cells,
     moves: &[Move],
     limit: Limit,
     rows: &[Row],
     workers: u32,
 ) -> Verdict
     requires job_ok { IsJob job.now }
+    requires cells_ok { cells.now ≡ sorted_of part.now }
     requires limit_ok { IsLimit job.now part.now moves.now limit }
     requires rows_ok { AreTurned job.now (take limit.passed moves.now) rows.now }
     requires few_workers { workers ≤ MAX_WORKERS }
@@ -132,26 +138,28 @@ fn verdict_of<R: Threads + Sync>(
     if let Some(reason) = limit.fails {
         return Verdict::Reject(reason);
     }
-    last_verdict(rt, job, part, moves, rows, workers)
+    last_verdict(rt, job, part, cells, moves, rows, workers)
 }
 
 /// The verdict after the last move, all moves being good.
 fn last_verdict<R: Threads + Sync>(
     rt: &R,
     job: &Job,
-    part: &SortedPart,
+    part: &Part,
+    cells: &Cells,
     moves: &[Move],
     rows: &[Row],
     workers: u32,
 ) -> Verdict
     requires job_ok { IsJob job.now }
+    requires cells_ok { cells.now ≡ sorted_of part.now }
     requires good { GoodBefore job.now part.now moves.now (length moves.now) }
     requires rows_ok { IsStock job.now moves.now rows.now }
     requires few_workers { workers ≤ MAX_WORKERS }
     ensures verdict { IsVerdict job.now part.now moves.now result }
     ensures shown { ShowsBlocks job.now part.now moves.now result }
 {
-    match stock_left(rt, job, part, moves, rows, workers) {
+    match stock_left(rt, job, part, cells, moves, rows, workers) {
         Ok(most_left) => Verdict::Accept {
             moves: moves.len() as u64,
             columns: job.column_total(),

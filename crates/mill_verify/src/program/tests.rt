@@ -1,10 +1,10 @@
 ghost use Rattle.std.specs.Prelude.{◌≡◌, ◌≤◌, ◌≤ℤ◌, pos, length, IfOk};
 ghost use Rattle.mill_base.specs.Numbers.{Within};
-ghost use Rattle.mill_base.specs.declared.limits.TheConstants.{MAX_TEXT_COORDINATE};
+ghost use Rattle.mill_base.specs.declared.limits.TheConstants.{MAX_COORDINATE};
 ghost use Rattle.mill_base.specs.Points.{point_at};
 ghost use Rattle.mill_base.specs.Covers.{IsUnder};
 ghost use Rattle.mill_base.specs.Motion.{Follow};
-ghost use Rattle.mill_base.specs.Ranges.{IsInTextRange, MovesInRange};
+ghost use Rattle.mill_base.specs.Ranges.{IsInRange, MovesInRange};
 ghost use Rattle.mill_job.specs.Columns.{home};
 ghost use Rattle.mill_job.specs.Jobs.{IsJob};
 
@@ -79,8 +79,8 @@ fn ball_job() -> Job
 }
 
 fn corner(x: i32, y: i32) -> Pt3
-    requires x_ok { Within MAX_TEXT_COORDINATE x }
-    requires y_ok { Within MAX_TEXT_COORDINATE y }
+    requires x_ok { Within MAX_COORDINATE x }
+    requires y_ok { Within MAX_COORDINATE y }
     ensures { result ≡ point_at x y (pos 200) }
 {
     Pt3 { x, y, z: 200 }
@@ -88,7 +88,7 @@ fn corner(x: i32, y: i32) -> Pt3
 
 /// A plate at the height 200 over the square, as far as this x.
 fn plate(alloc: Global, x: i32) -> Result<Part, WantOfMemory>
-    requires { Within MAX_TEXT_COORDINATE x }
+    requires { Within MAX_COORDINATE x }
     ensures { IfOk result (λ part. IsUnder part (pos 300)) }
 {
     let mut tris = Vec::new(alloc);
@@ -107,7 +107,7 @@ fn plate(alloc: Global, x: i32) -> Result<Part, WantOfMemory>
 
 /// Down in the middle to this height, and up again as a rapid.
 fn down_and_up(kind: Kind, height: i32) -> [Move; 2]
-    requires { Within MAX_TEXT_COORDINATE height }
+    requires { Within MAX_COORDINATE height }
     ensures range { MovesInRange result }
     ensures follow { Follow (point_at (pos 100) (pos 100) (pos 400)) result }
 {
@@ -137,7 +137,7 @@ fn down_and_up(kind: Kind, height: i32) -> [Move; 2]
 
 /// Over the plate's edge and on to (500, 100) at this height, and back along the same line.
 fn out_and_back(height: i32) -> [Move; 2]
-    requires { Within MAX_TEXT_COORDINATE height }
+    requires { Within MAX_COORDINATE height }
     ensures range { MovesInRange result }
     ensures follow { Follow (point_at (pos 100) (pos 100) (pos 400)) result }
 {
@@ -358,7 +358,7 @@ fn names_the_leaf_of_a_rapid(rt: HostRuntime) {
 
 /// In the middle at 200, and at 199 under the plate in these two turns.
 fn bottom(turn: u32, first: u32, second: u32) -> Pt3
-    ensures { IsInTextRange result }
+    ensures { IsInRange result }
 {
     let z = if turn == first || turn == second {
         199

@@ -27,7 +27,7 @@ returns-in_ok-program-in-Accept-clause-planned g c =
     (done_told c.args.job.now c.args.part.now c.args.moves.now c.requires.plan_ok c.in_ok-program-in-Accept.program.items c.in-Accept.count c.in-Accept.columns c.in-Accept.most_left
     c.requires.safe c.in_ok-program-in-Accept.ensures.text c.in_ok-program-in-Accept.ensures.reads
     (subst (λ (v : Verdict). IsVerdict c.args.job.now c.args.part.now c.args.moves.now v) c.in-Accept.is c.in_ok-count.ensures.verdict)
-    (c.verify.ensures.safe c.in-Accept.count c.in-Accept.columns c.in-Accept.most_left (c.in_ok-count.was ∙ ap (λ (v : Verdict). Ok v) c.in-Accept.is)))
+    (c.verify_with_cells.ensures.safe c.in-Accept.count c.in-Accept.columns c.in-Accept.most_left (c.in_ok-count.was ∙ ap (λ (v : Verdict). Ok v) c.in-Accept.is)))
 
 pub returns-in-Left-clause-fault : goal.returns-in-Left-clause-fault
 returns-in-Left-clause-fault g c =

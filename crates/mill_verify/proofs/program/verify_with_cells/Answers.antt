@@ -1,5 +1,5 @@
 use Rattle.mill_verify.proofs.Accepted.{accepted_is_safe}
-use Rattle.mill_verify.proofs.program.verify_sorted.Goals as goal
+use Rattle.mill_verify.proofs.program.verify_with_cells.Goals as goal
 
 pub returns-clause-safe : goal.returns-clause-safe
 returns-clause-safe g c count columns left e =
