@@ -1,5 +1,5 @@
 -- Each visit of a plan is in range, between floor and top, and free of the part.
-use Rattle.std.proofs.Common.{◌≡◌, ◌⊎◌, inl, inr, ℕ, zero, suc, ◌+◌, ◌*◌, ◌/◌, ◌%◌, ◌<◌, Bool, true, false, List, [], ◌∷◌, length, get_or, min, refl, sym, ◌∙◌, subst, mod-lt, arith}
+use Rattle.std.proofs.Common.{◌≡◌, ◌⊎◌, inl, inr, negsuc, ℕ, zero, suc, ◌+◌, ◌*◌, ◌/◌, ◌%◌, ◌<◌, Bool, true, false, List, [], ◌∷◌, length, get_or, min, refl, sym, ◌∙◌, subst, mod-lt, arith}
 use Rattle.std.specs.Prelude.{nat_abs, int_lt, int_le, ℤ, pos, ◌+ℤ◌, ◌-ℤ◌, ◌<ℤ◌, ◌≤ℤ◌, All}
 use Rattle.std.specs.List.{AllZip, flat_map, range_with_len}
 use Rattle.std.specs.Int.{div_ceil}
@@ -169,12 +169,12 @@ finish_visits_are_free job part list ok are =
 
 layered : (l : ℤ) → (pos 0) ≤ℤ l → (l ≡ pos 0) ⊎ ((pos 0) <ℤ l)
 layered (pos zero) least = inl refl
-layered (pos (suc n)) least = inr (omega arith)
+layered (pos (suc n)) least = inr (omega (arith, ints))
 layered (negsuc n) least = absurd (omega (least, arith, ints))
 
 pub rough_visits_are_free : RoughVisitsAreFree
 rough_visits_are_free job part list ok are =
     subst (λ (visits : List Visit). All (IsVisit job part) visits) (sym are.visits) (elim (layered job.layer ok.layer_ok.low) [
-    | inl none ↦ subst (λ (levels : List ℤ). All (IsVisit job part) (flat_map (rough_visits_on job are.heights) levels)) (sym (no_levels job none)) (All-nil (IsVisit job part))
-    | inr some ↦ rough_visits_ok job part are.heights ok some (are.are some)
+      | inl none ↦ subst (λ (levels : List ℤ). All (IsVisit job part) (flat_map (rough_visits_on job are.heights) levels)) (sym (no_levels job none)) (All-nil (IsVisit job part))
+      | inr some ↦ rough_visits_ok job part are.heights ok some (are.are some)
     ])

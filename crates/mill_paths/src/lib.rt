@@ -30,6 +30,8 @@ pub use fault::PathFault;
 pub use lattices::{finish_lattice, rough_lattice};
 pub use link_laws::{link_is_safe, tour_is_safe, way_home_is_safe};
 pub use links::{home, link};
-pub use plan_laws::{many_visits_make_moves, one_plan, plan_is_longer, round_is_safe, visits_are_free};
+pub use plan_laws::{
+    many_visits_make_moves, one_plan, plan_is_longer, round_is_safe, visits_are_free,
+};
 pub use visit::Visit;
 pub use visits::{finish_visits, rough_visits};
