@@ -1,7 +1,7 @@
 use Rattle.std.proofs.Common.{◌≡◌, ◌<◌, [], ◌++◌, ◌∙◌, length, Ok, ap, sym, refl, rules, arith}
 use Rattle.std.specs.Prelude.{option_copied}
 use Rattle.mill_ngc.specs.Programs.{program_of, lines_of, lines_behind, made_list, line_begun}
-use Rattle.mill_ngc.proofs.ProgramLemmas.{read_from-next, read_from-fault, read_from-ended, read_from-end, so_far-begun, so_far-line, reads-fault}
+use Rattle.mill_ngc.proofs.ProgramLemmas.{moves_from-next, moves_from-fault, moves_from-ended, moves_from-end, so_far-begun, so_far-line, reads-fault}
 use Rattle.mill_ngc.proofs.program.read_program.Goals as goal
 
 pub loop-moves-init : goal.loop-moves-init
@@ -18,7 +18,7 @@ loop-moves-init c =
 pub returns-in_err-made-clause-reads : goal.returns-in_err-made-clause-reads
 returns-in_err-made-clause-reads c =
     let so_far = rw c.split_line.ensures.lines at c.loop-moves.invariant.so_far in
-    let told = read_from-fault c.loop-moves.reader c.loop-moves.moves.items c.split_line.result.0.now (lines_behind (option_copied c.split_line.result.1)) c.in_err-made.field-0.0 (program_of c.args.start c.args.text.now)
+    let told = moves_from-fault c.loop-moves.reader c.loop-moves.moves.items c.split_line.result.0.now (lines_behind (option_copied c.split_line.result.1)) c.in_err-made.field-0.0 (program_of c.args.start c.args.text.now)
     c.loop-moves.invariant.going c.in_err-made.ensures.fault so_far in
     reads-fault (program_of c.args.start c.args.text.now) c.in_err-made.field-0.0 c.from_residual-in_err-made.result told (search rules)
 
@@ -26,9 +26,9 @@ pub returns-then-has_ended-clause-reads : goal.returns-then-has_ended-clause-rea
 returns-then-has_ended-clause-reads c =
     let lines = lines_behind (option_copied c.split_line.result.1) in
     let so_far = rw c.split_line.ensures.lines at c.loop-moves.invariant.so_far in
-    let rest = read_from-next c.loop-moves.reader c.read_line.new.self c.loop-moves.moves.items c.in_ok-made.made c.split_line.result.0.now lines (program_of c.args.start c.args.text.now)
+    let rest = moves_from-next c.loop-moves.reader c.read_line.new.self c.loop-moves.moves.items c.in_ok-made.made c.split_line.result.0.now lines (program_of c.args.start c.args.text.now)
     c.loop-moves.invariant.going c.in_ok-made.ensures.ok so_far in
-    let ended = read_from-ended c.read_line.new.self (c.loop-moves.moves.items ++ made_list c.in_ok-made.made) lines (search rules) in
+    let ended = moves_from-ended c.read_line.new.self (c.loop-moves.moves.items ++ made_list c.in_ok-made.made) lines (search rules) in
     sym rest ∙ ended ∙ ap (λ (ms : _). Ok ms) (sym c.in_ok-add.ensures.ok)
 
 pub returns-then-has_ended-clause-in_range : goal.returns-then-has_ended-clause-in_range
@@ -47,7 +47,7 @@ pub loop-moves-preserved : goal.loop-moves-preserved
 loop-moves-preserved c =
     let lines = lines_behind (option_copied c.split_line.result.1) in
     let so_far = rw c.split_line.ensures.lines at c.loop-moves.invariant.so_far in
-    let rest = read_from-next c.loop-moves.reader c.read_line.new.self c.loop-moves.moves.items c.in_ok-made.made c.split_line.result.0.now lines (program_of c.args.start c.args.text.now)
+    let rest = moves_from-next c.loop-moves.reader c.read_line.new.self c.loop-moves.moves.items c.in_ok-made.made c.split_line.result.0.now lines (program_of c.args.start c.args.text.now)
     c.loop-moves.invariant.going c.in_ok-made.ensures.ok so_far in
     let more : lines ≡ lines_of c.in-Some.text.now = rw c.in-Some.is refl in
     let shorter : length c.in-Some.text.now < length c.loop-moves.rest.now = rw c.in-Some.is at c.split_line.ensures.shorter in
@@ -62,7 +62,7 @@ loop-moves-preserved c =
 pub returns-in-None-clause-reads : goal.returns-in-None-clause-reads
 returns-in-None-clause-reads c =
     let so_far = rw c.split_line.ensures.lines at c.loop-moves.invariant.so_far in
-    let rest = read_from-next c.loop-moves.reader c.read_line.new.self c.loop-moves.moves.items c.in_ok-made.made c.split_line.result.0.now (lines_behind (option_copied c.split_line.result.1)) (program_of c.args.start c.args.text.now)
+    let rest = moves_from-next c.loop-moves.reader c.read_line.new.self c.loop-moves.moves.items c.in_ok-made.made c.split_line.result.0.now (lines_behind (option_copied c.split_line.result.1)) (program_of c.args.start c.args.text.now)
     c.loop-moves.invariant.going c.in_ok-made.ensures.ok so_far in
     let none : lines_behind (option_copied c.split_line.result.1) ≡ [] = rw c.in-None.is refl in
-    λ _. sym (rw none at rest) ∙ read_from-end c.read_line.new.self (c.loop-moves.moves.items ++ made_list c.in_ok-made.made) (search rules) ∙ rw c.line.ensures refl
+    λ _. sym (rw none at rest) ∙ moves_from-end c.read_line.new.self (c.loop-moves.moves.items ++ made_list c.in_ok-made.made) (search rules) ∙ rw c.line.ensures refl
