@@ -7,11 +7,9 @@ use Rattle.std.proofs.lemmas.List.Elements.{All-nil, All-cons, All-tail, All-wea
 use Rattle.mill_base.specs.declared.motion.Move.{Move}
 use Rattle.mill_base.specs.declared.points.Pt3.{Pt3}
 use Rattle.mill_base.specs.declared.points.Tri.{Tri}
-use Rattle.mill_drop.specs.Maps.{IsMapLattice}
 use Rattle.mill_job.specs.Columns.{home}
 use Rattle.mill_job.specs.Jobs.{IsJob}
 use Rattle.mill_job.specs.declared.job.Job.{Job}
-use Rattle.mill_paths.specs.Lattices.{finish_lattice}
 use Rattle.mill_paths.specs.Links.{IsLink, climb, cross, descend, feed_to, plunge, way_home}
 use Rattle.mill_paths.specs.Safety.{IsEndOf}
 use Rattle.mill_paths.specs.Tours.{AreLinks, IsPlan, last_place}
@@ -73,10 +71,7 @@ behind P (x ∷ xs) ys all = behind P xs ys (All-tail P x (xs ++ ys) all)
 -- the finishing visits are visits that a plan may come to
 pub finish_ok : (job : Job) (part : List Tri) (visits : List Visit) → IsJob job → HasFewNodes job → AreFinishVisits job part visits → All (IsVisit job part) visits
 finish_ok job part visits ok few are =
-    subst (λ (vs : List Visit). All (IsVisit job part) vs) (sym are.visits) (finish_visits_ok job part are.heights ok map_ok are.are)
-  where
-    map_ok : IsMapLattice (finish_lattice job)
-    map_ok = record { x0_ok = ok.x0_ok; x1_ok = ok.x1_ok; y0_ok = ok.y0_ok; y1_ok = ok.y1_ok; x_order = ok.x_order; y_order = ok.y_order; step_ok = ok.raster_ok.low; few = few.finish }
+    subst (λ (vs : List Visit). All (IsVisit job part) vs) (sym are.visits) (finish_visits_ok job part are.heights ok are.are)
 
 -- none of them is home, which isn't under the top
 not_home : (job : Job) (part : List Tri) (visit : Visit) → IsJob job → IsVisit job part visit → visit.at ≡ home job → ⊥

@@ -1,6 +1,5 @@
 -- A plan's moves are good, so it is rejected for nothing but stock that it leaves.
-use Rattle.std.proofs.Common.{◌≡◌, List, [], ◌++◌, length, sym, subst}
-use Rattle.std.specs.Prelude.{All}
+use Rattle.std.proofs.Common.{List, [], ◌++◌, length, sym, subst}
 use Rattle.std.proofs.lemmas.List.Elements.{All-append}
 use Rattle.mill_base.specs.declared.motion.Move.{Move}
 use Rattle.mill_base.specs.declared.points.Tri.{Tri}

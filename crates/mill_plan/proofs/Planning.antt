@@ -1,5 +1,6 @@
 -- The round through a plan's visits is the plan, and what keeps the planner from it.
-use Rattle.std.specs.Prelude.{◌≡◌, ◌↔◌, ℕ, ◌<◌, ◌≤◌, pos, ◌<ℤ◌, List, [], ◌++◌, length, All, Result, Err, IsErrOf}
+use Rattle.std.specs.Prelude.{◌≡◌, ◌↔◌, ℕ, ◌<◌, ◌≤◌, pos, ◌<ℤ◌, List, [], ◌++◌, length, All, Result, Ok, Err, IfOk, IsErrOf}
+use Rattle.std.specs.Global.{Vec}
 use Rattle.std.proofs.Common.{inl, inr, sym, subst, arith}
 use Rattle.std.proofs.lemmas.List.Elements.{All-append}
 use Rattle.mill_base.specs.Covers.{IsUnder}
@@ -78,3 +79,10 @@ module _ (job : Job) (part : List Tri) where
   finish_told r (path.TooManyNodes n) is nodes many visits = inl ((many n).0 is)
   finish_told r path.TooManyVisits is nodes many visits = record { nodes = nodes; many = λ moves plan. many_finish job part moves (visits is) plan }
   finish_told r path.WantOfMemory is nodes many visits = tt
+
+-- where a round of few moves is made, it is the plan
+pub plan_if_made : (job : Job) (part : List Tri) (rough finish : List Visit) → HasFewNodes job → AreRoughVisits job part rough → AreFinishVisits job part finish
+    → (r : Result (Vec Move) PlanFault) → IfOk r (λ moves. IsRound job part (rough ++ finish) moves.items) → IfOk r (λ moves. length moves.items ≤ MAX_MOVES)
+    → IfOk r (λ moves. HasPlan job part moves.items)
+plan_if_made job part rough finish nodes are_rough are_finish (Ok moves) round few = plan_made job part rough finish moves.items nodes are_rough are_finish round few
+plan_if_made job part rough finish nodes are_rough are_finish (Err fault) round few = tt

@@ -1,6 +1,7 @@
 use Rattle.std.proofs.Common.{◌+◌, ◌<◌, length, take, refl}
 use Rattle.std.proofs.lemmas.Result.{err_from_is_err_and}
 use Rattle.std.proofs.lemmas.List.Elements.{All-get_or}
+use Rattle.mill_base.proofs.Ranges.{in_range_of_text}
 use Rattle.mill_paths.specs.Visits.{IsVisit}
 use Rattle.mill_base.specs.declared.limits.TheConstants.{MAX_MOVES}
 use Rattle.mill_plan.specs.inner.Steps.{AddsTour}
@@ -16,7 +17,7 @@ loop-visit-init c = record {
 }
 
 pub link-requires-clause-from_ok : goal.link-requires-clause-from_ok
-link-requires-clause-from_ok c = c.loop-visit.invariant.place_ok
+link-requires-clause-from_ok c = in_range_of_text _ c.loop-visit.invariant.place_ok
 
 pub returns-in_err-check_moves-clause-fault : goal.returns-in_err-check_moves-clause-fault
 returns-in_err-check_moves-clause-fault c =

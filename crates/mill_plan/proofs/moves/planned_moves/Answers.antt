@@ -4,12 +4,12 @@ use Rattle.mill_job.specs.Columns.{home}
 use Rattle.mill_paths.specs.Safety.{GoSafely}
 use Rattle.mill_plan.specs.Plans.{IsPlanFault}
 use Rattle.mill_plan.specs.inner.Steps.{IsRound, IsRoundFault}
-use Rattle.mill_plan.proofs.Planning.{finish_told, plan_goes, rough_told, round_told}
+use Rattle.mill_plan.proofs.Planning.{finish_told, plan_goes, plan_if_made, rough_told, round_told}
 use Rattle.mill_plan.proofs.moves.planned_moves.Goals as goal
 
 pub returns-in_err-rough-clause-fault : goal.returns-in_err-rough-clause-fault
 returns-in_err-rough-clause-fault g c =
-    let p = err_from_is_err_and c.from_residual-in_err-rough.result c.from_residual-in_err-rough.ensures.1 in
+    let p = err_from_is_err_and c.from_residual.result c.from_residual.ensures.1 in
     rw (p.1, p.2)
     (rough_told c.args.job.now c.args.part.now c.rough_visits.result c.in_err-rough.field-0.0 c.in_err-rough.was c.requires.nodes c.rough_visits.ensures.nodes c.rough_visits.ensures.visits)
 
@@ -18,6 +18,12 @@ returns-in_err-finish-clause-fault g c =
     let p = err_from_is_err_and c.from_residual-in_err-finish.result c.from_residual-in_err-finish.ensures.1 in
     rw (p.1, p.2)
     (finish_told c.args.job.now c.args.part.now c.finish_visits.result c.in_err-finish.field-0.0 c.in_err-finish.was c.requires.nodes c.finish_visits.ensures.nodes c.finish_visits.ensures.visits)
+
+pub returns-clause-plan : goal.returns-clause-plan
+returns-clause-plan g c =
+    let made = rw (c.deref.ensures.value, c.deref-2.ensures.value) at c.round_of.ensures.round in
+    plan_if_made c.args.job.now c.args.part.now c.in_ok-rough.rough.items c.in_ok-finish.finish.items c.requires.nodes c.in_ok-rough.ensures.list c.in_ok-finish.ensures.list
+    c.round_of.result made c.round_of.ensures.few
 
 pub returns-clause-safe : goal.returns-clause-safe
 returns-clause-safe g c =
