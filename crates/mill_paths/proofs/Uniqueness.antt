@@ -1,15 +1,12 @@
 -- A job and a part settle the heights, the visits, the links and so the moves of their plan.
-use Rattle.std.specs.Prelude.{◌≡◌, Bool, true, false, if◌then◌else◌, ℤ, pos, ◌-ℤ◌, ◌*ℤ◌, ◌<ℤ◌, ◌≤ℤ◌, int_lt, List, [], ◌∷◌, ◌++◌, map}
-use Rattle.std.specs.List.{AllZip, flat_map, range_with_len}
+use Rattle.std.specs.Prelude.{◌≡◌, Bool, true, false, if◌then◌else◌, ℤ, pos, ◌-ℤ◌, ◌*ℤ◌, ◌<ℤ◌, int_lt, List, [], ◌∷◌, ◌++◌, map}
+use Rattle.std.specs.List.{flat_map, range_with_len}
 use Rattle.std.proofs.Common.{inl, inr, refl, sym, ap, ◌∙◌, subst, arith}
 use Rattle.std.proofs.lemmas.Int.{ints}
-use Rattle.mill_base.specs.declared.cutter.Cutter.{Cutter}
-use Rattle.mill_base.specs.declared.lattice.Lattice.{Lattice}
 use Rattle.mill_base.specs.declared.motion.Move.{Move}
 use Rattle.mill_base.specs.declared.points.Pt3.{Pt3}
 use Rattle.mill_base.specs.declared.points.Tri.{Tri}
-use Rattle.mill_drop.specs.Drops.{IsDropHeight}
-use Rattle.mill_drop.specs.Maps.{AreDropHeights, IsHeightAt, nodes_of}
+use Rattle.mill_drop.proofs.Uniqueness.{one_map}
 use Rattle.mill_job.specs.Columns.{home}
 use Rattle.mill_job.specs.declared.job.Job.{Job}
 use Rattle.mill_paths.specs.Lattices.{finish_lattice, rough_lattice}
@@ -18,45 +15,6 @@ use Rattle.mill_paths.specs.Tours.{AreLinks, IsTour, last_place}
 use Rattle.mill_paths.specs.Unique.{OnePlan}
 use Rattle.mill_paths.specs.Visits.{AreFinishVisits, AreRoughVisits, finish_visits_of, level_count, rough_visits_of, rough_visits_on}
 use Rattle.mill_paths.specs.declared.visit.Visit.{Visit}
-
-level : (z : ℤ) → z ≤ℤ z
-level z = omega (arith, ints)
-
-not_under : (z w : ℤ) → ¬ (z <ℤ w) → w ≤ℤ z
-not_under z w h = by (int_lt z w) refl
-  where
-    under : int_lt z w ≡ true → z <ℤ w
-    under e = omega (e, arith, ints)
-
-    by : (t : Bool) → int_lt z w ≡ t → w ≤ℤ z
-    by true e = absurd (h (under e))
-    by false e = omega (e, arith, ints)
-
-same_height : (z w : ℤ) → ¬ (z <ℤ w) → ¬ (w <ℤ z) → z ≡ w
-same_height z w h k = equal (not_under z w h) (not_under w z k)
-  where
-    equal : w ≤ℤ z → z ≤ℤ w → z ≡ w
-    equal p q = omega (p, q, arith, ints)
-
--- each of two drop heights is the least
-pub one_height : (cutter : Cutter) (part : List Tri) (x y floor z w : ℤ) → IsDropHeight cutter part x y floor z → IsDropHeight cutter part x y floor w → z ≡ w
-one_height cutter part x y floor z w h g =
-    same_height z w (λ low. h.free z (level z) (g.least z h.kept low)) (λ low. g.free w (level w) (h.least w g.kept low))
-
--- lists that each item of another settles place by place
-one_list : {A B : Type 0} (R : A → B → Type 0) → ((x : A) (y z : B) → R x y → R x z → y ≡ z) → (xs : List A) (ys zs : List B)
-    → AllZip R xs ys → AllZip R xs zs → ys ≡ zs
-one_list R one [] [] [] h g = refl
-one_list R one [] [] (z ∷ zs) h g = absurd g
-one_list R one [] (y ∷ ys) zs h g = absurd h
-one_list R one (x ∷ xs) [] zs h g = absurd h
-one_list R one (x ∷ xs) (y ∷ ys) [] h g = absurd g
-one_list R one (x ∷ xs) (y ∷ ys) (z ∷ zs) h g = ap (λ w. w ∷ ys) (one x y z h.0 g.0) ∙ ap (λ ws. z ∷ ws) (one_list R one xs ys zs h.1 g.1)
-
-pub one_map : (cutter : Cutter) (part : List Tri) (floor : ℤ) (lattice : Lattice) (a b : List ℤ) → AreDropHeights cutter part floor lattice a
-    → AreDropHeights cutter part floor lattice b → a ≡ b
-one_map cutter part floor lattice a b h g =
-    one_list (IsHeightAt cutter part floor) (λ node z w p q. one_height cutter part node.0 node.1 floor z w p q) (nodes_of lattice) a b h g
 
 -- without a layer there is no level, and no roughing visit
 none_rough : (job : Job) (heights : List ℤ) → int_lt (pos 0) job.layer ≡ false → rough_visits_of job heights ≡ []
