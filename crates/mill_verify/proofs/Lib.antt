@@ -14,3 +14,4 @@ mod Scanning
 mod Striping
 mod Limits
 mod Repeats
+pub mod Named

@@ -14,10 +14,10 @@ use Rattle.mill_job.specs.Columns.{IsColumn}
 use Rattle.mill_dexel.specs.Tops.{top_point}
 use Rattle.mill_verify.specs.Tests.{ClearsStock, GoodBefore}
 use Rattle.mill_dexel.specs.Turns.{move_at}
-use Rattle.mill_verify.specs.Verdicts.{FailsStock, StopsMove, IsRejection}
+use Rattle.mill_verify.specs.Verdicts.{FailsStock, IsRejection}
 use Rattle.mill_dexel.specs.Rows.{RowState}
 use Rattle.mill_verify.specs.inner.Stock.{IsStock}
-use Rattle.mill_verify.specs.inner.Firsts.{ClearsStockThrough, IsFirstStop, IsLimit}
+use Rattle.mill_verify.specs.inner.Firsts.{ClearsStockThrough, IsFirstStop, IsLimit, StopsAt}
 use Rattle.mill_verify.specs.declared.verdict.Reason.{Reason}
 use Rattle.mill_verify.specs.declared.limit.Limit.{Limit}
 
@@ -57,7 +57,7 @@ module _ (job : Job) (part : List Tri) (moves : List Move) (limit : Limit) (ok :
         fails = at_prefix (λ (m : Move) (ms : List Move). FailsAt job.cutter m (point_tri (top_point job ms j i)) leaf) moves limit.passed k h s.fails;
       }
 
-  pub stopped_stock : (k j i : ℕ) (leaf : Leaf) → IsFirstStop job (take limit.passed moves) k j i leaf → StopsMove job moves k j i leaf
+  pub stopped_stock : (k j i : ℕ) (leaf : Leaf) → IsFirstStop job (take limit.passed moves) k j i leaf → StopsAt job moves k j i leaf
   stopped_stock k j i leaf s =
       at_prefix (λ (m : Move) (ms : List Move). Blocks job.cutter (span_of m leaf.d leaf.k) (point_tri (top_point job ms j i))) moves limit.passed k (stop_there k s.there) s.blocked
 

@@ -5,7 +5,7 @@ use Rattle.std.proofs.lemmas.List.{get_or_default}
 use Rattle.mill_base.specs.declared.motion.Move.{Move}
 use Rattle.mill_dexel.specs.Turns.{move_at}
 
-move_read : (moves : List Move) (k : ℕ) (d : Move) → k < length moves → slice_index_or moves k d ≡ move_at moves k
+pub move_read : (moves : List Move) (k : ℕ) (d : Move) → k < length moves → slice_index_or moves k d ≡ move_at moves k
 move_read moves k d h = get_or_default moves k d _ h
 
 -- a fact about the move that was read

@@ -17,9 +17,8 @@ use Rattle.mill_dexel.specs.Turns.{move_at, tops_after, row_before, IsRunOn, Tur
 use Rattle.mill_dexel.specs.declared.fail.RowFail.{RowFail}
 use Rattle.mill_dexel.proofs.RowLaws.{row_after-at, row_after_none, row_after_more}
 use Rattle.mill_verify.specs.Tests.{PassesColumn}
-use Rattle.mill_verify.specs.Verdicts.{StopsMove}
 use Rattle.mill_verify.specs.inner.Stock.{IsRow, IsStock, uncut_row, AreTurned}
-use Rattle.mill_verify.specs.inner.Firsts.{ClearsStockThrough}
+use Rattle.mill_verify.specs.inner.Firsts.{ClearsStockThrough, StopsAt}
 
 -- move by move, the tops after some moves become those after more
 tops_from : (job : Job) (j : ℕ) (before ms : List Move) → tops_after job j ms (row_after job j before) ≡ row_after job j (before ++ ms)
@@ -52,7 +51,7 @@ pub record IsRowStop (job : Job) (moves : List Move) (k j i : ℕ) (leaf : Leaf)
   pub column : i < column_count job
   pub before : (e : ℕ) → e < i → PassesColumn job moves k j e
   pub fails : FailsAt job.cutter (move_at moves k) (point_tri (top_point job (take k moves) j i)) leaf
-  pub blocked : StopsMove job moves k j i leaf
+  pub blocked : StopsAt job moves k j i leaf
 
 -- the moves that had their turn in a row passed test (iii) there
 pub row_passes : {job : Job} {moves : List Move} {j : ℕ} {row : RowState} (k : ℕ) → IsRunOn job moves (uncut_row job j) row → k < row.done → RowClears job moves k j

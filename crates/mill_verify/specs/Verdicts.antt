@@ -1,9 +1,11 @@
 -- The verdict: the first failing test, or that there is none.
-use Rattle.std.specs.Prelude.{◌≡◌, ℕ, ◌<◌, ◌*◌, ℤ, ◌-ℤ◌, ◌≤ℤ◌, List, length, take}
+use Rattle.std.specs.Prelude.{◌≡◌, ℕ, ◌<◌, ◌≤◌, ◌*◌, ℤ, ◌-ℤ◌, ◌≤ℤ◌, List, length, take}
 use Rattle.mill_base.specs.declared.points.Tri.{Tri}
 use Rattle.mill_base.specs.declared.motion.Move.{Move}
 use Rattle.mill_base.specs.declared.motion.Kind.TheVariants.{Rapid}
-use Rattle.mill_sweep.specs.Leaves.{span_of}
+use Rattle.mill_base.specs.declared.cutter.Cutter.{Cutter}
+use Rattle.mill_base.specs.declared.limits.TheConstants.{MAX_LAST_REACH}
+use Rattle.mill_sweep.specs.Leaves.{reach_of, span_of}
 use Rattle.mill_sweep.specs.Halving.{FailsAt, Blocks}
 use Rattle.mill_sweep.specs.declared.leaf.Leaf.{Leaf}
 use Rattle.mill_base.specs.Points.{point_tri}
@@ -86,24 +88,19 @@ abbrev pub IsVerdict : Job → List Tri → List Move → Verdict → Type 0
 IsVerdict job part moves (Accept count columns left) = Accepts job part moves count columns left
 IsVerdict job part moves (Reject reason) = IsRejection job part moves reason
 
--- triangle t blocks this leaf of move k: it comes over the leaf's lower end, and some point of it is strictly inside the leaf's outer cutter
+-- a leaf of a move is one of the last, with a reach of at most 2, and a triangle blocks it: it comes over the leaf's lower end, and some point of it is
+-- strictly inside the leaf's outer cutter
+pub record BlocksLeaf (cutter : Cutter) (move : Move) (leaf : Leaf) (tri : Tri) : Type 0 where
+  pub last : reach_of move leaf.d leaf.k ≤ MAX_LAST_REACH
+  pub blocks : Blocks cutter (span_of move leaf.d leaf.k) tri
+
+-- triangle t blocks this leaf of move k
 abbrev pub BlocksMove : Job → List Tri → List Move → ℕ → ℕ → Leaf → Type 0
-BlocksMove job part moves k t leaf = Blocks job.cutter (span_of (move_at moves k) leaf.d leaf.k) (tri_at part t)
+BlocksMove job part moves k t leaf = BlocksLeaf job.cutter (move_at moves k) leaf (tri_at part t)
 
 -- the point at the top of column (j, i) before move k blocks this leaf of the move
 abbrev pub StopsMove : Job → List Move → ℕ → ℕ → ℕ → Leaf → Type 0
-StopsMove job moves k j i leaf = Blocks job.cutter (span_of (move_at moves k) leaf.d leaf.k) (point_tri (top_point job (take k moves) j i))
-
--- a rejection by test (ii) or (iii) names a leaf that is blocked
-abbrev pub ShowsBlock : Job → List Tri → List Move → Reason → Type 0
-ShowsBlock job part moves (Floor k) = Unit {0}
-ShowsBlock job part moves (Gouge k t leaf) = BlocksMove job part moves k t leaf
-ShowsBlock job part moves (RapidCut k j i leaf) = StopsMove job moves k j i leaf
-ShowsBlock job part moves (Left j i top) = Unit {0}
-
-abbrev pub ShowsBlocks : Job → List Tri → List Move → Verdict → Type 0
-ShowsBlocks job part moves (Accept count columns left) = Unit {0}
-ShowsBlocks job part moves (Reject reason) = ShowsBlock job part moves reason
+StopsMove job moves k j i leaf = BlocksLeaf job.cutter (move_at moves k) leaf (point_tri (top_point job (take k moves) j i))
 
 -- a job, a part and a list of moves have at most one verdict
 abbrev pub OneVerdict : Type 0

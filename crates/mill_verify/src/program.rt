@@ -8,10 +8,10 @@ ghost use Rattle.mill_job.specs.Columns.{home};
 ghost use Rattle.mill_job.specs.Jobs.{IsJob};
 ghost use Rattle.mill_sweep.specs.declared.leaf.Leaf.{Leaf};
 ghost use Rattle.mill_verify.specs.Claims.{CutsSafely};
-ghost use Rattle.mill_verify.specs.inner.Firsts.{IsLimit};
+ghost use Rattle.mill_verify.specs.inner.Firsts.{IsLimit, ShowsBlocks};
 ghost use Rattle.mill_verify.specs.inner.Stock.{AreTurned, IsStock};
 ghost use Rattle.mill_verify.specs.Tests.{GoodBefore};
-ghost use Rattle.mill_verify.specs.Verdicts.{BlocksMove, StopsMove, IsVerdict, ShowsBlocks};
+ghost use Rattle.mill_verify.specs.Verdicts.{BlocksMove, StopsMove, IsVerdict};
 
 use crate::left::stock_left;
 use crate::limit::{Limit, part_limit};
@@ -23,6 +23,7 @@ use mill_cells::Cells;
 use mill_dexel::Row;
 use mill_job::Job;
 use mill_part::{Part, SortedPart};
+use mill_sweep::failing_is_blocked;
 use std::alloc::Global;
 use std::thread::Threads;
 
@@ -33,8 +34,8 @@ use std::thread::Threads;
 /// column of the stock that the moves before it left; then the move cuts. After the last move, (iv)
 /// every column stands at most the allowance over what covers it. An accepted program cuts safely, at
 /// every fraction of every move. A rejection by (ii) or (iii) names a leaf whose outer cutter, which
-/// holds the cutter at each moment of the leaf, has some point of the triangle, or the column's top,
-/// strictly inside.
+/// holds the cutter at each moment of the leaf and is wider by at most 0.02 mm, has some point of the
+/// triangle, or the column's top, strictly inside.
 ///
 /// The work is handed to `workers` threads, from 1 to 64; the verdict doesn't depend on their number.
 /// Each test looks only at the moves before the first that fails the tests before it.
@@ -103,6 +104,8 @@ pub fn verify_with_cells<R: Threads + Sync>(
         → result ≡ Ok (Verdict.Reject (Reason.Rapid number row col leaf))
         → StopsMove job.now moves.now number row col leaf }
 {
+    // A law without code: a leaf that fails is one of the last of its move.
+    failing_is_blocked();
     let limit = part_limit(rt, job, part, cells, moves, workers);
     let rows = turned_rows(rt, alloc, job, &moves[..limit.passed], workers)?;
     Ok(verdict_of(rt, job, part, cells, moves, limit, &rows, workers))

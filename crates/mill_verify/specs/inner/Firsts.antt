@@ -6,21 +6,41 @@ use Rattle.mill_base.specs.declared.motion.Move.{Move}
 use Rattle.mill_base.specs.declared.motion.Kind.TheVariants.{Rapid}
 use Rattle.mill_base.specs.Points.{point_tri}
 use Rattle.mill_base.specs.Covers.{Covered, IsHighestCovered}
-use Rattle.mill_sweep.specs.Halving.{FailsAt}
+use Rattle.mill_sweep.specs.Halving.{Blocks, FailsAt}
+use Rattle.mill_sweep.specs.Leaves.{span_of}
 use Rattle.mill_sweep.specs.declared.leaf.Leaf.{Leaf}
 use Rattle.mill_job.specs.declared.job.Job.{Job}
 use Rattle.mill_job.specs.Columns.{IsColumn, IsBefore, column_x, column_y, column_count}
 use Rattle.mill_dexel.specs.Tops.{top_after, top_point}
 use Rattle.mill_dexel.specs.declared.fail.RowFail.{RowFail}
-use Rattle.mill_gouge.specs.Gouges.{IsFirstGouge}
 use Rattle.mill_verify.specs.Tests.{ClearsPart, PassesColumn, ClearsStock, IsOverFloor, IsCut, GoodBefore}
 use Rattle.mill_dexel.specs.Turns.{move_at}
-use Rattle.mill_verify.specs.Verdicts.{IsLeftOver, IsMostLeft, IsRejection, StopsMove, ShowsBlock}
+use Rattle.mill_gouge.specs.Gouges.{IsFirstGouge, tri_at}
+use Rattle.mill_verify.specs.Verdicts.{IsLeftOver, IsMostLeft, IsRejection}
 use Rattle.mill_verify.specs.declared.limit.Limit.{Limit}
+use Rattle.mill_verify.specs.declared.verdict.Verdict.{Verdict}
+use Rattle.mill_verify.specs.declared.verdict.Verdict.TheVariants.{Accept, Reject}
+use Rattle.mill_verify.specs.declared.verdict.Reason.{Reason}
+use Rattle.mill_verify.specs.declared.verdict.Reason.TheVariants.{Floor, Gouge, Rapid as RapidCut, Left}
 use Rattle.mill_verify.specs.declared.gouge.PartFail.{PartFail}
 use Rattle.mill_verify.specs.declared.gouge.Stripes.{Stripes}
 use Rattle.mill_verify.specs.declared.left.Uncut.{Uncut}
 use Rattle.mill_verify.specs.declared.rapid.Stop.{Stop}
+
+-- the point at the top of column (j, i) before move k blocks this leaf of the move
+abbrev pub StopsAt : Job → List Move → ℕ → ℕ → ℕ → Leaf → Type 0
+StopsAt job moves k j i leaf = Blocks job.cutter (span_of (move_at moves k) leaf.d leaf.k) (point_tri (top_point job (take k moves) j i))
+
+-- a rejection by test (ii) or (iii) names a leaf that is blocked
+abbrev pub ShowsBlock : Job → List Tri → List Move → Reason → Type 0
+ShowsBlock job part moves (Floor k) = Unit {0}
+ShowsBlock job part moves (Gouge k t leaf) = Blocks job.cutter (span_of (move_at moves k) leaf.d leaf.k) (tri_at part t)
+ShowsBlock job part moves (RapidCut k j i leaf) = StopsAt job moves k j i leaf
+ShowsBlock job part moves (Left j i top) = Unit {0}
+
+abbrev pub ShowsBlocks : Job → List Tri → List Move → Verdict → Type 0
+ShowsBlocks job part moves (Accept count columns left) = Unit {0}
+ShowsBlocks job part moves (Reject reason) = ShowsBlock job part moves reason
 
 -- the moves from number s to before e clear the part
 abbrev pub ClearsBetween : Job → List Tri → List Move → ℕ → ℕ → Type 0
@@ -101,7 +121,7 @@ pub record IsFirstStop (job : Job) (moves : List Move) (k j i : ℕ) (leaf : Lea
   pub column : IsColumn job j i
   pub first : (a b : ℕ) → IsColumn job a b → IsBefore a b j i → PassesColumn job moves k a b
   pub fails : FailsAt job.cutter (move_at moves k) (point_tri (top_point job (take k moves) j i)) leaf
-  pub blocked : StopsMove job moves k j i leaf
+  pub blocked : StopsAt job moves k j i leaf
 
 -- there is a stop so far, at move k or before it
 abbrev pub IsStoppedBy : ℕ → Option Stop → Type 0
