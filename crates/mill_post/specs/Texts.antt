@@ -8,6 +8,7 @@ use Rattle.mill_decimal.specs.Decimals.{canonical}
 
 -- ---- the line of a move
 
+-- the word for a kind of move
 abbrev pub motion_word : Kind → List ℕ
 motion_word Rapid = codes "G0"
 motion_word Feed = codes "G1"
