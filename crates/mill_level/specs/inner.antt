@@ -1,0 +1,4 @@
+-- What private functions and proofs cite alone: no clause of a public call leads here.
+pub mod Fibers
+pub mod Maps
+pub mod Trails
