@@ -8,6 +8,7 @@ use mill_geom::Axis;
 
 /// Which nodes of a lattice are blocked at a height, and where its crossings are. Lengths are in
 /// units of 0.01 mm.
+#[derive(Drop)]
 pub struct LevelMap {
     pub columns: u32,
     pub rows: u32,
