@@ -18,10 +18,10 @@ mod outline;
 mod square;
 mod trace;
 mod trails;
-mod waterline;
+mod waterlines;
 
 pub use chain::Chain;
 pub use edge::Edge;
 pub use fault::LevelFault;
 pub use laws::{joins_are_apart, one_waterline};
-pub use waterline::waterline;
+pub use waterlines::waterline;
