@@ -18,7 +18,7 @@ pub fn chains_at(
     z: i32,
 ) -> Result<Vec<Chain>, WantOfMemory>
     requires sized { IsSized map.now }
-    requires some { All IsTrail trails.now }
+    requires trails_ok { All (IsTrail map.now) trails.now }
     ensures { IfOk result (λ chains. map_list seen chains.items ≡ map_list (λ trail. outline z (chain_of map.now trail)) trails.now) }
 {
     let mut chains = Vec::new(alloc);
@@ -31,7 +31,7 @@ pub fn chains_at(
 /// A chain with its points, at height z.
 fn chain_at(alloc: Global, map: &LevelMap, trail: &Trail, z: i32) -> Result<Chain, WantOfMemory>
     requires sized { IsSized map.now }
-    requires some { IsTrail trail.now }
+    requires trail_ok { IsTrail map.now trail.now }
     ensures { IfOk result (λ chain. seen chain ≡ outline z (chain_of map.now trail.now)) }
 {
     let mut points = Vec::new(alloc);
