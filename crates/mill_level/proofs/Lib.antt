@@ -1,0 +1,12 @@
+pub mod Apart
+pub mod Beside
+pub mod CrossingOrder
+pub mod Edges
+pub mod Found
+pub mod Members
+pub mod OneWaterline
+pub mod Points
+pub mod Ranked
+pub mod SameChain
+pub mod SameGrid
+pub mod SameList

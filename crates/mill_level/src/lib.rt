@@ -17,6 +17,8 @@ mod map;
 mod outline;
 mod square;
 mod trace;
+#[cfg(test)]
+mod tests;
 mod trails;
 mod waterlines;
 

@@ -1,9 +1,10 @@
 //! How crossings are joined: from one to the next, and back.
-ghost use Rattle.std.specs.Prelude.{◌≡◌, true, MatchOption};
+ghost use Rattle.std.specs.Prelude.{◌≡◌, ◌+◌, ◌<◌, true, MatchOption};
 ghost use Rattle.mill_level.specs.declared.edge.Edge.{Edge};
-ghost use Rattle.mill_level.specs.Grids.{is_crossing};
+ghost use Rattle.mill_level.specs.Grids.{has_edge, is_crossing};
 ghost use Rattle.mill_level.specs.Joins.{IsJoin};
 ghost use Rattle.mill_level.specs.inner.Maps.{IsSized, grid_of};
+ghost use Rattle.mill_level.specs.inner.Squares.{IsAtBorder, IsBeside, first_of_three, next_of, prior_of, square_at};
 
 use crate::edge::Edge;
 use crate::grid::LevelMap;
@@ -55,10 +56,18 @@ impl LevelMap {
     /// One of the two squares beside an edge, if the lattice has it, and which of its sides the edge
     /// is: the one that is ahead where the edge's lower node is on the left hand, or the one that is
     /// ahead where it is on the right hand.
-    fn square_by(&self, edge: Edge, lower_on_left: bool) -> Option<(Square, Side)> {
+    fn square_by(&self, edge: Edge, lower_on_left: bool) -> Option<(Square, Side)>
+        requires sized { IsSized self.now }
+        requires edge_ok { has_edge (grid_of self.now) edge ≡ true }
+        ensures { MatchOption result (IsAtBorder (grid_of self.now) edge lower_on_left)
+            (λ beside. IsBeside (grid_of self.now) edge lower_on_left beside.0 beside.1) }
+    {
         let Edge { column, row, axis } = edge;
         match (axis, lower_on_left) {
-            (Axis::X, true) if row + 1 < self.rows => Some((self.square(column, row), Side::Bottom)),
+            (Axis::X, true) if row + 1 < self.rows => Some((
+                self.square(column, row),
+                Side::Bottom,
+            )),
             (Axis::X, false) if row > 0 => Some((self.square(column, row - 1), Side::Top)),
             (Axis::Y, true) if column > 0 => Some((self.square(column - 1, row), Side::Right)),
             (Axis::Y, false) if column + 1 < self.columns => {
@@ -69,7 +78,12 @@ impl LevelMap {
     }
 
     /// The square whose lower left node is in this column and row.
-    fn square(&self, column: u32, row: u32) -> Square {
+    fn square(&self, column: u32, row: u32) -> Square
+        requires sized { IsSized self.now }
+        requires column_ok { column + 1 < self.now.columns }
+        requires row_ok { row + 1 < self.now.rows }
+        ensures { result ≡ square_at (grid_of self.now) column row }
+    {
         Square {
             bottom: Edge {
                 column,
@@ -101,23 +115,75 @@ impl LevelMap {
 
 impl Square {
     /// The side to which the join goes that comes in at this one: clockwise, the first that crosses.
-    fn to(self, side: Side) -> Edge {
+    fn to(self, side: Side) -> Edge
+        ensures { result ≡ next_of self side }
+    {
         match side {
-            Side::Bottom => first_crossing(self.high_left, self.high_right, self.left, self.top, self.right),
-            Side::Right => first_crossing(self.low_left, self.high_left, self.bottom, self.left, self.top),
-            Side::Top => first_crossing(self.low_right, self.low_left, self.right, self.bottom, self.left),
-            Side::Left => first_crossing(self.high_right, self.low_right, self.top, self.right, self.bottom),
+            Side::Bottom => first_crossing(
+                self.high_left,
+                self.high_right,
+                self.left,
+                self.top,
+                self.right,
+            ),
+            Side::Right => first_crossing(
+                self.low_left,
+                self.high_left,
+                self.bottom,
+                self.left,
+                self.top,
+            ),
+            Side::Top => first_crossing(
+                self.low_right,
+                self.low_left,
+                self.right,
+                self.bottom,
+                self.left,
+            ),
+            Side::Left => first_crossing(
+                self.high_right,
+                self.low_right,
+                self.top,
+                self.right,
+                self.bottom,
+            ),
         }
     }
 
     /// The side from which the join comes that goes out at this one: counterclockwise, the first
     /// that crosses.
-    fn from(self, side: Side) -> Edge {
+    fn from(self, side: Side) -> Edge
+        ensures { result ≡ prior_of self side }
+    {
         match side {
-            Side::Bottom => first_crossing(self.high_right, self.high_left, self.right, self.top, self.left),
-            Side::Right => first_crossing(self.high_left, self.low_left, self.top, self.left, self.bottom),
-            Side::Top => first_crossing(self.low_left, self.low_right, self.left, self.bottom, self.right),
-            Side::Left => first_crossing(self.low_right, self.high_right, self.bottom, self.right, self.top),
+            Side::Bottom => first_crossing(
+                self.high_right,
+                self.high_left,
+                self.right,
+                self.top,
+                self.left,
+            ),
+            Side::Right => first_crossing(
+                self.high_left,
+                self.low_left,
+                self.top,
+                self.left,
+                self.bottom,
+            ),
+            Side::Top => first_crossing(
+                self.low_left,
+                self.low_right,
+                self.left,
+                self.bottom,
+                self.right,
+            ),
+            Side::Left => first_crossing(
+                self.low_right,
+                self.high_right,
+                self.bottom,
+                self.right,
+                self.top,
+            ),
         }
     }
 }
@@ -125,7 +191,9 @@ impl Square {
 /// Of three sides in order round a square, the first behind which the corner is free, where the
 /// corner before them is blocked: behind the first is the first corner, and so on; the last one
 /// crosses where none before it does.
-fn first_crossing(first: bool, second: bool, near: Edge, facing: Edge, far: Edge) -> Edge {
+fn first_crossing(first: bool, second: bool, near: Edge, facing: Edge, far: Edge) -> Edge
+    ensures { result ≡ first_of_three first second near facing far }
+{
     if !first {
         near
     } else if !second {
