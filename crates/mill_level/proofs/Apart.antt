@@ -1,9 +1,8 @@
 -- No two joins go from one crossing, and no two come to one.
-use Rattle.std.proofs.Common.{◌≡◌, ℕ, ◌+◌, ◌<◌, ◌⊎◌, inl, inr, Bool, true, false, not, if◌then◌else◌, List, [], ◌∷◌, ◌++◌, length, refl, sym, ap, ◌∙◌, arith}
+use Rattle.std.proofs.Common.{◌≡◌, ℕ, ◌+◌, ◌<◌, ◌⊎◌, inl, inr, Bool, true, false, not, if◌then◌else◌, List, [], ◌∷◌, ◌++◌, refl, sym, ap, ◌∙◌, arith}
 use Rattle.std.specs.Prelude.{Contains}
 use Rattle.std.proofs.lemmas.Bool.{and_from, lt-ltb, true≢false, false≢true}
-use Rattle.std.proofs.lemmas.List.Elements.{Contains-append_cases, Contains-push_cases}
-use Rattle.mill_geom.specs.declared.touch.Axis.TheVariants.{X, Y}
+use Rattle.std.proofs.lemmas.List.Elements.{Contains-append_cases, Contains-append_left, Contains-append_right, Contains-push_cases}
 use Rattle.mill_level.specs.declared.edge.Edge.{Edge}
 use Rattle.mill_level.specs.declared.square.Side.{Side}
 use Rattle.mill_level.specs.declared.square.Side.TheVariants.{Bottom, Right, Top, Left}
@@ -57,6 +56,15 @@ goes_at a b before side next last true false third false h = inl (record { begin
 goes_at a b before side next last true true false false h = inr (inl (record { begins_blocked = refl; ends_free = refl; from = h.from; to = h.to }))
 goes_at a b before side next last true true true false h = inr (inr (record { begins_blocked = refl; ends_free = refl; from = h.from; to = h.to }))
 
+back_at : (a b before side next last : Edge) (first second third fourth : Bool) → Goes a b side first second (first_of_three fourth third before last next)
+    → Comes a b before fourth first (first_of_three second third side next last)
+    ⊎ (Comes a b last third fourth (first_of_three first second before side next) ⊎ Comes a b next second third (first_of_three fourth first last before side))
+back_at a b before side next last false second third fourth h = absurd (false≢true h.begins_blocked)
+back_at a b before side next last true true third fourth h = absurd (true≢false h.ends_free)
+back_at a b before side next last true false third false h = inl (record { begins_free = refl; ends_blocked = refl; to = h.to; from = h.from })
+back_at a b before side next last true false false true h = inr (inl (record { begins_free = refl; ends_blocked = refl; to = h.to; from = h.from }))
+back_at a b before side next last true false true true h = inr (inr (record { begins_free = refl; ends_blocked = refl; to = h.to; from = h.from }))
+
 -- a join of a square, seen from the side that it comes to, and from the side that it goes from
 pub record ComesTo (q : Square) (a b : Edge) : Type 0 where
   pub side : Side
@@ -65,6 +73,13 @@ pub record ComesTo (q : Square) (a b : Edge) : Type 0 where
 pub record GoesFrom (q : Square) (a b : Edge) : Type 0 where
   pub side : Side
   pub is : Goes a b (side_of q side) (is_begin_blocked q side) (is_end_blocked q side) (next_of q side)
+
+-- the joins of a square that come to a side
+abbrev joins_to : Square → Side → List Join
+joins_to q Left = join_at q.left q.low_left q.bottom q.low_right q.right q.high_right q.top q.high_left
+joins_to q Bottom = join_at q.bottom q.low_right q.right q.high_right q.top q.high_left q.left q.low_left
+joins_to q Right = join_at q.right q.high_right q.top q.high_left q.left q.low_left q.bottom q.low_right
+joins_to q Top = join_at q.top q.high_left q.left q.low_left q.bottom q.low_right q.right q.high_right
 
 of_four : (ws xs ys zs : List Join) (x : Join) → Contains (ws ++ xs ++ ys ++ zs) x → Contains ws x ⊎ (Contains xs x ⊎ (Contains ys x ⊎ Contains zs x))
 of_four ws xs ys zs x h = elim (Contains-append_cases (ws ++ xs ++ ys) zs x h) [
@@ -75,18 +90,41 @@ of_four ws xs ys zs x h = elim (Contains-append_cases (ws ++ xs ++ ys) zs x h) [
   ]
 ]
 
+to_four : (ws xs ys zs : List Join) (x : Join) → Contains ws x ⊎ (Contains xs x ⊎ (Contains ys x ⊎ Contains zs x)) → Contains (ws ++ xs ++ ys ++ zs) x
+to_four ws xs ys zs x (inl w) = Contains-append_left (ws ++ xs ++ ys) zs x (Contains-append_left (ws ++ xs) ys x (Contains-append_left ws xs x w))
+to_four ws xs ys zs x (inr (inl w)) = Contains-append_left (ws ++ xs ++ ys) zs x (Contains-append_left (ws ++ xs) ys x (Contains-append_right ws xs x w))
+to_four ws xs ys zs x (inr (inr (inl w))) = Contains-append_left (ws ++ xs ++ ys) zs x (Contains-append_right (ws ++ xs) ys x w)
+to_four ws xs ys zs x (inr (inr (inr w))) = Contains-append_right (ws ++ xs ++ ys) zs x w
+
 comes_to : (q : Square) (a b : Edge) → Contains (joins_of q) (join a b) → ComesTo q a b
-comes_to q a b h =
-    elim (of_four
-    (join_at q.left q.low_left q.bottom q.low_right q.right q.high_right q.top q.high_left)
-    (join_at q.bottom q.low_right q.right q.high_right q.top q.high_left q.left q.low_left)
-    (join_at q.right q.high_right q.top q.high_left q.left q.low_left q.bottom q.low_right)
-    (join_at q.top q.high_left q.left q.low_left q.bottom q.low_right q.right q.high_right) (join a b) h) [
-      | inl l ↦ record { side = Left; is = comes_at a b q.left q.bottom q.right q.top q.low_left q.low_right q.high_right q.high_left l }
-      | inr (inl m) ↦ record { side = Bottom; is = comes_at a b q.bottom q.right q.top q.left q.low_right q.high_right q.high_left q.low_left m }
-      | inr (inr (inl r)) ↦ record { side = Right; is = comes_at a b q.right q.top q.left q.bottom q.high_right q.high_left q.low_left q.low_right r }
-      | inr (inr (inr t)) ↦ record { side = Top; is = comes_at a b q.top q.left q.bottom q.right q.high_left q.low_left q.low_right q.high_right t }
-    ]
+comes_to q a b h = elim (of_four (joins_to q Left) (joins_to q Bottom) (joins_to q Right) (joins_to q Top) (join a b) h) [
+  | inl l ↦ record { side = Left; is = comes_at a b q.left q.bottom q.right q.top q.low_left q.low_right q.high_right q.high_left l }
+  | inr (inl m) ↦ record { side = Bottom; is = comes_at a b q.bottom q.right q.top q.left q.low_right q.high_right q.high_left q.low_left m }
+  | inr (inr (inl r)) ↦ record { side = Right; is = comes_at a b q.right q.top q.left q.bottom q.high_right q.high_left q.low_left q.low_right r }
+  | inr (inr (inr t)) ↦ record { side = Top; is = comes_at a b q.top q.left q.bottom q.right q.high_left q.low_left q.low_right q.high_right t }
+]
+
+-- and the other way round
+the_only : (a b c d : Edge) → a ≡ c → b ≡ d → Contains (join c d ∷ []) (join a b)
+the_only a b c d p q = (0, omega arith, cc)
+
+joined_at : (a b before side next last : Edge) (first second third fourth : Bool) → Comes a b before fourth first (first_of_three second third side next last)
+    → Contains (join_at before first side second next third last fourth) (join a b)
+joined_at a b before side next last false second third fourth h = absurd (false≢true h.ends_blocked)
+joined_at a b before side next last true second third true h = absurd (true≢false h.begins_free)
+joined_at a b before side next last true false third false h = the_only a b side before h.from h.to
+joined_at a b before side next last true true false false h = the_only a b next before h.from h.to
+joined_at a b before side next last true true true false h = the_only a b last before h.from h.to
+
+joined : (q : Square) (a b : Edge) → ComesTo q a b → Contains (joins_of q) (join a b)
+joined q a b h = to_four (joins_to q Left) (joins_to q Bottom) (joins_to q Right) (joins_to q Top) (join a b) (by h.side h.is)
+  where
+    by : (s : Side) → Comes a b (side_of q s) (is_begin_blocked q s) (is_end_blocked q s) (prior_of q s)
+        → Contains (joins_to q Left) (join a b) ⊎ (Contains (joins_to q Bottom) (join a b) ⊎ (Contains (joins_to q Right) (join a b) ⊎ Contains (joins_to q Top) (join a b)))
+    by Left is = inl (joined_at a b q.left q.bottom q.right q.top q.low_left q.low_right q.high_right q.high_left is)
+    by Bottom is = inr (inl (joined_at a b q.bottom q.right q.top q.left q.low_right q.high_right q.high_left q.low_left is))
+    by Right is = inr (inr (inl (joined_at a b q.right q.top q.left q.bottom q.high_right q.high_left q.low_left q.low_right is)))
+    by Top is = inr (inr (inr (joined_at a b q.top q.left q.bottom q.right q.high_left q.low_left q.low_right q.high_right is)))
 
 goes_from : (q : Square) (a b : Edge) (s : Side) → Comes a b (side_of q s) (is_begin_blocked q s) (is_end_blocked q s) (prior_of q s) → GoesFrom q a b
 goes_from q a b Left h = elim (goes_at a b q.left q.bottom q.right q.top q.low_left q.low_right q.high_right q.high_left h) [
@@ -108,6 +146,28 @@ goes_from q a b Top h = elim (goes_at a b q.top q.left q.bottom q.right q.high_l
   | inl g ↦ record { side = Left; is = g }
   | inr (inl g) ↦ record { side = Bottom; is = g }
   | inr (inr g) ↦ record { side = Right; is = g }
+]
+
+back : (q : Square) (a b : Edge) (s : Side) → Goes a b (side_of q s) (is_begin_blocked q s) (is_end_blocked q s) (next_of q s) → ComesTo q a b
+back q a b Bottom h = elim (back_at a b q.left q.bottom q.right q.top q.low_left q.low_right q.high_right q.high_left h) [
+  | inl c ↦ record { side = Left; is = c }
+  | inr (inl c) ↦ record { side = Top; is = c }
+  | inr (inr c) ↦ record { side = Right; is = c }
+]
+back q a b Right h = elim (back_at a b q.bottom q.right q.top q.left q.low_right q.high_right q.high_left q.low_left h) [
+  | inl c ↦ record { side = Bottom; is = c }
+  | inr (inl c) ↦ record { side = Left; is = c }
+  | inr (inr c) ↦ record { side = Top; is = c }
+]
+back q a b Top h = elim (back_at a b q.right q.top q.left q.bottom q.high_right q.high_left q.low_left q.low_right h) [
+  | inl c ↦ record { side = Right; is = c }
+  | inr (inl c) ↦ record { side = Bottom; is = c }
+  | inr (inr c) ↦ record { side = Left; is = c }
+]
+back q a b Left h = elim (back_at a b q.top q.left q.bottom q.right q.high_left q.low_left q.low_right q.high_right h) [
+  | inl c ↦ record { side = Top; is = c }
+  | inr (inl c) ↦ record { side = Right; is = c }
+  | inr (inr c) ↦ record { side = Bottom; is = c }
 ]
 
 -- two sides that are one edge, both upward or both not, are one side of one square
@@ -159,7 +219,7 @@ pub side_crosses : (grid : Grid) (i j : ℕ) (s : Side) (b : Bool) → i + 1 < g
     → is_begin_blocked (square_at grid i j) s ≡ b → is_end_blocked (square_at grid i j) s ≡ not b → is_crossing grid (side_of (square_at grid i j) s) ≡ true
 side_crosses grid i j s b p q h k = and_from _ _ (side_has_edge grid i j s p q) (rw (lower_is grid i j s, upper_is grid i j s, h, k) (choice (is_upward s) b))
 
-lower_at : (grid : Grid) (i j : ℕ) (s : Side) (b : Bool) → is_begin_blocked (square_at grid i j) s ≡ b → is_end_blocked (square_at grid i j) s ≡ not b
+pub lower_at : (grid : Grid) (i j : ℕ) (s : Side) (b : Bool) → is_begin_blocked (square_at grid i j) s ≡ b → is_end_blocked (square_at grid i j) s ≡ not b
     → is_lower_blocked grid (side_of (square_at grid i j) s) ≡ (if is_upward s then b else not b)
 lower_at grid i j s b h k = lower_is grid i j s ∙ rw (h, k) refl
 
@@ -223,6 +283,26 @@ going grid a b h =
       ends = g.is.ends_free;
       to = g.is.to;
     }
+
+pub from_coming : (grid : Grid) (a b : Edge) → Coming grid a b → IsJoin grid a b
+from_coming grid a b h = record {
+  column = h.column;
+  row = h.row;
+  column_ok = h.at.column_ok;
+  row_ok = h.at.row_ok;
+  joined = joined (square_at grid h.column h.row) a b (record { side = h.side; is = record { begins_free = h.begins; ends_blocked = h.ends; to = h.at.same; from = h.from } });
+}
+
+pub from_going : (grid : Grid) (a b : Edge) → Going grid a b → IsJoin grid a b
+from_going grid a b h = record {
+  column = h.column;
+  row = h.row;
+  column_ok = h.at.column_ok;
+  row_ok = h.at.row_ok;
+  joined =
+      joined (square_at grid h.column h.row) a b
+      (back (square_at grid h.column h.row) a b h.side (record { begins_blocked = h.begins; ends_free = h.ends; from = h.at.same; to = h.to }));
+}
 
 pub crosses_from : (grid : Grid) (a b : Edge) → IsJoin grid a b → is_crossing grid a ≡ true
 crosses_from grid a b h =

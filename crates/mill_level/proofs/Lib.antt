@@ -1,8 +1,11 @@
 pub mod Apart
 pub mod Beside
+pub mod Chaining
 pub mod CrossingOrder
 pub mod Edges
 pub mod Found
+pub mod Least
+pub mod Marking
 pub mod Members
 pub mod OneWaterline
 pub mod Points
@@ -10,3 +13,6 @@ pub mod Ranked
 pub mod SameChain
 pub mod SameGrid
 pub mod SameList
+pub mod Steps
+pub mod Tracks
+pub mod Trailing

@@ -3,3 +3,4 @@ pub mod Fibers
 pub mod Maps
 pub mod Squares
 pub mod Trails
+pub mod Ways

@@ -1,10 +1,11 @@
 //! Follows the joins of one chain.
-ghost use Rattle.std.specs.Prelude.{◌≡◌, ◌+◌, true, false, IfOk};
+ghost use Rattle.std.specs.Prelude.{◌≡◌, ◌+◌, ◌*◌, ◌<◌, true, false, [], ◌∷◌, ◌++◌, All, IfOk, length, slice_set};
 ghost use Rattle.mill_level.specs.declared.edge.Edge.{Edge};
 ghost use Rattle.mill_level.specs.Chains.{times_in};
 ghost use Rattle.mill_level.specs.Grids.{has_edge, is_crossing};
-ghost use Rattle.mill_level.specs.inner.Maps.{IsSized, crossing_at, grid_of};
+ghost use Rattle.mill_level.specs.inner.Maps.{IsSized, crossing_at, edge_number, grid_of};
 ghost use Rattle.mill_level.specs.inner.Trails.{AreMarks, IsTrail, chain_of, is_passed, mark, rank_of};
+ghost use Rattle.mill_level.specs.inner.Ways.{IsLeast, MayGoOn, WentBack, WentOn};
 
 use crate::edge::Edge;
 use crate::grid::LevelMap;
@@ -78,17 +79,24 @@ fn go_back(
     start: Edge,
     passed: &mut Vec<bool>,
     edges: &mut Vec<Edge>,
-) -> Result<bool, WantOfMemory> {
+) -> Result<bool, WantOfMemory>
+    requires sized { IsSized map.now }
+    requires start_ok { is_crossing (grid_of map.now) start ≡ true }
+    requires start_new { is_passed map.now passed.old.items start ≡ false }
+    requires marks_ok { AreMarks map.now passed.old.items }
+    requires empty { edges.old.items ≡ [] }
+    ensures { IfOk result (λ closed. WentBack map.now passed.old.items passed.new.items start closed edges.new.items) }
+{
+    pass(map, start, passed, edges)?;
     let mut edge = start;
-    loop {
-        passed[map.number(edge)] = true;
-        edges.push(edge)?;
-        match map.before(edge) {
-            Some(before) if before == start => return Ok(true),
-            Some(before) => edge = before,
-            None => return Ok(false),
+    while let Some(before) = map.before(edge) {
+        if before == start {
+            return Ok(true);
         }
+        pass(map, before, passed, edges)?;
+        edge = before;
     }
+    Ok(false)
 }
 
 /// Adds the crossings after this one along the joins, to the last.
@@ -97,18 +105,44 @@ fn go_on(
     start: Edge,
     passed: &mut Vec<bool>,
     edges: &mut Vec<Edge>,
-) -> Result<(), WantOfMemory> {
+) -> Result<(), WantOfMemory>
+    requires sized { IsSized map.now }
+    requires way { MayGoOn map.now passed.old.items start edges.old.items }
+    ensures { IfOk result (λ _. WentOn map.now passed.old.items passed.new.items edges.old.items edges.new.items) }
+{
     let mut edge = start;
     while let Some(after) = map.after(edge) {
-        passed[map.number(after)] = true;
-        edges.push(after)?;
+        pass(map, after, passed, edges)?;
         edge = after;
     }
     Ok(())
 }
 
+/// Marks an edge as passed, and adds it.
+fn pass(
+    map: &LevelMap,
+    edge: Edge,
+    passed: &mut Vec<bool>,
+    edges: &mut Vec<Edge>,
+) -> Result<(), WantOfMemory>
+    requires sized { IsSized map.now }
+    requires edge_ok { has_edge (grid_of map.now) edge ≡ true }
+    requires size { length passed.old.items ≡ 2 * (map.now.columns * map.now.rows) }
+    ensures marks { passed.new.items ≡ slice_set passed.old.items (edge_number (grid_of map.now) edge) true }
+    ensures edges { IfOk result (λ _. edges.new.items ≡ edges.old.items ++ edge ∷ []) }
+{
+    passed[map.number(edge)] = true;
+    edges.push(edge)?;
+    Ok(())
+}
+
 /// Which one of the crossings is the least.
-fn least_of(map: &LevelMap, edges: &[Edge]) -> usize {
+fn least_of(map: &LevelMap, edges: &[Edge]) -> usize
+    requires sized { IsSized map.now }
+    requires some { 0 < length edges.now }
+    requires edges_ok { All (λ e. has_edge (grid_of map.now) e ≡ true) edges.now }
+    ensures { IsLeast map.now edges.now result }
+{
     let mut least = 0;
     for at in 1..edges.len() {
         if map.rank(edges[at]) < map.rank(edges[least]) {
