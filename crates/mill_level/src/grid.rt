@@ -1,0 +1,110 @@
+//! What is known of a lattice at a height.
+ghost use Rattle.std.specs.Prelude.{◌≡◌, ◌<◌, ◌*◌, true, pos};
+ghost use Rattle.mill_level.specs.Grids.{edge as edge_of, has_edge, is_blocked, is_crossing};
+ghost use Rattle.mill_level.specs.inner.Maps.{IsSized, crossing_at, edge_number, grid_of};
+
+use crate::edge::Edge;
+use mill_geom::Axis;
+
+/// Which nodes of a lattice are blocked at a height, and where its crossings are. Lengths are in
+/// units of 0.01 mm.
+#[derive(Drop)]
+pub struct LevelMap {
+    pub columns: u32,
+    pub rows: u32,
+    /// The positions of the columns in x, and of the rows in y.
+    pub xs: Vec<i32>,
+    pub ys: Vec<i32>,
+    /// Whether each node is blocked, row by row.
+    pub blocked: Vec<bool>,
+    /// Of each edge that crosses, by its number, the coordinate of its crossing along its axis.
+    pub places: Vec<i32>,
+}
+
+impl LevelMap {
+    /// How many numbers edges have.
+    pub fn edge_count(&self) -> u32
+        requires { IsSized self.now }
+        ensures { result ≡ 2 * (self.now.columns * self.now.rows) }
+    {
+        2 * (self.columns * self.rows)
+    }
+
+    /// The number of an edge: first those along X, row by row, then those along Y, column by column.
+    pub fn number(&self, edge: Edge) -> usize
+        requires sized { IsSized self.now }
+        requires edge_ok { has_edge (grid_of self.now) edge ≡ true }
+        ensures value { result ≡ edge_number (grid_of self.now) edge }
+        ensures bound { result < 2 * (self.now.columns * self.now.rows) }
+    {
+        let number = match edge.axis {
+            Axis::X => edge.row * self.columns + edge.column,
+            Axis::Y => self.columns * self.rows + edge.column * self.rows + edge.row,
+        };
+        number as usize
+    }
+
+    /// The edge of a number. At the end of a row or column it may lead out of the lattice.
+    pub fn edge(&self, number: u32) -> Edge
+        requires sized { IsSized self.now }
+        requires number_ok { number < 2 * (self.now.columns * self.now.rows) }
+        ensures number { number ≡ edge_number (grid_of self.now) result }
+        ensures column { result.column < self.now.columns }
+        ensures row { result.row < self.now.rows }
+    {
+        let nodes = self.columns * self.rows;
+        if number < nodes {
+            return Edge {
+                column: number % self.columns,
+                row: number / self.columns,
+                axis: Axis::X,
+            };
+        }
+        Edge {
+            column: (number - nodes) / self.rows,
+            row: (number - nodes) % self.rows,
+            axis: Axis::Y,
+        }
+    }
+
+    /// Whether the node in this column and row is blocked.
+    pub fn is_blocked(&self, column: u32, row: u32) -> bool
+        requires sized { IsSized self.now }
+        requires column_ok { column < self.now.columns }
+        requires row_ok { row < self.now.rows }
+        ensures { result ≡ is_blocked (grid_of self.now) column row }
+    {
+        self.blocked[(row * self.columns + column) as usize]
+    }
+
+    /// Whether one node of the edge is free and one blocked. An edge that leads out of the lattice
+    /// doesn't cross.
+    pub fn is_crossing(&self, edge: Edge) -> bool
+        requires sized { IsSized self.now }
+        requires column_ok { edge.column < self.now.columns }
+        requires row_ok { edge.row < self.now.rows }
+        ensures { result ≡ is_crossing (grid_of self.now) edge }
+    {
+        let (column, row) = match edge.axis {
+            Axis::X => (edge.column + 1, edge.row),
+            Axis::Y => (edge.column, edge.row + 1),
+        };
+        column < self.columns
+            && row < self.rows
+            && self.is_blocked(edge.column, edge.row) != self.is_blocked(column, row)
+    }
+
+    /// Where the crossing of an edge is, in x and y.
+    pub fn place(&self, edge: Edge) -> (i32, i32)
+        requires sized { IsSized self.now }
+        requires edge_ok { has_edge (grid_of self.now) edge ≡ true }
+        ensures x { result.0 ≡ (crossing_at self.now edge).x }
+        ensures y { result.1 ≡ (crossing_at self.now edge).y }
+    {
+        let place = self.places[self.number(edge)];
+        match edge.axis {
+            Axis::X => (place, self.ys[edge.row as usize]),
+            Axis::Y => (self.xs[edge.column as usize], place),
+        }
+    }
+}

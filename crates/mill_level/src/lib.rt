@@ -1,0 +1,29 @@
+//! Waterlines: the loops along which a cutter goes round a part at one height without gouging.
+//!
+//! It stands on the push-cutter (mill_push). `waterline` promises the chains of a lattice's crossings,
+//! exactly: each crossing between a free and a blocked node stands in one of them, once. `specs/Grids`
+//! says which nodes are blocked and which edges cross, `specs/Crossings` where a crossing is,
+//! `specs/Joins` how crossings are joined, `specs/Chains` what a chain is and in which order they come,
+//! and `specs/Waterlines` puts these together.
+#![tactic(auto)]
+
+mod chain;
+mod edge;
+mod fault;
+mod fiber;
+mod grid;
+mod laws;
+mod map;
+mod outline;
+mod square;
+mod trace;
+#[cfg(test)]
+mod tests;
+mod trails;
+mod waterlines;
+
+pub use chain::Chain;
+pub use edge::Edge;
+pub use fault::LevelFault;
+pub use laws::{joins_are_apart, one_waterline};
+pub use waterlines::waterline;

@@ -1,0 +1,93 @@
+//! Finds which nodes of a lattice are blocked at a height, and where its crossings are.
+ghost use Rattle.std.specs.Prelude.{◌≡◌, ◌<◌, ◌≤◌, ◌*◌, ◌≤ℤ◌, length, IfOk};
+ghost use Rattle.mill_base.specs.Numbers.{Within};
+ghost use Rattle.mill_base.specs.declared.limits.TheConstants.{MAX_COORDINATE};
+ghost use Rattle.mill_base.specs.Lattices.{lattice_xs, lattice_ys};
+ghost use Rattle.mill_base.specs.Sizes.{IsCutter};
+ghost use Rattle.mill_cells.specs.Sorted.{sorted_of};
+ghost use Rattle.mill_drop.specs.Maps.{IsMapLattice};
+ghost use Rattle.mill_level.specs.inner.Maps.{IsMapOf};
+
+use crate::fiber::{add_blocked, add_places, fiber_runs};
+use crate::grid::LevelMap;
+use mill_base::{Cutter, Lattice, WantOfMemory};
+use mill_cells::Cells;
+use mill_drop::{node, node_columns, node_rows};
+use mill_geom::Axis;
+use mill_part::Part;
+use mill_push::Fiber;
+use std::alloc::Global;
+
+/// Which nodes of the lattice are blocked at a height, and where its crossings are: by the runs of
+/// one fiber for each row and for each column.
+pub fn level_map(
+    alloc: Global,
+    part: &Part,
+    cells: &Cells,
+    cutter: Cutter,
+    z: i32,
+    lattice: &Lattice,
+) -> Result<LevelMap, WantOfMemory>
+    requires cells_ok { cells.now ≡ sorted_of part.now }
+    requires cutter_ok { IsCutter cutter }
+    requires z_ok { Within MAX_COORDINATE z }
+    requires lattice_ok { IsMapLattice lattice.now }
+    ensures { IfOk result (IsMapOf cutter part.now z lattice.now) }
+{
+    let xs = xs_of(alloc, lattice)?;
+    let ys = ys_of(alloc, lattice)?;
+    let mut blocked = Vec::new(alloc);
+    let mut places = Vec::new(alloc);
+    for y in &ys {
+        let fiber = Fiber {
+            axis: Axis::X,
+            at: *y,
+            z,
+        };
+        let runs = fiber_runs(alloc, part, cells, cutter, fiber, lattice.area.x0, lattice.area.x1)?;
+        add_blocked(&runs, &xs, &mut blocked)?;
+        add_places(&runs, &xs, &mut places)?;
+    }
+    for x in &xs {
+        let fiber = Fiber {
+            axis: Axis::Y,
+            at: *x,
+            z,
+        };
+        let runs = fiber_runs(alloc, part, cells, cutter, fiber, lattice.area.y0, lattice.area.y1)?;
+        add_places(&runs, &ys, &mut places)?;
+    }
+    Ok(LevelMap {
+        columns: node_columns(lattice),
+        rows: node_rows(lattice),
+        xs,
+        ys,
+        blocked,
+        places,
+    })
+}
+
+/// The lattice's positions in x.
+fn xs_of(alloc: Global, lattice: &Lattice) -> Result<Vec<i32>, WantOfMemory>
+    requires { IsMapLattice lattice.now }
+    ensures { IfOk result (λ xs. xs.items ≡ lattice_xs lattice.now) }
+{
+    let mut xs = Vec::new(alloc);
+    for column in 0..node_columns(lattice) {
+        xs.push(node(lattice, column).0)?;
+    }
+    Ok(xs)
+}
+
+/// The lattice's positions in y.
+fn ys_of(alloc: Global, lattice: &Lattice) -> Result<Vec<i32>, WantOfMemory>
+    requires { IsMapLattice lattice.now }
+    ensures { IfOk result (λ ys. ys.items ≡ lattice_ys lattice.now) }
+{
+    let columns = node_columns(lattice);
+    let mut ys = Vec::new(alloc);
+    for row in 0..node_rows(lattice) {
+        ys.push(node(lattice, row * columns).1)?;
+    }
+    Ok(ys)
+}

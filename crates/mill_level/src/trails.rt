@@ -1,0 +1,49 @@
+//! All chains of a lattice at a height.
+ghost use Rattle.std.specs.Prelude.{◌≡◌, ◌*◌, false, All, IfOk, replicate};
+ghost use Rattle.mill_level.specs.Chains.{AreChains};
+ghost use Rattle.mill_level.specs.inner.Maps.{IsSized, grid_of};
+ghost use Rattle.mill_level.specs.inner.Trails.{AreTrails, IsTrail, chains_of};
+
+use crate::grid::LevelMap;
+use crate::trace::{Trail, trace};
+use mill_base::WantOfMemory;
+use std::alloc::Global;
+
+/// The chains of the crossings, in the order of their first crossings.
+pub fn trails(alloc: Global, map: &LevelMap) -> Result<Vec<Trail>, WantOfMemory>
+    requires { IsSized map.now }
+    ensures each { IfOk result (λ trails. All (IsTrail map.now) trails.items) }
+    ensures chains { IfOk result (λ trails. AreChains (grid_of map.now) (chains_of map.now trails.items)) }
+{
+    let mut trails = all_trails(alloc, map)?;
+    trails.sort_by_key(|trail| trail.rank)?;
+    Ok(trails)
+}
+
+/// The chains of the crossings, in the order in which they are found.
+fn all_trails(alloc: Global, map: &LevelMap) -> Result<Vec<Trail>, WantOfMemory>
+    requires { IsSized map.now }
+    ensures { IfOk result (λ trails. AreTrails map.now trails.items) }
+{
+    let mut passed = none_passed(alloc, map)?;
+    let mut trails = Vec::new(alloc);
+    for number in 0..map.edge_count() {
+        let edge = map.edge(number);
+        if map.is_crossing(edge) && !passed[number as usize] {
+            trails.push(trace(alloc, map, edge, &mut passed)?)?;
+        }
+    }
+    Ok(trails)
+}
+
+/// A mark for each edge, none of them set.
+fn none_passed(alloc: Global, map: &LevelMap) -> Result<Vec<bool>, WantOfMemory>
+    requires { IsSized map.now }
+    ensures { IfOk result (λ passed. passed.items ≡ replicate (2 * (map.now.columns * map.now.rows)) false) }
+{
+    let mut passed = Vec::new(alloc);
+    for _ in 0..map.edge_count() {
+        passed.push(false)?;
+    }
+    Ok(passed)
+}
