@@ -5,13 +5,6 @@
 // and of the drops; or, with `heights`, each height.
 #include "geometry.hpp"
 
-static Cutter cutter_of(const std::string& kind, double radius, double rise, double run) {
-    if (kind == "flat") return {Kind::Flat, radius, 0};
-    if (kind == "ball") return {Kind::Ball, radius, 0};
-    if (kind == "cone") return {Kind::Cone, radius, rise / run};
-    die("the cutter is flat, ball or cone");
-}
-
 int main(int argc, char** argv) {
     if (argc < 13)
         die("drop_cutter PART CUTTER RADIUS RISE RUN X0 Y0 X1 Y1 STEP FLOOR THREADS [heights]");

@@ -83,7 +83,35 @@ struct Cutter {
             return slope * std::sqrt(square);
         }
     }
+
+    // The height over the tip from which on the cutter has its whole radius.
+    double shank() const {
+        switch (kind) {
+        case Kind::Flat:
+            return 0;
+        case Kind::Ball:
+            return radius;
+        default:
+            return slope * radius;
+        }
+    }
+
+    // The radius at a height over the tip.
+    double width(double height) const {
+        if (height >= shank()) return radius;
+        if (kind == Kind::Cone) return height / slope;
+        double below = radius - height;
+        return std::sqrt(std::max(0.0, radius * radius - below * below));
+    }
 };
+
+// A cutter by the words of a command line; rise and run count for a cone.
+inline Cutter cutter_of(const std::string& kind, double radius, double rise, double run) {
+    if (kind == "flat") return {Kind::Flat, radius, 0};
+    if (kind == "ball") return {Kind::Ball, radius, 0};
+    if (kind == "cone") return {Kind::Cone, radius, rise / run};
+    die("the cutter is flat, ball or cone");
+}
 
 inline std::string read_file(const char* path) {
     FILE* file = fopen(path, "rb");
@@ -142,8 +170,8 @@ inline std::vector<Triangle> read_stl(const char* path) {
     return out;
 }
 
-// A kd-tree over the boxes of triangles in x and y, one triangle a leaf. A node is cut at the middle
-// of the widest spread among the four sides, and holds the box of its triangles.
+// A kd-tree over the boxes of triangles in x and y, or in y and z, one triangle a leaf. A node is cut
+// at the middle of the widest spread among the four sides, and holds the box of its triangles.
 struct KdTree {
     struct Node {
         int low = -1, high = -1;
@@ -153,8 +181,11 @@ struct KdTree {
     std::vector<Node> nodes;
     std::vector<uint32_t> order;
     const std::vector<Triangle>* triangles = nullptr;
+    int first_side;
 
-    explicit KdTree(const std::vector<Triangle>& all) : order(all.size()), triangles(&all) {
+    // `first` is the first of the four sides: XMin, or YMin for a tree in y and z.
+    explicit KdTree(const std::vector<Triangle>& all, Side first = XMin)
+        : order(all.size()), triangles(&all), first_side(first) {
         for (size_t i = 0; i < all.size(); i++) order[i] = (uint32_t)i;
         nodes.reserve(all.size() * 2 + 1);
         if (!all.empty()) split(0, (int)all.size());
@@ -170,7 +201,7 @@ struct KdTree {
         for (int side = 0; side < 4; side++) {
             double least = DBL_MAX, most = -DBL_MAX;
             for (int i = begin; i < end; i++) {
-                double v = (*triangles)[order[i]].box[side];
+                double v = (*triangles)[order[i]].box[first_side + side];
                 least = std::min(least, v);
                 most = std::max(most, v);
             }
@@ -184,7 +215,7 @@ struct KdTree {
         if (end - begin <= 1 || spread < 1e-9) return me;
         double cut = start + spread / 2;
         auto middle = std::partition(order.begin() + begin, order.begin() + end, [&](uint32_t i) {
-            return (*triangles)[i].box[widest] <= cut;
+            return (*triangles)[i].box[first_side + widest] <= cut;
         });
         int at = (int)(middle - order.begin());
         if (at == begin || at == end) return me;
@@ -194,16 +225,16 @@ struct KdTree {
         return me;
     }
 
-    // Calls `visit` with each triangle that may meet the area.
+    // Calls `visit` with each triangle that may meet the area, which is given by its sides.
     template <class Visit>
-    void search(double x0, double x1, double y0, double y1, Visit&& visit) const {
+    void search(double low0, double high0, double low1, double high1, Visit&& visit) const {
         if (nodes.empty()) return;
         int stack[128], depth = 0;
         stack[depth++] = 0;
         while (depth) {
             const Node& node = nodes[stack[--depth]];
-            if (node.box[XMin] > x1 || node.box[XMax] < x0) continue;
-            if (node.box[YMin] > y1 || node.box[YMax] < y0) continue;
+            if (node.box[0] > high0 || node.box[1] < low0) continue;
+            if (node.box[2] > high1 || node.box[3] < low1) continue;
             if (node.low < 0) {
                 for (int i = node.begin; i < node.end; i++) visit(order[i]);
             } else {
