@@ -1,0 +1,57 @@
+-- The chains of a lattice at a height.
+use Rattle.std.specs.Prelude.{◌≡◌, ℕ, ◌<◌, ◌≤ℤ◌, Bool, ℤ, pos, List, map, Contains}
+use Rattle.mill_base.specs.Numbers.{Within}
+use Rattle.mill_base.specs.Points.{point_at}
+use Rattle.mill_base.specs.Lattices.{node_count}
+use Rattle.mill_base.specs.declared.limits.TheConstants.{MAX_COORDINATE, MAX_NODES}
+use Rattle.mill_base.specs.declared.points.Pt3.{Pt3}
+use Rattle.mill_base.specs.declared.points.Tri.{Tri}
+use Rattle.mill_base.specs.declared.cutter.Cutter.{Cutter}
+use Rattle.mill_base.specs.declared.lattice.Lattice.{Lattice}
+use Rattle.mill_level.specs.declared.chain.Chain.{Chain as Answer}
+use Rattle.mill_level.specs.Grids.{Grid}
+use Rattle.mill_level.specs.Crossings.{Crossing, HasLastFree, TellsBlocked}
+use Rattle.mill_level.specs.Chains.{Chain, AreChains, crossings_of}
+
+-- a chain's points
+pub record Outline : Type 0 where
+  pub closed : Bool
+  pub points : List Pt3
+
+-- those of a chain of crossings at height z
+abbrev pub outline : ℤ → Chain → Outline
+outline z chain = record { closed = chain.closed; points = map (λ (c : Crossing). point_at c.x c.y z) (crossings_of chain) }
+
+-- what a contract sees of a chain
+abbrev pub seen : Answer → Outline
+seen chain = record { closed = chain.closed; points = chain.points.items }
+
+-- the waterline of a part at height z: which nodes of the lattice are blocked, the chains of the crossings between free and blocked ones, each
+-- crossing at its last free position, and the points of these
+pub record IsWaterline (cutter : Cutter) (part : List Tri) (z : ℤ) (lattice : Lattice) (outlines : List Outline) : Type 0 where
+  pub grid : Grid
+  pub tells : TellsBlocked cutter part z lattice grid
+  pub chains : List Chain
+  pub are_chains : AreChains grid chains
+  pub places : (chain : Chain) (c : Crossing) → Contains chains chain → Contains (crossings_of chain) c → HasLastFree cutter part z lattice grid c
+  pub points : outlines ≡ map (outline z) chains
+
+-- a part has at most one waterline at a height
+abbrev pub OneWaterline : Type 0
+OneWaterline = (cutter : Cutter) (part : List Tri) (z : ℤ) (lattice : Lattice) (outlines others : List Outline)
+    → IsWaterline cutter part z lattice outlines → IsWaterline cutter part z lattice others → outlines ≡ others
+
+-- the lattice's ends are in range and the right way round, and its step is at least one unit
+pub record IsLattice (lattice : Lattice) : Type 0 where
+  pub x0_ok : Within MAX_COORDINATE lattice.area.x0
+  pub x1_ok : Within MAX_COORDINATE lattice.area.x1
+  pub y0_ok : Within MAX_COORDINATE lattice.area.y0
+  pub y1_ok : Within MAX_COORDINATE lattice.area.y1
+  pub x_order : lattice.area.x0 ≤ℤ lattice.area.x1
+  pub y_order : lattice.area.y0 ≤ℤ lattice.area.y1
+  pub step_ok : (pos 1) ≤ℤ lattice.step
+
+-- the lattice has this many nodes, which are more than a lattice may have
+pub record HasManyNodes (lattice : Lattice) (nodes : ℕ) : Type 0 where
+  pub count : nodes ≡ node_count lattice
+  pub many : MAX_NODES < nodes

@@ -1,0 +1,1 @@
+-- What private functions and proofs cite alone: no clause of a public call leads here.

@@ -1,0 +1,47 @@
+ghost use Rattle.std.specs.Prelude.{◌≡◌, ◌↔◌, ℕ, IfOk, IsErrOf, map as map_list};
+ghost use Rattle.mill_base.specs.Numbers.{Within};
+ghost use Rattle.mill_base.specs.declared.limits.TheConstants.{MAX_COORDINATE};
+ghost use Rattle.mill_base.specs.Sizes.{IsCutter};
+ghost use Rattle.mill_cells.specs.Sorted.{sorted_of};
+ghost use Rattle.mill_level.specs.declared.fault.LevelFault.TheVariants.{TooManyNodes};
+ghost use Rattle.mill_level.specs.Waterlines.{HasManyNodes, IsLattice, IsWaterline, seen};
+
+use crate::chain::Chain;
+use crate::fault::LevelFault;
+use mill_base::{Cutter, Lattice, MAX_NODES};
+use mill_cells::Cells;
+use mill_part::Part;
+use std::alloc::Global;
+
+/// The waterline of a part at height z: the chains of the places between nodes of the lattice at
+/// which the cutter gouges and neighbours at which it doesn't, each at the last free place before
+/// the blocked ones, which are on the left of the way. They come in the order of their first points.
+///
+/// `cells` are those of the part's triangles. Lengths are in units of 0.01 mm, of at most
+/// `MAX_COORDINATE` in magnitude.
+///
+/// # Errors
+///
+/// `TooManyNodes` exactly where the lattice has more than 4,000,000 nodes. The only other one is want
+/// of memory.
+pub fn waterline(
+    alloc: Global,
+    part: &Part,
+    cells: &Cells,
+    cutter: Cutter,
+    z: i32,
+    lattice: &Lattice,
+) -> Result<Vec<Chain>, LevelFault>
+    requires cells_ok { cells.now ≡ sorted_of part.now }
+    requires cutter_ok { IsCutter cutter }
+    requires z_ok { Within MAX_COORDINATE z }
+    requires lattice_ok { IsLattice lattice.now }
+    ensures chains { IfOk result (λ chains. IsWaterline cutter part.now z lattice.now (map_list seen chains.items)) }
+    ensures nodes { (nodes : ℕ) → IsErrOf result (TooManyNodes nodes) ↔ HasManyNodes lattice.now nodes }
+{
+    let nodes = lattice.nodes();
+    if nodes > MAX_NODES {
+        return Err(LevelFault::TooManyNodes { nodes });
+    }
+    Err(LevelFault::WantOfMemory)
+}
