@@ -15,19 +15,20 @@ use Rattle.mill_job.proofs.OneAnswer.{one_answer}
 use Rattle.mill_verify.specs.Verdicts.{IsVerdict}
 use Rattle.mill_verify.specs.declared.verdict.Verdict.{Verdict}
 use Rattle.mill_plan.specs.Plans.{done, too_many_nodes, too_many_moves, uncut}
-use Rattle.mill_command.specs.Requests.{verify, plan, drop}
+use Rattle.mill_command.specs.Requests.{verify, plan, drop, level}
 use Rattle.camtool.specs.declared.file.File.TheVariants.{Job as JobFile, Part as PartFile, Program as ProgramFile}
 use Rattle.camtool.specs.declared.load.Unfit.{Unfit}
 use Rattle.camtool.specs.declared.load.Unfit.TheVariants.{TooLong, JobRefused, PartRefused, ProgramRefused, PartTop}
 use Rattle.camtool.specs.declared.place.Coordinate.{Coordinate}
-use Rattle.camtool.specs.declared.place.Coordinate.TheVariants.{X, Y}
+use Rattle.camtool.specs.declared.place.Coordinate.TheVariants.{X, Y, Z}
 use Rattle.camtool.specs.declared.place.Place.{Place}
 use Rattle.mill_decimal.specs.declared.fault.DecFault.{DecFault}
-use Rattle.camtool.specs.Answers.{Answer, refused_word, unfit, judged, planned, dropped, answer_status, IsAnswer}
+use Rattle.camtool.specs.Answers.{Answer, refused_word, unfit, judged, planned, dropped, leveled, answer_status, IsAnswer}
 use Rattle.camtool.specs.Drop.{ReadsPlace, RefusesWord}
+use Rattle.camtool.specs.Level.{ReadsHeight, RefusesHeight, outlines, too_many_nodes as too_fine}
 use Rattle.camtool.specs.Setup.{SetupTexts, setup_texts, AreSetupTold, IsTooLong, IsJobText, IsRefusedJob, ReadsJob, IsPartText, IsRefusedPart, ReadsPart, ReadsSetup, LongPart, RefusesPart, HighPart, IsUnfit}
 use Rattle.camtool.specs.Verify.{Texts, texts_of, AreTold, IsProgramText, IsRefusedProgram, ReadsProgram, Reads, LongProgram, RefusesProgram, IsUnfitProgram, Judges, verdict_status}
-use Rattle.camtool.specs.Words.{Files, PlanFiles, DropWords}
+use Rattle.camtool.specs.Words.{Files, PlanFiles, DropWords, LevelWords}
 use Rattle.camtool.proofs.Told.{told_both}
 
 ok_is : {A E : Type 0} (a b : A) → (let r : Result A E = Ok a in r) ≡ Ok b → a ≡ b
@@ -169,6 +170,7 @@ is_judged contents files workers job part moves (judged j p m v) told r h =
     record { verdict = v; is = judged_is (texts_of contents files) job j part p moves m v told r h; same = refl }
 is_judged contents files workers job part moves (planned name answer) told r h = absurd h
 is_judged contents files workers job part moves (dropped height) told r h = absurd h
+is_judged contents files workers job part moves (leveled answer) told r h = absurd h
 
 -- ---- `plan`
 
@@ -184,12 +186,14 @@ is_planned contents files workers job part (planned name (uncut row col top)) to
 is_planned contents files workers job part (planned name (too_many_nodes nodes)) told r h = inr (inr refl)
 is_planned contents files workers job part (planned name too_many_moves) told r h = inr (inr refl)
 is_planned contents files workers job part (dropped height) told r h = absurd h
+is_planned contents files workers job part (leveled answer) told r h = absurd h
 
 -- ---- `drop`
 
 reads_word : (x y : List ℕ) (place : Place) (coordinate : Coordinate) (fault : DecFault) → ReadsPlace x y place → RefusesWord x y coordinate fault → ⊥
 reads_word x y place X fault r e = ok_err place.x fault (sym r.x_is ∙ e)
 reads_word x y place Y fault r e = ok_err place.y fault (sym r.y_is ∙ e.2)
+reads_word x y place Z fault r e = e
 
 -- words that read, and files that are told and read, give a drop height, and nothing is refused
 pub is_dropped : (contents : List ℕ → Option (List ℕ)) (given : DropWords) (place : Place) (job : Job) (part : List Tri) (a : Answer) → ReadsPlace given.x given.y place
@@ -200,3 +204,23 @@ is_dropped contents given place job part (unfit u) p told r h = absurd (fit_setu
 is_dropped contents given place job part (judged j q m v) p told r h = absurd h
 is_dropped contents given place job part (planned name answer) p told r h = absurd h
 is_dropped contents given place job part (dropped height) p told r h = refl
+is_dropped contents given place job part (leveled answer) p told r h = absurd h
+
+-- ---- `level`
+
+reads_height : (z : List ℕ) (height : ℤ) (coordinate : Coordinate) (fault : DecFault) → ReadsHeight z height → RefusesHeight z coordinate fault → ⊥
+reads_height z height X fault r e = e
+reads_height z height Y fault r e = e
+reads_height z height Z fault r e = ok_err height fault (sym r ∙ e)
+
+-- a word that reads, and files that are told and read, give the lines or too many nodes, and nothing is refused
+pub is_leveled : (contents : List ℕ → Option (List ℕ)) (given : LevelWords) (height : ℤ) (job : Job) (part : List Tri) (a : Answer) → ReadsHeight given.z height
+    → AreSetupTold (setup_texts contents given.job given.part) → ReadsSetup (setup_texts contents given.job given.part) job part
+    → IsAnswer contents (level given.job given.part given.z) a → (answer_status a ≡ 0) ⊎ (answer_status a ≡ 9)
+is_leveled contents given height job part (refused_word coordinate fault) z told r h = absurd (reads_height given.z height coordinate fault z h)
+is_leveled contents given height job part (unfit u) z told r h = absurd (fit_setup (setup_texts contents given.job given.part) job part u told r h.1)
+is_leveled contents given height job part (judged j q m v) z told r h = absurd h
+is_leveled contents given height job part (planned name answer) z told r h = absurd h
+is_leveled contents given height job part (dropped place) z told r h = absurd h
+is_leveled contents given height job part (leveled (outlines lines)) z told r h = inl refl
+is_leveled contents given height job part (leveled (too_fine nodes)) z told r h = inr refl

@@ -1,9 +1,9 @@
 -- What was read and what was printed, put together as the work on a request.
 use Rattle.std.proofs.Common.{◌≡◌, ℕ, List, Option, Some, None, Result, Ok, Err, refl, sym, ap, subst, inl, inr}
-use Rattle.std.specs.Prelude.{IfOk}
+use Rattle.std.specs.Prelude.{IfOk, ℤ}
 use Rattle.std.specs.Global.{Vec}
 use Rattle.mill_base.specs.declared.memory.WantOfMemory.{WantOfMemory}
-use Rattle.mill_command.specs.Requests.{ReadsWords, Request, request, verify, drop}
+use Rattle.mill_command.specs.Requests.{ReadsWords, Request, request, verify, drop, level}
 use Rattle.mill_command.specs.declared.refusal.Refusal.{Refusal}
 use Rattle.mill_command.specs.declared.refusal.Refusal.TheVariants as refusal
 use Rattle.mill_decimal.specs.declared.fault.DecFault.{DecFault}
@@ -17,13 +17,14 @@ use Rattle.camtool.specs.declared.load.Setup.{Setup}
 use Rattle.camtool.specs.declared.place.Coordinate.{Coordinate}
 use Rattle.camtool.specs.declared.place.Place.{Place}
 use Rattle.camtool.specs.declared.verify.Loaded.{Loaded}
-use Rattle.camtool.specs.Answers.{Answer, refused_word, unfit, judged, dropped, answer_status, answer_line}
+use Rattle.camtool.specs.Answers.{Answer, refused_word, unfit, judged, dropped, leveled, answer_status, answer_line}
 use Rattle.camtool.specs.Calls.{Call, CanCount, NamedText, Stores}
 use Rattle.camtool.specs.Drop.{ReadsPlace, RefusesWord}
 use Rattle.camtool.specs.Faults.{unfit_line}
+use Rattle.camtool.specs.Level.{ReadsHeight, RefusesHeight}
 use Rattle.camtool.specs.inner.Loads.{Loads, LoadsSetup, OnlyLoads}
 use Rattle.camtool.specs.Outcomes.{Outcome, help, bad_words, no_memory, read_fault, answered, outcome_file, IsOutcome, IsOutcomeOf, CountsReads, Shows, ShowsOr, Serves, HasOutcome}
-use Rattle.camtool.specs.inner.Prints.{Prints, PrintsOutcome, PrintsOr, PrintsMade, PrintsFault, fault_outcome, refusal_outcome, TriesVerdict, PrintsHeight}
+use Rattle.camtool.specs.inner.Prints.{Prints, PrintsOutcome, PrintsOr, PrintsMade, PrintsFault, fault_outcome, refusal_outcome, TriesVerdict, PrintsHeight, TriesLevel}
 use Rattle.camtool.specs.Setup.{setup_texts}
 use Rattle.camtool.specs.Verify.{texts_of}
 use Rattle.camtool.proofs.Reading.{rises}
@@ -113,6 +114,30 @@ pub height_serves : (job part x y : List ℕ) (call : Call) (place : Place) (s :
 height_serves job part x y call place s read setup loads h =
     answer_serves (drop job part x y) call (dropped h.height) (record { place = place; job = s.job; part = s.part; place_is = read; setup_is = setup; is = h.is })
     (answer_shows call (dropped h.height) refl loads.only loads.reads h.printed)
+
+-- ---- `level`
+
+pub level_load_fault : (contents : List ℕ → Option (List ℕ)) (job part z : List ℕ) (height : ℤ) (f : LoadFault) → ReadsHeight z height
+    → LoadsSetup (setup_texts contents job part) (Err f) → IsOutcome contents (level job part z) (fault_outcome f)
+level_load_fault contents job part z height load_fault.Memory read h = tt
+level_load_fault contents job part z height (load_fault.ReadFault file) read h = ((height, read), h)
+level_load_fault contents job part z height (load_fault.Unfit fault) read h = ((height, read), h)
+
+-- the word was refused, and the store wasn't touched
+pub height_word_serves : (job part z : List ℕ) (call : Call) (coordinate : Coordinate) (fault : DecFault) → RefusesHeight z coordinate fault → call.store_after ≡ call.store
+    → PrintsOr (answered (refused_word coordinate fault)) call.status call.sink call.sink_after → Serves (level job part z) call
+height_word_serves job part z call coordinate fault refused same p =
+    answer_serves (level job part z) call (refused_word coordinate fault) refused
+    (answer_shows call (refused_word coordinate fault) refl (subst (λ (v : StoreView). ReadsOnly call.store v) (sym same) (same_view call.store))
+    (ap (λ (v : StoreView). v.read_faults) same) p)
+
+pub level_serves : (job part z : List ℕ) (call : Call) (height : ℤ) (s : Setup) → ReadsHeight z height → LoadsSetup (setup_texts call.store.contents job part) (Ok s)
+    → (let r : Result Setup LoadFault = Ok s in OnlyLoads call.store call.store_after r) → TriesLevel s height call.status call.sink call.sink_after → Serves (level job part z) call
+level_serves job part z call height s read setup loads (inl p) =
+    answer_serves (level job part z) call (leveled p.answer) (record { height = height; job = s.job; part = s.part; height_is = read; setup_is = setup; is = p.is })
+    (answer_shows call (leveled p.answer) refl loads.only loads.reads p.printed)
+level_serves job part z call height s read setup loads (inr m) =
+    record { outcome = no_memory; is = tt; shows = printed_shows call no_memory refl loads.only loads.reads m }
 
 -- ---- words
 

@@ -7,7 +7,7 @@ use Rattle.mill_decimal.specs.declared.snap.Snap.TheVariants.{Exact}
 use Rattle.mill_job.specs.declared.job.Job.{Job}
 use Rattle.mill_drop.specs.Drops.{IsDropHeight}
 use Rattle.camtool.specs.declared.place.Coordinate.{Coordinate}
-use Rattle.camtool.specs.declared.place.Coordinate.TheVariants.{X, Y}
+use Rattle.camtool.specs.declared.place.Coordinate.TheVariants.{X, Y, Z}
 use Rattle.camtool.specs.declared.place.Place.{Place}
 use Rattle.camtool.specs.Printed.{line}
 use Rattle.camtool.specs.Setup.{SetupTexts, ReadsSetup}
@@ -25,6 +25,7 @@ HasPlace x y = (place : Place) × ReadsPlace x y place
 abbrev pub RefusesWord : List ℕ → List ℕ → Coordinate → DecFault → Type 0
 RefusesWord x y X fault = read_as Exact x ≡ Err fault
 RefusesWord x y Y fault = (units : ℤ) × (read_as Exact x ≡ Ok units) × (read_as Exact y ≡ Err fault)
+RefusesWord x y Z fault = ⊥
 
 -- words, job and part are read, and this is the drop height of the job's cutter at the place, not under the job's floor
 pub record Drops (x y : List ℕ) (texts : SetupTexts) (height : ℤ) : Type 0 where

@@ -7,7 +7,7 @@ use Rattle.camtool.specs.declared.load.Unfit.{Unfit}
 use Rattle.camtool.specs.declared.load.Unfit.TheVariants.{TooLong, JobRefused, PartRefused, ProgramRefused, PartTop}
 use Rattle.camtool.specs.Printed.{line}
 use Rattle.camtool.specs.declared.place.Coordinate.{Coordinate}
-use Rattle.camtool.specs.declared.place.Coordinate.TheVariants.{X, Y}
+use Rattle.camtool.specs.declared.place.Coordinate.TheVariants.{X, Y, Z}
 use Rattle.mill_job.specs.declared.key.Key.{Key}
 use Rattle.mill_decimal.specs.declared.fault.DecFault.{DecFault}
 use Rattle.mill_decimal.specs.declared.fault.DecFault.TheVariants as decimal_fault
@@ -23,6 +23,7 @@ use Rattle.mill_job.specs.declared.fault.JobFault.TheVariants as job_fault
 abbrev pub coordinate_name : Coordinate → List ℕ
 coordinate_name X = codes "x"
 coordinate_name Y = codes "y"
+coordinate_name Z = codes "z"
 
 -- a job's fault: what is wrong, and with which keys
 abbrev pub job_fault_words : JobFault → List (List ℕ)

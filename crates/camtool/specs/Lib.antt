@@ -7,6 +7,7 @@ pub mod Setup
 pub mod Verify
 pub mod Plan
 pub mod Drop
+pub mod Level
 pub mod Answers
 pub mod Outcomes
 pub mod Headline

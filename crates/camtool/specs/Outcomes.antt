@@ -2,12 +2,13 @@
 use Rattle.std.specs.Prelude.{◌⊎◌, ◌≡◌, ◌<◌, ℕ, codes, false, List, [], ◌∷◌, Option, None, Some}
 use Rattle.mill_io.specs.Contents.{AppendedPart}
 use Rattle.mill_io.specs.Views.{IsWritten, IsPartStored}
-use Rattle.mill_command.specs.Requests.{AsksHelp, IsMistaken, Request, faults, is_taken, request, verify, plan, drop}
+use Rattle.mill_command.specs.Requests.{AsksHelp, IsMistaken, Request, faults, is_taken, request, verify, plan, drop, level}
 use Rattle.camtool.specs.declared.file.File.{File}
 use Rattle.camtool.specs.Answers.{Answer, IsAnswer, answer_status, answer_line, answer_file}
 use Rattle.camtool.specs.Calls.{Call, NamedText, Stores}
 use Rattle.camtool.specs.Drop.{HasPlace}
 use Rattle.camtool.specs.Faults.{file_name}
+use Rattle.camtool.specs.Level.{HasHeight}
 use Rattle.camtool.specs.Printed.{line}
 use Rattle.camtool.specs.Setup.{setup_texts, IsReadBefore}
 use Rattle.camtool.specs.Verify.{texts_of, IsReadBeforeProgram}
@@ -48,6 +49,7 @@ abbrev pub ReadsBefore : (List ℕ → Option (List ℕ)) → Request → File �
 ReadsBefore contents (verify job part program workers) file = IsReadBeforeProgram (texts_of contents (record { job = job; part = part; program = program })) file
 ReadsBefore contents (plan job part out workers) file = IsReadBefore (setup_texts contents job part) file
 ReadsBefore contents (drop job part x y) file = HasPlace x y × IsReadBefore (setup_texts contents job part) file
+ReadsBefore contents (level job part z) file = HasHeight z × IsReadBefore (setup_texts contents job part) file
 
 -- the work on a request comes to this: memory was short; or a file couldn't be read, and all before it could; or this is the answer
 abbrev pub IsOutcome : (List ℕ → Option (List ℕ)) → Request → Outcome → Type 0

@@ -1,6 +1,6 @@
 -- What the words of the command line ask for.
 use Rattle.std.specs.Prelude.{◌≡◌, ℕ, List, Some}
-use Rattle.mill_command.specs.Requests.{request, verify, plan, drop}
+use Rattle.mill_command.specs.Requests.{request, verify, plan, drop, level}
 
 -- the names of the job's, the part's and the program's file
 pub record Files : Type 0 where
@@ -36,3 +36,13 @@ pub record DropWords : Type 0 where
 -- the words are taken as `drop` with these
 abbrev pub AsksDrop : List (List ℕ) → DropWords → Type 0
 AsksDrop words given = request words ≡ Some (drop given.job given.part given.x given.y)
+
+-- the names of the job's and the part's file, and the word for z
+pub record LevelWords : Type 0 where
+  pub job : List ℕ
+  pub part : List ℕ
+  pub z : List ℕ
+
+-- the words are taken as `level` with these
+abbrev pub AsksLevel : List (List ℕ) → LevelWords → Type 0
+AsksLevel words given = request words ≡ Some (level given.job given.part given.z)

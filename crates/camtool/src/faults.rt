@@ -33,6 +33,7 @@ fn name_of_coordinate(coordinate: Coordinate) -> &'static [u8]
     match coordinate {
         Coordinate::X => b"x",
         Coordinate::Y => b"y",
+        Coordinate::Z => b"z",
     }
 }
 

@@ -1,7 +1,8 @@
 //! `camtool verify JOB PART FILE [--workers=W]` verifies a program for a three-axis mill against a
 //! part, a cutter and a stock. `camtool plan JOB PART OUT [--workers=W]` plans a program that it
 //! accepts, and stores it. `camtool drop JOB PART --x=X --y=Y` tells how low the cutter comes at one
-//! place.
+//! place. `camtool level JOB PART --z=Z` prints the lines along which the cutter goes round the part
+//! at one height.
 //!
 //! `run` is all that the program does, over any store of files and any sink. Its contract goes
 //! from bytes to bytes: `specs/Answers` says which answer a command has on its files,
@@ -12,6 +13,7 @@
 mod drop;
 mod faults;
 mod file;
+mod level;
 mod load;
 mod place;
 mod plan;

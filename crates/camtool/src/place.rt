@@ -1,13 +1,16 @@
 ghost use Rattle.std.specs.Prelude.{IfOk};
-ghost use Rattle.camtool.specs.inner.Loads.{PlaceFrom, IsPlace};
+ghost use Rattle.mill_base.specs.Numbers.{Within};
+ghost use Rattle.mill_base.specs.declared.limits.TheConstants.{MAX_TEXT_COORDINATE};
+ghost use Rattle.camtool.specs.inner.Loads.{CoordinateFrom, HeightFrom, PlaceFrom, IsPlace};
 
 use mill_decimal::{DecFault, Snap, read_decimal};
 
-/// One of the two words that say where.
+/// One of the words that say where.
 #[derive(Clone, Copy, Debug, PartialEq, Eq)]
 pub enum Coordinate {
     X,
     Y,
+    Z,
 }
 
 /// A place to drop the cutter at, in units of 0.01 mm, each of magnitude at most 131,071.
@@ -17,7 +20,7 @@ pub struct Place {
     pub y: i32,
 }
 
-/// The first of the two words that is refused, and why.
+/// The first of a command's words for coordinates that is refused, and why.
 #[derive(Clone, Copy, Debug, PartialEq, Eq)]
 pub struct WordFault {
     pub coordinate: Coordinate,
@@ -29,23 +32,25 @@ pub fn read_place(x: &str, y: &str) -> Result<Place, WordFault>
     ensures told { PlaceFrom x.now y.now result }
     ensures in_range { IfOk result IsPlace }
 {
-    let x = match read_decimal(x.as_bytes(), Snap::Exact) {
-        Ok(x) => x,
-        Err(fault) => {
-            return Err(WordFault {
-                coordinate: Coordinate::X,
-                fault,
-            });
-        }
-    };
-    let y = match read_decimal(y.as_bytes(), Snap::Exact) {
-        Ok(y) => y,
-        Err(fault) => {
-            return Err(WordFault {
-                coordinate: Coordinate::Y,
-                fault,
-            });
-        }
-    };
+    let x = read_coordinate(x, Coordinate::X)?;
+    let y = read_coordinate(y, Coordinate::Y)?;
     Ok(Place { x, y })
+}
+
+/// Reads the word of a height, in units of 0.01 mm. One finer than a unit is refused.
+pub fn read_height(z: &str) -> Result<i32, WordFault>
+    ensures told { HeightFrom z.now result }
+    ensures in_range { IfOk result (Within MAX_TEXT_COORDINATE) }
+{
+    read_coordinate(z, Coordinate::Z)
+}
+
+fn read_coordinate(word: &str, coordinate: Coordinate) -> Result<i32, WordFault>
+    ensures told { CoordinateFrom word.now coordinate result }
+    ensures in_range { IfOk result (Within MAX_TEXT_COORDINATE) }
+{
+    match read_decimal(word.as_bytes(), Snap::Exact) {
+        Ok(units) => Ok(units),
+        Err(fault) => Err(WordFault { coordinate, fault }),
+    }
 }

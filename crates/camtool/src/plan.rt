@@ -1,7 +1,7 @@
 //! The command `plan`: a program that cuts the job's part, stored as a file.
 ghost use Rattle.std.specs.Prelude.{◌≡◌, ◌-◌, ◌^◌, ◌<◌, IfOk};
 ghost use Rattle.mill_command.specs.Requests.{plan as asks_plan};
-ghost use Rattle.mill_plan.specs.Plans.{answer_of, too_many_nodes, uncut};
+ghost use Rattle.mill_plan.specs.Plans.{answer_of, uncut};
 ghost use Rattle.camtool.specs.Answers.{planned as planned_answer};
 ghost use Rattle.camtool.specs.Calls.{CanCount, call_of};
 ghost use Rattle.camtool.specs.inner.Loads.{AreWorkers, IsSetup};
@@ -11,7 +11,7 @@ ghost use Rattle.camtool.specs.inner.Prints.{PrintsOr, ShowsPlanOr, plan_fault_o
 ghost use Rattle.camtool.specs.Statuses.{status_code};
 
 use crate::load::{Setup, load_setup};
-use crate::print::{add_length, add_number, add_text};
+use crate::print::{add_length, add_number, add_text, line_of_nodes};
 use crate::status::Status;
 use crate::tell::{tell, tell_fault, tell_made};
 use mill_base::WantOfMemory;
@@ -134,17 +134,6 @@ fn line_of_uncut(alloc: Global, row: u32, col: u32, top: i32) -> Result<Vec<u8>,
     add_number(&mut line, u64::from(col))?;
     add_text(&mut line, b" top ")?;
     add_length(&mut line, top)?;
-    add_text(&mut line, b"\n")?;
-    Ok(line)
-}
-
-/// The line of a plan over a lattice of too many nodes.
-fn line_of_nodes(alloc: Global, nodes: u64) -> Result<Vec<u8>, WantOfMemory>
-    ensures { IfOk result (λ line. line.items ≡ plan_line (too_many_nodes nodes)) }
-{
-    let mut line = Vec::new(alloc);
-    add_text(&mut line, b"over nodes ")?;
-    add_number(&mut line, nodes)?;
     add_text(&mut line, b"\n")?;
     Ok(line)
 }

@@ -1,10 +1,12 @@
-//! The pieces of a line.
-ghost use Rattle.std.specs.Prelude.{◌≡◌, ◌++◌, decimal, OnOk};
+//! The pieces of a line, and the line that two commands have.
+ghost use Rattle.std.specs.Prelude.{◌≡◌, ◌++◌, decimal, IfOk, OnOk};
 ghost use Rattle.mill_decimal.specs.Decimals.{canonical};
+ghost use Rattle.camtool.specs.Printed.{nodes_line};
 
 use itoa::Buffer;
 use mill_base::WantOfMemory;
 use mill_decimal::{NumText, write_decimal};
+use std::alloc::Global;
 
 /// Adds a text to a line.
 pub fn add_text(line: &mut Vec<u8>, text: &[u8]) -> Result<(), WantOfMemory>
@@ -29,4 +31,15 @@ pub fn add_length(line: &mut Vec<u8>, units: i32) -> Result<(), WantOfMemory>
     let mut text = NumText::new();
     write_decimal(units, &mut text);
     add_text(line, text.as_bytes())
+}
+
+/// The line of a lattice of too many nodes.
+pub fn line_of_nodes(alloc: Global, nodes: u64) -> Result<Vec<u8>, WantOfMemory>
+    ensures { IfOk result (λ line. line.items ≡ nodes_line nodes) }
+{
+    let mut line = Vec::new(alloc);
+    add_text(&mut line, b"over nodes ")?;
+    add_number(&mut line, nodes)?;
+    add_text(&mut line, b"\n")?;
+    Ok(line)
 }

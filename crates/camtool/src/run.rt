@@ -10,6 +10,7 @@ ghost use Rattle.camtool.specs.Statuses.{status_code};
 ghost use Rattle.camtool.specs.Words.{AsksNoPlan};
 
 use crate::drop::drop_cutter;
+use crate::level::level_part;
 use crate::plan::plan_program;
 use crate::status::Status;
 use crate::tell::tell;
@@ -134,5 +135,6 @@ fn serve<R: Threads + Sync, S: Shelf, O: Sink>(
             workers,
         } => plan_program(rt, alloc, shelf, job, part, name, workers, out),
         Command::Drop { job, part, x, y } => drop_cutter(alloc, shelf, job, part, x, y, out),
+        Command::Level { job, part, z } => level_part(alloc, shelf, job, part, z, out),
     }
 }

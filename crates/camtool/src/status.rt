@@ -4,8 +4,8 @@ ghost use Rattle.camtool.specs.Statuses.{status_code};
 /// How a run ends.
 #[derive(Clone, Copy, Debug, PartialEq, Eq)]
 pub enum Status {
-    /// The program is accepted, a planned program is stored, the drop height is told, or clap's help
-    /// or version is shown.
+    /// The program is accepted, a planned program is stored, the drop height or the lines at a height
+    /// are told, or clap's help or version is shown.
     Done,
     /// The words aren't taken.
     Words,
@@ -21,7 +21,7 @@ pub enum Status {
     WriteFault,
     /// A plan leaves stock uncut.
     Uncut,
-    /// A plan is larger than the planner goes.
+    /// A plan is larger than the planner goes, or a lattice has too many nodes.
     TooLarge,
 }
 

@@ -2,7 +2,7 @@
 use Rattle.std.proofs.Common.{◌≡◌, ◌∷◌, [], codes, refl, Some}
 use Rattle.clap.specs.declared.error.kind.ErrorKind.TheVariants as kind
 use Rattle.clap.proofs.OnLiterals.{clap_on_literals}
-use Rattle.mill_command.specs.Requests.{faults, request, verify, plan, drop}
+use Rattle.mill_command.specs.Requests.{faults, request, verify, plan, drop, level}
 
 verify_of_files : request (codes "verify" ∷ codes "j" ∷ codes "p" ∷ codes "f" ∷ []) ≡ Some (verify (codes "j") (codes "p") (codes "f") 1)
 unfolding clap_on_literals
@@ -56,3 +56,11 @@ plan_to_file = refl
 out_missing : faults (codes "plan" ∷ codes "j" ∷ codes "p" ∷ []) ≡ kind.MissingRequiredArgument ∷ []
 unfolding clap_on_literals
 out_missing = refl
+
+level_at_height : request (codes "level" ∷ codes "j" ∷ codes "--z=-1.5" ∷ codes "p" ∷ []) ≡ Some (level (codes "j") (codes "p") (codes "-1.5"))
+unfolding clap_on_literals
+level_at_height = refl
+
+height_missing : faults (codes "level" ∷ codes "j" ∷ codes "p" ∷ []) ≡ kind.MissingRequiredArgument ∷ []
+unfolding clap_on_literals
+height_missing = refl

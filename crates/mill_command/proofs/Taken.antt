@@ -11,10 +11,10 @@ use Rattle.clap.proofs.OnLiterals.{clap_on_literals}
 use Rattle.mill_command.proofs.Takes.{built_test, is_bare_app, none}
 use Rattle.clap.specs.Takes.{built_takes, is_given, takes}
 use Rattle.clap.specs.Faults.{entered_fault, level_fault}
-use Rattle.mill_command.specs.Set.{commands, verify, plan, drop, workers}
+use Rattle.mill_command.specs.Set.{commands, verify, plan, drop, level, workers}
 use Rattle.clap.specs.Kinds.{IsAmong, Kinds}
 use Rattle.clap.specs.declared.error.kind.ErrorKind.{ErrorKind}
-use Rattle.mill_command.specs.Requests.{HasWorkers, ReadsWords, Refuses, Request, drop_of, faults, is_taken, plan_of, request, request_in, verify_of, workers_in, verify as verify_files, plan as plan_to, drop as drop_at}
+use Rattle.mill_command.specs.Requests.{HasWorkers, ReadsWords, Refuses, Request, drop_of, faults, is_taken, level_of, plan_of, request, request_in, verify_of, workers_in, verify as verify_files, plan as plan_to, drop as drop_at, level as level_at}
 use Rattle.mill_command.specs.declared.refusal.Refusal.{Refusal}
 use Rattle.mill_command.specs.declared.refusal.Refusal.TheVariants as refusal
 use Rattle.mill_command.proofs.Faultless.{AreSound, IsSound, IsStopped, defaults_make, given_value, is_full, level_faultless, none_missing, other_sound}
@@ -36,10 +36,13 @@ plan_shape = built_leaf (inherited above plan.top)
 abbrev drop_shape : Shape
 drop_shape = built_leaf (inherited above drop.top)
 
+abbrev level_shape : Shape
+level_shape = built_leaf (inherited above level.top)
+
 abbrev topic_shape : Shape
 topic_shape = built_leaf help_shape
 
-are_built : (built commands).subs ≡ verify_shape ∷ plan_shape ∷ drop_shape ∷ topic_shape ∷ []
+are_built : (built commands).subs ≡ verify_shape ∷ plan_shape ∷ drop_shape ∷ level_shape ∷ topic_shape ∷ []
 are_built = refl
 
 abbrev HasRequest : Option Request → Type 0
@@ -56,6 +59,9 @@ plan_some job part out count j p o w = (plan_to j.0 p.0 o.0 w.0, rw (j.1, p.1, o
 drop_some : (job part x y : Option Text) → ((v : Text) × (job ≡ Some v)) → ((v : Text) × (part ≡ Some v)) → ((v : Text) × (x ≡ Some v)) → ((v : Text) × (y ≡ Some v))
     → HasRequest (drop_of job part x y)
 drop_some job part x y j p a b = (drop_at j.0 p.0 a.0 b.0, rw (j.1, p.1, a.1, b.1) refl, tt)
+
+level_some : (job part z : Option Text) → ((v : Text) × (job ≡ Some v)) → ((v : Text) × (part ≡ Some v)) → ((v : Text) × (z ≡ Some v)) → HasRequest (level_of job part z)
+level_some job part z j p a = (level_at j.0 p.0 a.0, rw (j.1, p.1, a.1) refl, tt)
 
 three_given : (a b d : Bool) → (not a || (not b || (not d || false))) ≡ false → (a ≡ true) × (b ≡ true) × (d ≡ true)
 three_given true true true e = (refl, refl, refl)
@@ -86,6 +92,9 @@ plan_sound = (workers_sound, (other_sound _ refl refl, (other_sound _ refl refl,
 
 drop_sound : AreSound drop_shape.rules
 drop_sound = (workers_sound, (other_sound _ refl refl, (other_sound _ refl refl, (other_sound _ refl refl, (other_sound _ refl refl, (other_sound _ refl refl, tt))))))
+
+level_sound : AreSound level_shape.rules
+level_sound = (workers_sound, (other_sound _ refl refl, (other_sound _ refl refl, (other_sound _ refl refl, (other_sound _ refl refl, tt)))))
 
 -- there is a row for the workers
 has_workers : (c : List Rule) (words : List Text) → list_any (λ (a : Rule). bytes_eq a.id (codes "workers") && is_full a.defaults) c ≡ true
@@ -119,20 +128,30 @@ drop_asks words none =
     (given_value (codes "job") rows level.right given.0) (given_value (codes "part") rows level.right given.1)
     (given_value (codes "x") rows level.right given.2) (given_value (codes "y") rows level.right given.3)
 
+level_asks : (words : List Text) → level_fault level_shape [] nothing_held words false [] ≡ [] → HasRequest (request_in (codes "level") (rows_after level_shape.rules [] words))
+level_asks words none =
+    let rows = rows_after level_shape.rules [] words in
+    let level = level_faultless level_shape [] words false [] level_sound none in
+    let given = three_given (is_given (codes "job") rows) (is_given (codes "part") rows) (is_given (codes "z") rows) (none_missing level_shape rows false level.checked).1 in
+    level_some (first_of (codes "job") rows) (first_of (codes "part") rows) (first_of (codes "z") rows)
+    (given_value (codes "job") rows level.right given.0) (given_value (codes "part") rows level.right given.1) (given_value (codes "z") rows level.right given.2)
+
 -- the command that answers to a name, given which names are its own
-abbrev met : Bool → Bool → Bool → Bool → Option Shape
-met v p d h = cond (v || false) (Some verify_shape) (cond (p || false) (Some plan_shape) (cond (d || false) (Some drop_shape) (cond (h || false) (Some topic_shape) None)))
+abbrev met : Bool → Bool → Bool → Bool → Bool → Option Shape
+met v p d l h =
+    cond (v || false) (Some verify_shape) (cond (p || false) (Some plan_shape) (cond (d || false) (Some drop_shape) (cond (l || false) (Some level_shape) (cond (h || false) (Some topic_shape) None))))
 
 -- the subcommand that was met is one of the commands
-named : (v p d h : Bool) (words : List Text) → h ≡ false
-    → option_map_or (λ (s : Shape). level_fault s [] nothing_held words false []) (met v p d h) [] ≡ []
-    → is_some (option_map (λ (s : Shape). rows_at s words) (met v p d h)) ≡ true
-    → HasRequest (option_and_then (λ (m : Text × List Row). request_in m.0 m.1) (option_map (λ (s : Shape). rows_at s words) (met v p d h)))
-named true p d h words other none some = verify_asks words none
-named false true d h words other none some = plan_asks words none
-named false false true h words other none some = drop_asks words none
-named false false false true words other none some = absurd (true≢false other)
-named false false false false words other none some = absurd (true≢false (sym some))
+named : (v p d l h : Bool) (words : List Text) → h ≡ false
+    → option_map_or (λ (s : Shape). level_fault s [] nothing_held words false []) (met v p d l h) [] ≡ []
+    → is_some (option_map (λ (s : Shape). rows_at s words) (met v p d l h)) ≡ true
+    → HasRequest (option_and_then (λ (m : Text × List Row). request_in m.0 m.1) (option_map (λ (s : Shape). rows_at s words) (met v p d l h)))
+named true p d l h words other none some = verify_asks words none
+named false true d l h words other none some = plan_asks words none
+named false false true l h words other none some = drop_asks words none
+named false false false true h words other none some = level_asks words none
+named false false false false true words other none some = absurd (true≢false other)
+named false false false false false words other none some = absurd (true≢false (sym some))
 
 -- the name of the command for help, either way round
 help_named : (name : Text) → (bytes_eq name (codes "help") && true) ≡ false → bytes_eq (codes "help") name ≡ false
@@ -146,7 +165,7 @@ help_named name other = go (bytes_eq (codes "help") name) refl
 entered_asks : (stop : Option (Text × List Text)) → IsStopped top stop → entered_fault (built commands) stop ≡ [] → is_some (entered (built commands) stop) ≡ true
     → HasRequest (option_and_then (λ (m : Text × List Row). request_in m.0 m.1) (entered (built commands) stop))
 entered_asks None stop none some = absurd (true≢false (sym some))
-entered_asks (Some p) stop none some = named (bytes_eq (codes "verify") p.0) (bytes_eq (codes "plan") p.0) (bytes_eq (codes "drop") p.0) (bytes_eq (codes "help") p.0) p.1 (help_named p.0 stop) none some
+entered_asks (Some p) stop none some = named (bytes_eq (codes "verify") p.0) (bytes_eq (codes "plan") p.0) (bytes_eq (codes "drop") p.0) (bytes_eq (codes "level") p.0) (bytes_eq (codes "help") p.0) p.1 (help_named p.0 stop) none some
 
 wanted : (b : Bool) → (not b && true) ≡ false → b ≡ true
 wanted true e = refl

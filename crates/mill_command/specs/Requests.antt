@@ -16,18 +16,21 @@ pub data Request : Type 0 where
   verify : Text → Text → Text → ℕ → Request
   plan : Text → Text → Text → ℕ → Request
   drop : Text → Text → Text → Text → Request
+  level : Text → Text → Text → Request
 
 -- what a command of the code says
 abbrev pub request_of : Command → Request
 request_of (command.Verify job part file workers) = verify job.now part.now file.now workers
 request_of (command.Plan job part out workers) = plan job.now part.now out.now workers
 request_of (command.Drop job part x y) = drop job.now part.now x.now y.now
+request_of (command.Level job part z) = level job.now part.now z.now
 
 -- where a request has a number of workers, it is from 1 to 64
 abbrev pub HasWorkers : Request → Type 0
 HasWorkers (verify job part file workers) = (1 ≤ workers) × (workers ≤ 64)
 HasWorkers (plan job part out workers) = (1 ≤ workers) × (workers ≤ 64)
 HasWorkers (drop job part x y) = Unit {0}
+HasWorkers (level job part z) = Unit {0}
 
 -- the number of `u32` that a text stands for
 abbrev pub number_of : Text → Option ℕ
@@ -52,13 +55,19 @@ abbrev pub drop_of : Option Text → Option Text → Option Text → Option Text
 drop_of (Some job) (Some part) (Some x) (Some y) = Some (drop job part x y)
 drop_of _ _ _ _ = None
 
+-- `level` where each of its words is there
+abbrev pub level_of : Option Text → Option Text → Option Text → Option Request
+level_of (Some job) (Some part) (Some z) = Some (level job part z)
+level_of _ _ _ = None
+
 -- the request of a subcommand's name and of the values that clap gives under its ids
 abbrev pub request_in : Text → List Row → Option Request
 request_in name rows =
     if bytes_eq name (codes "verify") then verify_of (first_of (codes "job") rows) (first_of (codes "part") rows) (first_of (codes "file") rows) (workers_in rows)
     else (if bytes_eq name (codes "plan") then plan_of (first_of (codes "job") rows) (first_of (codes "part") rows) (first_of (codes "out") rows) (workers_in rows)
     else (if bytes_eq name (codes "drop") then drop_of (first_of (codes "job") rows) (first_of (codes "part") rows) (first_of (codes "x") rows) (first_of (codes "y") rows)
-    else None))
+    else (if bytes_eq name (codes "level") then level_of (first_of (codes "job") rows) (first_of (codes "part") rows) (first_of (codes "z") rows)
+    else None)))
 
 -- clap takes the words: its own test, for this set of commands
 abbrev pub is_taken : List Text → Bool

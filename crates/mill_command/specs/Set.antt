@@ -38,13 +38,17 @@ plan = with_rule (with_files (codes "plan")) (place (codes "out"))
 abbrev pub drop : App
 drop = with_rule (with_rule (with_files (codes "drop")) (option (codes "x"))) (option (codes "y"))
 
+-- `level JOB PART --z=Z`
+abbrev pub level : App
+level = with_rule (with_files (codes "level")) (option (codes "z"))
+
 -- the program: its words have no program name, it has a version, and one of its commands must be there
 abbrev pub program : App
 program = record (new_app (codes "camtool")) { top = record (new_app (codes "camtool")).top { no_binary_name = true; has_version = true; subcommand_required = true } }
 
 -- the set of commands
 abbrev pub commands : App
-commands = with_subcommand (with_subcommand (with_subcommand program verify.top) plan.top) drop.top
+commands = with_subcommand (with_subcommand (with_subcommand (with_subcommand program verify.top) plan.top) drop.top) level.top
 
 -- the command is as clap sees this one, and none of its arguments is global
 abbrev pub Is : App → Command → Type 0

@@ -1,6 +1,6 @@
 ghost use Rattle.std.specs.Prelude.{◌≡◌, codes, option_map, Some};
 ghost use Rattle.clap.specs.Words.{first_of, found_of, rows_of};
-ghost use Rattle.mill_command.specs.Requests.{drop_of, plan_of, request_in, request_of, verify_of, workers_in};
+ghost use Rattle.mill_command.specs.Requests.{drop_of, level_of, plan_of, request_in, request_of, verify_of, workers_in};
 
 use clap::ArgMatches;
 
@@ -30,6 +30,13 @@ pub enum Command<'a> {
         x: &'a str,
         y: &'a str,
     },
+    /// The lines along which the job's cutter goes round the part with its tip at height z, in
+    /// millimetres as it was written.
+    Level {
+        job: &'a str,
+        part: &'a str,
+        z: &'a str,
+    },
 }
 
 impl<'a> Command<'a> {
@@ -41,6 +48,7 @@ impl<'a> Command<'a> {
             "verify" => Command::verify_from(matches),
             "plan" => Command::plan_from(matches),
             "drop" => Command::drop_from(matches),
+            "level" => Command::level_from(matches),
             _ => None,
         }
     }
@@ -75,6 +83,16 @@ impl<'a> Command<'a> {
             part: value(matches, "part")?,
             x: value(matches, "x")?,
             y: value(matches, "y")?,
+        })
+    }
+
+    fn level_from(matches: &ArgMatches<'a>) -> Option<Command<'a>>
+        ensures { option_map request_of result ≡ level_of (first_of (codes "job") (rows_of (found_of matches.now))) (first_of (codes "part") (rows_of (found_of matches.now))) (first_of (codes "z") (rows_of (found_of matches.now))) }
+    {
+        Some(Command::Level {
+            job: value(matches, "job")?,
+            part: value(matches, "part")?,
+            z: value(matches, "z")?,
         })
     }
 }

@@ -2,7 +2,7 @@
 //! in `specs/Set.antt`, and where matches are read.
 ghost use Rattle.std.specs.Prelude.{◌≡◌, false, IfOk};
 ghost use Rattle.clap.specs.Words.{App, Rule, new_app, rule_of, with_rule, with_subcommand};
-ghost use Rattle.mill_command.specs.Set.{Is, commands, count_parser, drop as drop_command, option, place, plan, program, verify, with_files, workers};
+ghost use Rattle.mill_command.specs.Set.{Is, commands, count_parser, drop as drop_command, level, option, place, plan, program, verify, with_files, workers};
 
 use clap::builder::ValueParser;
 use clap::{Arg, Command, value_parser};
@@ -17,7 +17,8 @@ pub fn commands<'a>(alloc: Global) -> Result<Command<'a>, AllocError>
 {
     let program = with_command(program(alloc)?, verify(alloc)?)?;
     let program = with_command(program, plan(alloc)?)?;
-    with_command(program, drop_height(alloc)?)
+    let program = with_command(program, drop_height(alloc)?)?;
+    with_command(program, level(alloc)?)
 }
 
 // `bin_name` is for the usage lines, which else lack the program's name.
@@ -73,6 +74,21 @@ fn drop_height<'a>(alloc: Global) -> Result<Command<'a>, AllocError>
         option(alloc, "x", "X", "The place's x in mm, as in --x=-1.5"),
     )?;
     with_arg(command, option(alloc, "y", "Y", "The place's y in mm"))
+}
+
+/// `level JOB PART --z=Z`, with how many workers.
+fn level<'a>(alloc: Global) -> Result<Command<'a>, AllocError>
+    ensures { IfOk result (Is level) }
+{
+    let command = with_files(
+        alloc,
+        "level",
+        "Prints the lines along which the cutter goes round the part at one height",
+    )?;
+    with_arg(
+        command,
+        option(alloc, "z", "Z", "The height in mm, as in --z=-1.5"),
+    )
 }
 
 /// A command whose first two words are the job's and the part's file, and that takes how many

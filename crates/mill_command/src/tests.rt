@@ -61,7 +61,12 @@ fn takes_commands(rt: HostRuntime) -> Result<(), Fail> {
         x: "",
         y: "--x=1",
     };
-    let table: [(&[&str], Command<'_>); 18] = [
+    let level = Command::Level {
+        job: "a",
+        part: "b",
+        z: "-1.5",
+    };
+    let table: [(&[&str], Command<'_>); 21] = [
         (&["verify", "a", "b", "c"], verify),
         (&["verify", "--", "a", "b", "c"], verify),
         (&["verify", "--", "-a", "--help", "verify"], dashed),
@@ -86,6 +91,9 @@ fn takes_commands(rt: HostRuntime) -> Result<(), Fail> {
             &["drop", "--workers=64", "a", "b", "--x=-1", "--y=2.5"],
             drop,
         ),
+        (&["level", "a", "b", "--z=-1.5"], level),
+        (&["level", "--z=-1.5", "a", "--", "b"], level),
+        (&["level", "a", "b", "--workers=64", "--z=-1.5"], level),
     ];
     for (words, command) in table {
         let words = owned(rt.alloc(), words)?;
@@ -96,7 +104,7 @@ fn takes_commands(rt: HostRuntime) -> Result<(), Fail> {
 
 #[test]
 fn shows_help_and_version(rt: HostRuntime) -> Result<(), Fail> {
-    let table: [(&[&str], &str); 11] = [
+    let table: [(&[&str], &str); 13] = [
         (&["--help"], "Usage: camtool <COMMAND>"),
         (&["-h"], "Usage: camtool <COMMAND>"),
         (&["help"], "Usage: camtool <COMMAND>"),
@@ -117,6 +125,11 @@ fn shows_help_and_version(rt: HostRuntime) -> Result<(), Fail> {
             &["drop", "-h"],
             "Usage: camtool drop [OPTIONS] --x <X> --y <Y> <JOB> <PART>",
         ),
+        (
+            &["level", "-h"],
+            "Usage: camtool level [OPTIONS] --z <Z> <JOB> <PART>",
+        ),
+        (&["level", "-h"], "as in --z=-1.5"),
         (&["--version"], "camtool 0.1.0\n"),
         (&["-V"], "camtool 0.1.0\n"),
         (&["-V", "verify"], "camtool 0.1.0\n"),
@@ -133,7 +146,7 @@ fn shows_help_and_version(rt: HostRuntime) -> Result<(), Fail> {
 
 #[test]
 fn refuses_words(rt: HostRuntime) -> Result<(), Fail> {
-    let table: [(&[&str], &str); 33] = [
+    let table: [(&[&str], &str); 37] = [
         (&[], "requires a subcommand"),
         (&["--"], "requires a subcommand"),
         (&["verify"], "<JOB>\n  <PART>\n  <FILE>\n"),
@@ -223,6 +236,16 @@ fn refuses_words(rt: HostRuntime) -> Result<(), Fail> {
         (
             &["drop", "a", "b", "--x=1", "--y=2", "--z=3"],
             "unexpected argument '--z'",
+        ),
+        (&["level", "a", "b"], "not provided:\n  --z <Z>\n"),
+        (&["level", "a", "--z=1"], "not provided:\n  <PART>\n"),
+        (
+            &["level", "a", "b", "--z", "-1"],
+            "unexpected argument '-1'",
+        ),
+        (
+            &["level", "a", "b", "--z=1", "--x=1"],
+            "unexpected argument '--x'",
         ),
     ];
     for (words, part) in table {

@@ -8,7 +8,9 @@ use Rattle.mill_base.specs.Motion.{Follow}
 use Rattle.mill_base.specs.Ranges.{MovesInTextRange}
 use Rattle.mill_base.specs.Covers.{IsUnder}
 use Rattle.mill_base.specs.Numbers.{Within}
+use Rattle.mill_decimal.specs.Decimals.{read_as}
 use Rattle.mill_decimal.specs.declared.snap.Snap.{Snap}
+use Rattle.mill_decimal.specs.declared.snap.Snap.TheVariants.{Exact}
 use Rattle.mill_io.specs.Causes.{Rose}
 use Rattle.mill_io.specs.Views.{StoreView, ReadsOnly}
 use Rattle.mill_part.specs.Tops.{IsTop}
@@ -23,9 +25,11 @@ use Rattle.camtool.specs.declared.load.LoadFault.TheVariants.{Memory, ReadFault,
 use Rattle.camtool.specs.declared.load.Unfit.TheVariants.{TooLong, JobRefused, PartRefused, ProgramRefused}
 use Rattle.camtool.specs.declared.load.Setup.{Setup}
 use Rattle.camtool.specs.declared.verify.Loaded.{Loaded}
+use Rattle.camtool.specs.declared.place.Coordinate.{Coordinate}
 use Rattle.camtool.specs.declared.place.Place.{Place}
 use Rattle.camtool.specs.declared.place.WordFault.{WordFault}
 use Rattle.camtool.specs.Drop.{ReadsPlace, RefusesWord}
+use Rattle.camtool.specs.Level.{ReadsHeight, RefusesHeight}
 use Rattle.camtool.specs.Setup.{SetupTexts, IsTooLong, IsJobText, IsRefusedJob, IsPartText, IsRefusedPart, ReadsSetup, IsUnfit, IsReadBefore}
 use Rattle.camtool.specs.Verify.{Texts, IsProgramText, IsRefusedProgram, Reads, IsUnfitProgram, IsReadBeforeProgram}
 
@@ -127,10 +131,20 @@ IsLow job part (Some height) = IsTop part height × (job.top <ℤ height)
 
 -- ---- words
 
+-- what the word of this coordinate comes to
+abbrev pub CoordinateFrom : List ℕ → Coordinate → Result ℤ WordFault → Type 0
+CoordinateFrom word coordinate (Ok units) = read_as Exact word ≡ Ok units
+CoordinateFrom word coordinate (Err f) = (f.coordinate ≡ coordinate) × (read_as Exact word ≡ Err f.fault)
+
 -- what the words for x and y come to
 abbrev pub PlaceFrom : List ℕ → List ℕ → Result Place WordFault → Type 0
 PlaceFrom x y (Ok place) = ReadsPlace x y place
 PlaceFrom x y (Err f) = RefusesWord x y f.coordinate f.fault
+
+-- what the word for z comes to
+abbrev pub HeightFrom : List ℕ → Result ℤ WordFault → Type 0
+HeightFrom z (Ok height) = ReadsHeight z height
+HeightFrom z (Err f) = RefusesHeight z f.coordinate f.fault
 
 -- the place is in range
 pub record IsPlace (place : Place) : Type 0 where

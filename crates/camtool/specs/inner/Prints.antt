@@ -17,8 +17,9 @@ use Rattle.camtool.specs.declared.load.LoadFault.TheVariants as load_fault
 use Rattle.camtool.specs.declared.load.Setup.{Setup}
 use Rattle.camtool.specs.declared.place.Place.{Place}
 use Rattle.camtool.specs.declared.verify.Loaded.{Loaded}
-use Rattle.camtool.specs.Answers.{unfit, judged, planned, dropped}
+use Rattle.camtool.specs.Answers.{unfit, judged, planned, dropped, leveled}
 use Rattle.camtool.specs.Calls.{Call}
+use Rattle.camtool.specs.Level.{LevelAnswer, IsLevelAnswer}
 use Rattle.camtool.specs.Outcomes.{Outcome, help, bad_words, no_memory, read_fault, answered, outcome_status, outcome_line, Shows}
 use Rattle.camtool.specs.Verify.{IsSafe}
 
@@ -91,6 +92,15 @@ pub record PrintsHeight (s : Setup) (place : Place) (status : ℕ) (sink sink_af
   pub height : ℤ
   pub is : IsDropHeight s.job.cutter s.part place.x place.y s.job.floor height
   pub printed : PrintsOr (answered (dropped height)) status sink sink_after
+
+-- the answer at a height is printed, or that memory was short
+pub record PrintsLevel (s : Setup) (height : ℤ) (status : ℕ) (sink sink_after : SinkView) : Type 0 where
+  pub answer : LevelAnswer
+  pub is : IsLevelAnswer s.job s.part height answer
+  pub printed : PrintsOr (answered (leveled answer)) status sink sink_after
+
+abbrev pub TriesLevel : Setup → ℤ → ℕ → SinkView → SinkView → Type 0
+TriesLevel s height status sink sink_after = PrintsLevel s height status sink sink_after ⊎ PrintsOutcome no_memory status sink sink_after
 
 -- the planner's answer to what was read is shown and its text stored
 pub record ShowsPlan (s : Setup) (name : List ℕ) (call : Call) : Type 0 where

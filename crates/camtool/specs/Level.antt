@@ -1,0 +1,78 @@
+-- The command `level`: its word for a height, and the lines along which the cutter goes round the part there.
+use Rattle.std.specs.Prelude.{◌≡◌, ℕ, ℤ, codes, decimal, Bool, if◌then◌else◌, List, [], ◌∷◌, ◌++◌, length, Ok, Err}
+use Rattle.std.specs.List.{flat_map}
+use Rattle.mill_base.specs.declared.points.Pt3.{Pt3}
+use Rattle.mill_base.specs.declared.points.Tri.{Tri}
+use Rattle.mill_decimal.specs.Decimals.{canonical, read_as}
+use Rattle.mill_decimal.specs.declared.fault.DecFault.{DecFault}
+use Rattle.mill_decimal.specs.declared.snap.Snap.TheVariants.{Exact}
+use Rattle.mill_job.specs.declared.job.Job.{Job}
+use Rattle.mill_level.specs.Waterlines.{Outline, IsWaterline, HasManyNodes}
+use Rattle.mill_paths.specs.Lattices.{finish_lattice}
+use Rattle.camtool.specs.declared.place.Coordinate.{Coordinate}
+use Rattle.camtool.specs.declared.place.Coordinate.TheVariants.{Z}
+use Rattle.camtool.specs.Printed.{line, nodes_line}
+use Rattle.camtool.specs.Setup.{SetupTexts, ReadsSetup}
+
+-- ---- the word
+
+-- the word for z reads as this height, and isn't finer than a unit
+abbrev pub ReadsHeight : List ℕ → ℤ → Type 0
+ReadsHeight z height = read_as Exact z ≡ Ok height
+
+-- it reads as some height
+abbrev pub HasHeight : List ℕ → Type 0
+HasHeight z = (height : ℤ) × ReadsHeight z height
+
+-- the word for z is refused, and this is its first fault
+abbrev pub RefusesHeight : List ℕ → Coordinate → DecFault → Type 0
+RefusesHeight z Z fault = read_as Exact z ≡ Err fault
+RefusesHeight z coordinate fault = ⊥
+
+-- ---- the answers
+
+-- what can be answered at a height: the lines, or that a lattice with so many nodes is too large
+pub data LevelAnswer : Type 0 where
+  outlines : List Outline → LevelAnswer
+  too_many_nodes : ℕ → LevelAnswer
+
+-- the lines are the part's waterline at the height, for the job's cutter and over its area by steps of its raster; or that lattice has this many nodes, which are too many
+abbrev pub IsLevelAnswer : Job → List Tri → ℤ → LevelAnswer → Type 0
+IsLevelAnswer job part height (outlines lines) = IsWaterline job.cutter part height (finish_lattice job) lines
+IsLevelAnswer job part height (too_many_nodes nodes) = HasManyNodes (finish_lattice job) nodes
+
+-- word, job and part are read, and this is the answer at the height
+pub record Levels (z : List ℕ) (texts : SetupTexts) (answer : LevelAnswer) : Type 0 where
+  pub height : ℤ
+  pub job : Job
+  pub part : List Tri
+  pub height_is : ReadsHeight z height
+  pub setup_is : ReadsSetup texts job part
+  pub is : IsLevelAnswer job part height answer
+
+-- ---- how they are shown
+
+abbrev pub level_status : LevelAnswer → ℕ
+level_status (outlines lines) = 0
+level_status (too_many_nodes nodes) = 9
+
+-- a point by its x and y
+abbrev pub point_line : Pt3 → List ℕ
+point_line p = line (canonical p.x ∷ canonical p.y ∷ [])
+
+-- whether the last point is joined to the first
+abbrev pub closed_word : Bool → List ℕ
+closed_word closed = if closed then codes "closed" else codes "open"
+
+-- whether the line is closed and how many points it has, and each of them behind that
+abbrev pub outline_text : Outline → List ℕ
+outline_text o = line (closed_word o.closed ∷ decimal (length o.points) ∷ []) ++ flat_map point_line o.points
+
+-- each line in its order, and how many there are
+abbrev pub outlines_text : List Outline → List ℕ
+outlines_text lines = flat_map outline_text lines ++ line (codes "chains" ∷ decimal (length lines) ∷ [])
+
+-- the text of an answer
+abbrev pub level_line : LevelAnswer → List ℕ
+level_line (outlines lines) = outlines_text lines
+level_line (too_many_nodes nodes) = nodes_line nodes

@@ -1,0 +1,127 @@
+//! The command `level`: the lines along which the cutter goes round the part at one height.
+ghost use Rattle.std.specs.Prelude.{◌≡◌, ◌++◌, ◌-◌, ◌^◌, ◌<◌, ℕ, IfOk, IsErrOf, OnOk, map as map_list};
+ghost use Rattle.mill_base.specs.Numbers.{Within};
+ghost use Rattle.mill_base.specs.declared.limits.TheConstants.{MAX_TEXT_COORDINATE};
+ghost use Rattle.mill_command.specs.Requests.{level as asks_level};
+ghost use Rattle.mill_level.specs.Waterlines.{HasManyNodes, seen};
+ghost use Rattle.mill_level.specs.declared.fault.LevelFault.TheVariants.{TooManyNodes};
+ghost use Rattle.mill_paths.specs.Lattices.{finish_lattice as finish_lattice_of};
+ghost use Rattle.camtool.specs.Calls.{CanCount, call_of};
+ghost use Rattle.camtool.specs.Level.{IsLevelAnswer, closed_word, outline_text, outlines, outlines_text, point_line};
+ghost use Rattle.camtool.specs.inner.Loads.{IsSetup};
+ghost use Rattle.camtool.specs.Outcomes.{Serves};
+ghost use Rattle.camtool.specs.inner.Prints.{TriesLevel};
+ghost use Rattle.camtool.specs.Statuses.{status_code};
+
+use crate::faults::line_of_word_fault;
+use crate::load::{Setup, load_setup};
+use crate::place::read_height;
+use crate::print::{add_length, add_number, add_text, line_of_nodes};
+use crate::status::Status;
+use crate::tell::{tell, tell_fault, tell_made};
+use mill_base::{Pt3, WantOfMemory};
+use mill_io::{Shelf, Sink};
+use mill_level::{Chain, LevelFault, waterline};
+use mill_part::SortedPart;
+use mill_paths::finish_lattice;
+use std::alloc::Global;
+
+/// The work of `level`: reads the height, then the job and the part, and prints the lines along
+/// which the cutter goes round the part there, or what keeps it from them.
+pub fn level_part<S: Shelf, O: Sink>(
+    alloc: Global,
+    shelf: &mut S,
+    job: &str,
+    part: &str,
+    z: &str,
+    out: &mut O,
+) -> Status
+    requires { CanCount (S.shows shelf.old) (O.shows out.old) }
+    ensures { Serves (asks_level job.now part.now z.now)
+        (call_of result (S.shows shelf.old) (S.shows shelf.new) (O.shows out.old) (O.shows out.new)) }
+{
+    let height = match read_height(z) {
+        Ok(height) => height,
+        Err(fault) => return tell_made(line_of_word_fault(alloc, fault), Status::Refused, out),
+    };
+    match load_setup(alloc, shelf, job, part) {
+        Ok(setup) => tell_level(alloc, &setup, height, out),
+        Err(fault) => tell_fault(alloc, fault, out),
+    }
+}
+
+/// Prints the lines at a height, or why there are none.
+fn tell_level<O: Sink>(alloc: Global, setup: &Setup, height: i32, out: &mut O) -> Status
+    requires ready { IsSetup setup.now }
+    requires height_ok { Within MAX_TEXT_COORDINATE height }
+    requires prints { (O.shows out.old).faults < 2 ^ 64 - 1 }
+    ensures { TriesLevel setup.now height (status_code result) (O.shows out.old) (O.shows out.new) }
+{
+    match chains_at(alloc, setup, height) {
+        Ok(chains) => tell_made(text_of_chains(alloc, &chains), Status::Done, out),
+        Err(LevelFault::TooManyNodes { nodes }) => {
+            tell_made(line_of_nodes(alloc, nodes), Status::TooLarge, out)
+        }
+        Err(LevelFault::WantOfMemory) => tell(out, b"out of memory\n", Status::Memory),
+    }
+}
+
+/// The lines at a height, over the job's area by steps of its raster.
+fn chains_at(alloc: Global, setup: &Setup, height: i32) -> Result<Vec<Chain>, LevelFault>
+    requires ready { IsSetup setup.now }
+    requires height_ok { Within MAX_TEXT_COORDINATE height }
+    ensures chains { IfOk result (λ chains. IsLevelAnswer setup.now.job setup.now.part height
+        (outlines (map_list seen chains.items))) }
+    ensures nodes { (nodes : ℕ) → IsErrOf result (TooManyNodes nodes)
+        → HasManyNodes (finish_lattice_of setup.now.job) nodes }
+{
+    let job = &setup.job;
+    let part = &setup.part;
+    let sorted = SortedPart::new(alloc, part)?;
+    let lattice = finish_lattice(job);
+    waterline(alloc, part, sorted.cells(), job.cutter, height, &lattice)
+}
+
+/// The text of all lines.
+fn text_of_chains(alloc: Global, chains: &[Chain]) -> Result<Vec<u8>, WantOfMemory>
+    ensures { IfOk result (λ text. text.items ≡ outlines_text (map_list seen chains.now)) }
+{
+    let mut text = Vec::new(alloc);
+    for chain in chains {
+        add_chain(&mut text, chain)?;
+    }
+    add_text(&mut text, b"chains ")?;
+    add_number(&mut text, chains.len() as u64)?;
+    add_text(&mut text, b"\n")?;
+    Ok(text)
+}
+
+// One line: whether it is closed, how many points it has, and the points.
+fn add_chain(text: &mut Vec<u8>, chain: &Chain) -> Result<(), WantOfMemory>
+    ensures { OnOk result (text.new.items ≡ text.old.items ++ outline_text (seen chain.now)) }
+{
+    add_text(text, word_of_closed(chain.closed))?;
+    add_text(text, b" ")?;
+    add_number(text, chain.points.len() as u64)?;
+    add_text(text, b"\n")?;
+    for point in &chain.points {
+        add_point(text, *point)?;
+    }
+    Ok(())
+}
+
+fn word_of_closed(closed: bool) -> &'static [u8]
+    ensures { result.now ≡ closed_word closed }
+{
+    if closed { b"closed" } else { b"open" }
+}
+
+fn add_point(text: &mut Vec<u8>, point: Pt3) -> Result<(), WantOfMemory>
+    ensures { OnOk result (text.new.items ≡ text.old.items ++ point_line point) }
+{
+    add_length(text, point.x)?;
+    add_text(text, b" ")?;
+    add_length(text, point.y)?;
+    add_text(text, b"\n")?;
+    Ok(())
+}
