@@ -7,6 +7,7 @@ use std::test::Fail;
 
 mod drops;
 mod faults;
+mod levels;
 mod missing;
 mod plans;
 mod untaken;
@@ -59,6 +60,10 @@ const CORNER: &[u8] =
 // The point (0, 0, 3).
 const PEAK: &[u8] =
     b"solid\nfacet normal 0 0 1\nouter loop\nvertex 0 0 3\nvertex 0 0 3\nvertex 0 0 3\nendloop\nendfacet\nendsolid\n";
+
+// The point (5, 5, 3).
+const POINT: &[u8] =
+    b"solid\nfacet normal 0 0 1\nouter loop\nvertex 5 5 3\nvertex 5 5 3\nvertex 5 5 3\nendloop\nendfacet\nendsolid\n";
 
 const HIGH: &[u8] =
     b"solid\nfacet normal 0 0 1\nouter loop\nvertex 0 0 3.01\nvertex 0 0 3.01\nvertex 0 0 3.01\nendloop\nendfacet\nendsolid\n";

@@ -13,7 +13,9 @@ fn refuses_before_a_missing_file(rt: HostRuntime) -> Result<(), Fail> {
     let plan: &[&str] = &["plan", "job", "absent", "out"];
     let drop: &[&str] = &["drop", "job", "absent", "--x=0", "--y=0"];
     let off_grid: &[&str] = &["drop", "absent", "absent", "--x=0", "--y=0.005"];
-    let table: [(&[u8], &[u8], &[&str], Status, &[u8]); 9] = [
+    let level: &[&str] = &["level", "job", "absent", "--z=0"];
+    let fine: &[&str] = &["level", "absent", "absent", "--z=0.001"];
+    let table: [(&[u8], &[u8], &[&str], Status, &[u8]); 12] = [
         (
             b"\xff",
             PLATE,
@@ -70,6 +72,21 @@ fn refuses_before_a_missing_file(rt: HostRuntime) -> Result<(), Fail> {
             off_grid,
             Status::Refused,
             b"refused word y off-grid\n",
+        ),
+        (
+            b"\xff",
+            PLATE,
+            level,
+            Status::Refused,
+            b"refused job syntax\n",
+        ),
+        (JOB, PLATE, level, Status::ReadFault, b"read fault part\n"),
+        (
+            JOB,
+            PLATE,
+            fine,
+            Status::Refused,
+            b"refused word z off-grid\n",
         ),
     ];
     for (job, part, given, status, line) in table {

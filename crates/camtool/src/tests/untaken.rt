@@ -9,7 +9,7 @@ use std::test::Fail;
 #[test]
 fn answers_untaken_words(rt: HostRuntime) -> Result<(), Fail> {
     let alloc = rt.alloc();
-    let table: [(&[&str], Status, &str); 27] = [
+    let table: [(&[&str], Status, &str); 30] = [
         (&["--help"], Status::Done, "Usage: camtool <COMMAND>"),
         (&["-h"], Status::Done, "Usage: camtool <COMMAND>"),
         (&["help", "drop"], Status::Done, "--x <X>"),
@@ -99,6 +99,13 @@ fn answers_untaken_words(rt: HostRuntime) -> Result<(), Fail> {
             &["drop", "job", "part", "--x=1", "--y=2", "--z=3"],
             Status::Words,
             "unexpected argument '--z'",
+        ),
+        (&["level", "--help"], Status::Done, "--z <Z>"),
+        (&["level", "job", "part"], Status::Words, "--z <Z>"),
+        (
+            &["level", "job", "part", "--z=1", "--z=1"],
+            Status::Words,
+            "multiple times",
         ),
     ];
     for (list, status, piece) in table {

@@ -1,0 +1,143 @@
+// `level`: the text and the status of each answer.
+use crate::run::run;
+use crate::status::Status;
+use crate::tests::{CORNER, EMPTY, FINE_JOB, HIGH, JOB, PEAK, POINT, WIDE_JOB, store, words};
+use mill_io::MemSink;
+use std::test::Fail;
+
+const ROUND: &[u8] = b"closed 4\n4.00 5.00\n5.00 4.00\n6.00 5.00\n5.00 6.00\nchains 1\n";
+
+#[test]
+fn goes_round_the_part(rt: HostRuntime) -> Result<(), Fail> {
+    let alloc = rt.alloc();
+    let table: [((&[u8], &[u8], &[u8]), &str, &[u8]); 7] = [
+        ((WIDE_JOB, POINT, b""), "--z=0", ROUND),
+        ((WIDE_JOB, POINT, b""), "--z=2.99", ROUND),
+        ((WIDE_JOB, POINT, b""), "--z=-1310.71", ROUND),
+        ((WIDE_JOB, POINT, b""), "--z=0.3e1", b"chains 0\n"),
+        (
+            (WIDE_JOB, PEAK, b""),
+            "--z=0",
+            b"open 2\n1.00 0.00\n0.00 1.00\nchains 1\n",
+        ),
+        ((WIDE_JOB, EMPTY, b""), "--z=0", b"chains 0\n"),
+        ((JOB, EMPTY, b""), "--z=1310.71", b"chains 0\n"),
+    ];
+    for (texts, z, text) in table {
+        let mut shelf = store(alloc, texts, &[])?;
+        let mut sink = MemSink::new(alloc, 200, &[])?;
+        let words = words(alloc, &["level", "--workers=2", "job", "part", z])?;
+        let ended = run(&rt, alloc, &words, &mut shelf, &mut sink);
+        assert_eq!(rt; sink.written(), text);
+        assert_eq!(rt; ended, Status::Done);
+    }
+    Ok(())
+}
+
+#[test]
+fn tells_why_there_is_no_level(rt: HostRuntime) -> Result<(), Fail> {
+    let alloc = rt.alloc();
+    let table: [((&[u8], &[u8], &[u8]), &str, Status, &[u8]); 7] = [
+        (
+            (FINE_JOB, CORNER, b""),
+            "--z=0",
+            Status::TooLarge,
+            b"over nodes 4004001\n",
+        ),
+        (
+            (WIDE_JOB, POINT, b""),
+            "--z=0.001",
+            Status::Refused,
+            b"refused word z off-grid\n",
+        ),
+        (
+            (WIDE_JOB, POINT, b""),
+            "--z=-1310.72",
+            Status::Refused,
+            b"refused word z out-of-range\n",
+        ),
+        (
+            (b"\xff", POINT, b""),
+            "--z=",
+            Status::Refused,
+            b"refused word z spelling\n",
+        ),
+        (
+            (b"\xff", POINT, b""),
+            "--z=0",
+            Status::Refused,
+            b"refused job syntax\n",
+        ),
+        (
+            (WIDE_JOB, b"solid\n", b""),
+            "--z=0",
+            Status::Refused,
+            b"refused part line 2 cut-short\n",
+        ),
+        (
+            (JOB, HIGH, b""),
+            "--z=0",
+            Status::Refused,
+            b"refused part-top 3.01 top 3.00\n",
+        ),
+    ];
+    for (texts, z, status, line) in table {
+        let mut shelf = store(alloc, texts, &[])?;
+        let mut sink = MemSink::new(alloc, 200, &[])?;
+        let words = words(alloc, &["level", "job", "part", z])?;
+        let ended = run(&rt, alloc, &words, &mut shelf, &mut sink);
+        assert_eq!(rt; sink.written(), line);
+        assert_eq!(rt; ended, status);
+    }
+    Ok(())
+}
+
+#[test]
+fn blames_what_failed_at_a_level(rt: HostRuntime) -> Result<(), Fail> {
+    let alloc = rt.alloc();
+    let none: &[u64] = &[];
+    let table: [(&str, &[u64], &[u64], usize, Status, &[u8]); 5] = [
+        (
+            "--z=0",
+            &[0],
+            none,
+            200,
+            Status::ReadFault,
+            b"read fault job\n",
+        ),
+        (
+            "--z=0",
+            &[2],
+            none,
+            200,
+            Status::ReadFault,
+            b"read fault part\n",
+        ),
+        (
+            "--z=0.001",
+            &[0],
+            none,
+            200,
+            Status::Refused,
+            b"refused word z off-grid\n",
+        ),
+        ("--z=0", none, &[0], 200, Status::WriteFault, b""),
+        (
+            "--z=0",
+            none,
+            none,
+            14,
+            Status::WriteFault,
+            b"closed 4\n4.00 ",
+        ),
+    ];
+    for (z, reads, writes, room, status, line) in table {
+        let mut shelf = store(alloc, (WIDE_JOB, POINT, b""), reads)?;
+        let mut sink = MemSink::new(alloc, room, writes)?;
+        let words = words(alloc, &["level", "job", "part", z])?;
+        let ended = run(&rt, alloc, &words, &mut shelf, &mut sink);
+        assert_eq!(rt; sink.written(), line);
+        assert_eq!(rt; ended, status);
+    }
+    Ok(())
+}
