@@ -8,6 +8,7 @@ pub mod Least
 pub mod Marking
 pub mod Members
 pub mod OneWaterline
+pub mod Placed
 pub mod Points
 pub mod Ranked
 pub mod SameChain
