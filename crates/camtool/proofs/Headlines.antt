@@ -42,7 +42,7 @@ rejects_by call files workers (refused_word coordinate fault) is e printed = abs
 rejects_by call files workers (unfit fault) is e printed = absurd (on 4 3 (omega arith) e)
 rejects_by call files workers (judged job part moves (Accept count columns left)) is e printed = absurd (no 0 3 (omega arith) e)
 rejects_by call files workers (judged job part moves (Reject reason)) is e printed =
-    record { job = job; part = part; moves = moves; reason = reason; all_read = is.all_read; first = is.is; printed = printed }
+    record { job = job; part = part; moves = moves; reason = reason; all_read = is.all_read; first = is.is; named = is.named; printed = printed }
 rejects_by call files workers (planned name answer) is e printed = absurd is
 rejects_by call files workers (dropped height) is e printed = absurd is
 rejects_by call files workers (leveled answer) is e printed = absurd is
@@ -82,6 +82,7 @@ done_safely call files text count columns left p stored printed = record {
     };
     is = subst (λ (n : ℕ). IsVerdict p.job p.part p.is.moves (Accept n columns left)) p.is.accepted.all_moves p.is.accepted;
     safe = p.is.safe;
+    named = tt;
   };
   safe = p.is.safe;
   printed = subst (λ (n : ℕ). IsWritten (plan_line (done text n columns left)) call.sink call.sink_after) p.is.accepted.all_moves printed;

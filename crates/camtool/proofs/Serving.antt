@@ -85,7 +85,7 @@ pub verdict_serves : (job part program : List ℕ) (workers : ℕ) (call : Call)
     → Loads (texts_of call.store.contents (record { job = job; part = part; program = program })) (Ok l)
     → (let r : Result Loaded LoadFault = Ok l in OnlyLoads call.store call.store_after r) → TriesVerdict l call.status call.sink call.sink_after → Serves (verify job part program workers) call
 verdict_serves job part program workers call l read loads (inl v) =
-    answer_serves (verify job part program workers) call (judged l.job l.part l.moves.items v.verdict) (record { all_read = read; is = v.is; safe = v.safe })
+    answer_serves (verify job part program workers) call (judged l.job l.part l.moves.items v.verdict) (record { all_read = read; is = v.is; safe = v.safe; named = v.named })
     (answer_shows call (judged l.job l.part l.moves.items v.verdict) refl loads.only loads.reads v.printed)
 verdict_serves job part program workers call l read loads (inr m) =
     record { outcome = no_memory; is = tt; shows = printed_shows call no_memory refl loads.only loads.reads m }

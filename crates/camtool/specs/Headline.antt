@@ -18,7 +18,7 @@ use Rattle.camtool.specs.Level.{ReadsHeight}
 use Rattle.camtool.specs.Outcomes.{ShowsHelp, RefusesWords}
 use Rattle.camtool.specs.Plan.{plan_line}
 use Rattle.camtool.specs.Setup.{setup_texts, AreSetupTold, ReadsSetup}
-use Rattle.camtool.specs.Verify.{Texts, texts_of, AreTold, Reads, Judges, verdict_line}
+use Rattle.camtool.specs.Verify.{Texts, texts_of, AreTold, Reads, Judges, NamesBlocked, verdict_line}
 use Rattle.camtool.specs.Words.{Files, AsksVerify, PlanFiles, AsksPlan, DropWords, AsksDrop, LevelWords, AsksLevel}
 
 -- ---- from bytes to bytes
@@ -67,7 +67,8 @@ pub record AcceptsSafely (texts : Texts) : Type 0 where
   pub all_read : Reads texts job part moves
   pub safe : CutsSafely job part moves
 
--- each file, where it is told, reads as this job, this part and these moves, the first written test that fails is this one, and the line names it
+-- each file, where it is told, reads as this job, this part and these moves, the first written test that fails is this one, and the line names it;
+-- a leaf that it names is one of the last of its move, and blocked
 pub record RejectsFirst (call : Call) (texts : Texts) : Type 0 where
   pub job : Job
   pub part : List Tri
@@ -75,6 +76,7 @@ pub record RejectsFirst (call : Call) (texts : Texts) : Type 0 where
   pub reason : Reason
   pub all_read : Reads texts job part moves
   pub first : IsRejection job part moves reason
+  pub named : NamesBlocked job part moves reason
   pub printed : IsWritten (verdict_line job moves (Reject reason)) call.sink call.sink_after
 
 -- when `verify` answers 0, at no fraction of any move does a part point lie strictly inside the cutter, no rapid removes a column point left before it,

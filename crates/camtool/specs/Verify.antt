@@ -10,7 +10,7 @@ use Rattle.mill_job.specs.declared.job.Job.{Job}
 use Rattle.mill_job.specs.Columns.{home}
 use Rattle.mill_dexel.specs.Turns.{move_at}
 use Rattle.mill_verify.specs.Claims.{CutsSafely}
-use Rattle.mill_verify.specs.Verdicts.{IsVerdict}
+use Rattle.mill_verify.specs.Verdicts.{BlocksMove, IsVerdict, StopsMove}
 use Rattle.mill_verify.specs.declared.verdict.Verdict.{Verdict}
 use Rattle.mill_verify.specs.declared.verdict.Verdict.TheVariants.{Accept, Reject}
 use Rattle.mill_verify.specs.declared.verdict.Reason.{Reason}
@@ -91,11 +91,23 @@ abbrev pub IsSafe : Job → List Tri → List Move → Verdict → Type 0
 IsSafe job part moves (Accept count columns left) = CutsSafely job part moves
 IsSafe job part moves (Reject reason) = Unit {0}
 
--- all is read, this is the verdict on the moves, and if they are accepted they cut safely
+-- a leaf that a rejection names is one of the last of its move, with a reach of at most 2, and the triangle or the column's top that is named blocks it
+abbrev pub NamesBlocked : Job → List Tri → List Move → Reason → Type 0
+NamesBlocked job part moves (Floor k) = Unit {0}
+NamesBlocked job part moves (Gouge k t leaf) = BlocksMove job part moves k t leaf
+NamesBlocked job part moves (RapidCut k j i leaf) = StopsMove job moves k j i leaf
+NamesBlocked job part moves (Left j i top) = Unit {0}
+
+abbrev pub IsNamed : Job → List Tri → List Move → Verdict → Type 0
+IsNamed job part moves (Accept count columns left) = Unit {0}
+IsNamed job part moves (Reject reason) = NamesBlocked job part moves reason
+
+-- all is read, this is the verdict on the moves, and if they are accepted they cut safely; what a rejection names blocks the move
 pub record Judges (texts : Texts) (job : Job) (part : List Tri) (moves : List Move) (verdict : Verdict) : Type 0 where
   pub all_read : Reads texts job part moves
   pub is : IsVerdict job part moves verdict
   pub safe : IsSafe job part moves verdict
+  pub named : IsNamed job part moves verdict
 
 -- ---- how it is shown
 

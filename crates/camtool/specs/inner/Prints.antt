@@ -21,7 +21,7 @@ use Rattle.camtool.specs.Answers.{unfit, judged, planned, dropped, leveled}
 use Rattle.camtool.specs.Calls.{Call}
 use Rattle.camtool.specs.Level.{LevelAnswer, IsLevelAnswer}
 use Rattle.camtool.specs.Outcomes.{Outcome, help, bad_words, no_memory, read_fault, answered, outcome_status, outcome_line, Shows}
-use Rattle.camtool.specs.Verify.{IsSafe}
+use Rattle.camtool.specs.Verify.{IsNamed, IsSafe}
 
 -- the line was printed, and the status is the one that was wanted
 pub record PrintsWhole (line : List ℕ) (wanted status : ℕ) (sink sink_after : SinkView) : Type 0 where
@@ -82,6 +82,7 @@ pub record PrintsVerdict (l : Loaded) (status : ℕ) (sink sink_after : SinkView
   pub verdict : Verdict
   pub is : IsVerdict l.job l.part l.moves.items verdict
   pub safe : IsSafe l.job l.part l.moves.items verdict
+  pub named : IsNamed l.job l.part l.moves.items verdict
   pub printed : PrintsOr (answered (judged l.job l.part l.moves.items verdict)) status sink sink_after
 
 abbrev pub TriesVerdict : Loaded → ℕ → SinkView → SinkView → Type 0
