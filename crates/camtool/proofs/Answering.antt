@@ -213,7 +213,7 @@ reads_height z height X fault r e = e
 reads_height z height Y fault r e = e
 reads_height z height Z fault r e = ok_err height fault (sym r ∙ e)
 
--- a word that reads, and files that are told and read, give the lines or too many nodes, and nothing is refused
+-- a word that reads, and files that are told and read, give the chains or too many nodes, and nothing is refused
 pub is_leveled : (contents : List ℕ → Option (List ℕ)) (given : LevelWords) (height : ℤ) (job : Job) (part : List Tri) (a : Answer) → ReadsHeight given.z height
     → AreSetupTold (setup_texts contents given.job given.part) → ReadsSetup (setup_texts contents given.job given.part) job part
     → IsAnswer contents (level given.job given.part given.z) a → (answer_status a ≡ 0) ⊎ (answer_status a ≡ 9)
@@ -222,5 +222,5 @@ is_leveled contents given height job part (unfit u) z told r h = absurd (fit_set
 is_leveled contents given height job part (judged j q m v) z told r h = absurd h
 is_leveled contents given height job part (planned name answer) z told r h = absurd h
 is_leveled contents given height job part (dropped place) z told r h = absurd h
-is_leveled contents given height job part (leveled (outlines lines)) z told r h = inl refl
+is_leveled contents given height job part (leveled (outlines found)) z told r h = inl refl
 is_leveled contents given height job part (leveled (too_fine nodes)) z told r h = inr refl

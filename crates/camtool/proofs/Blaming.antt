@@ -30,7 +30,7 @@ status_not n n0 n3 n4 n8 n9 (planned name (uncut row column top)) e = n8 e
 status_not n n0 n3 n4 n8 n9 (planned name (too_many_nodes nodes)) e = n9 e
 status_not n n0 n3 n4 n8 n9 (planned name too_many_moves) e = n9 e
 status_not n n0 n3 n4 n8 n9 (dropped height) e = n0 e
-status_not n n0 n3 n4 n8 n9 (leveled (outlines lines)) e = n0 e
+status_not n n0 n3 n4 n8 n9 (leveled (outlines found)) e = n0 e
 status_not n n0 n3 n4 n8 n9 (leveled (too_fine nodes)) e = n9 e
 
 pub no : (a b : ℕ) → a < b → a ≢ b

@@ -36,7 +36,7 @@ abbrev pub Answers : List (List ℕ) → Call → Type 0
 Answers words call = (asked : Request) → request words ≡ Some asked → NoFault call → call.status ≢ 5 → Answered call asked
 
 -- where the files are told and read, the part isn't over the job's top and nothing of the outside failed, a program is accepted or rejected;
--- a plan is stored, or leaves stock uncut, or is too large; a drop height is told; the lines at a height are told, or the lattice is too large; or memory was short
+-- a plan is stored, or leaves stock uncut, or is too large; a drop height is told; the chains at a height are told, or the lattice is too large; or memory was short
 pub record Completes (words : List (List ℕ)) (call : Call) : Type 0 where
   pub verifies : (files : Files) (job : Job) (part : List Tri) (moves : List Move) → AsksVerify words files → AreTold (texts_of call.store.contents files)
       → Reads (texts_of call.store.contents files) job part moves → NoFault call → (call.status ≡ 0) ⊎ ((call.status ≡ 3) ⊎ (call.status ≡ 5))

@@ -1,4 +1,4 @@
--- The command `level`: its word for a height, and the lines along which the cutter goes round the part there.
+-- The command `level`: its word for a height, and the chains of points along which the cutter goes round the part there.
 use Rattle.std.specs.Prelude.{◌≡◌, ℕ, ℤ, codes, decimal, Bool, if◌then◌else◌, List, [], ◌∷◌, ◌++◌, length, Ok, Err}
 use Rattle.std.specs.List.{flat_map}
 use Rattle.mill_base.specs.declared.points.Pt3.{Pt3}
@@ -31,14 +31,14 @@ RefusesHeight z coordinate fault = ⊥
 
 -- ---- the answers
 
--- what can be answered at a height: the lines, or that a lattice with so many nodes is too large
+-- what can be answered at a height: the outlines of the chains there, or that a lattice of so many nodes is too large
 pub data LevelAnswer : Type 0 where
   outlines : List Outline → LevelAnswer
   too_many_nodes : ℕ → LevelAnswer
 
--- the lines are the part's waterline at the height, for the job's cutter and over its area by steps of its raster; or that lattice has this many nodes, which are too many
+-- the outlines are the part's waterline at the height, for the job's cutter and over its area by steps of its raster; or that lattice has so many nodes, which are too many
 abbrev pub IsLevelAnswer : Job → List Tri → ℤ → LevelAnswer → Type 0
-IsLevelAnswer job part height (outlines lines) = IsWaterline job.cutter part height (finish_lattice job) lines
+IsLevelAnswer job part height (outlines found) = IsWaterline job.cutter part height (finish_lattice job) found
 IsLevelAnswer job part height (too_many_nodes nodes) = HasManyNodes (finish_lattice job) nodes
 
 -- word, job and part are read, and this is the answer at the height
@@ -52,27 +52,28 @@ pub record Levels (z : List ℕ) (texts : SetupTexts) (answer : LevelAnswer) : T
 
 -- ---- how they are shown
 
+-- the exit status of an answer
 abbrev pub level_status : LevelAnswer → ℕ
-level_status (outlines lines) = 0
+level_status (outlines found) = 0
 level_status (too_many_nodes nodes) = 9
 
--- a point by its x and y
+-- the line of a point: its x and y
 abbrev pub point_line : Pt3 → List ℕ
 point_line p = line (canonical p.x ∷ canonical p.y ∷ [])
 
--- whether the last point is joined to the first
+-- whether a chain's last point is joined to its first
 abbrev pub closed_word : Bool → List ℕ
 closed_word closed = if closed then codes "closed" else codes "open"
 
--- whether the line is closed and how many points it has, and each of them behind that
+-- the lines of a chain: whether it is closed and how many points it has, and then each of them
 abbrev pub outline_text : Outline → List ℕ
 outline_text o = line (closed_word o.closed ∷ decimal (length o.points) ∷ []) ++ flat_map point_line o.points
 
--- each line in its order, and how many there are
+-- those of each chain in its order, and then how many chains there are
 abbrev pub outlines_text : List Outline → List ℕ
-outlines_text lines = flat_map outline_text lines ++ line (codes "chains" ∷ decimal (length lines) ∷ [])
+outlines_text found = flat_map outline_text found ++ line (codes "chains" ∷ decimal (length found) ∷ [])
 
 -- the text of an answer
 abbrev pub level_line : LevelAnswer → List ℕ
-level_line (outlines lines) = outlines_text lines
+level_line (outlines found) = outlines_text found
 level_line (too_many_nodes nodes) = nodes_line nodes

@@ -1,4 +1,5 @@
-//! The command `level`: the lines along which the cutter goes round the part at one height.
+//! The command `level`: the chains of points along which the cutter goes round the part at one
+//! height.
 ghost use Rattle.std.specs.Prelude.{◌≡◌, ◌++◌, ◌-◌, ◌^◌, ◌<◌, ℕ, IfOk, IsErrOf, OnOk, map as map_list};
 ghost use Rattle.mill_base.specs.Numbers.{Within};
 ghost use Rattle.mill_base.specs.declared.limits.TheConstants.{MAX_TEXT_COORDINATE};
@@ -26,7 +27,7 @@ use mill_part::SortedPart;
 use mill_paths::finish_lattice;
 use std::alloc::Global;
 
-/// The work of `level`: reads the height, then the job and the part, and prints the lines along
+/// The work of `level`: reads the height, then the job and the part, and prints the chains along
 /// which the cutter goes round the part there, or what keeps it from them.
 pub fn level_part<S: Shelf, O: Sink>(
     alloc: Global,
@@ -50,7 +51,7 @@ pub fn level_part<S: Shelf, O: Sink>(
     }
 }
 
-/// Prints the lines at a height, or why there are none.
+/// Prints the chains at a height, or why there are none.
 fn tell_level<O: Sink>(alloc: Global, setup: &Setup, height: i32, out: &mut O) -> Status
     requires ready { IsSetup setup.now }
     requires height_ok { Within MAX_TEXT_COORDINATE height }
@@ -66,7 +67,7 @@ fn tell_level<O: Sink>(alloc: Global, setup: &Setup, height: i32, out: &mut O) -
     }
 }
 
-/// The lines at a height, over the job's area by steps of its raster.
+/// The chains at a height, over the job's area by steps of its raster.
 fn chains_at(alloc: Global, setup: &Setup, height: i32) -> Result<Vec<Chain>, LevelFault>
     requires ready { IsSetup setup.now }
     requires height_ok { Within MAX_TEXT_COORDINATE height }
@@ -82,7 +83,7 @@ fn chains_at(alloc: Global, setup: &Setup, height: i32) -> Result<Vec<Chain>, Le
     waterline(alloc, part, sorted.cells(), job.cutter, height, &lattice)
 }
 
-/// The text of all lines.
+/// The text of all chains.
 fn text_of_chains(alloc: Global, chains: &[Chain]) -> Result<Vec<u8>, WantOfMemory>
     ensures { IfOk result (λ text. text.items ≡ outlines_text (map_list seen chains.now)) }
 {
@@ -96,7 +97,7 @@ fn text_of_chains(alloc: Global, chains: &[Chain]) -> Result<Vec<u8>, WantOfMemo
     Ok(text)
 }
 
-// One line: whether it is closed, how many points it has, and the points.
+// One chain: whether it is closed, how many points it has, and the points.
 fn add_chain(text: &mut Vec<u8>, chain: &Chain) -> Result<(), WantOfMemory>
     ensures { OnOk result (text.new.items ≡ text.old.items ++ outline_text (seen chain.now)) }
 {

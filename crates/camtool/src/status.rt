@@ -4,7 +4,7 @@ ghost use Rattle.camtool.specs.Statuses.{status_code};
 /// How a run ends.
 #[derive(Clone, Copy, Debug, PartialEq, Eq)]
 pub enum Status {
-    /// The program is accepted, a planned program is stored, the drop height or the lines at a height
+    /// The program is accepted, a planned program is stored, the drop height or the chains at a height
     /// are told, or clap's help or version is shown.
     Done,
     /// The words aren't taken.

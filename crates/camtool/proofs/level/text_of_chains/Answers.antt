@@ -1,5 +1,4 @@
 use Rattle.std.proofs.Common.{◌≡◌, append_assoc, take, arith}
-use Rattle.std.specs.List.{flat_map}
 use Rattle.std.proofs.lemmas.List.{length-map, take_all}
 use Rattle.std.proofs.lemmas.List.Folds.{flat_map-map}
 use Rattle.mill_level.specs.Waterlines.{seen}
