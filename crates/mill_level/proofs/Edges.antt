@@ -1,12 +1,11 @@
 -- Edges: when two are one, which are the grid's, and their numbers.
-use Rattle.std.proofs.Common.{◌≡◌, ℕ, ◌+◌, ◌*◌, ◌<◌, ◌≤◌, Bool, true, List, [], refl, sym, arith}
-use Rattle.std.specs.Prelude.{◌==◌, nat_lt}
+use Rattle.std.proofs.Common.{◌≡◌, ℕ, ◌+◌, ◌*◌, ◌<◌, true, [], refl, sym, arith}
 use Rattle.std.proofs.lemmas.Bool.{and_parts, and_from, eqb-true, eq-eqb, ltb-true}
 use Rattle.std.proofs.lemmas.Nat.{same_from_place, mul-add-lt}
 use Rattle.mill_geom.specs.declared.touch.Axis.{Axis}
 use Rattle.mill_geom.specs.declared.touch.Axis.TheVariants.{X, Y}
 use Rattle.mill_level.specs.declared.edge.Edge.{Edge}
-use Rattle.mill_level.specs.Grids.{Grid, edge, has_edge, is_along_y, is_crossing, same_axis, same_edge, upper_column, upper_row}
+use Rattle.mill_level.specs.Grids.{Grid, edge, has_edge, is_crossing, same_axis, same_edge, upper_column, upper_row}
 use Rattle.mill_level.specs.inner.Maps.{edge_number}
 
 same_made : (i j k l : ℕ) (x y : Axis) → i ≡ k → j ≡ l → x ≡ y → edge i j x ≡ edge k l y

@@ -1,5 +1,5 @@
 -- Each crossing of the chains is at the place that the map has for it; so what was found makes a waterline.
-use Rattle.std.proofs.Common.{◌≡◌, ◌⊎◌, inl, inr, w32, to_z, of_z, ℤ, ℕ, zero, suc, ◌<◌, Bool, true, false, if◌then◌else◌, List, [], ◌∷◌, length, map, Contains, refl, sym, ◌∙◌, ap, subst, arith}
+use Rattle.std.proofs.Common.{◌≡◌, inl, inr, w32, to_z, of_z, ℤ, zero, suc, ◌<◌, Bool, true, false, if◌then◌else◌, List, [], ◌∷◌, length, map, Contains, refl, sym, ◌∙◌, ap, subst, arith}
 use Rattle.std.proofs.lemmas.List.Elements.{All-contains}
 use Rattle.std.proofs.lemmas.Int.{ints, to_z-of_z, fits_signed_from_abs}
 use Rattle.std.specs.Prelude.{All, nat_abs}
@@ -55,10 +55,10 @@ module _ (level : LevelMap) (P : Crossing → Type 0) (places : (e : Edge) → i
         let trail = image (chain_of level) trails chain there in
         let on : IsOn c.edge chain = record { crossing = c; member = in_contains c (crossings_of chain) m; edge = refl } in
         let counted : 0 < times c.edge (chains_of level trails) =
-            omega (arith, times_from_on c.edge chain on, member_counts (times_in c.edge) chain (chains_of level trails) there) in
+        omega (arith, times_from_on c.edge chain on, member_counts (times_in c.edge) chain (chains_of level trails) there) in
         let is : IsTrail level trail.0 = All-contains (IsTrail level) trails trail.0 each (contains_in trail.0 trails trail.1) in
         let same : crossing_at level c.edge ≡ c =
-            own trail.0.closed trail.0.edges.items c is.some (subst (λ (x : Chain). IsIn c (crossings_of x)) (sym trail.2) on.member) in
+        own trail.0.closed trail.0.edges.items c is.some (subst (λ (x : Chain). IsIn c (crossings_of x)) (sym trail.2) on.member) in
         subst P same (places c.edge (crosses c.edge counted))
 
 same_outlines : (level : LevelMap) (z : ℤ) (trails : List Trail) → map (λ trail. outline z (chain_of level trail)) trails ≡ map (outline z) (chains_of level trails)

@@ -11,7 +11,7 @@ use Rattle.mill_level.specs.Crossings.{Crossing}
 abbrev pub order : Crossing → Crossing → Ordering
 order a b =
     ordering_then (ordering_then (ordering_then (ordering_then (int_cmp a.x b.x) (int_cmp a.y b.y)) (nat_cmp a.edge.column b.edge.column))
-        (nat_cmp a.edge.row b.edge.row)) (bool_cmp (is_along_y a.edge.axis) (is_along_y b.edge.axis))
+    (nat_cmp a.edge.row b.edge.row)) (bool_cmp (is_along_y a.edge.axis) (is_along_y b.edge.axis))
 
 abbrev pub comes_before : Crossing → Crossing → Bool
 comes_before a b = is_lt (order a b)

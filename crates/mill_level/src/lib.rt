@@ -16,9 +16,9 @@ mod laws;
 mod map;
 mod outline;
 mod square;
-mod trace;
 #[cfg(test)]
 mod tests;
+mod trace;
 mod trails;
 mod waterlines;
 

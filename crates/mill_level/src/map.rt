@@ -8,7 +8,7 @@ ghost use Rattle.mill_cells.specs.Sorted.{sorted_of};
 ghost use Rattle.mill_drop.specs.Maps.{IsMapLattice};
 ghost use Rattle.mill_level.specs.inner.Maps.{IsMapOf};
 
-use crate::fiber::{add_blocked, add_places, fiber_runs};
+use crate::fiber::{add_column, add_row};
 use crate::grid::LevelMap;
 use mill_base::{Cutter, Lattice, WantOfMemory};
 use mill_cells::Cells;
@@ -36,26 +36,25 @@ pub fn level_map(
 {
     let xs = xs_of(alloc, lattice)?;
     let ys = ys_of(alloc, lattice)?;
-    let mut blocked = Vec::new(alloc);
-    let mut places = Vec::new(alloc);
+    let nodes = xs.len() * ys.len();
+    let mut blocked = Vec::with_capacity(alloc, nodes)?;
+    let mut places = Vec::with_capacity(alloc, 2 * nodes)?;
     for y in &ys {
-        let fiber = Fiber {
-            axis: Axis::X,
-            at: *y,
-            z,
-        };
-        let runs = fiber_runs(alloc, part, cells, cutter, fiber, lattice.area.x0, lattice.area.x1)?;
-        add_blocked(&runs, &xs, &mut blocked)?;
-        add_places(&runs, &xs, &mut places)?;
+        let fiber = fiber_at(Axis::X, *y, z);
+        add_row(
+            alloc,
+            part,
+            cells,
+            cutter,
+            fiber,
+            &xs,
+            &mut blocked,
+            &mut places,
+        )?;
     }
     for x in &xs {
-        let fiber = Fiber {
-            axis: Axis::Y,
-            at: *x,
-            z,
-        };
-        let runs = fiber_runs(alloc, part, cells, cutter, fiber, lattice.area.y0, lattice.area.y1)?;
-        add_places(&runs, &ys, &mut places)?;
+        let fiber = fiber_at(Axis::Y, *x, z);
+        add_column(alloc, part, cells, cutter, fiber, &ys, &mut places)?;
     }
     Ok(LevelMap {
         columns: node_columns(lattice),
@@ -65,6 +64,13 @@ pub fn level_map(
         blocked,
         places,
     })
+}
+
+/// The fiber along an axis at a coordinate across it and a height.
+fn fiber_at(axis: Axis, at: i32, z: i32) -> Fiber
+    ensures { result ≡ record { axis = axis; at = at; z = z } }
+{
+    Fiber { axis, at, z }
 }
 
 /// The lattice's positions in x.

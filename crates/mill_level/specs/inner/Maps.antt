@@ -1,13 +1,12 @@
 -- What the code knows of a lattice at a height.
-use Rattle.std.specs.Prelude.{◌≡◌, ℕ, ◌+◌, ◌*◌, ◌≤◌, ◌<◌, Bool, true, false, if◌then◌else◌, ℤ, pos, List, length, slice_index_or}
-use Rattle.mill_base.specs.Lattices.{lattice_xs, lattice_ys}
+use Rattle.std.specs.Prelude.{◌≡◌, ℕ, ◌+◌, ◌*◌, ◌≤◌, ◌<◌, true, if◌then◌else◌, ℤ, pos, List, length, slice_index_or}
 use Rattle.mill_base.specs.declared.limits.TheConstants.{MAX_NODES}
 use Rattle.mill_base.specs.declared.points.Tri.{Tri}
 use Rattle.mill_base.specs.declared.cutter.Cutter.{Cutter}
 use Rattle.mill_base.specs.declared.lattice.Lattice.{Lattice}
 use Rattle.mill_level.specs.declared.edge.Edge.{Edge}
 use Rattle.mill_level.specs.declared.grid.LevelMap.{LevelMap}
-use Rattle.mill_level.specs.Grids.{Grid, has_edge, is_along_y, is_crossing}
+use Rattle.mill_level.specs.Grids.{Grid, is_along_y, is_crossing}
 use Rattle.mill_level.specs.Crossings.{Crossing, HasLastFree, TellsBlocked}
 
 abbrev pub grid_of : LevelMap → Grid

@@ -1,5 +1,5 @@
 -- Chains as the code follows them: lists of edges.
-use Rattle.std.specs.Prelude.{◌≡◌, ℕ, ◌+◌, ◌*◌, ◌<◌, ℤ, Bool, true, false, ◌&&◌, if◌then◌else◌, List, [], ◌∷◌, All, map, length, slice_index_or}
+use Rattle.std.specs.Prelude.{◌≡◌, ℕ, ◌*◌, ◌<◌, ℤ, Bool, true, false, ◌&&◌, if◌then◌else◌, List, [], ◌∷◌, All, map, length, slice_index_or}
 use Rattle.mill_geom.specs.declared.touch.Axis.TheVariants.{X}
 use Rattle.mill_level.specs.declared.edge.Edge.{Edge}
 use Rattle.mill_level.specs.declared.grid.LevelMap.{LevelMap}
