@@ -1,9 +1,9 @@
 -- Positions as the machine stores them.
-use Rattle.std.proofs.Common.{◌≡◌, ◌<◌, w32, to_z, of_z, true, false, arith}
+use Rattle.std.proofs.Common.{◌≡◌, ◌<◌, w32, to_z, of_z, false, arith}
 use Rattle.std.specs.Prelude.{nat_abs}
 use Rattle.std.proofs.lemmas.Int.{ints, to_z-of_z, fits_signed_from_abs}
 use lib.IntN.{ℤ, pos, ◌+ℤ◌, ◌-ℤ◌}
-use lib.Signed.{◌<ℤ◌, ◌≤ℤ◌, lt_z}
+use lib.Signed.{◌≤ℤ◌, lt_z}
 use Rattle.mill_base.specs.Numbers.{Within}
 use Rattle.mill_base.specs.declared.limits.TheConstants.{MAX_COORDINATE}
 
