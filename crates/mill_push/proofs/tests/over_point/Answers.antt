@@ -5,7 +5,6 @@ use Rattle.std.proofs.lemmas.Int.{ints, to_z-of_z}
 use lib.IntN.{ℤ, pos, ◌-ℤ◌}
 use lib.Signed.{◌<ℤ◌, ◌≤ℤ◌}
 use Rattle.mill_base.specs.Points.{point_at, point_tri}
-use Rattle.mill_base.specs.declared.cutter.Cutter.{Cutter}
 use Rattle.mill_base.specs.declared.cutter.Cutter.TheVariants.{Flat}
 use Rattle.mill_base.specs.declared.points.Tri.{Tri}
 use Rattle.mill_geom.specs.declared.touch.Axis.{Axis}
