@@ -88,52 +88,52 @@ module _ (cutter : Cutter) (tri : Tri) (fiber : Fiber) where
   abbrev T : ℤ → Type 0
   T v = IsTouched cutter tri fiber v
 
-  pub first_starts : (low found : ℤ) (old : ℕ) → low ≤ℤ found → T found → FirstSoFar cutter tri fiber low found low found old old
-  first_starts low found old order held = end_starts (λ k. T (found -ℤ k)) (found -ℤ low) old (found -ℤ found) (omega (arith, ints)) (omega (arith, ints))
+  pub first_starts : (low found : ℤ) {old : ℕ} → low ≤ℤ found → T found → FirstSoFar cutter tri fiber low found low found old old
+  first_starts low found {old} order held = end_starts (λ k. T (found -ℤ k)) (found -ℤ low) old (found -ℤ found) (omega (arith, ints)) (omega (arith, ints))
       (λ k m a b t. touched_between cutter tri fiber (found -ℤ m) (found -ℤ k) found (omega (arith, ints)) (omega (arith, ints)) t held) (subst T (omega (arith, ints)) held)
 
-  pub first_inside : (low found free first middle : ℤ) (old now later : ℕ) → free ≤ℤ middle → middle ≤ℤ (first -ℤ pos 1)
+  pub first_inside : (low found free first middle : ℤ) {old now later : ℕ} → free ≤ℤ middle → middle ≤ℤ (first -ℤ pos 1)
       → (pos 2 *ℤ (middle -ℤ free)) ≤ℤ ((first -ℤ pos 1) -ℤ free) → later ≡ now + 1 → T middle
       → FirstSoFar cutter tri fiber low found free first old now → FirstSoFar cutter tri fiber low found free middle old later
-  first_inside low found free first middle old now later from to half step touched h =
+  first_inside low found free first middle {old} {now} {later} from to half step touched h =
       end_inside (λ k. T (found -ℤ k)) (found -ℤ low) old (found -ℤ first) (found -ℤ free) (found -ℤ middle) now later (omega (arith, ints)) (omega (arith, ints)) (omega (arith, ints)) step
       (subst T (omega (arith, ints)) touched) h
 
-  pub first_apart : (low found free first middle : ℤ) (old now later : ℕ) → free ≤ℤ middle → middle ≤ℤ (first -ℤ pos 1)
+  pub first_apart : (low found free first middle : ℤ) {old now later : ℕ} → free ≤ℤ middle → middle ≤ℤ (first -ℤ pos 1)
       → (pos 2 *ℤ ((first -ℤ pos 1) -ℤ middle)) ≤ℤ (((first -ℤ pos 1) -ℤ free) +ℤ pos 1) → later ≡ now + 1 → ¬ T middle
       → FirstSoFar cutter tri fiber low found free first old now → FirstSoFar cutter tri fiber low found (middle +ℤ pos 1) first old later
-  first_apart low found free first middle old now later from to half step apart h =
+  first_apart low found free first middle {old} {now} {later} from to half step apart h =
       end_apart (λ k. T (found -ℤ k)) (found -ℤ low) old (found -ℤ first) (found -ℤ free) (found -ℤ middle) (found -ℤ (middle +ℤ pos 1)) now later
       (omega (arith, ints)) (omega (arith, ints)) (omega (arith, ints)) (omega (arith, ints)) step (λ t. apart (subst T (omega (arith, ints)) t)) h
 
-  pub first_ends : (low found free first : ℤ) (old now : ℕ) → first ≤ℤ free → FirstSoFar cutter tri fiber low found free first old now
+  pub first_ends : (low found free first : ℤ) {old now : ℕ} → first ≤ℤ free → FirstSoFar cutter tri fiber low found free first old now
       → IsHeld cutter tri fiber first found × IsClear cutter tri fiber low (first -ℤ pos 1)
-  first_ends low found free first old now done h = (
+  first_ends low found free first done h = (
     λ v a b. subst T (omega (arith, ints)) (h.down (found -ℤ v) (found -ℤ first) (omega (arith, ints)) (omega (arith, ints)) h.touched),
     λ v a b t. h.clear (found -ℤ v) (omega (arith, ints)) (omega (arith, ints)) (subst T (omega (arith, ints)) t),
   )
 
-  pub last_starts : (found high : ℤ) (old : ℕ) → found ≤ℤ high → T found → LastSoFar cutter tri fiber found high found high old old
-  last_starts found high old order held = end_starts (λ k. T (found +ℤ k)) (high -ℤ found) old (found -ℤ found) (omega (arith, ints)) (omega (arith, ints))
+  pub last_starts : (found high : ℤ) {old : ℕ} → found ≤ℤ high → T found → LastSoFar cutter tri fiber found high found high old old
+  last_starts found high {old} order held = end_starts (λ k. T (found +ℤ k)) (high -ℤ found) old (found -ℤ found) (omega (arith, ints)) (omega (arith, ints))
       (λ k m a b t. touched_between cutter tri fiber found (found +ℤ k) (found +ℤ m) (omega (arith, ints)) (omega (arith, ints)) held t) (subst T (omega (arith, ints)) held)
 
-  pub last_inside : (found high last free middle : ℤ) (old now later : ℕ) → (last +ℤ pos 1) ≤ℤ middle → middle ≤ℤ free
+  pub last_inside : (found high last free middle : ℤ) {old now later : ℕ} → (last +ℤ pos 1) ≤ℤ middle → middle ≤ℤ free
       → (pos 2 *ℤ (free -ℤ middle)) ≤ℤ ((free -ℤ (last +ℤ pos 1)) +ℤ pos 1) → later ≡ now + 1 → T middle
       → LastSoFar cutter tri fiber found high last free old now → LastSoFar cutter tri fiber found high middle free old later
-  last_inside found high last free middle old now later from to half step touched h =
+  last_inside found high last free middle {old} {now} {later} from to half step touched h =
       end_inside (λ k. T (found +ℤ k)) (high -ℤ found) old (last -ℤ found) (free -ℤ found) (middle -ℤ found) now later (omega (arith, ints)) (omega (arith, ints)) (omega (arith, ints)) step
       (subst T (omega (arith, ints)) touched) h
 
-  pub last_apart : (found high last free middle : ℤ) (old now later : ℕ) → (last +ℤ pos 1) ≤ℤ middle → middle ≤ℤ free
+  pub last_apart : (found high last free middle : ℤ) {old now later : ℕ} → (last +ℤ pos 1) ≤ℤ middle → middle ≤ℤ free
       → (pos 2 *ℤ (middle -ℤ (last +ℤ pos 1))) ≤ℤ (free -ℤ (last +ℤ pos 1)) → later ≡ now + 1 → ¬ T middle
       → LastSoFar cutter tri fiber found high last free old now → LastSoFar cutter tri fiber found high last (middle -ℤ pos 1) old later
-  last_apart found high last free middle old now later from to half step apart h =
+  last_apart found high last free middle {old} {now} {later} from to half step apart h =
       end_apart (λ k. T (found +ℤ k)) (high -ℤ found) old (last -ℤ found) (free -ℤ found) (middle -ℤ found) ((middle -ℤ pos 1) -ℤ found) now later
       (omega (arith, ints)) (omega (arith, ints)) (omega (arith, ints)) (omega (arith, ints)) step (λ t. apart (subst T (omega (arith, ints)) t)) h
 
-  pub last_ends : (found high last free : ℤ) (old now : ℕ) → free ≤ℤ last → LastSoFar cutter tri fiber found high last free old now
+  pub last_ends : (found high last free : ℤ) {old now : ℕ} → free ≤ℤ last → LastSoFar cutter tri fiber found high last free old now
       → IsHeld cutter tri fiber found last × IsClear cutter tri fiber (last +ℤ pos 1) high
-  last_ends found high last free old now done h = (
+  last_ends found high last free done h = (
     λ v a b. subst T (omega (arith, ints)) (h.down (v -ℤ found) (last -ℤ found) (omega (arith, ints)) (omega (arith, ints)) h.touched),
     λ v a b t. h.clear (v -ℤ found) (omega (arith, ints)) (omega (arith, ints)) (subst T (omega (arith, ints)) t),
   )
@@ -152,9 +152,9 @@ module _ (cutter : Cutter) (tri : Tri) (fiber : Fiber) where
   some_left low high l = omega (arith, ints)
 
   -- there is none at the middle nor after it
-  pub window_less : (from to low high middle : ℤ) (old now later : ℕ) → low ≤ℤ middle → middle ≤ℤ high → (pos 2 *ℤ (middle -ℤ low)) ≤ℤ (high -ℤ low)
+  pub window_less : {from to low high : ℤ} (middle : ℤ) {old now later : ℕ} → low ≤ℤ middle → middle ≤ℤ high → (pos 2 *ℤ (middle -ℤ low)) ≤ℤ (high -ℤ low)
       → later ≡ now + 1 → IsOnSide Less (λ t. T (middle +ℤ t)) → WindowSoFar from to low high old now → WindowSoFar from to low (middle -ℤ pos 1) old later
-  window_less from to low high middle old now later a b half step none h =
+  window_less {low = low} {high} middle a b half step none h =
       let less : 2 * nat_abs (((middle -ℤ pos 1) +ℤ pos 1) -ℤ low) ≤ nat_abs ((high +ℤ pos 1) -ℤ low) = omega (arith, ints) in
       record {
         after = h.after;
@@ -166,9 +166,9 @@ module _ (cutter : Cutter) (tri : Tri) (fiber : Fiber) where
       }
 
   -- nor before it
-  pub window_more : (from to low high middle : ℤ) (old now later : ℕ) → low ≤ℤ middle → middle ≤ℤ high → (pos 2 *ℤ (high -ℤ middle)) ≤ℤ ((high -ℤ low) +ℤ pos 1)
+  pub window_more : {from to low high : ℤ} (middle : ℤ) {old now later : ℕ} → low ≤ℤ middle → middle ≤ℤ high → (pos 2 *ℤ (high -ℤ middle)) ≤ℤ ((high -ℤ low) +ℤ pos 1)
       → later ≡ now + 1 → IsOnSide More (λ t. T (middle +ℤ t)) → WindowSoFar from to low high old now → WindowSoFar from to (middle +ℤ pos 1) high old later
-  window_more from to low high middle old now later a b half step none h =
+  window_more {low = low} {high} middle a b half step none h =
       let less : 2 * nat_abs ((high +ℤ pos 1) -ℤ (middle +ℤ pos 1)) ≤ nat_abs ((high +ℤ pos 1) -ℤ low) = omega (arith, ints) in
       record {
         after = omega (arith, ints);
@@ -183,19 +183,19 @@ module _ (cutter : Cutter) (tri : Tri) (fiber : Fiber) where
   pub window_never : (from to middle : ℤ) → IsOnSide Never (λ t. T (middle +ℤ t)) → IsClear cutter tri fiber from to
   window_never from to middle none = λ v a b t. none (v -ℤ middle) (subst T (omega (arith, ints)) t)
 
-  pub never_cost : (from to low high : ℤ) (old now later : ℕ) → low ≤ℤ high → later ≡ now + 1 → WindowSoFar from to low high old now
+  pub never_cost : {from to low high : ℤ} {old now later : ℕ} → low ≤ℤ high → later ≡ now + 1 → WindowSoFar from to low high old now
       → (n : ℕ) → (nat_abs (to -ℤ from) + 1) < 2 ^ n → later ≤ old + 2 * n
-  never_cost from to low high old now later l step h n p = paid_last (paid_half {half = 0} (omega arith) (some_left low high l) (omega arith) step (h.cost n p))
+  never_cost {low = low} {high} l step h n p = paid_last (paid_half {half = 0} (omega arith) (some_left low high l) (omega arith) step (h.cost n p))
 
   -- no position is left
-  pub window_ends : (from to low high : ℤ) (old now : ℕ) → high <ℤ low → WindowSoFar from to low high old now → IsClear cutter tri fiber from to
-  window_ends from to low high old now done h = λ v a b. by_lt_z v low (λ under. h.before v a (omega (arith, ints))) (λ over. h.beyond v (omega (arith, ints)) b)
+  pub window_ends : {from to low high : ℤ} {old now : ℕ} → high <ℤ low → WindowSoFar from to low high old now → IsClear cutter tri fiber from to
+  window_ends {low = low} done h = λ v a b. by_lt_z v low (λ under. h.before v a (omega (arith, ints))) (λ over. h.beyond v (omega (arith, ints)) b)
 
   -- the middle is touched, and both ends are found from it
-  pub found_stretch : (from to low high middle first last : ℤ) (old now : ℕ) → low ≤ℤ first → first ≤ℤ middle → middle ≤ℤ last → last ≤ℤ high
+  pub found_stretch : {from to low high : ℤ} (middle first last : ℤ) {old now : ℕ} → low ≤ℤ first → first ≤ℤ middle → middle ≤ℤ last → last ≤ℤ high
       → IsHeld cutter tri fiber first middle → IsHeld cutter tri fiber middle last → IsClear cutter tri fiber low (first -ℤ pos 1) → IsClear cutter tri fiber (last +ℤ pos 1) high
       → WindowSoFar from to low high old now → IsTouchedStretch cutter tri fiber from to (record { first = first; last = last })
-  found_stretch from to low high middle first last old now a b c d left right clear_left clear_right h = record {
+  found_stretch {low = low} {high} middle first last a b c d left right clear_left clear_right h = record {
     after = omega (arith, ints);
     some = omega (arith, ints);
     within = omega (arith, ints);
@@ -204,11 +204,11 @@ module _ (cutter : Cutter) (tri : Tri) (fiber : Fiber) where
     beyond = λ v u w. by_lt_z high v (λ over. h.beyond v (omega (arith, ints)) w) (λ under. clear_right v (omega (arith, ints)) under);
   }
 
-  pub found_cost : (from to low high middle : ℤ) (old now found first last : ℕ) → low ≤ℤ middle → middle ≤ℤ high
+  pub found_cost : {from to low high : ℤ} (middle : ℤ) {old now found first last : ℕ} → low ≤ℤ middle → middle ≤ℤ high
       → (pos 2 *ℤ (middle -ℤ low)) ≤ℤ (high -ℤ low) → (pos 2 *ℤ (high -ℤ middle)) ≤ℤ ((high -ℤ low) +ℤ pos 1) → found ≡ now + 1
       → ((k : ℕ) → nat_abs (middle -ℤ low) < 2 ^ k → first ≤ found + k) → ((k : ℕ) → nat_abs (high -ℤ middle) < 2 ^ k → last ≤ first + k)
       → WindowSoFar from to low high old now → (n : ℕ) → (nat_abs (to -ℤ from) + 1) < 2 ^ n → last ≤ old + 2 * n
-  found_cost from to low high middle old now found first last a b left right step to_left to_right h n p =
+  found_cost {low = low} {high} middle a b left right step to_left to_right h n p =
       let before : 2 * nat_abs (middle -ℤ low) ≤ nat_abs ((high +ℤ pos 1) -ℤ low) = omega (arith, ints) in
       let after : 2 * nat_abs (high -ℤ middle) ≤ nat_abs ((high +ℤ pos 1) -ℤ low) = omega (arith, ints) in
       paid_ends (some_left low high (omega (arith, ints))) before after step to_left to_right (h.cost n p)

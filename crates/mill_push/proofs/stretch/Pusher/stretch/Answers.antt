@@ -22,26 +22,20 @@ last_touched-last-requires-clause-held g c =
 
 pub returns-in-Inside-clause-stretch : goal.returns-in-Inside-clause-stretch
 returns-in-Inside-clause-stretch g c =
-    let low = to_z w32 c.loop-low.low-bits in
-    let high = to_z w32 c.loop-low.high-bits in
     let i = rw (stored c.args.from c.requires.from_ok, stored c.args.to c.requires.to_ok) at c.loop-low.invariant in
     let middle = to_z-of_z w32 c.middle-middle.result (search rules) in
     let left = rw middle at c.first_touched-first.ensures in
     let right = rw middle at c.last_touched-last.ensures in
-    rw (to_z-of_z w32 c.first_touched-first.result (search rules), to_z-of_z w32 c.last_touched-last.result (search rules)) (found_stretch c.args.self.cutter c.args.tri.now c.args.self.fiber c.args.from c.args.to low high c.middle-middle.result c.first_touched-first.result c.last_touched-last.result c.args.steps.now c.loop-low.steps
-    left.from left.to right.from right.to left.held right.held left.clear right.clear i)
+    rw (to_z-of_z w32 c.first_touched-first.result (search rules), to_z-of_z w32 c.last_touched-last.result (search rules)) (found_stretch c.args.self.cutter c.args.tri.now c.args.self.fiber c.middle-middle.result c.first_touched-first.result c.last_touched-last.result left.from left.to right.from right.to left.held right.held left.clear right.clear i)
 
 pub returns-in-Inside-clause-cost : goal.returns-in-Inside-clause-cost
 returns-in-Inside-clause-cost g c =
-    let low = to_z w32 c.loop-low.low-bits in
-    let high = to_z w32 c.loop-low.high-bits in
     let i = rw (stored c.args.from c.requires.from_ok, stored c.args.to c.requires.to_ok) at c.loop-low.invariant in
     let middle = to_z-of_z w32 c.middle-middle.result (search rules) in
     let e = c.middle-middle.ensures in
     let left = rw middle at c.first_touched-first.ensures.cost in
     let right = rw middle at c.last_touched-last.ensures.cost in
-    found_cost c.args.self.cutter c.args.tri.now c.args.self.fiber c.args.from c.args.to low high c.middle-middle.result c.args.steps.now c.loop-low.steps c.touch_at.new.steps c.first_touched-first.new.steps c.last_touched-last.new.steps
-    e.from e.to e.before e.after c.touch_at.ensures.step left right i
+    found_cost c.args.self.cutter c.args.tri.now c.args.self.fiber c.middle-middle.result e.from e.to e.before e.after c.touch_at.ensures.step left right i
 
 pub loop-low-smaller-in-Apart-Less : goal.loop-low-smaller-in-Apart-Less
 loop-low-smaller-in-Apart-Less g c =
@@ -51,15 +45,12 @@ loop-low-smaller-in-Apart-Less g c =
 
 pub loop-low-preserved-in-Apart-Less : goal.loop-low-preserved-in-Apart-Less
 loop-low-preserved-in-Apart-Less g c =
-    let low = to_z w32 c.loop-low.low-bits in
-    let high = to_z w32 c.loop-low.high-bits in
     let from = stored c.args.from c.requires.from_ok in
     let to = stored c.args.to c.requires.to_ok in
     let middle = to_z-of_z w32 c.middle-middle.result (search rules) in
     let next = to_z-of_z w32 (c.middle-middle.result -ℤ pos 1) (search rules) in
     let none = rw (c.in-Apart-Less.field-0-is, middle) at c.in-Apart-Less.ensures.touch in
-    rw (from, to, middle, next) (window_less c.args.self.cutter c.args.tri.now c.args.self.fiber c.args.from c.args.to low high c.middle-middle.result c.args.steps.now c.loop-low.steps c.touch_at.new.steps
-    c.middle-middle.ensures.from c.middle-middle.ensures.to c.middle-middle.ensures.before c.touch_at.ensures.step none (rw (from, to) at c.loop-low.invariant))
+    rw (from, to, middle, next) (window_less c.args.self.cutter c.args.tri.now c.args.self.fiber c.middle-middle.result c.middle-middle.ensures.from c.middle-middle.ensures.to c.middle-middle.ensures.before c.touch_at.ensures.step none (rw (from, to) at c.loop-low.invariant))
 
 pub loop-low-smaller : goal.loop-low-smaller
 loop-low-smaller g c =
@@ -69,15 +60,12 @@ loop-low-smaller g c =
 
 pub loop-low-preserved : goal.loop-low-preserved
 loop-low-preserved g c =
-    let low = to_z w32 c.loop-low.low-bits in
-    let high = to_z w32 c.loop-low.high-bits in
     let from = stored c.args.from c.requires.from_ok in
     let to = stored c.args.to c.requires.to_ok in
     let middle = to_z-of_z w32 c.middle-middle.result (search rules) in
     let next = to_z-of_z w32 (c.middle-middle.result +ℤ pos 1) (search rules) in
     let none = rw (c.in-Apart-More.field-0-is, middle) at c.in-Apart-More.ensures.touch in
-    rw (from, to, middle, next) (window_more c.args.self.cutter c.args.tri.now c.args.self.fiber c.args.from c.args.to low high c.middle-middle.result c.args.steps.now c.loop-low.steps c.touch_at.new.steps
-    c.middle-middle.ensures.from c.middle-middle.ensures.to c.middle-middle.ensures.after c.touch_at.ensures.step none (rw (from, to) at c.loop-low.invariant))
+    rw (from, to, middle, next) (window_more c.args.self.cutter c.args.tri.now c.args.self.fiber c.middle-middle.result c.middle-middle.ensures.from c.middle-middle.ensures.to c.middle-middle.ensures.after c.touch_at.ensures.step none (rw (from, to) at c.loop-low.invariant))
 
 pub returns-in-Apart-Never-clause-stretch : goal.returns-in-Apart-Never-clause-stretch
 returns-in-Apart-Never-clause-stretch g c =
@@ -91,7 +79,7 @@ returns-in-Apart-Never-clause-cost g c =
     let high = to_z w32 c.loop-low.high-bits in
     let i = rw (stored c.args.from c.requires.from_ok, stored c.args.to c.requires.to_ok) at c.loop-low.invariant in
     let some : low ≤ℤ high = omega (c.loop-low-test.true, arith, ints) in
-    never_cost c.args.self.cutter c.args.tri.now c.args.self.fiber c.args.from c.args.to low high c.args.steps.now c.loop-low.steps c.touch_at.new.steps some c.touch_at.ensures.step i
+    never_cost c.args.self.cutter c.args.tri.now c.args.self.fiber some c.touch_at.ensures.step i
 
 pub returns-clause-stretch : goal.returns-clause-stretch
 returns-clause-stretch g c =
@@ -99,4 +87,4 @@ returns-clause-stretch g c =
     let high = to_z w32 c.loop-low.high-bits in
     let i = rw (stored c.args.from c.requires.from_ok, stored c.args.to c.requires.to_ok) at c.loop-low.invariant in
     let none : high <ℤ low = omega (c.loop-low-test.false, arith, ints) in
-    window_ends c.args.self.cutter c.args.tri.now c.args.self.fiber c.args.from c.args.to low high c.args.steps.now c.loop-low.steps none i
+    window_ends c.args.self.cutter c.args.tri.now c.args.self.fiber none i
