@@ -94,8 +94,8 @@ module _ (cutter : Cutter) (part : List Tri) (fiber : Fiber) (from to : ℤ) whe
   beside_within : (i : ℕ) → IsBeside i → i < length part
   beside_within i n = subst (λ m. i < m) (length-map part box_of) n.within
 
-  pub next_within : (near later : Ahead) (i : ℕ) (z : ℤ) (found : List Run) (old now : ℕ) → Comes z near i later → CollectedSoFar near found old now → i < length part
-  next_within near later i z found old now h s = beside_within i (s.beside i h.number)
+  pub next_within : {near later : Ahead} {i : ℕ} {z : ℤ} {found : List Run} {old now : ℕ} → Comes z near i later → CollectedSoFar near found old now → i < length part
+  next_within {i = i} h s = beside_within i (s.beside i h.number)
 
   -- a triangle that comes is near the fiber
   near_it : (near later : Ahead) (i : ℕ) → near.tops ≡ map highest part → Comes fiber.z near i later → IsBeside i → IsTried cutter part fiber from to i
@@ -121,10 +121,10 @@ module _ (cutter : Cutter) (part : List Tri) (fiber : Fiber) (from to : ℤ) whe
       against a b = omega (arith, ints)
 
   -- what the next triangle leaves: its own positions stand in the runs now, and it was tried
-  goes_on : (near later : Ahead) (i : ℕ) (found more : List Run) (old now then : ℕ) → IsCutter cutter → Comes fiber.z near i later → CollectedSoFar near found old now
+  goes_on : {near later : Ahead} {i : ℕ} {found more : List Run} {old now then : ℕ} → IsCutter cutter → Comes fiber.z near i later → CollectedSoFar near found old now
       → AreSpans from to more → ((v : ℤ) → StandsIn more v → IsBlocked cutter part fiber v) → ((v : ℤ) → StandsIn found v → StandsIn more v) → IsDone more i
       → ((n : ℕ) → position_count from to < 2 ^ n → then ≤ now + 2 * n) → CollectedSoFar later more old then
-  goes_on near later i found more old now then ok h s spans sound kept done cost = record {
+  goes_on {near} {later} {i} {found} {more} {old} {now} {then} ok h s spans sound kept done cost = record {
     tops = h.tops ∙ s.tops;
     beside = λ j c. s.beside j (h.rest j c);
     once = IsDistinct-tail nat_eq i later.numbers (h.once s.once);
@@ -152,10 +152,10 @@ module _ (cutter : Cutter) (part : List Tri) (fiber : Fiber) (from to : ℤ) whe
       more_steps n m a b = omega arith
 
   -- it is touched nowhere
-  pub goes_on_without : (near later : Ahead) (i : ℕ) (found : List Run) (old now then : ℕ) → IsCutter cutter → Comes fiber.z near i later → CollectedSoFar near found old now
+  pub goes_on_without : {near later : Ahead} {i : ℕ} {found : List Run} {old now then : ℕ} → IsCutter cutter → Comes fiber.z near i later → CollectedSoFar near found old now
       → IsClear cutter (tri_at part i) fiber from to → ((n : ℕ) → position_count from to < 2 ^ n → then ≤ now + 2 * n) → CollectedSoFar later found old then
-  goes_on_without near later i found old now then ok h s clear cost =
-      goes_on near later i found found old now then ok h s s.spans s.sound (λ v c. c) (λ inside v a b t. absurd (clear v a b t)) cost
+  goes_on_without ok h s clear cost =
+      goes_on ok h s s.spans s.sound (λ v c. c) (λ inside v a b t. absurd (clear v a b t)) cost
 
   -- it is touched at the positions of one run
   stands_before : (found : List Run) (r : Run) (v : ℤ) → StandsIn found v → StandsIn (found ++ r ∷ []) v
@@ -171,10 +171,10 @@ module _ (cutter : Cutter) (part : List Tri) (fiber : Fiber) (from to : ℤ) whe
       by zero w e = e
       by (suc k) w e = absurd (omega (arith, w))
 
-  pub goes_on_with : (near later : Ahead) (i : ℕ) (found : List Run) (r : Run) (old now then : ℕ) → IsCutter cutter → Comes fiber.z near i later → CollectedSoFar near found old now
+  pub goes_on_with : {near later : Ahead} {i : ℕ} {found : List Run} {r : Run} {old now then : ℕ} → IsCutter cutter → Comes fiber.z near i later → CollectedSoFar near found old now
       → IsTouchedStretch cutter (tri_at part i) fiber from to r → ((n : ℕ) → position_count from to < 2 ^ n → then ≤ now + 2 * n) → CollectedSoFar later (found ++ r ∷ []) old then
-  goes_on_with near later i found r old now then ok h s stretch cost =
-      goes_on near later i found (found ++ r ∷ []) old now then ok h s spans sound (stands_before found r) done cost
+  goes_on_with {i = i} {found} {r} ok h s stretch cost =
+      goes_on ok h s spans sound (stands_before found r) done cost
     where
       spans : AreSpans from to (found ++ r ∷ [])
       spans run c = elim (Contains-append_cases found (r ∷ []) run c) [
@@ -205,8 +205,8 @@ module _ (cutter : Cutter) (part : List Tri) (fiber : Fiber) (from to : ℤ) whe
           to_it = by_lt_z r.last v (λ more. absurd (stretch.beyond v more b t)) (λ less. less)
 
   -- after the last one
-  pub collect_ends : (near later : Ahead) (found : List Run) (old now : ℕ) → IsCutter cutter → NoneComes fiber.z near later → CollectedSoFar near found old now → AreStretches cutter part fiber from to found
-  collect_ends near later found old now ok none s = record { spans = s.spans; blocked = λ v a b. (stands v a b, s.sound v) }
+  pub collect_ends : {near later : Ahead} {found : List Run} {old now : ℕ} → IsCutter cutter → NoneComes fiber.z near later → CollectedSoFar near found old now → AreStretches cutter part fiber from to found
+  collect_ends {near} {later} {found} ok none s = record { spans = s.spans; blocked = λ v a b. (stands v a b, s.sound v) }
     where
       d : Tri
       d = point_tri (point_at (pos 0) (pos 0) (pos 0))
@@ -223,8 +223,8 @@ module _ (cutter : Cutter) (part : List Tri) (fiber : Fiber) (from to : ℤ) whe
           deals_last IsBeside (IsDone found) fiber.z near later none (λ j low. low_done near.tops found j ok s.tops low) s.dealt m.0 beside_it m.1 v a b
           (subst (λ (u : Tri). IsTouched cutter u fiber v) (sym place) g.touches)
 
-  pub collect_cost : (near : Ahead) (found : List Run) (old now : ℕ) → CollectedSoFar near found old now → TouchesFew cutter part fiber from to old now
-  collect_cost near found old now s = record { numbers = s.numbers; once = s.each_once; tried = s.tried; bound = s.bound }
+  pub collect_cost : {near : Ahead} {found : List Run} {old now : ℕ} → CollectedSoFar near found old now → TouchesFew cutter part fiber from to old now
+  collect_cost s = record { numbers = s.numbers; once = s.each_once; tried = s.tried; bound = s.bound }
 
 -- at most 40 touches for each triangle of the part
 pub few_touches : (cutter : Cutter) (part : List Tri) (fiber : Fiber) (from to : ℤ) (old new : ℕ) → Within MAX_COORDINATE from → Within MAX_COORDINATE to → TouchesFew cutter part fiber from to old new

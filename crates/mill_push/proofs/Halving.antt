@@ -3,17 +3,11 @@ use Rattle.std.proofs.Common.{◌≡◌, ℕ, zero, suc, ◌+◌, ◌*◌, ◌<�
 use Rattle.std.specs.Prelude.{◌^◌}
 use Rattle.std.proofs.lemmas.Grind.{pow_more}
 
--- fewer than 2^m positions are left, and with m touches more the counter is at most n over where it began
-pub record IsPaid (count old now n : ℕ) : Type 0 where
+-- fewer than 2^m positions are left, and with `each` touches more for each halving the counter is at most each * n over where it began
+pub record IsPaid (each count old now n : ℕ) : Type 0 where
   pub m : ℕ
   pub under : count < 2 ^ m
-  pub paid : now + m ≤ old + n
-
--- the same with two touches for each halving
-pub record IsPaidTwice (count old now n : ℕ) : Type 0 where
-  pub m : ℕ
-  pub under : count < 2 ^ m
-  pub paid : now + 2 * m ≤ old + 2 * n
+  pub paid : now + each * m ≤ old + each * n
 
 -- where some position is left, half of them are under half the power
 half_under : (m count half : ℕ) → 0 < count → 2 * half ≤ count → count < 2 ^ m → (k : ℕ) × (m ≡ suc k) × (half < 2 ^ k)
@@ -24,38 +18,24 @@ half_under (suc k) count half some le under = (k, omega arith, half_it (subst (�
     half_it u = let more = pow_more 2 k in omega arith
 
 -- before the first touch
-pub paid_first : (count old n : ℕ) → count < 2 ^ n → IsPaid count old old n
-paid_first count old n h = record { m = n; under = h; paid = omega arith }
-
-pub twice_first : (count old n : ℕ) → count < 2 ^ n → IsPaidTwice count old old n
-twice_first count old n h = record { m = n; under = h; paid = omega arith }
+pub paid_first : (each count old n : ℕ) → count < 2 ^ n → IsPaid each count old old n
+paid_first each count old n h = record { m = n; under = h; paid = omega arith }
 
 -- one touch, after which at most half of the positions are left
-pub paid_half : (count half old now later n : ℕ) → 0 < count → 2 * half ≤ count → later ≡ now + 1 → IsPaid count old now n → IsPaid half old later n
-paid_half count half old now later n some le step h =
+pub paid_half : {each count half old now later n : ℕ} → 0 < each → 0 < count → 2 * half ≤ count → later ≡ now + 1 → IsPaid each count old now n → IsPaid each half old later n
+paid_half {each} {count} {half} {old} {now} {later} {n} touches some le step h =
     let k = half_under h.m count half some le h.under in
-    let p = h.paid in
-    let e = k.1 in
-    record { m = k.0; under = k.2; paid = omega arith }
-
-pub twice_half : (count half old now later n : ℕ) → 0 < count → 2 * half ≤ count → later ≡ now + 1 → IsPaidTwice count old now n → IsPaidTwice half old later n
-twice_half count half old now later n some le step h =
-    let k = half_under h.m count half some le h.under in
-    let p = h.paid in
-    let e = k.1 in
+    let p = subst (λ m. now + each * m ≤ old + each * n) k.1 h.paid in
     record { m = k.0; under = k.2; paid = omega arith }
 
 -- what was paid in the end
-pub paid_last : (count old now n : ℕ) → IsPaid count old now n → now ≤ old + n
-paid_last count old now n h = let p = h.paid in omega arith
-
-pub twice_last : (count old now n : ℕ) → IsPaidTwice count old now n → now ≤ old + 2 * n
-twice_last count old now n h = let p = h.paid in omega arith
+pub paid_last : {each count old now n : ℕ} → IsPaid each count old now n → now ≤ old + each * n
+paid_last h = let p = h.paid in omega arith
 
 -- after one touch that finds a position, both its ends: each is looked for in a half of its own
-pub twice_ends : (count left right old now found first last n : ℕ) → 0 < count → 2 * left ≤ count → 2 * right ≤ count → found ≡ now + 1
-    → ((k : ℕ) → left < 2 ^ k → first ≤ found + k) → ((k : ℕ) → right < 2 ^ k → last ≤ first + k) → IsPaidTwice count old now n → last ≤ old + 2 * n
-twice_ends count left right old now found first last n some le ri step to_left to_right h =
+pub paid_ends : {count left right old now found first last n : ℕ} → 0 < count → 2 * left ≤ count → 2 * right ≤ count → found ≡ now + 1
+    → ((k : ℕ) → left < 2 ^ k → first ≤ found + k) → ((k : ℕ) → right < 2 ^ k → last ≤ first + k) → IsPaid 2 count old now n → last ≤ old + 2 * n
+paid_ends {count} {left} {right} some le ri step to_left to_right h =
     let a = half_under h.m count left some le h.under in
     let b = half_under h.m count right some ri h.under in
     let p = h.paid in

@@ -13,6 +13,7 @@ use Rattle.mill_base.specs.Numbers.{Within}
 use Rattle.mill_push.specs.declared.fiber.Run.{Run}
 use Rattle.mill_push.specs.Runs.{FreeUpTo, IsNextRun, RunsOf, StandsIn}
 use Rattle.mill_push.specs.inner.Unions.{IsSpan, AreSpans, AreOrdered}
+use Rattle.mill_push.proofs.Stored.{through}
 
 -- the list begins the runs from `from` on, and what comes after its last run begins here
 abbrev pub Leads : (ℤ → Type 0) → ℤ → ℤ → List Run → ℤ → Type 0
@@ -26,6 +27,9 @@ leads_on P from to here (r ∷ rs) run h next = (h.0, leads_on P (r.last +ℤ po
 leads_all : (P : ℤ → Type 0) (from to here : ℤ) (runs rest : List Run) → Leads P from to runs here → RunsOf P here to rest → RunsOf P from to (runs ++ rest)
 leads_all P from to here [] rest h last = subst (λ (f : ℤ). RunsOf P f to rest) (sym h) last
 leads_all P from to here (r ∷ rs) rest h last = (h.0, leads_all P (r.last +ℤ pos 1) to here rs rest h.1 last)
+
+past : (a v : ℤ) → (a +ℤ pos 1) ≤ℤ v → a <ℤ v
+past a v h = omega (arith, ints)
 
 module _ (xs : List Run) where
   -- after the first k runs of the list: those that are done, and the one that grows
@@ -65,6 +69,24 @@ module _ (xs : List Run) where
       by : {a : Run} → a.first ≤ℤ (get_or xs j d).first → a ≡ s → v <ℤ (get_or xs j d).first
       by {a} h e = let f : a.first ≡ s.first = ap (λ (r : Run). r.first) e in let b = before in omega (arith, ints)
 
+  -- what was taken up to `before`, and the next one, is taken up to `last`
+  taken_on : (k : ℕ) (s : Run) (before last : ℤ) → k < length xs → get_or xs k s ≡ s → before ≤ℤ last → s.last ≤ℤ last
+      → ((j : ℕ) (d : Run) → j < k → j < length xs → (get_or xs j d).last ≤ℤ before) → (j : ℕ) (d : Run) → j < k + 1 → j < length xs → (get_or xs j d).last ≤ℤ last
+  taken_on k s before last less it kept most taken j d small inside =
+      elim (cases_lt j k) [
+        | inl earlier ↦ through (get_or xs j d).last before last (taken j d earlier inside) kept
+        | inr large ↦ here large
+      ]
+    where
+      as_it : {a b c : ℤ} → a ≡ b → b ≤ℤ c → a ≤ℤ c
+      as_it e h = omega (arith, ints)
+
+      here : k ≤ j → (get_or xs j d).last ≤ℤ last
+      here large =
+          let place : k ≡ j = omega arith in
+          let same : get_or xs j d ≡ s = ap (λ i. get_or xs i d) (sym place) ∙ (get_or_default xs k d s less ∙ it) in
+          as_it (ap (λ (r : Run). r.last) same) most
+
   pub grown_first : AreOrdered xs → (from to : ℤ) (s : Run) → AreSpans from to xs → 0 < length xs → get_or xs 0 s ≡ s → GrownSoFar from to 1 [] s
   grown_first ordered from to s spans some it = record {
     here = from;
@@ -74,20 +96,11 @@ module _ (xs : List Run) where
     within = span.within;
     before = λ v a b. gap 0 (record { first = v; last = v -ℤ pos 1 }) v (λ j d less inside. absurd (omega (arith, less))) (omega (arith, ints)) (λ j d le inside. later ordered 0 j s d v some it b le inside);
     blocks = λ v a b. record { run = s; member = (0, some, it); first = a; last = b };
-    taken = λ j d less inside. only j d less;
+    taken = taken_on 0 s s.last s.last some it (omega (arith, ints)) (omega (arith, ints)) (λ j d less inside. absurd (omega (arith, less)));
   }
     where
       span : IsSpan from to s
       span = spans s (0, some, it)
-
-      only : (j : ℕ) (d : Run) → j < 1 → (get_or xs j d).last ≤ℤ s.last
-      only j d less =
-          let zero_it : 0 ≡ j = omega arith in
-          let same : get_or xs j d ≡ s = ap (λ i. get_or xs i d) (sym zero_it) ∙ (get_or_default xs 0 d s some ∙ it) in
-          equal (ap (λ (r : Run). r.last) same)
-        where
-          equal : {a b : ℤ} → a ≡ b → a ≤ℤ b
-          equal e = omega (arith, ints)
 
   -- the next one goes on where the growing one is, or just after it
   pub grown_on : AreOrdered xs → (from to : ℤ) (k : ℕ) (runs : List Run) (run s : Run) (last : ℤ) → AreSpans from to xs → k < length xs → get_or xs k s ≡ s
@@ -103,17 +116,11 @@ module _ (xs : List Run) where
     blocks = λ v a b. by_lt_z run.last v
         (λ past. record { run = s; member = (k, less, it); first = reached v past; last = elim one [ inl e ↦ absurd (not_past v past b e) | inr e ↦ bound b e ] })
         (λ under. h.blocks v a under);
-    taken = λ j d small inside. elim (cases_lt j k) [
-      | inl before ↦ through (get_or xs j d).last run.last last (h.taken j d before inside) kept
-      | inr it_is ↦ same_one j d small it_is
-    ];
+    taken = taken_on k s run.last last less it kept most h.taken;
   }
     where
       span : IsSpan from to s
       span = spans s (k, less, it)
-
-      through : (a b c : ℤ) → a ≤ℤ b → b ≤ℤ c → a ≤ℤ c
-      through a b c h k = omega (arith, ints)
 
       as_it : {a b c : ℤ} → a ≡ b → b ≤ℤ c → a ≤ℤ c
       as_it e h = omega (arith, ints)
@@ -126,12 +133,6 @@ module _ (xs : List Run) where
 
       not_past : (v : ℤ) → run.last <ℤ v → v ≤ℤ last → last ≡ run.last → ⊥
       not_past v past b e = omega (arith, ints)
-
-      same_one : (j : ℕ) (d : Run) → j < k + 1 → k ≤ j → (get_or xs j d).last ≤ℤ last
-      same_one j d small large =
-          let place : k ≡ j = omega arith in
-          let same : get_or xs j d ≡ s = ap (λ i. get_or xs i d) (sym place) ∙ (get_or_default xs k d s less ∙ it) in
-          as_it (ap (λ (r : Run). r.last) same) most
 
   -- the next one begins after a free position: the growing one is done
   next_run : AreOrdered xs → (from to : ℤ) (k : ℕ) (runs : List Run) (run : Run) → ((v : ℤ) → v ≡ run.last +ℤ pos 1 → (j : ℕ) (d : Run) → k ≤ j → j < length xs → v <ℤ (get_or xs j d).first)
@@ -154,12 +155,9 @@ module _ (xs : List Run) where
     after = weak far;
     some = span.some;
     within = span.within;
-    before = λ v a b. gap k run v h.taken (past v a) (λ j d le inside. later ordered k j s d v less it b le inside);
+    before = λ v a b. gap k run v h.taken (past run.last v a) (λ j d le inside. later ordered k j s d v less it b le inside);
     blocks = λ v a b. record { run = s; member = (k, less, it); first = a; last = b };
-    taken = λ j d small inside. elim (cases_lt j k) [
-      | inl before ↦ beyond (h.taken j d before inside)
-      | inr it_is ↦ same_one j d small it_is
-    ];
+    taken = taken_on k s run.last s.last less it beyond (omega (arith, ints)) h.taken;
   }
     where
       span : IsSpan from to s
@@ -171,38 +169,19 @@ module _ (xs : List Run) where
       weak : {a b : ℤ} → a <ℤ b → a ≤ℤ b
       weak h = omega (arith, ints)
 
-      past : (v : ℤ) → (run.last +ℤ pos 1) ≤ℤ v → run.last <ℤ v
-      past v a = omega (arith, ints)
-
-      beyond : {a : ℤ} → a ≤ℤ run.last → a ≤ℤ s.last
-      beyond a = let f = far in let o = span.some in omega (arith, ints)
-
-      same_one : (j : ℕ) (d : Run) → j < k + 1 → k ≤ j → (get_or xs j d).last ≤ℤ s.last
-      same_one j d small large =
-          let place : k ≡ j = omega arith in
-          let same : get_or xs j d ≡ s = ap (λ i. get_or xs i d) (sym place) ∙ (get_or_default xs k d s less ∙ it) in
-          equal (ap (λ (r : Run). r.last) same)
-        where
-          equal : {a b : ℤ} → a ≡ b → a ≤ℤ b
-          equal e = omega (arith, ints)
+      beyond : run.last ≤ℤ s.last
+      beyond = let f = far in let o = span.some in omega (arith, ints)
 
   -- after the last one
   pub grown_all : AreOrdered xs → (from to : ℤ) (k : ℕ) (runs : List Run) (run : Run) → length xs ≤ k → GrownSoFar from to k runs run → RunsOf (StandsIn xs) from to (runs ++ run ∷ [])
   grown_all ordered from to k runs run all h =
       leads_all (StandsIn xs) from to h.here runs (run ∷ []) h.leads (
         next_run ordered from to k runs run (λ v e j d le inside. absurd (none j le inside)) h,
-        λ v a b. gap k run v h.taken (past v a) (λ j d le inside. absurd (none j le inside)),
+        λ v a b. gap k run v h.taken (past run.last v a) (λ j d le inside. absurd (none j le inside)),
       )
     where
       none : (j : ℕ) → k ≤ j → j < length xs → ⊥
       none j le inside = let a = all in omega arith
-
-      past : (v : ℤ) → (run.last +ℤ pos 1) ≤ℤ v → run.last <ℤ v
-      past v a = omega (arith, ints)
-
--- no runs at all
-pub none_stand : (from to : ℤ) → RunsOf (StandsIn []) from to []
-none_stand from to v a b s = absurd (omega (arith, s.member.1))
 
 -- the runs of the same positions
 pub runs_as : (P Q : ℤ → Type 0) (from to : ℤ) (runs : List Run) → ((v : ℤ) → from ≤ℤ v → v ≤ℤ to → P v ↔ Q v) → RunsOf P from to runs → RunsOf Q from to runs

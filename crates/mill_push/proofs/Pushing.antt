@@ -1,7 +1,7 @@
 -- A cutter that is pushed along a fiber.
-use Rattle.std.proofs.Common.{◌≡◌, refl, sym, subst, arith}
+use Rattle.std.proofs.Common.{◌≡◌, refl, sym, subst, w32, to_z, of_z, arith}
 use Rattle.std.proofs.lemmas.Int.{ints}
-use lib.IntN.{ℤ, pos, ◌+ℤ◌}
+use lib.IntN.{ℤ, pos, ◌+ℤ◌, ◌-ℤ◌}
 use lib.Signed.{◌≤ℤ◌}
 use Rattle.mill_base.specs.Contact.{Touches}
 use Rattle.mill_base.specs.Numbers.{Within}
@@ -20,9 +20,7 @@ use Rattle.mill_geom.proofs.Along.{touch_carried}
 use Rattle.mill_push.specs.declared.fiber.Fiber.{Fiber}
 use Rattle.mill_push.specs.Fibers.{IsTouched, place_on, tip_on}
 use Rattle.mill_push.specs.Touches.{IsFiber}
-
-through : (a b c : ℤ) → a ≤ℤ b → b ≤ℤ c → a ≤ℤ c
-through a b c h k = omega (arith, ints)
+use Rattle.mill_push.proofs.Stored.{through, stored, stored_radius, less_radius, and_radius}
 
 -- a job's cutter is one of a contact test's
 pub is_wide : (cutter : Cutter) → IsCutter cutter → IsWideCutter cutter
@@ -40,6 +38,14 @@ pub most_radius : (cutter : Cutter) → IsCutter cutter → radius_of cutter ≤
 most_radius (Flat r) h = h.within
 most_radius (Ball r) h = h.within
 most_radius (Cone r a b) h = h.0.within
+
+-- a radius less and more than a position, as the machine stores them
+pub about : (cutter : Cutter) (x r : ℤ) → IsCutter cutter → Within MAX_COORDINATE x → r ≡ radius_of cutter
+    → (to_z w32 (of_z w32 (to_z w32 (of_z w32 x) -ℤ to_z w32 (of_z w32 r))) ≡ x -ℤ radius_of cutter) × (to_z w32 (of_z w32 (to_z w32 (of_z w32 x) +ℤ to_z w32 (of_z w32 r))) ≡ x +ℤ radius_of cutter)
+about cutter x r ok h e =
+    let some = has_radius cutter ok in
+    let most = most_radius cutter ok in
+    rw (e, stored x h, stored_radius (radius_of cutter) some most) (less_radius x (radius_of cutter) h some most, and_radius x (radius_of cutter) h some most)
 
 -- the tips of a fiber are in range
 over_lowest : (z : ℤ) → Within MAX_COORDINATE z → LOWEST_TIP ≤ℤ z

@@ -41,9 +41,6 @@ far xs h i (suc m) d less =
     let on : i + m + 1 ≡ i + suc m = omega arith in
     let step = not_before (get_or xs (i + m + 1) d).first (get_or xs (i + m) d).first (h (i + m) d (omega arith) (omega arith)) in
     subst (λ k. (get_or xs i d).first ≤ℤ (get_or xs k d).first) on (through (get_or xs i d).first (get_or xs (i + m) d).first (get_or xs (i + m + 1) d).first (far xs h i m d (omega arith)) step)
-  where
-    through : (a b c : ℤ) → a ≤ℤ b → b ≤ℤ c → a ≤ℤ c
-    through a b c h k = omega (arith, ints)
 
 ordered : (xs : List Run) → IsSortedByKey (λ (r : Run). r.first) int_cmp xs → AreOrdered xs
 ordered xs h i j d le less =

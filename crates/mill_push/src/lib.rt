@@ -12,6 +12,8 @@ mod laws;
 mod near;
 mod runs;
 mod stretch;
+#[cfg(test)]
+mod tests;
 mod union;
 
 pub use contact::counted_touch;

@@ -51,7 +51,6 @@ loop-stretch-preserved c =
     let m : Contains xs s = (k + 1, h.0, h.1) in
     let i = c.loop-stretch.invariant in
     let first = stored s.first (c.requires.firsts s m) in
-    let last = stored s.last (c.requires.lasts s m) in
     let end = stored run.last i.1 in
     let next = and_one run.last i.1 in
     let test = rw (first, end, next) at c.if-stretch-run.false in

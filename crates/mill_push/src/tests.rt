@@ -1,0 +1,313 @@
+ghost use Rattle.std.specs.Prelude.{◌≡◌, ◌+◌, ◌≤◌, ◌<◌, ◌<ℤ◌, ◌≤ℤ◌, pos, [], ◌∷◌, IfOk};
+ghost use Rattle.mill_base.specs.Numbers.{Within};
+ghost use Rattle.mill_base.specs.declared.limits.TheConstants.{MAX_COORDINATE};
+ghost use Rattle.mill_base.specs.Points.{point_at, point_tri};
+ghost use Rattle.mill_base.specs.Ranges.{IsInRange, TriInRange};
+ghost use Rattle.mill_base.specs.Sizes.{IsCutter};
+ghost use Rattle.mill_push.specs.Touches.{IsFiber};
+
+use crate::{
+    Axis, Fiber, Run, Side, Touch, counted_touch, one_list_of_runs, one_stretch, push,
+    runs_hold_blocked,
+};
+use mill_base::{Cutter, Pt3, Steps, Tri};
+use mill_part::{Part, SortedPart};
+use std::marker::Brand;
+use std::sync::ledger::{Blank, Ledger};
+use std::test::Fail;
+
+const FLAT: Cutter = Cutter::Flat { radius: 100 };
+
+fn at(x: i16, y: i16, z: i16) -> Pt3
+    ensures point_ok { IsInRange result }
+    ensures value { result ≡ point_at x y z }
+{
+    Pt3 {
+        x: i32::from(x),
+        y: i32::from(y),
+        z: i32::from(z),
+    }
+}
+
+fn fiber(axis: Axis, across: i16, z: i16) -> Fiber
+    ensures fiber_ok { IsFiber result }
+    ensures axis { result.axis ≡ axis }
+    ensures at { result.at ≡ across }
+    ensures z { result.z ≡ z }
+{
+    Fiber {
+        axis,
+        at: i32::from(across),
+        z: i32::from(z),
+    }
+}
+
+/// The triangle of three equal points, at the height 300.
+fn point(x: i16) -> Tri
+    ensures tri_ok { TriInRange result }
+    ensures value { result ≡ point_tri (point_at x (pos 0) (pos 300)) }
+{
+    Tri {
+        a: at(x, 0, 300),
+        b: at(x, 0, 300),
+        c: at(x, 0, 300),
+    }
+}
+
+/// The part of one triangle.
+fn part_of<R: AllocGlobal>(rt: &R, tri: Tri) -> Result<Part, Fail>
+    requires { TriInRange tri }
+    ensures { IfOk result (λ part. part ≡ tri ∷ []) }
+{
+    let mut tris = Vec::new(rt.alloc());
+    tris.push(tri)?;
+    Ok(Part::new(tris))
+}
+
+/// The part of two points.
+fn part_of_points<R: AllocGlobal>(rt: &R, first: i16, second: i16) -> Result<Part, Fail> {
+    let mut tris = Vec::new(rt.alloc());
+    tris.push(point(first))?;
+    tris.push(point(second))?;
+    Ok(Part::new(tris))
+}
+
+/// The runs of the cutter, by a counter of its own.
+fn counted<L: Ledger, R: AllocGlobal>(
+    rt: &R,
+    part: &Part,
+    cutter: Cutter,
+    fiber: Fiber,
+    window: (i32, i32),
+    blank: Blank,
+) -> Result<Vec<Run>, Fail>
+    requires cutter_ok { IsCutter cutter }
+    requires fiber_ok { IsFiber fiber }
+    requires from_ok { Within MAX_COORDINATE window.0 }
+    requires to_ok { Within MAX_COORDINATE window.1 }
+    requires name { blank.name ≡ L.name }
+    requires parts { blank.parts ≡ L.parts }
+    requires some { 0 < blank.parts }
+{
+    let (from, to) = window;
+    if from > to {
+        return Err(Fail::from("the window has no position"));
+    }
+    let shape = SortedPart::new(rt.alloc(), part)?;
+    let mut steps = Steps::<L>::new(blank);
+    let runs = push(
+        rt.alloc(),
+        shape.part(),
+        shape.cells(),
+        cutter,
+        fiber,
+        from,
+        to,
+        &mut steps,
+    )?;
+    Ok(runs)
+}
+
+/// The runs of the cutter from the first position of the window to the last one.
+fn runs<R: AllocGlobal>(
+    rt: &R,
+    part: &Part,
+    cutter: Cutter,
+    fiber: Fiber,
+    window: (i16, i16),
+) -> Result<Vec<Run>, Fail>
+    requires cutter_ok { IsCutter cutter }
+    requires fiber_ok { IsFiber fiber }
+{
+    let (from, to) = window;
+    let wide = (i32::from(from), i32::from(to));
+    counted::<Brand, R>(rt, part, cutter, fiber, wide, Blank::new(1))
+}
+
+fn run(first: i32, last: i32) -> Run {
+    Run { first, last }
+}
+
+// The cutter holds the point where it is nearer than 100 to the axis, and over the tip.
+#[test]
+fn flat_on_a_point(rt: HostRuntime) -> Result<(), Fail> {
+    let part = part_of(&rt, point(500))?;
+    for (axis, across, z, want) in [
+        (Axis::X, 0, 0, Some(run(401, 599))),
+        (Axis::X, 100, 0, None),
+        (Axis::X, 0, 300, None),
+        (Axis::Y, 500, 0, Some(run(-99, 99))),
+        (Axis::Y, 600, 0, None),
+        (Axis::Y, 500, 300, None),
+    ] {
+        let found = runs(&rt, &part, FLAT, fiber(axis, across, z), (-1000, 1000))?;
+        assert_eq!(rt; found.first().copied(), want, "across {across} at {z}");
+        assert_eq!(rt; found.len(), usize::from(want.is_some()));
+    }
+    Ok(())
+}
+
+// The second point's stretch begins within the first one's, just after it, or after one free
+// position. The order of the points makes no difference.
+#[test]
+fn two_points(rt: HostRuntime) -> Result<(), Fail> {
+    for (first, second, want) in [
+        (500, 600, [run(401, 699)].as_slice()),
+        (500, 699, [run(401, 798)].as_slice()),
+        (500, 700, [run(401, 599), run(601, 799)].as_slice()),
+    ] {
+        for (a, b) in [(first, second), (second, first)] {
+            let part = part_of_points(&rt, a, b)?;
+            let found = runs(&rt, &part, FLAT, fiber(Axis::X, 0, 0), (0, 1000))?;
+            assert_eq!(rt; found.as_slice(), want, "{a} and then {b}");
+        }
+    }
+    Ok(())
+}
+
+// The edge is 20 over the tip. There the ball is a disk of radius 60, since its centre is 80 over the
+// edge and 60² + 80² = 100², and the cone, whose run is twice its rise, one of radius 40. Across the
+// edge each reaches as far as its disk. Along it the cone's axis is 24 beside the edge, and its disk
+// reaches 32 over each end, since 24² + 32² = 40².
+#[test]
+fn ball_and_cone_on_an_edge(rt: HostRuntime) -> Result<(), Fail> {
+    let edge = Tri {
+        a: at(-500, 30, 300),
+        b: at(500, 30, 300),
+        c: at(500, 30, 300),
+    };
+    let part = part_of(&rt, edge)?;
+    let ball = Cutter::Ball { radius: 100 };
+    let cone = Cutter::Cone {
+        radius: 100,
+        rise: 1,
+        run: 2,
+    };
+    let across = runs(&rt, &part, ball, fiber(Axis::Y, 0, 280), (-1000, 1000))?;
+    let along = runs(&rt, &part, cone, fiber(Axis::X, 54, 280), (-1000, 1000))?;
+    assert_eq!(rt; across.as_slice(), [run(-29, 89)].as_slice());
+    assert_eq!(rt; along.as_slice(), [run(-531, 531)].as_slice());
+    Ok(())
+}
+
+// Without the window's ends the run is from 401 to 599.
+#[test]
+fn narrow_windows(rt: HostRuntime) -> Result<(), Fail> {
+    let part = part_of(&rt, point(500))?;
+    let along = fiber(Axis::X, 0, 0);
+    for (from, to, want) in [
+        (400, 400, None),
+        (401, 401, Some(run(401, 401))),
+        (599, 599, Some(run(599, 599))),
+        (600, 600, None),
+        (450, 550, Some(run(450, 550))),
+    ] {
+        let found = runs(&rt, &part, FLAT, along, (from, to))?;
+        assert_eq!(rt; found.first().copied(), want, "from {from} to {to}");
+        assert_eq!(rt; found.len(), usize::from(want.is_some()));
+    }
+    Ok(())
+}
+
+#[test]
+fn no_triangle(rt: HostRuntime) -> Result<(), Fail> {
+    let part = Part::new(Vec::new(rt.alloc()));
+    let found = runs(&rt, &part, FLAT, fiber(Axis::X, 0, 0), (-1000, 1000))?;
+    assert!(rt; found.is_empty());
+    one_list_of_runs();
+    runs_hold_blocked();
+    one_stretch();
+    Ok(())
+}
+
+/// What two touches of the point at 500 tell, at 401 and at 400.
+fn two_touches<L: Ledger>(steps: &mut Steps<L>) -> (Touch, Touch)
+    ensures { steps.new ≡ steps.old + 2 }
+{
+    let tri = point(500);
+    let held = counted_touch(&tri, FLAT, at(401, 0, 0), Axis::X, steps);
+    let free = counted_touch(&tri, FLAT, at(400, 0, 0), Axis::X, steps);
+    (held, free)
+}
+
+/// The same, by a counter of its own.
+fn touches<L: Ledger>(blank: Blank) -> (Touch, Touch)
+    requires name { blank.name ≡ L.name }
+    requires parts { blank.parts ≡ L.parts }
+    requires some { 0 < blank.parts }
+{
+    let mut steps = Steps::<L>::new(blank);
+    two_touches(&mut steps)
+}
+
+// At 400 the cutter is to the left of the point, and so it is at every lesser position.
+#[test]
+fn one_step_a_touch(rt: HostRuntime) {
+    let (held, free) = touches::<Brand>(Blank::new(1));
+    assert_eq!(rt; held, Touch::Inside);
+    assert_eq!(rt; free, Touch::Apart(Side::More));
+}
+
+/// The runs of the flat cutter over the point at 500, along X between two ends as far from 0. The
+/// point isn't touched where it is more than a radius beside the fiber, or not over it.
+fn over_point<L: Ledger, R: AllocGlobal>(
+    rt: &R,
+    across: i16,
+    z: i16,
+    far: i32,
+    steps: &mut Steps<L>,
+) -> Result<Vec<Run>, Fail>
+    requires far_ok { Within MAX_COORDINATE far }
+    requires far_least { (pos 0) ≤ℤ far }
+    ensures most { steps.new ≤ steps.old + 40 }
+    ensures beside { (pos 100) <ℤ across → steps.new ≤ steps.old }
+    ensures over { (pos 300) ≤ℤ z → steps.new ≤ steps.old }
+{
+    let part = part_of(rt, point(500))?;
+    let shape = SortedPart::new(rt.alloc(), &part)?;
+    let runs = push(
+        rt.alloc(),
+        shape.part(),
+        shape.cells(),
+        FLAT,
+        fiber(Axis::X, across, z),
+        -far,
+        far,
+        steps,
+    )?;
+    Ok(runs)
+}
+
+/// The same, by a counter of its own.
+fn runs_over_point<L: Ledger, R: AllocGlobal>(
+    rt: &R,
+    across: i16,
+    z: i16,
+    far: i32,
+    blank: Blank,
+) -> Result<Vec<Run>, Fail>
+    requires far_ok { Within MAX_COORDINATE far }
+    requires far_least { (pos 0) ≤ℤ far }
+    requires name { blank.name ≡ L.name }
+    requires parts { blank.parts ≡ L.parts }
+    requires some { 0 < blank.parts }
+{
+    let mut steps = Steps::<L>::new(blank);
+    over_point(rt, across, z, far, &mut steps)
+}
+
+// The widest window has 2^20 - 1 positions, so twice 20 touches are enough for it.
+#[test]
+fn far_points_and_wide_windows(rt: HostRuntime) -> Result<(), Fail> {
+    for (across, z, far, want) in [
+        (0, 0, 524_287, Some(run(401, 599))),
+        (0, 0, 131_071, Some(run(401, 599))),
+        (101, 0, 524_287, None),
+        (0, 300, 524_287, None),
+    ] {
+        let found = runs_over_point::<Brand, _>(&rt, across, z, far, Blank::new(1))?;
+        assert_eq!(rt; found.first().copied(), want, "at {across} and {z}");
+        assert_eq!(rt; found.len(), usize::from(want.is_some()));
+    }
+    Ok(())
+}
