@@ -54,8 +54,9 @@ struct Weave {
                     if (along_y[i].at > interval.high) break;
                     // The last interval of that fiber that begins up to here.
                     const auto& others = along_y[i].intervals;
-                    auto after = std::upper_bound(others.begin(), others.end(), fiber.at,
-                                                  [](double y, const Interval& o) { return y < o.low; });
+                    auto after =
+                        std::upper_bound(others.begin(), others.end(), fiber.at,
+                                         [](double y, const Interval& o) { return y < o.low; });
                     if (after == others.begin() || (after - 1)->high < fiber.at) continue;
                     Stop stop = add(along_y[i].at, fiber.at, false, along_y[i].at);
                     row.push_back(stop);
@@ -118,8 +119,8 @@ static std::vector<Fiber> fibers_at(const std::vector<double>& positions) {
     return out;
 }
 
-static void push_all(const KdTree& tree, const Cutter& cutter, double z, const std::vector<double>& along,
-                     std::vector<Fiber>& fibers, int threads) {
+static void push_all(const KdTree& tree, const Cutter& cutter, double z,
+                     const std::vector<double>& along, std::vector<Fiber>& fibers, int threads) {
 #pragma omp parallel for schedule(dynamic, 1) num_threads(threads)
     for (size_t i = 0; i < fibers.size(); i++)
         push(tree, cutter, z, along.front(), along.back(), fibers[i]);
@@ -171,7 +172,7 @@ int main(int argc, char** argv) {
     } else {
         size_t points = 0;
         for (const Loop& loop : loops) points += loop.size();
-        printf("%zu %zu %zu %.6f %.6f %.6f %.6f\n", along_x.size() + along_y.size(), loops.size(), points,
-               read - start, built - read, pushed - built, done - pushed);
+        printf("%zu %zu %zu %.6f %.6f %.6f %.6f\n", along_x.size() + along_y.size(), loops.size(),
+               points, read - start, built - read, pushed - built, done - pushed);
     }
 }
