@@ -82,7 +82,7 @@ struct Push {
         double slope_square = cutter.slope * cutter.slope, from_y = a.y - y, from_z = a.z - z;
         double second = d.z * d.z - slope_square * (d.x * d.x + d.y * d.y);
         if (second >= -1e-14) return;
-        // With the tip at a.x - s, the other two are first + first_by * s and constant - slope² * s².
+        // With the tip at a.x - s, the others are first + first_by * s and constant - slope² * s².
         double first = 2 * (from_z * d.z - slope_square * from_y * d.y);
         double first_by = -2 * slope_square * d.x;
         double constant = from_z * from_z - slope_square * from_y * from_y;
