@@ -82,7 +82,7 @@ struct Push {
         double slope_square = cutter.slope * cutter.slope, from_y = a.y - y, from_z = a.z - z;
         double second = d.z * d.z - slope_square * (d.x * d.x + d.y * d.y);
         if (second >= -1e-14) return;
-        // With the tip at a.x - s, the others are first + s * first_by and constant - s * s * slope².
+        // With the tip at a.x - s, the others are first + first_by * s and constant - slope² * s².
         double first = 2 * (from_z * d.z - slope_square * from_y * d.y);
         double first_by = -2 * slope_square * d.x;
         double constant = from_z * from_z - slope_square * from_y * from_y;
@@ -109,7 +109,7 @@ struct Push {
         return true;
     }
 
-    // The ball or the cone's tip against the facet; the rim of a flat cutter rests on it by its edges.
+    // The ball, or the cone's tip, against the facet.
     void on_facet(const Triangle& t) {
         const Point& n = t.normal;
         if (std::fabs(n.x) < 1e-12) return;
@@ -165,7 +165,8 @@ struct Fiber {
 };
 
 // Pushes the cutter along the fiber at height z, from `first` to `last`. The tree is one in y and z.
-inline void push(const KdTree& tree, const Cutter& cutter, double z, double first, double last, Fiber& fiber) {
+inline void push(const KdTree& tree, const Cutter& cutter, double z, double first, double last,
+                 Fiber& fiber) {
     std::vector<Interval> found;
     double low = fiber.at - cutter.radius, high = fiber.at + cutter.radius;
     tree.search(low, high, z, DBL_MAX, [&](uint32_t i) {
@@ -177,7 +178,8 @@ inline void push(const KdTree& tree, const Cutter& cutter, double z, double firs
         if (tips.is_empty() || tips.low > last || tips.high < first) return;
         found.push_back({std::max(tips.low, first), std::min(tips.high, last)});
     });
-    std::sort(found.begin(), found.end(), [](const Interval& a, const Interval& b) { return a.low < b.low; });
+    std::sort(found.begin(), found.end(),
+              [](const Interval& a, const Interval& b) { return a.low < b.low; });
     auto& joined = fiber.intervals;
     for (const Interval& next : found) {
         if (!joined.empty() && next.low <= joined.back().high)

@@ -17,61 +17,54 @@ struct Vertex {
     int next[4] = {-1, -1, -1, -1};
 };
 
-// A vertex, by how far it is along an interval.
-struct Stop {
-    double at;
-    int vertex;
-};
-
 using Loop = std::vector<Point>;
 
 // The plane graph of the intervals of fibers along x and along y: the faces with ends are the loops.
 struct Weave {
     std::vector<Vertex> vertices;
 
-    Stop add(double x, double y, bool is_end, double at) {
+    int add(double x, double y, bool is_end) {
         vertices.push_back({x, y, is_end});
-        return {at, (int)vertices.size() - 1};
+        return (int)vertices.size() - 1;
     }
 
-    void link(const std::vector<Stop>& stops, Direction ahead, Direction back) {
+    // Links the vertices of an interval, which are given in their order.
+    void link(const std::vector<int>& stops, Direction ahead, Direction back) {
         for (size_t k = 0; k + 1 < stops.size(); k++) {
-            vertices[stops[k].vertex].next[ahead] = stops[k + 1].vertex;
-            vertices[stops[k + 1].vertex].next[back] = stops[k].vertex;
+            vertices[stops[k]].next[ahead] = stops[k + 1];
+            vertices[stops[k + 1]].next[back] = stops[k];
         }
     }
 
     Weave(const std::vector<Fiber>& along_x, const std::vector<Fiber>& along_y) {
-        // The crossings of each interval along y, and at last its ends.
-        std::vector<std::vector<std::vector<Stop>>> columns(along_y.size());
+        // The crossings of each interval along y, in order, since the fibers along x come in order.
+        std::vector<std::vector<std::vector<int>>> columns(along_y.size());
         for (size_t i = 0; i < along_y.size(); i++) columns[i].resize(along_y[i].intervals.size());
         for (const Fiber& fiber : along_x)
             for (const Interval& interval : fiber.intervals) {
-                std::vector<Stop> row{add(interval.low, fiber.at, true, interval.low)};
+                std::vector<int> row{add(interval.low, fiber.at, true)};
                 auto begin = std::lower_bound(along_y.begin(), along_y.end(), interval.low,
                                               [](const Fiber& f, double x) { return f.at < x; });
                 for (size_t i = begin - along_y.begin(); i < along_y.size(); i++) {
                     if (along_y[i].at > interval.high) break;
                     // The last interval of that fiber that begins up to here.
                     const auto& others = along_y[i].intervals;
-                    auto after = std::upper_bound(others.begin(), others.end(), fiber.at,
-                                                  [](double y, const Interval& o) { return y < o.low; });
+                    auto after =
+                        std::upper_bound(others.begin(), others.end(), fiber.at,
+                                         [](double y, const Interval& o) { return y < o.low; });
                     if (after == others.begin() || (after - 1)->high < fiber.at) continue;
-                    Stop stop = add(along_y[i].at, fiber.at, false, along_y[i].at);
-                    row.push_back(stop);
-                    columns[i][after - 1 - others.begin()].push_back({fiber.at, stop.vertex});
+                    row.push_back(add(along_y[i].at, fiber.at, false));
+                    columns[i][after - 1 - others.begin()].push_back(row.back());
                 }
-                row.push_back(add(interval.high, fiber.at, true, interval.high));
+                row.push_back(add(interval.high, fiber.at, true));
                 link(row, East, West);
             }
         for (size_t i = 0; i < along_y.size(); i++)
             for (size_t k = 0; k < columns[i].size(); k++) {
-                // The fibers along x came in the order of y.
                 auto& column = columns[i][k];
-                double x = along_y[i].at;
                 const Interval& interval = along_y[i].intervals[k];
-                column.insert(column.begin(), add(x, interval.low, true, interval.low));
-                column.push_back(add(x, interval.high, true, interval.high));
+                column.insert(column.begin(), add(along_y[i].at, interval.low, true));
+                column.push_back(add(along_y[i].at, interval.high, true));
                 link(column, North, South);
             }
     }
@@ -118,8 +111,8 @@ static std::vector<Fiber> fibers_at(const std::vector<double>& positions) {
     return out;
 }
 
-static void push_all(const KdTree& tree, const Cutter& cutter, double z, const std::vector<double>& along,
-                     std::vector<Fiber>& fibers, int threads) {
+static void push_all(const KdTree& tree, const Cutter& cutter, double z,
+                     const std::vector<double>& along, std::vector<Fiber>& fibers, int threads) {
 #pragma omp parallel for schedule(dynamic, 1) num_threads(threads)
     for (size_t i = 0; i < fibers.size(); i++)
         push(tree, cutter, z, along.front(), along.back(), fibers[i]);
@@ -171,7 +164,7 @@ int main(int argc, char** argv) {
     } else {
         size_t points = 0;
         for (const Loop& loop : loops) points += loop.size();
-        printf("%zu %zu %zu %.6f %.6f %.6f %.6f\n", along_x.size() + along_y.size(), loops.size(), points,
-               read - start, built - read, pushed - built, done - pushed);
+        printf("%zu %zu %zu %.6f %.6f %.6f %.6f\n", along_x.size() + along_y.size(), loops.size(),
+               points, read - start, built - read, pushed - built, done - pushed);
     }
 }
