@@ -8,3 +8,4 @@ pub mod Planning
 pub mod Lengths
 pub mod Outcomes
 pub mod Headlines
+pub mod Named
