@@ -1,6 +1,8 @@
 -- The command `level`: its word for a height, and the chains of points along which the cutter goes round the part there.
-use Rattle.std.specs.Prelude.{◌≡◌, ℕ, ℤ, codes, decimal, Bool, if◌then◌else◌, List, [], ◌∷◌, ◌++◌, length, Ok, Err}
+use Rattle.std.specs.Prelude.{◌≡◌, ◌≤◌, ℕ, ℤ, codes, decimal, Bool, if◌then◌else◌, List, [], ◌∷◌, ◌++◌, length, Ok, Err}
 use Rattle.std.specs.List.{flat_map}
+use Rattle.mill_base.specs.Lattices.{node_count}
+use Rattle.mill_base.specs.declared.limits.TheConstants.{MAX_NODES}
 use Rattle.mill_base.specs.declared.points.Pt3.{Pt3}
 use Rattle.mill_base.specs.declared.points.Tri.{Tri}
 use Rattle.mill_decimal.specs.Decimals.{canonical, read_as}
@@ -36,9 +38,10 @@ pub data LevelAnswer : Type 0 where
   outlines : List Outline → LevelAnswer
   too_many_nodes : ℕ → LevelAnswer
 
--- the outlines are the part's waterline at the height, for the job's cutter and over its area by steps of its raster; or that lattice has so many nodes, which are too many
+-- the outlines are the part's waterline at the height, for the job's cutter and over its area by steps of its raster, and that lattice has no more nodes than one may;
+-- or it has so many nodes, which are too many
 abbrev pub IsLevelAnswer : Job → List Tri → ℤ → LevelAnswer → Type 0
-IsLevelAnswer job part height (outlines found) = IsWaterline job.cutter part height (finish_lattice job) found
+IsLevelAnswer job part height (outlines found) = IsWaterline job.cutter part height (finish_lattice job) found × (node_count (finish_lattice job) ≤ MAX_NODES)
 IsLevelAnswer job part height (too_many_nodes nodes) = HasManyNodes (finish_lattice job) nodes
 
 -- word, job and part are read, and this is the answer at the height

@@ -4,7 +4,7 @@ use Rattle.mill_base.specs.declared.points.Tri.{Tri}
 use Rattle.mill_decimal.specs.Decimals.{canonical}
 use Rattle.mill_job.specs.declared.job.Job.{Job}
 use Rattle.mill_plan.specs.Plans.{PlanAnswer, IsPlanAnswer, done, too_many_nodes, too_many_moves, uncut}
-use Rattle.camtool.specs.Printed.{line, nodes_line}
+use Rattle.camtool.specs.Printed.{column_words, line, nodes_line}
 use Rattle.camtool.specs.Setup.{SetupTexts, ReadsSetup}
 
 -- job and part are read, and this is the planner's answer to them
@@ -24,6 +24,6 @@ plan_status too_many_moves = 9
 -- the line of the planner's answer
 abbrev pub plan_line : PlanAnswer → List ℕ
 plan_line (done text moves columns left) = line (codes "planned" ∷ codes "moves" ∷ decimal moves ∷ codes "columns" ∷ decimal columns ∷ codes "left" ∷ canonical left ∷ [])
-plan_line (uncut row column top) = line (codes "uncut" ∷ codes "row" ∷ decimal row ∷ codes "column" ∷ decimal column ∷ codes "top" ∷ canonical top ∷ [])
+plan_line (uncut row column top) = line (codes "uncut" ∷ column_words row column top)
 plan_line (too_many_nodes nodes) = nodes_line nodes
 plan_line too_many_moves = line (codes "over" ∷ codes "moves" ∷ [])

@@ -19,7 +19,7 @@ use Rattle.camtool.specs.declared.file.File.{File}
 use Rattle.camtool.specs.declared.file.File.TheVariants.{Program as ProgramFile}
 use Rattle.camtool.specs.declared.load.Unfit.{Unfit}
 use Rattle.camtool.specs.declared.load.Unfit.TheVariants.{TooLong, ProgramRefused}
-use Rattle.camtool.specs.Printed.{line}
+use Rattle.camtool.specs.Printed.{column_words, line}
 use Rattle.camtool.specs.Setup.{SetupTexts, setup_texts, AreSetupTold, Fits, IsTooLong, ReadsSetup, IsUnfit, IsReadBefore}
 use Rattle.camtool.specs.Words.{Files}
 
@@ -124,7 +124,7 @@ abbrev pub rejection_line : List Move → Reason → List ℕ
 rejection_line moves (Floor k) = line (codes "rejected" ∷ codes "floor" ∷ codes "move" ∷ decimal k ∷ codes "z" ∷ canonical (move_at moves k).to.z ∷ [])
 rejection_line moves (Gouge k t leaf) = line (codes "rejected" ∷ codes "gouge" ∷ codes "move" ∷ decimal k ∷ codes "triangle" ∷ decimal t ∷ leaf_words leaf)
 rejection_line moves (RapidCut k j i leaf) = line (codes "rejected" ∷ codes "rapid" ∷ codes "move" ∷ decimal k ∷ codes "row" ∷ decimal j ∷ codes "column" ∷ decimal i ∷ leaf_words leaf)
-rejection_line moves (Left j i top) = line (codes "rejected" ∷ codes "left" ∷ codes "row" ∷ decimal j ∷ codes "column" ∷ decimal i ∷ codes "top" ∷ canonical top ∷ [])
+rejection_line moves (Left j i top) = line (codes "rejected" ∷ codes "left" ∷ column_words j i top)
 
 -- the end of a line that names a segment of a move
 abbrev pub leaf_end : Leaf → List ℕ

@@ -1,14 +1,15 @@
 //! The command `level`: the chains of points along which the cutter goes round the part at one
 //! height.
-ghost use Rattle.std.specs.Prelude.{◌≡◌, ◌++◌, ◌-◌, ◌^◌, ◌<◌, ℕ, IfOk, IsErrOf, OnOk, map as map_list};
+ghost use Rattle.std.specs.Prelude.{◌≡◌, ◌++◌, ◌-◌, ◌^◌, ◌<◌, ◌≤◌, ℕ, IfOk, IsErrOf, OnOk, map as map_list};
 ghost use Rattle.mill_base.specs.Numbers.{Within};
-ghost use Rattle.mill_base.specs.declared.limits.TheConstants.{MAX_TEXT_COORDINATE};
+ghost use Rattle.mill_base.specs.declared.limits.TheConstants.{MAX_NODES, MAX_TEXT_COORDINATE};
+ghost use Rattle.mill_base.specs.Lattices.{node_count};
 ghost use Rattle.mill_command.specs.Requests.{level as asks_level};
-ghost use Rattle.mill_level.specs.Waterlines.{HasManyNodes, seen};
+ghost use Rattle.mill_level.specs.Waterlines.{HasManyNodes, IsWaterline, seen};
 ghost use Rattle.mill_level.specs.declared.fault.LevelFault.TheVariants.{TooManyNodes};
 ghost use Rattle.mill_paths.specs.Lattices.{finish_lattice as finish_lattice_of};
 ghost use Rattle.camtool.specs.Calls.{CanCount, call_of};
-ghost use Rattle.camtool.specs.Level.{IsLevelAnswer, closed_word, outline_text, outlines, outlines_text, point_line};
+ghost use Rattle.camtool.specs.Level.{closed_word, outline_text, outlines_text, point_line};
 ghost use Rattle.camtool.specs.inner.Loads.{IsSetup};
 ghost use Rattle.camtool.specs.Outcomes.{Serves};
 ghost use Rattle.camtool.specs.inner.Prints.{TriesLevel};
@@ -71,8 +72,9 @@ fn tell_level<O: Sink>(alloc: Global, setup: &Setup, height: i32, out: &mut O) -
 fn chains_at(alloc: Global, setup: &Setup, height: i32) -> Result<Vec<Chain>, LevelFault>
     requires ready { IsSetup setup.now }
     requires height_ok { Within MAX_TEXT_COORDINATE height }
-    ensures chains { IfOk result (λ chains. IsLevelAnswer setup.now.job setup.now.part height
-        (outlines (map_list seen chains.items))) }
+    ensures chains { IfOk result (λ chains. IsWaterline setup.now.job.cutter setup.now.part height
+        (finish_lattice_of setup.now.job) (map_list seen chains.items)) }
+    ensures few { IfOk result (λ _. node_count (finish_lattice_of setup.now.job) ≤ MAX_NODES) }
     ensures nodes { (nodes : ℕ) → IsErrOf result (TooManyNodes nodes)
         → HasManyNodes (finish_lattice_of setup.now.job) nodes }
 {

@@ -11,7 +11,7 @@ ghost use Rattle.camtool.specs.inner.Prints.{PrintsOr, ShowsPlanOr, plan_fault_o
 ghost use Rattle.camtool.specs.Statuses.{status_code};
 
 use crate::load::{Setup, load_setup};
-use crate::print::{add_length, add_number, add_text, line_of_nodes};
+use crate::print::{add_column, add_length, add_number, add_text, line_of_nodes};
 use crate::status::Status;
 use crate::tell::{tell, tell_fault, tell_made};
 use mill_base::WantOfMemory;
@@ -128,12 +128,7 @@ fn line_of_uncut(alloc: Global, row: u32, col: u32, top: i32) -> Result<Vec<u8>,
     ensures { IfOk result (λ line. line.items ≡ plan_line (uncut row col top)) }
 {
     let mut line = Vec::new(alloc);
-    add_text(&mut line, b"uncut row ")?;
-    add_number(&mut line, u64::from(row))?;
-    add_text(&mut line, b" column ")?;
-    add_number(&mut line, u64::from(col))?;
-    add_text(&mut line, b" top ")?;
-    add_length(&mut line, top)?;
-    add_text(&mut line, b"\n")?;
+    add_text(&mut line, b"uncut")?;
+    add_column(&mut line, row, col, top)?;
     Ok(line)
 }

@@ -1,7 +1,7 @@
-//! The pieces of a line, and the line that two commands have.
+//! The pieces of a line, and what two commands print.
 ghost use Rattle.std.specs.Prelude.{◌≡◌, ◌++◌, decimal, IfOk, OnOk};
 ghost use Rattle.mill_decimal.specs.Decimals.{canonical};
-ghost use Rattle.camtool.specs.Printed.{nodes_line};
+ghost use Rattle.camtool.specs.Printed.{column_end, nodes_line};
 
 use itoa::Buffer;
 use mill_base::WantOfMemory;
@@ -31,6 +31,19 @@ pub fn add_length(line: &mut Vec<u8>, units: i32) -> Result<(), WantOfMemory>
     let mut text = NumText::new();
     write_decimal(units, &mut text);
     add_text(line, text.as_bytes())
+}
+
+/// Adds a column of the stock that is left with this top, and the line's end.
+pub fn add_column(line: &mut Vec<u8>, row: u32, column: u32, top: i32) -> Result<(), WantOfMemory>
+    ensures { OnOk result (line.new.items ≡ line.old.items ++ column_end row column top) }
+{
+    add_text(line, b" row ")?;
+    add_number(line, u64::from(row))?;
+    add_text(line, b" column ")?;
+    add_number(line, u64::from(column))?;
+    add_text(line, b" top ")?;
+    add_length(line, top)?;
+    add_text(line, b"\n")
 }
 
 /// The line of a lattice of too many nodes.

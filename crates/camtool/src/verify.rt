@@ -10,7 +10,7 @@ ghost use Rattle.camtool.specs.Statuses.{status_code};
 ghost use Rattle.camtool.specs.Verify.{texts_of, verdict_status, verdict_line, rejection_line, leaf_end, tolerances_end, NamesMove};
 
 use crate::load::{LoadFault, load_program, load_setup};
-use crate::print::{add_length, add_number, add_text};
+use crate::print::{add_column, add_length, add_number, add_text};
 use crate::status::Status;
 use crate::tell::{tell, tell_fault};
 use mill_base::{Move, WantOfMemory};
@@ -249,13 +249,8 @@ fn line_of_left(
     ensures { IfOk result (λ line. line.items ≡ rejection_line moves.now (Reason.Left row col top)) }
 {
     let mut line = Vec::new(alloc);
-    add_text(&mut line, b"rejected left row ")?;
-    add_number(&mut line, u64::from(row))?;
-    add_text(&mut line, b" column ")?;
-    add_number(&mut line, u64::from(col))?;
-    add_text(&mut line, b" top ")?;
-    add_length(&mut line, top)?;
-    add_text(&mut line, b"\n")?;
+    add_text(&mut line, b"rejected left")?;
+    add_column(&mut line, row, col, top)?;
     Ok(line)
 }
 

@@ -1,6 +1,7 @@
-ghost use Rattle.std.specs.Prelude.{◌≡◌, ◌↔◌, ℕ, IfOk, IsErrOf, map as map_list};
+ghost use Rattle.std.specs.Prelude.{◌≡◌, ◌↔◌, ◌≤◌, ℕ, IfOk, IsErrOf, map as map_list};
 ghost use Rattle.mill_base.specs.Numbers.{Within};
-ghost use Rattle.mill_base.specs.declared.limits.TheConstants.{MAX_COORDINATE};
+ghost use Rattle.mill_base.specs.declared.limits.TheConstants.{MAX_COORDINATE, MAX_NODES};
+ghost use Rattle.mill_base.specs.Lattices.{node_count};
 ghost use Rattle.mill_base.specs.Sizes.{IsCutter};
 ghost use Rattle.mill_cells.specs.Sorted.{sorted_of};
 ghost use Rattle.mill_level.specs.declared.fault.LevelFault.TheVariants.{TooManyNodes};
@@ -40,6 +41,7 @@ pub fn waterline(
     requires z_ok { Within MAX_COORDINATE z }
     requires lattice_ok { IsLattice lattice.now }
     ensures chains { IfOk result (λ chains. IsWaterline cutter part.now z lattice.now (map_list seen chains.items)) }
+    ensures few { IfOk result (λ _. node_count lattice.now ≤ MAX_NODES) }
     ensures nodes { (nodes : ℕ) → IsErrOf result (TooManyNodes nodes) ↔ HasManyNodes lattice.now nodes }
 {
     let nodes = lattice.nodes();

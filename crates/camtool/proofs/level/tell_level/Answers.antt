@@ -11,7 +11,7 @@ pub returns-in-Ok : goal.returns-in-Ok
 returns-in-Ok g c =
     let height_fits : FitsSigned w32 c.args.height = search rules in
     let answer : LevelAnswer = outlines (map seen c.in-Ok.chains.items) in
-    let right : IsLevelAnswer c.args.setup.now.job c.args.setup.now.part c.args.height answer = simp to_z-of_z at c.in-Ok.ensures.chains in
+    let right : IsLevelAnswer c.args.setup.now.job c.args.setup.now.part c.args.height answer = (simp to_z-of_z at c.in-Ok.ensures.chains, c.in-Ok.ensures.few) in
     inl (record {
       answer = answer;
       is = right;
