@@ -1,4 +1,5 @@
-//! Waterlines: the loops along which a cutter goes round a part at one height without gouging.
+//! Waterlines: the places round a part, chain by chain, up to which a cutter can come at one height.
+//! Each place is free; the way from one to the next isn't looked at.
 //!
 //! It stands on the push-cutter (mill_push). `waterline` promises the chains of a lattice's crossings,
 //! exactly: each crossing between a free and a blocked node stands in one of them, once. `specs/Grids`
