@@ -21,7 +21,7 @@ use Rattle.camtool.specs.declared.load.Unfit.{Unfit}
 use Rattle.camtool.specs.declared.load.Unfit.TheVariants.{TooLong, JobRefused, PartRefused, ProgramRefused, PartTop}
 use Rattle.camtool.specs.declared.place.Coordinate.{Coordinate}
 use Rattle.camtool.specs.declared.place.Coordinate.TheVariants.{X, Y, Z}
-use Rattle.camtool.specs.declared.place.Place.{Place}
+use Rattle.mill_job.specs.declared.job.Place.{Place}
 use Rattle.mill_decimal.specs.declared.fault.DecFault.{DecFault}
 use Rattle.camtool.specs.Answers.{Answer, refused_word, unfit, judged, planned, dropped, leveled, answer_status, IsAnswer}
 use Rattle.camtool.specs.Drop.{ReadsPlace, RefusesWord}

@@ -15,7 +15,7 @@ use Rattle.camtool.specs.declared.load.Unfit.{Unfit}
 use Rattle.camtool.specs.declared.load.Unfit.TheVariants.{TooLong}
 use Rattle.camtool.specs.declared.load.Setup.{Setup}
 use Rattle.camtool.specs.declared.place.Coordinate.{Coordinate}
-use Rattle.camtool.specs.declared.place.Place.{Place}
+use Rattle.mill_job.specs.declared.job.Place.{Place}
 use Rattle.camtool.specs.declared.verify.Loaded.{Loaded}
 use Rattle.camtool.specs.Answers.{Answer, refused_word, unfit, judged, dropped, leveled, answer_status, answer_line}
 use Rattle.camtool.specs.Calls.{Call, CanCount, NamedText, Stores}

@@ -8,7 +8,7 @@ use Rattle.mill_job.specs.declared.job.Job.{Job}
 use Rattle.mill_drop.specs.Drops.{IsDropHeight}
 use Rattle.camtool.specs.declared.place.Coordinate.{Coordinate}
 use Rattle.camtool.specs.declared.place.Coordinate.TheVariants.{X, Y, Z}
-use Rattle.camtool.specs.declared.place.Place.{Place}
+use Rattle.mill_job.specs.declared.job.Place.{Place}
 use Rattle.camtool.specs.Printed.{line}
 use Rattle.camtool.specs.Setup.{SetupTexts, ReadsSetup}
 

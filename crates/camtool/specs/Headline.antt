@@ -10,7 +10,7 @@ use Rattle.mill_verify.specs.Verdicts.{IsRejection}
 use Rattle.mill_verify.specs.Claims.{CutsSafely}
 use Rattle.mill_verify.specs.declared.verdict.Verdict.TheVariants.{Accept, Reject}
 use Rattle.mill_verify.specs.declared.verdict.Reason.{Reason}
-use Rattle.camtool.specs.declared.place.Place.{Place}
+use Rattle.mill_job.specs.declared.job.Place.{Place}
 use Rattle.camtool.specs.Answers.{Answer, IsAnswer, answer_status, answer_line, answer_file}
 use Rattle.camtool.specs.Calls.{Call, NoFault, Stores}
 use Rattle.camtool.specs.Drop.{ReadsPlace}

@@ -3,20 +3,22 @@ ghost use Rattle.std.specs.Prelude.{◌≡◌, ◌-◌, ◌^◌, ◌<◌, IfOk};
 ghost use Rattle.mill_command.specs.Requests.{drop as asks_drop};
 ghost use Rattle.camtool.specs.Calls.{CanCount, call_of};
 ghost use Rattle.camtool.specs.Drop.{height_line};
-ghost use Rattle.camtool.specs.inner.Loads.{IsPlace, IsSetup};
+ghost use Rattle.camtool.specs.inner.Loads.{IsSetup};
+ghost use Rattle.mill_job.specs.Tables.{IsPlace};
 ghost use Rattle.camtool.specs.Outcomes.{Serves};
 ghost use Rattle.camtool.specs.inner.Prints.{PrintsHeight};
 ghost use Rattle.camtool.specs.Statuses.{status_code};
 
 use crate::faults::line_of_word_fault;
 use crate::load::{Setup, load_setup};
-use crate::place::{Place, read_place};
+use crate::place::read_place;
 use crate::print::{add_length, add_text};
 use crate::status::Status;
 use crate::tell::{tell_fault, tell_made};
 use mill_base::WantOfMemory;
 use mill_drop::drop_once;
 use mill_io::{Shelf, Sink};
+use mill_job::Place;
 use std::alloc::Global;
 
 /// The work of `drop`: reads the place, then the job and the part, and prints the drop height there

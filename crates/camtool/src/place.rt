@@ -1,9 +1,11 @@
 ghost use Rattle.std.specs.Prelude.{IfOk};
 ghost use Rattle.mill_base.specs.Numbers.{Within};
 ghost use Rattle.mill_base.specs.declared.limits.TheConstants.{MAX_TEXT_COORDINATE};
-ghost use Rattle.camtool.specs.inner.Loads.{CoordinateFrom, HeightFrom, PlaceFrom, IsPlace};
+ghost use Rattle.camtool.specs.inner.Loads.{CoordinateFrom, HeightFrom, PlaceFrom};
+ghost use Rattle.mill_job.specs.Tables.{IsPlace};
 
 use mill_decimal::{DecFault, Snap, read_decimal};
+use mill_job::Place;
 
 /// One of the words that say where.
 #[derive(Clone, Copy, Debug, PartialEq, Eq)]
@@ -13,13 +15,6 @@ pub enum Coordinate {
     Z,
 }
 
-/// A place to drop the cutter at, in units of 0.01 mm, each of magnitude at most 131,071.
-#[derive(Clone, Copy, Debug, PartialEq, Eq)]
-pub struct Place {
-    pub x: i32,
-    pub y: i32,
-}
-
 /// The first of a command's words for coordinates that is refused, and why.
 #[derive(Clone, Copy, Debug, PartialEq, Eq)]
 pub struct WordFault {
@@ -27,7 +22,7 @@ pub struct WordFault {
     pub fault: DecFault,
 }
 
-/// Reads the words of a place, x first. A coordinate finer than a unit is refused.
+/// Reads the words of the place to drop the cutter at, x first. A coordinate finer than a unit is refused.
 pub fn read_place(x: &str, y: &str) -> Result<Place, WordFault>
     ensures told { PlaceFrom x.now y.now result }
     ensures in_range { IfOk result IsPlace }

@@ -26,7 +26,7 @@ use Rattle.camtool.specs.declared.load.Unfit.TheVariants.{TooLong, JobRefused, P
 use Rattle.camtool.specs.declared.load.Setup.{Setup}
 use Rattle.camtool.specs.declared.verify.Loaded.{Loaded}
 use Rattle.camtool.specs.declared.place.Coordinate.{Coordinate}
-use Rattle.camtool.specs.declared.place.Place.{Place}
+use Rattle.mill_job.specs.declared.job.Place.{Place}
 use Rattle.camtool.specs.declared.place.WordFault.{WordFault}
 use Rattle.camtool.specs.Drop.{ReadsPlace, RefusesWord}
 use Rattle.camtool.specs.Level.{ReadsHeight, RefusesHeight}
@@ -145,8 +145,3 @@ PlaceFrom x y (Err f) = RefusesWord x y f.coordinate f.fault
 abbrev pub HeightFrom : List ℕ → Result ℤ WordFault → Type 0
 HeightFrom z (Ok height) = ReadsHeight z height
 HeightFrom z (Err f) = RefusesHeight z f.coordinate f.fault
-
--- the place is in range
-pub record IsPlace (place : Place) : Type 0 where
-  pub x_ok : Within MAX_TEXT_COORDINATE place.x
-  pub y_ok : Within MAX_TEXT_COORDINATE place.y

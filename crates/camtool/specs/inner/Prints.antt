@@ -15,7 +15,7 @@ use Rattle.mill_verify.specs.Verdicts.{IsVerdict}
 use Rattle.camtool.specs.declared.load.LoadFault.{LoadFault}
 use Rattle.camtool.specs.declared.load.LoadFault.TheVariants as load_fault
 use Rattle.camtool.specs.declared.load.Setup.{Setup}
-use Rattle.camtool.specs.declared.place.Place.{Place}
+use Rattle.mill_job.specs.declared.job.Place.{Place}
 use Rattle.camtool.specs.declared.verify.Loaded.{Loaded}
 use Rattle.camtool.specs.Answers.{unfit, judged, planned, dropped, leveled}
 use Rattle.camtool.specs.Calls.{Call}
