@@ -10,4 +10,6 @@ pub mod NearCerts
 pub mod Meeting
 pub mod Joining
 pub mod Sorting
+pub mod Cutting
+pub mod Growing
 pub mod Collecting
