@@ -1,71 +1,26 @@
 -- A window from whose ends known runs are cut off, and what its triangle's stretch in the rest tells.
-use Rattle.std.proofs.Common.{◌≡◌, ℕ, ◌+◌, ◌*◌, ◌<◌, ◌≤◌, List, sym, subst, arith}
+use Rattle.std.proofs.Common.{◌≡◌, ℕ, ◌+◌, ◌*◌, ◌<◌, ◌≤◌, List, false, arith}
 use Rattle.std.specs.Prelude.{◌^◌, nat_abs, Option, Some, None}
-use Rattle.std.specs.Int.{int_min, int_max}
 use Rattle.std.specs.List.{Contains}
 use Rattle.std.proofs.lemmas.Int.{ints, by_lt_z}
-use lib.IntN.{ℤ, pos, ◌+ℤ◌, ◌-ℤ◌}
-use lib.Signed.{◌<ℤ◌, ◌≤ℤ◌}
+use lib.IntN.{ℤ, pos, ◌+ℤ◌, ◌-ℤ◌, ◌*ℤ◌}
+use lib.Signed.{◌<ℤ◌, ◌≤ℤ◌, lt_z}
 use Rattle.mill_base.specs.Numbers.{Within}
-use Rattle.mill_base.specs.Sizes.{IsCutter, radius_of}
 use Rattle.mill_base.specs.declared.limits.TheConstants.{MAX_COORDINATE}
 use Rattle.mill_base.specs.declared.points.Tri.{Tri}
 use Rattle.mill_base.specs.declared.cutter.Cutter.{Cutter}
-use Rattle.mill_cells.specs.Boxes.{Meet, box_of}
-use Rattle.mill_geom.specs.declared.touch.Axis.{Axis}
-use Rattle.mill_geom.specs.declared.touch.Axis.TheVariants.{X, Y}
 use Rattle.mill_push.specs.declared.fiber.Fiber.{Fiber}
 use Rattle.mill_push.specs.declared.fiber.Run.{Run}
 use Rattle.mill_push.specs.Fibers.{IsTouched}
 use Rattle.mill_push.specs.Runs.{StandsIn}
 use Rattle.mill_push.specs.Stretches.{IsClear, IsStretchAnswer, IsTouchedStretch}
-use Rattle.mill_push.specs.Touches.{position_count, strip_along}
-use Rattle.mill_push.specs.inner.Known.{AreAmong, IsAt, IsKnown, IsNewAnswer, IsNewStretch, IsRest, IsRunInRange, IsWindow}
-use Rattle.mill_push.specs.inner.Windows.{reach_along}
+use Rattle.mill_push.specs.Touches.{position_count}
+use Rattle.mill_push.specs.inner.Known.{AreAmong, IsAt, IsKnown, IsNewAnswer, IsNewStretch, IsRest, IsRunInRange, AreInRange, IsStart, IsWindow}
+use Rattle.mill_push.specs.inner.Unions.{AreSpans, IsSpan}
 use Rattle.mill_push.proofs.Halving.{half_under}
-use Rattle.mill_push.proofs.Meeting.{touched_near}
-
--- a triangle that is touched at v reaches to within a radius of v
-reached : (axis : Axis) (tri : Tri) (at r v : ℤ) → Meet (box_of tri) (strip_along axis at r v v) → (((reach_along axis tri).first -ℤ r) ≤ℤ v) × (v ≤ℤ ((reach_along axis tri).last +ℤ r))
-reached X tri at r v m = (low _ m.x r v m.in_first.right m.in_second.left, high _ m.x r v m.in_first.left m.in_second.right)
-  where
-    low : (a x r v : ℤ) → a ≤ℤ x → x ≤ℤ (v +ℤ r) → (a -ℤ r) ≤ℤ v
-    low a x r v h k = omega (arith, ints)
-
-    high : (a x r v : ℤ) → x ≤ℤ a → (v -ℤ r) ≤ℤ x → v ≤ℤ (a +ℤ r)
-    high a x r v h k = omega (arith, ints)
-reached Y tri at r v m = (low _ m.y r v m.in_first.over m.in_second.under, high _ m.y r v m.in_first.under m.in_second.over)
-  where
-    low : (a x r v : ℤ) → a ≤ℤ x → x ≤ℤ (v +ℤ r) → (a -ℤ r) ≤ℤ v
-    low a x r v h k = omega (arith, ints)
-
-    high : (a x r v : ℤ) → x ≤ℤ a → (v -ℤ r) ≤ℤ x → v ≤ℤ (a +ℤ r)
-    high a x r v h k = omega (arith, ints)
+use Rattle.mill_push.proofs.Stored.{within_between}
 
 module _ (cutter : Cutter) (tri : Tri) (fiber : Fiber) where
-  touched_reach : (v : ℤ) → IsCutter cutter → IsTouched cutter tri fiber v
-      → (((reach_along fiber.axis tri).first -ℤ radius_of cutter) ≤ℤ v) × (v ≤ℤ ((reach_along fiber.axis tri).last +ℤ radius_of cutter))
-  touched_reach v ok t =
-      let same : v ≤ℤ v = omega (arith, ints) in
-      let near = touched_near cutter tri fiber v v v ok same same t in
-      reached fiber.axis tri fiber.at (radius_of cutter) v near.meets
-
-  -- the triangle's window
-  pub window_is : (from to low high : ℤ) → IsCutter cutter → low ≡ (reach_along fiber.axis tri).first -ℤ radius_of cutter → high ≡ (reach_along fiber.axis tri).last +ℤ radius_of cutter
-      → IsWindow cutter tri fiber from to (record { first = int_max from low; last = int_min to high })
-  window_is from to low high ok e f = record {
-    after = grind (arith, ints);
-    within = grind (arith, ints);
-    before = λ v a b t. under from low v (subst (λ (l : ℤ). l ≤ℤ v) (sym e) (touched_reach v ok t).0) a b;
-    beyond = λ v a b t. over to high v (subst (λ (h : ℤ). v ≤ℤ h) (sym f) (touched_reach v ok t).1) a b;
-  }
-    where
-      under : (from low v : ℤ) → low ≤ℤ v → from ≤ℤ v → v <ℤ int_max from low → ⊥
-      under from low v a b c = grind (arith, ints)
-
-      over : (to high v : ℤ) → v ≤ℤ high → int_min to high <ℤ v → v ≤ℤ to → ⊥
-      over to high v a b c = grind (arith, ints)
-
   -- at what positions the triangle is touched before and after the rest of its window is known
   beside_rest : (from to : ℤ) (some known : List Run) (window rest : Run) → IsWindow cutter tri fiber from to window → IsRest some window rest → AreAmong some known
       → (v : ℤ) → from ≤ℤ v → v ≤ℤ to → IsTouched cutter tri fiber v → (v <ℤ rest.first → StandsIn known v) × (rest.last <ℤ v → StandsIn known v)
@@ -78,9 +33,9 @@ module _ (cutter : Cutter) (tri : Tri) (fiber : Fiber) where
       moved s = record { run = s.run; member = among s.run s.member; first = s.first; last = s.last }
 
   -- nothing is left
-  pub all_known : {from to : ℤ} {some known : List Run} {window : Run} (rest : Run) → IsWindow cutter tri fiber from to window → IsRest some window rest → AreAmong some known
+  pub all_known : (from to : ℤ) (some known : List Run) (window rest : Run) → IsWindow cutter tri fiber from to window → IsRest some window rest → AreAmong some known
       → rest.last <ℤ rest.first → IsKnown cutter tri fiber known from to
-  all_known {from} {to} {some} {known} {window} rest w r among none v a b t =
+  all_known from to some known window rest w r among none v a b t =
       let beside = beside_rest from to some known window rest w r among v a b t in
       by_lt_z v rest.first beside.0 (λ over. beside.1 (past rest.last rest.first v none over))
     where
@@ -88,12 +43,12 @@ module _ (cutter : Cutter) (tri : Tri) (fiber : Fiber) where
       past l f v h k = omega (arith, ints)
 
   -- what is found in the rest
-  pub new_answer : {from to : ℤ} {some known : List Run} {window : Run} (rest : Run) (answer : Option Run) → IsWindow cutter tri fiber from to window → IsRest some window rest → AreAmong some known
+  pub new_answer : (from to : ℤ) (some known : List Run) (window rest : Run) (answer : Option Run) → IsWindow cutter tri fiber from to window → IsRest some window rest → AreAmong some known
       → IsStretchAnswer cutter tri fiber rest.first rest.last answer → IsNewAnswer cutter tri fiber from to known answer
-  new_answer {from} {to} {some} {known} {window} rest None w r among clear = λ v a b t.
+  new_answer from to some known window rest None w r among clear = λ v a b t.
       let beside = beside_rest from to some known window rest w r among v a b t in
       by_lt_z v rest.first beside.0 (λ over. by_lt_z rest.last v beside.1 (λ under. absurd (clear v over under t)))
-  new_answer {from} {to} {some} {known} {window} rest (Some run) w r among found = record {
+  new_answer from to some known window rest (Some run) w r among found = record {
     span = record { after = through from window.first rest.first run.first w.after r.after found.after; some = found.some; within = through run.last rest.last window.last to found.within r.within w.within };
     touched = found.touched;
     before = λ v a less t. by_lt_z v rest.first (beside v a (within_to v less) t).0 (λ over. absurd (found.before v over less t));
@@ -138,14 +93,39 @@ rest_on known window rest run first last member from to low high r = record {
     stands v at = record { run = run; member = member; first = at.first; last = at.last }
 
 -- the rest has no more positions than there are
-pub cost_of_rest : {from to a b : ℤ} {old new : ℕ} → from ≤ℤ a → a ≤ℤ b → b ≤ℤ to → ((n : ℕ) → position_count a b < 2 ^ n → new ≤ old + 2 * n) → (n : ℕ) → position_count from to < 2 ^ n → new ≤ old + 2 * n
-cost_of_rest {from} {to} {a} {b} h k l cost n under = cost n (let fewer : position_count a b ≤ position_count from to = omega (arith, ints) in omega arith)
+pub cost_of_rest : (from to a b : ℤ) (old new : ℕ) → from ≤ℤ a → a ≤ℤ b → b ≤ℤ to → ((n : ℕ) → position_count a b < 2 ^ n → new ≤ old + 2 * n) → (n : ℕ) → position_count from to < 2 ^ n → new ≤ old + 2 * n
+cost_of_rest from to a b old new h k l cost n under = cost n (let fewer : position_count a b ≤ position_count from to = omega (arith, ints) in omega arith)
 
 -- and at most half as many where the search begins at an end
-pub cost_of_half : {from to a b : ℤ} {old new : ℕ} → 2 * position_count a b ≤ position_count from to → ((n : ℕ) → position_count a b < 2 ^ n → new ≤ old + (1 + 2 * n))
+pub cost_of_half : (from to a b : ℤ) (old new : ℕ) → 2 * position_count a b ≤ position_count from to → ((n : ℕ) → position_count a b < 2 ^ n → new ≤ old + (1 + 2 * n))
     → (n : ℕ) → position_count from to < 2 ^ n → new ≤ old + 2 * n
-cost_of_half {from} {to} {a} {b} {old} {new} half cost n under =
+cost_of_half from to a b old new half cost n under =
     let k = half_under n (position_count from to) (position_count a b) (omega arith) half under in
     let c = cost k.0 k.2 in
     let e = k.1 in
     omega arith
+
+-- the search begins at an end of the rest
+narrow_is : (from to a b : ℤ) → from ≤ℤ to → a ≤ℤ b → lt_z ((to -ℤ from) +ℤ pos 1) (pos 2 *ℤ ((b -ℤ a) +ℤ pos 1)) ≡ false → 2 * position_count a b ≤ position_count from to
+narrow_is from to a b h k test =
+    let narrow : (pos 2 *ℤ ((b -ℤ a) +ℤ pos 1)) ≤ℤ ((to -ℤ from) +ℤ pos 1) = omega (test, arith, ints) in
+    omega (arith, ints)
+
+pub starts_first : (from to a b : ℤ) → from ≤ℤ to → a ≤ℤ b → lt_z ((to -ℤ from) +ℤ pos 1) (pos 2 *ℤ ((b -ℤ a) +ℤ pos 1)) ≡ false → IsStart from to (record { first = a; last = b }) a
+starts_first from to a b h k test = record { place = record { first = omega (arith, ints); last = k }; narrow = narrow_is from to a b h k test }
+
+pub starts_last : (from to a b : ℤ) → from ≤ℤ to → a ≤ℤ b → lt_z ((to -ℤ from) +ℤ pos 1) (pos 2 *ℤ ((b -ℤ a) +ℤ pos 1)) ≡ false → IsStart from to (record { first = a; last = b }) b
+starts_last from to a b h k test = record { place = record { first = k; last = omega (arith, ints) }; narrow = narrow_is from to a b h k test }
+
+-- runs from one position in range to another are in range
+pub span_in_range : (from to : ℤ) (run : Run) → Within MAX_COORDINATE from → Within MAX_COORDINATE to → IsSpan from to run → IsRunInRange run
+span_in_range from to run h k s = record {
+  first_ok = within_between from run.first to h k s.after (through run.first run.last to s.some s.within);
+  last_ok = within_between from run.last to h k (through from run.first run.last s.after s.some) s.within;
+}
+  where
+    through : (a b c : ℤ) → a ≤ℤ b → b ≤ℤ c → a ≤ℤ c
+    through a b c h k = omega (arith, ints)
+
+pub spans_in_range : (from to : ℤ) (runs : List Run) → Within MAX_COORDINATE from → Within MAX_COORDINATE to → AreSpans from to runs → AreInRange runs
+spans_in_range from to runs h k spans run c = span_in_range from to run h k (spans run c)
