@@ -1,11 +1,11 @@
 -- The stretches of the triangles near a fiber, one triangle after another.
-use Rattle.std.proofs.Common.{◌≡◌, ◌↔◌, inl, inr, refl, ℕ, zero, suc, ◌+◌, ◌*◌, ◌<◌, ◌≤◌, List, [], ◌∷◌, ◌++◌, length, get_or, map, sym, subst, ap, ◌∙◌, arith}
+use Rattle.std.proofs.Common.{◌≡◌, ◌↔◌, inl, inr, refl, ℕ, zero, suc, ◌+◌, ◌*◌, ◌<◌, ◌≤◌, List, [], ◌∷◌, length, map, sym, subst, ap, ◌∙◌, arith}
 use Rattle.std.specs.Prelude.{◌^◌, nat_eq, Bool, true, false}
 use Rattle.std.specs.List.{Contains, IsDistinct}
 use Rattle.std.proofs.lemmas.Bool.{eqb-true, eq-eqb}
 use Rattle.std.proofs.lemmas.Int.{ints, by_lt_z}
 use Rattle.std.proofs.lemmas.List.{length-map, get_or-map, get_or_default}
-use Rattle.std.proofs.lemmas.List.Elements.{All-from_recursion, All-contains, Contains-append_cases, Contains-append_left, Contains-append_right, Contains-get_or}
+use Rattle.std.proofs.lemmas.List.Elements.{All-from_recursion, All-contains, Contains-get_or}
 use Rattle.std.proofs.lemmas.Map.Keys.{IsDistinct-head, IsDistinct-tail}
 use Rattle.std.proofs.lemmas.Map.Steps.{length-le_from_distinct_below}
 use Rattle.std.proofs.lemmas.Map.Views.{Contains-from_any}
@@ -27,9 +27,9 @@ use Rattle.mill_push.specs.declared.fiber.Fiber.{Fiber}
 use Rattle.mill_push.specs.declared.fiber.Run.{Run}
 use Rattle.mill_push.specs.Fibers.{IsTouched, IsBlocked}
 use Rattle.mill_push.specs.Runs.{StandsIn}
-use Rattle.mill_push.specs.Stretches.{IsTouchedStretch, IsClear}
 use Rattle.mill_push.specs.Touches.{IsTried, TouchesFew, position_count, strip_of}
-use Rattle.mill_push.specs.inner.Unions.{AreSpans, IsSpan, AreStretches}
+use Rattle.mill_push.specs.inner.Known.{IsGrown, IsKnown, IsNewStretch}
+use Rattle.mill_push.specs.inner.Unions.{AreSpans, AreStretches}
 use Rattle.mill_push.proofs.Meeting.{touched_near}
 
 -- a list of numbers in which no number stands twice
@@ -151,58 +151,34 @@ module _ (cutter : Cutter) (part : List Tri) (fiber : Fiber) (from to : ℤ) whe
       more_steps : (n m : ℕ) → then ≤ now + 2 * n → now ≤ old + 2 * n * m → then ≤ old + 2 * n * suc m
       more_steps n m a b = omega arith
 
-  -- it is touched nowhere
+  -- the positions at which it is touched are known
   pub goes_on_without : {near later : Ahead} {i : ℕ} {found : List Run} {old now then : ℕ} → IsCutter cutter → Comes fiber.z near i later → CollectedSoFar near found old now
-      → IsClear cutter (tri_at part i) fiber from to → ((n : ℕ) → position_count from to < 2 ^ n → then ≤ now + 2 * n) → CollectedSoFar later found old then
-  goes_on_without ok h s clear cost =
-      goes_on ok h s s.spans s.sound (λ v c. c) (λ inside v a b t. absurd (clear v a b t)) cost
+      → IsKnown cutter (tri_at part i) fiber found from to → ((n : ℕ) → position_count from to < 2 ^ n → then ≤ now + 2 * n) → CollectedSoFar later found old then
+  goes_on_without ok h s known cost =
+      goes_on ok h s s.spans s.sound (λ v c. c) (λ inside v a b t. known v a b t) cost
 
-  -- it is touched at the positions of one run
-  stands_before : (found : List Run) (r : Run) (v : ℤ) → StandsIn found v → StandsIn (found ++ r ∷ []) v
-  stands_before found r v s = record { run = s.run; member = Contains-append_left found (r ∷ []) s.run s.member; first = s.first; last = s.last }
-
-  last_of : (found : List Run) (r : Run) → Contains (found ++ r ∷ []) r
-  last_of found r = Contains-append_right found (r ∷ []) r (0, omega arith, refl)
-
-  only_one : (r s : Run) → Contains (r ∷ []) s → r ≡ s
-  only_one r s c = by c.0 c.1 c.2
+  -- those of one run are new
+  pub goes_on_with : {near later : Ahead} {i : ℕ} {found more : List Run} {r : Run} {old now then : ℕ} → IsCutter cutter → Comes fiber.z near i later → CollectedSoFar near found old now
+      → IsNewStretch cutter (tri_at part i) fiber from to found r → IsGrown found r more → ((n : ℕ) → position_count from to < 2 ^ n → then ≤ now + 2 * n) → CollectedSoFar later more old then
+  goes_on_with {i = i} {found} {more} {r} ok h s stretch grown cost =
+      goes_on ok h s (grown.spans from to s.spans stretch.span) sound grown.kept done cost
     where
-      by : (k : ℕ) → k < 1 → get_or (r ∷ []) k s ≡ s → r ≡ s
-      by zero w e = e
-      by (suc k) w e = absurd (omega (arith, w))
-
-  pub goes_on_with : {near later : Ahead} {i : ℕ} {found : List Run} {r : Run} {old now then : ℕ} → IsCutter cutter → Comes fiber.z near i later → CollectedSoFar near found old now
-      → IsTouchedStretch cutter (tri_at part i) fiber from to r → ((n : ℕ) → position_count from to < 2 ^ n → then ≤ now + 2 * n) → CollectedSoFar later (found ++ r ∷ []) old then
-  goes_on_with {i = i} {found} {r} ok h s stretch cost =
-      goes_on ok h s spans sound (stands_before found r) done cost
-    where
-      spans : AreSpans from to (found ++ r ∷ [])
-      spans run c = elim (Contains-append_cases found (r ∷ []) run c) [
-        | inl before ↦ s.spans run before
-        | inr new ↦ subst (IsSpan from to) (only_one r run new) (record { after = stretch.after; some = stretch.some; within = stretch.within })
-      ]
-
-      touched : (run : Run) (v : ℤ) → r ≡ run → run.first ≤ℤ v → v ≤ℤ run.last → IsTouched cutter (tri_at part i) fiber v
-      touched run v e a b = stretch.touched v (subst (λ (q : Run). q.first ≤ℤ v) (sym e) a) (subst (λ (q : Run). v ≤ℤ q.last) (sym e) b)
-
-      sound : (v : ℤ) → StandsIn (found ++ r ∷ []) v → IsBlocked cutter part fiber v
-      sound v c = elim (Contains-append_cases found (r ∷ []) c.run c.member) [
-        | inl before ↦ s.sound v (record { run = c.run; member = before; first = c.first; last = c.last })
+      sound : (v : ℤ) → StandsIn more v → IsBlocked cutter part fiber v
+      sound v c = elim (grown.only v c) [
+        | inl before ↦ s.sound v before
         | inr new ↦ record {
           tri = tri_at part i;
           member = Contains-get_or part i (point_tri (point_at (pos 0) (pos 0) (pos 0))) (beside_within i (s.beside i h.number));
-          touches = touched c.run v (only_one r c.run new) c.first c.last;
+          touches = stretch.touched v new.first new.last;
         }
       ]
 
-      done : IsDone (found ++ r ∷ []) i
-      done inside v a b t = record { run = r; member = last_of found r; first = from_it; last = to_it }
-        where
-          from_it : r.first ≤ℤ v
-          from_it = by_lt_z v r.first (λ less. absurd (stretch.before v a less t)) (λ more. more)
-
-          to_it : v ≤ℤ r.last
-          to_it = by_lt_z r.last v (λ more. absurd (stretch.beyond v more b t)) (λ less. less)
+      done : IsDone more i
+      done inside v a b t = by_lt_z v r.first
+          (λ less. grown.kept v (stretch.before v a less t))
+          (λ from_it. by_lt_z r.last v
+          (λ past. grown.kept v (stretch.beyond v past b t))
+          (λ to_it. grown.added v (record { first = from_it; last = to_it })))
 
   -- after the last one
   pub collect_ends : {near later : Ahead} {found : List Run} {old now : ℕ} → IsCutter cutter → NoneComes fiber.z near later → CollectedSoFar near found old now → AreStretches cutter part fiber from to found

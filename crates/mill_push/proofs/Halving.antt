@@ -10,7 +10,7 @@ pub record IsPaid (each count old now n : ℕ) : Type 0 where
   pub paid : now + each * m ≤ old + each * n
 
 -- where some position is left, half of them are under half the power
-half_under : (m count half : ℕ) → 0 < count → 2 * half ≤ count → count < 2 ^ m → (k : ℕ) × (m ≡ suc k) × (half < 2 ^ k)
+pub half_under : (m count half : ℕ) → 0 < count → 2 * half ≤ count → count < 2 ^ m → (k : ℕ) × (m ≡ suc k) × (half < 2 ^ k)
 half_under zero count half some le under = absurd (let u : count < 1 = under in omega arith)
 half_under (suc k) count half some le under = (k, omega arith, half_it (subst (λ m. count < 2 ^ m) (omega arith) under))
   where

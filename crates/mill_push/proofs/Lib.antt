@@ -10,4 +10,7 @@ pub mod NearCerts
 pub mod Meeting
 pub mod Joining
 pub mod Sorting
+pub mod Windows
+pub mod Cutting
+pub mod Growing
 pub mod Collecting

@@ -1,6 +1,6 @@
 -- The ends of a triangle's stretch, found by halves.
 use Rattle.std.proofs.Common.{◌≡◌, ℕ, ◌+◌, ◌*◌, ◌<◌, ◌≤◌, subst, arith}
-use Rattle.std.specs.Prelude.{◌^◌, nat_abs}
+use Rattle.std.specs.Prelude.{◌^◌, nat_abs, Option, Some, None}
 use Rattle.std.proofs.lemmas.Int.{ints, by_lt_z}
 use lib.IntN.{ℤ, pos, ◌+ℤ◌, ◌-ℤ◌, ◌*ℤ◌}
 use lib.Signed.{◌<ℤ◌, ◌≤ℤ◌}
@@ -11,7 +11,8 @@ use Rattle.mill_geom.specs.declared.touch.Side.TheVariants.{Less, More, Never}
 use Rattle.mill_geom.specs.Sides.{IsOnSide}
 use Rattle.mill_push.specs.declared.fiber.Fiber.{Fiber}
 use Rattle.mill_push.specs.Fibers.{IsTouched}
-use Rattle.mill_push.specs.Stretches.{IsClear, IsHeld, IsTouchedStretch}
+use Rattle.mill_push.specs.declared.fiber.Run.{Run}
+use Rattle.mill_push.specs.Stretches.{IsClear, IsHeld, IsStretchAnswer, IsTouchedStretch}
 use Rattle.mill_push.proofs.Halving.{IsPaid, paid_first, paid_half, paid_last, paid_ends}
 use Rattle.mill_push.proofs.Means.{touched_between}
 
@@ -246,3 +247,71 @@ fewer_low low high middle a b = omega (arith, ints)
 
 pub fewer_high : (low high middle : ℤ) → low ≤ℤ middle → middle ≤ℤ high → nat_abs ((high +ℤ pos 1) -ℤ (middle +ℤ pos 1)) < nat_abs ((high +ℤ pos 1) -ℤ low)
 fewer_high low high middle a b = omega (arith, ints)
+
+-- a touch at `start` that finds no position there, nor on one side: what is found on the other side is all
+module _ (cutter : Cutter) (tri : Tri) (fiber : Fiber) (from to start : ℤ) where
+  abbrev Touched : ℤ → Type 0
+  Touched v = IsTouched cutter tri fiber v
+
+  none_from : IsOnSide Less (λ t. Touched (start +ℤ t)) → (v : ℤ) → start ≤ℤ v → ¬ Touched v
+  none_from none v a t = none (v -ℤ start) (omega (arith, ints)) (subst Touched (omega (arith, ints)) t)
+
+  none_up_to : IsOnSide More (λ t. Touched (start +ℤ t)) → (v : ℤ) → v ≤ℤ start → ¬ Touched v
+  none_up_to none v a t = none (v -ℤ start) (omega (arith, ints)) (subst Touched (omega (arith, ints)) t)
+
+  pub clear_from : start ≤ℤ from → IsOnSide Less (λ t. Touched (start +ℤ t)) → IsClear cutter tri fiber from to
+  clear_from h none v a b = none_from none v (omega (arith, ints))
+
+  pub clear_up_to : to ≤ℤ start → IsOnSide More (λ t. Touched (start +ℤ t)) → IsClear cutter tri fiber from to
+  clear_up_to h none v a b = none_up_to none v (omega (arith, ints))
+
+  pub answer_before : (answer : Option Run) → start ≤ℤ to → IsOnSide Less (λ t. Touched (start +ℤ t)) → IsStretchAnswer cutter tri fiber from (start -ℤ pos 1) answer → IsStretchAnswer cutter tri fiber from to answer
+  answer_before None h none clear = λ v a b. by_lt_z v start (λ less. clear v a (omega (arith, ints))) (λ more. none_from none v more)
+  answer_before (Some run) h none found = record {
+    after = found.after;
+    some = found.some;
+    within = let w = found.within in omega (arith, ints);
+    touched = found.touched;
+    before = found.before;
+    beyond = λ v a b. by_lt_z v start (λ less. found.beyond v a (omega (arith, ints))) (λ more. none_from none v more);
+  }
+
+  pub answer_after : (answer : Option Run) → from ≤ℤ start → IsOnSide More (λ t. Touched (start +ℤ t)) → IsStretchAnswer cutter tri fiber (start +ℤ pos 1) to answer → IsStretchAnswer cutter tri fiber from to answer
+  answer_after None h none clear = λ v a b. by_lt_z start v (λ more. clear v (omega (arith, ints)) b) (λ less. none_up_to none v less)
+  answer_after (Some run) h none found = record {
+    after = let w = found.after in omega (arith, ints);
+    some = found.some;
+    within = found.within;
+    touched = found.touched;
+    before = λ v a b. by_lt_z start v (λ more. found.before v (omega (arith, ints)) b) (λ less. none_up_to none v less);
+    beyond = found.beyond;
+  }
+
+  -- it is touched at `start`, and both ends are found from there
+  pub start_found : (first last : ℤ) → from ≤ℤ first → first ≤ℤ start → start ≤ℤ last → last ≤ℤ to → IsHeld cutter tri fiber first start → IsHeld cutter tri fiber start last
+      → IsClear cutter tri fiber from (first -ℤ pos 1) → IsClear cutter tri fiber (last +ℤ pos 1) to → IsTouchedStretch cutter tri fiber from to (record { first = first; last = last })
+  start_found first last a b c d left right clear_left clear_right = record {
+    after = a;
+    some = omega (arith, ints);
+    within = d;
+    touched = λ v u w. by_lt_z v start (λ under. left v u (omega (arith, ints))) (λ over. right v over w);
+    before = λ v u w. clear_left v u (omega (arith, ints));
+    beyond = λ v u w. clear_right v (omega (arith, ints)) w;
+  }
+
+-- the touch at `start`, and those of the searches that follow it
+pub start_found_cost : (from to start : ℤ) (old now first last : ℕ) → from ≤ℤ start → start ≤ℤ to → now ≡ old + 1 → ((k : ℕ) → nat_abs (start -ℤ from) < 2 ^ k → first ≤ now + k)
+    → ((k : ℕ) → nat_abs (to -ℤ start) < 2 ^ k → last ≤ first + k) → (n : ℕ) → (nat_abs (to -ℤ from) + 1) < 2 ^ n → last ≤ old + (1 + 2 * n)
+start_found_cost from to start old now first last a b step left right n p =
+    let before : nat_abs (start -ℤ from) ≤ nat_abs (to -ℤ from) = omega (arith, ints) in
+    let after : nat_abs (to -ℤ start) ≤ nat_abs (to -ℤ from) = omega (arith, ints) in
+    let h = left n (omega arith) in
+    let k = right n (omega arith) in
+    omega arith
+
+pub start_part_cost : (from to a b : ℤ) (old now later : ℕ) → from ≤ℤ a → a ≤ℤ b → b ≤ℤ to → now ≡ old + 1 → ((k : ℕ) → (nat_abs (b -ℤ a) + 1) < 2 ^ k → later ≤ now + 2 * k)
+    → (n : ℕ) → (nat_abs (to -ℤ from) + 1) < 2 ^ n → later ≤ old + (1 + 2 * n)
+start_part_cost from to a b old now later h k l step part n p =
+    let fewer : nat_abs (b -ℤ a) ≤ nat_abs (to -ℤ from) = omega (arith, ints) in
+    let m = part n (omega arith) in
+    omega arith

@@ -8,6 +8,7 @@
 
 mod contact;
 mod fiber;
+mod known;
 mod laws;
 mod near;
 mod runs;
@@ -15,6 +16,7 @@ mod stretch;
 #[cfg(test)]
 mod tests;
 mod union;
+mod window;
 
 pub use contact::counted_touch;
 pub use fiber::{Fiber, Run};

@@ -1,14 +1,18 @@
-ghost use Rattle.std.specs.Prelude.{◌≡◌, ◌≤ℤ◌, IfOk};
+ghost use Rattle.std.specs.Prelude.{◌≡◌, ◌+◌, ◌*◌, ◌^◌, ◌<◌, ◌≤◌, ◌≤ℤ◌, ℕ, IfOk};
 ghost use Rattle.mill_base.specs.Numbers.{Within};
 ghost use Rattle.mill_base.specs.declared.limits.TheConstants.{MAX_COORDINATE};
+ghost use Rattle.mill_base.specs.Ranges.{TriInRange};
 ghost use Rattle.mill_cells.specs.Sorted.{sorted_of};
+ghost use Rattle.mill_push.specs.inner.Known.{IsNewAnswer};
 ghost use Rattle.mill_push.specs.inner.Pushers.{IsPusher};
-ghost use Rattle.mill_push.specs.Touches.{TouchesFew, strip_of};
-ghost use Rattle.mill_push.specs.inner.Unions.{AreStretches};
+ghost use Rattle.mill_push.specs.Touches.{TouchesFew, position_count, strip_of};
+ghost use Rattle.mill_push.specs.inner.Unions.{AreSpans, AreStretches};
 
 use crate::fiber::Run;
+use crate::known::{add, cut, latest};
 use crate::stretch::Pusher;
-use mill_base::{Box2, Steps, WantOfMemory};
+use crate::window::start_in;
+use mill_base::{Box2, Steps, Tri, WantOfMemory};
 use mill_cells::Cells;
 use mill_geom::Axis;
 use mill_part::Part;
@@ -41,8 +45,41 @@ impl Pusher {
         }
     }
 
-    /// Of each triangle that is touched from `from` to `to`, the positions at which it is: by a look
-    /// at those alone whose boxes meet the strip and that are over the fiber's height.
+    /// Where the triangle is touched from `from` to `to`, as far as that isn't known: a run whose
+    /// positions are touched, and beside which none is that doesn't stand in the known runs.
+    ///
+    /// Only that part of the triangle's window is searched that the known runs leave.
+    fn new_stretch<L: Ledger>(
+        self,
+        tri: &Tri,
+        from: i32,
+        to: i32,
+        known: &[Run],
+        steps: &mut Steps<L>,
+    ) -> Option<Run>
+        requires self_ok { IsPusher self }
+        requires tri_ok { TriInRange tri.now }
+        requires from_ok { Within MAX_COORDINATE from }
+        requires to_ok { Within MAX_COORDINATE to }
+        requires order { from ≤ℤ to }
+        requires known { AreSpans from to known.now }
+        ensures stretch { IsNewAnswer self.cutter tri.now self.fiber from to known.now result }
+        ensures cost { (n : ℕ) → position_count from to < 2 ^ n → steps.new ≤ steps.old + 2 * n }
+    {
+        let window = self.window(tri, from, to);
+        let rest = cut(window, latest(known));
+        if rest.first > rest.last {
+            return None;
+        }
+        match start_in(rest, window, from, to) {
+            Some(start) => self.stretch_from(tri, rest.first, rest.last, start, steps),
+            None => self.stretch(tri, rest.first, rest.last, steps),
+        }
+    }
+
+    /// Runs that hold the positions from `from` to `to` at which some triangle is touched, and no
+    /// other: by a look at those triangles alone whose boxes meet the strip and that are over the
+    /// fiber's height.
     pub fn stretches<L: Ledger>(
         self,
         alloc: Global,
@@ -61,15 +98,15 @@ impl Pusher {
         ensures cost { TouchesFew self.cutter part.now self.fiber from to steps.old steps.new }
     {
         let tris = part.tris();
-        let mut stretches = Vec::new(alloc);
+        let mut runs = Vec::new(alloc);
         let mut near = cells.near_over(self.strip(from, to));
         while let Some(number) = near.next_over(self.fiber.z) {
             let tri = &tris[number as usize];
-            let Some(stretch) = self.stretch(tri, from, to, steps) else {
+            let Some(stretch) = self.new_stretch(tri, from, to, &runs, steps) else {
                 continue;
             };
-            stretches.push(stretch)?;
+            add(&mut runs, stretch)?;
         }
-        Ok(stretches)
+        Ok(runs)
     }
 }

@@ -4,7 +4,7 @@ ghost use Rattle.mill_base.specs.declared.limits.TheConstants.{MAX_COORDINATE};
 ghost use Rattle.mill_base.specs.Ranges.{TriInRange};
 ghost use Rattle.mill_geom.specs.Sides.{IsTouch};
 ghost use Rattle.mill_push.specs.Fibers.{IsTouched, tip_on};
-ghost use Rattle.mill_push.specs.inner.Pushers.{IsPusher};
+ghost use Rattle.mill_push.specs.inner.Pushers.{IsBetween, IsPusher};
 ghost use Rattle.mill_push.specs.Stretches.{IsClear, IsHeld, IsStretchAnswer};
 ghost use Rattle.mill_push.specs.Touches.{position_count};
 
@@ -76,8 +76,7 @@ impl Pusher {
         requires found_ok { Within MAX_COORDINATE found }
         requires order { low ≤ℤ found }
         requires held { IsTouched self.cutter tri.now self.fiber found }
-        ensures from { low ≤ℤ result }
-        ensures to { result ≤ℤ found }
+        ensures between { IsBetween low found result }
         ensures held { IsHeld self.cutter tri.now self.fiber result found }
         ensures clear { IsClear self.cutter tri.now self.fiber low (result -ℤ pos 1) }
         ensures cost { (n : ℕ) → nat_abs (found -ℤ low) < 2 ^ n → steps.new ≤ steps.old + n }
@@ -103,8 +102,7 @@ impl Pusher {
         requires high_ok { Within MAX_COORDINATE high }
         requires order { found ≤ℤ high }
         requires held { IsTouched self.cutter tri.now self.fiber found }
-        ensures from { found ≤ℤ result }
-        ensures to { result ≤ℤ high }
+        ensures between { IsBetween found high result }
         ensures held { IsHeld self.cutter tri.now self.fiber found result }
         ensures clear { IsClear self.cutter tri.now self.fiber (result +ℤ pos 1) high }
         ensures cost { (n : ℕ) → nat_abs (high -ℤ found) < 2 ^ n → steps.new ≤ steps.old + n }
@@ -158,6 +156,47 @@ impl Pusher {
             }
         }
         None
+    }
+
+    /// The same, by a touch at `start` first: where it finds the triangle, only the two ends of the
+    /// run are left to be looked for, and where it doesn't, the positions on one side.
+    pub fn stretch_from<L: Ledger>(
+        self,
+        tri: &Tri,
+        from: i32,
+        to: i32,
+        start: i32,
+        steps: &mut Steps<L>,
+    ) -> Option<Run>
+        requires self_ok { IsPusher self }
+        requires tri_ok { TriInRange tri.now }
+        requires from_ok { Within MAX_COORDINATE from }
+        requires to_ok { Within MAX_COORDINATE to }
+        requires after { from ≤ℤ start }
+        requires before { start ≤ℤ to }
+        ensures stretch { IsStretchAnswer self.cutter tri.now self.fiber from to result }
+        ensures cost { (n : ℕ) → position_count from to < 2 ^ n → steps.new ≤ steps.old + (1 + 2 * n) }
+    {
+        match self.touch_at(tri, start, steps) {
+            Touch::Inside => {
+                let first = self.first_touched(tri, from, start, steps);
+                let last = self.last_touched(tri, start, to, steps);
+                Some(Run { first, last })
+            }
+            Touch::Apart(Side::Less) => {
+                if start <= from {
+                    return None;
+                }
+                self.stretch(tri, from, start - 1, steps)
+            }
+            Touch::Apart(Side::More) => {
+                if to <= start {
+                    return None;
+                }
+                self.stretch(tri, start + 1, to, steps)
+            }
+            Touch::Apart(Side::Never) => None,
+        }
     }
 }
 

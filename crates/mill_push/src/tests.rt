@@ -72,6 +72,28 @@ fn part_of_points<R: AllocGlobal>(rt: &R, first: i16, second: i16) -> Result<Par
     Ok(Part::new(tris))
 }
 
+/// The triangle of the points at `first`, at `last`, and at `last` again, at the height 300; the
+/// last two are as far as `aside` from the line through the first along X.
+fn bar(first: i16, last: i16, aside: i16) -> Tri
+    ensures { TriInRange result }
+{
+    Tri {
+        a: at(first, 0, 300),
+        b: at(last, aside, 300),
+        c: at(last, aside, 300),
+    }
+}
+
+/// The part of four bars.
+fn part_of_bars<R: AllocGlobal>(rt: &R, bars: [(i16, i16, i16); 4]) -> Result<Part, Fail> {
+    let mut tris = Vec::new(rt.alloc());
+    tris.push(bar(bars[0].0, bars[0].1, bars[0].2))?;
+    tris.push(bar(bars[1].0, bars[1].1, bars[1].2))?;
+    tris.push(bar(bars[2].0, bars[2].1, bars[2].2))?;
+    tris.push(bar(bars[3].0, bars[3].1, bars[3].2))?;
+    Ok(Part::new(tris))
+}
+
 /// The runs of the cutter, by a counter of its own.
 fn counted<L: Ledger, R: AllocGlobal>(
     rt: &R,
@@ -160,6 +182,66 @@ fn two_points(rt: HostRuntime) -> Result<(), Fail> {
             let part = part_of_points(&rt, a, b)?;
             let found = runs(&rt, &part, FLAT, fiber(Axis::X, 0, 0), (0, 1000))?;
             assert_eq!(rt; found.as_slice(), want, "{a} and then {b}");
+        }
+    }
+    Ok(())
+}
+
+// In the first row the second bar's stretch begins just after the first one's, the third one's
+// overlaps both, and the fourth one's lies apart. In the second row the first one's stretch holds all
+// positions at which the cutter can come over the second bar; the third one's begins before it, and
+// the fourth one's ends after it. In the third row the first one's stretch lies in the middle of the
+// second one's, and the third one's ends just before that.
+//
+// In the last row the fourth bar leaves the fiber, 4 to the side for each 3 along: the position 1125
+// is four fifths of 125 from it, so it isn't touched there nor further on. Its box reaches to 1600,
+// where the second one's stretch is.
+#[test]
+fn bars_that_overlap_touch_and_lie_apart(rt: HostRuntime) -> Result<(), Fail> {
+    let along = fiber(Axis::X, 0, 0);
+    for (bars, want) in [
+        (
+            [
+                (1000, 1000, 0),
+                (1199, 1199, 0),
+                (960, 1150, 0),
+                (300, 300, 0),
+            ],
+            [run(201, 399), run(861, 1298)].as_slice(),
+        ),
+        (
+            [
+                (1000, 1100, 0),
+                (1050, 1050, 0),
+                (850, 880, 0),
+                (1180, 1400, 0),
+            ],
+            [run(751, 1499)].as_slice(),
+        ),
+        (
+            [
+                (1000, 1000, 0),
+                (800, 1400, 0),
+                (601, 601, 0),
+                (900, 1300, 0),
+            ],
+            [run(502, 1499)].as_slice(),
+        ),
+        (
+            [
+                (300, 300, 0),
+                (1650, 1650, 0),
+                (401, 500, 0),
+                (1000, 1600, 800),
+            ],
+            [run(201, 599), run(901, 1124), run(1551, 1749)].as_slice(),
+        ),
+    ] {
+        let [a, b, c, d] = bars;
+        for order in [[a, b, c, d], [d, c, b, a], [c, a, d, b]] {
+            let part = part_of_bars(&rt, order)?;
+            let found = runs(&rt, &part, FLAT, along, (0, 3000))?;
+            assert_eq!(rt; found.as_slice(), want, "{order:?}");
         }
     }
     Ok(())

@@ -26,7 +26,7 @@ returns-in-Inside-clause-stretch g c =
     let middle = to_z-of_z w32 c.middle-middle.result (search rules) in
     let left = rw middle at c.first_touched-first.ensures in
     let right = rw middle at c.last_touched-last.ensures in
-    rw (to_z-of_z w32 c.first_touched-first.result (search rules), to_z-of_z w32 c.last_touched-last.result (search rules)) (found_stretch c.args.self.cutter c.args.tri.now c.args.self.fiber c.middle-middle.result c.first_touched-first.result c.last_touched-last.result left.from left.to right.from right.to left.held right.held left.clear right.clear i)
+    rw (to_z-of_z w32 c.first_touched-first.result (search rules), to_z-of_z w32 c.last_touched-last.result (search rules)) (found_stretch c.args.self.cutter c.args.tri.now c.args.self.fiber c.middle-middle.result c.first_touched-first.result c.last_touched-last.result left.between.from left.between.to right.between.from right.between.to left.held right.held left.clear right.clear i)
 
 pub returns-in-Inside-clause-cost : goal.returns-in-Inside-clause-cost
 returns-in-Inside-clause-cost g c =

@@ -1,5 +1,7 @@
 use Rattle.std.proofs.lemmas.List.Elements.{Contains-get_or}
 use Rattle.mill_push.proofs.Collecting.{collect_starts, next_within, goes_on_without, goes_on_with, collect_ends, collect_cost}
+use Rattle.mill_push.proofs.Cutting.{span_in_range, spans_in_range}
+use Rattle.mill_push.proofs.Growing.{grown_by_one}
 use Rattle.mill_push.proofs.Stored.{stored}
 use Rattle.mill_push.proofs.stretch.Pusher.stretches.Goals as goal
 
@@ -9,7 +11,7 @@ loop-number-init g c =
     let to = stored c.args.to c.requires.to_ok in
     let strip = rw (from, to) at c.strip.ensures in
     let each = rw strip at c.near_over-near.ensures.each in
-    rw (from, to, c.new-stretches.ensures.items) (collect_starts c.args.self.cutter c.args.part.now c.args.self.fiber c.args.from c.args.to c.args.cells.now c.near_over-near.result c.args.steps.now c.requires.cells_ok c.near_over-near.ensures.tops each c.near_over-near.ensures.once)
+    rw (from, to, c.new-runs.ensures.items) (collect_starts c.args.self.cutter c.args.part.now c.args.self.fiber c.args.from c.args.to c.args.cells.now c.near_over-near.result c.args.steps.now c.requires.cells_ok c.near_over-near.ensures.tops each c.near_over-near.ensures.once)
 
 pub bounds-tris-number : goal.bounds-tris-number
 bounds-tris-number g c =
@@ -18,23 +20,44 @@ bounds-tris-number g c =
     let i = rw (from, to) at c.loop-number.invariant in
     rw c.tris-tris.ensures.list (next_within c.args.self.cutter c.args.part.now c.args.self.fiber c.args.from c.args.to c.in-Some.ensures i)
 
-pub stretch-requires-clause-tri_ok : goal.stretch-requires-clause-tri_ok
-stretch-requires-clause-tri_ok g c =
+pub new_stretch-requires-clause-tri_ok : goal.new_stretch-requires-clause-tri_ok
+new_stretch-requires-clause-tri_ok g c =
     let from = stored c.args.from c.requires.from_ok in
     let to = stored c.args.to c.requires.to_ok in
     let i = rw (from, to) at c.loop-number.invariant in
     let inside = next_within c.args.self.cutter c.args.part.now c.args.self.fiber c.args.from c.args.to c.in-Some.ensures i in
     c.tris-tris.ensures.in_range _ (rw c.tris-tris.ensures.list (Contains-get_or c.args.part.now c.in-Some.number _ inside))
 
-pub loop-number-preserved-in_default-stretch : goal.loop-number-preserved-in_default-stretch
-loop-number-preserved-in_default-stretch g c =
+pub new_stretch-requires-clause-known : goal.new_stretch-requires-clause-known
+new_stretch-requires-clause-known g c =
+    let from = stored c.args.from c.requires.from_ok in
+    let to = stored c.args.to c.requires.to_ok in
+    let i = rw (from, to) at c.loop-number.invariant in
+    rw (from, to, c.deref.ensures.value) i.spans
+
+pub loop-number-preserved-in_default-new_stretch : goal.loop-number-preserved-in_default-new_stretch
+loop-number-preserved-in_default-new_stretch g c =
     let from = stored c.args.from c.requires.from_ok in
     let to = stored c.args.to c.requires.to_ok in
     let i = rw (from, to) at c.loop-number.invariant in
     let comes = rw (stored c.args.self.fiber.z c.requires.self_ok.fiber_ok.z_ok) at c.in-Some.ensures in
-    let clear = rw (from, to, c.tris-tris.ensures.list) at c.in_default-stretch.ensures.stretch in
-    let cost = rw (from, to) at c.in_default-stretch.ensures.cost in
-    rw (from, to) (goes_on_without c.args.self.cutter c.args.part.now c.args.self.fiber c.args.from c.args.to c.requires.self_ok.cutter_ok comes i clear cost)
+    let known = rw (from, to, c.tris-tris.ensures.list, c.deref.ensures.value) at c.in_default-new_stretch.ensures.stretch in
+    let cost = rw (from, to) at c.in_default-new_stretch.ensures.cost in
+    rw (from, to) (goes_on_without c.args.self.cutter c.args.part.now c.args.self.fiber c.args.from c.args.to c.requires.self_ok.cutter_ok comes i known cost)
+
+pub add-requires-clause-runs_ok : goal.add-requires-clause-runs_ok
+add-requires-clause-runs_ok g c =
+    let from = stored c.args.from c.requires.from_ok in
+    let to = stored c.args.to c.requires.to_ok in
+    let i = rw (from, to) at c.loop-number.invariant in
+    spans_in_range c.args.from c.args.to c.loop-number.runs.items c.requires.from_ok c.requires.to_ok i.spans
+
+pub add-requires-clause-stretch_ok : goal.add-requires-clause-stretch_ok
+add-requires-clause-stretch_ok g c =
+    let from = stored c.args.from c.requires.from_ok in
+    let to = stored c.args.to c.requires.to_ok in
+    let stretch = rw (from, to) at c.in-Some-new_stretch.ensures.stretch in
+    span_in_range c.args.from c.args.to _ c.requires.from_ok c.requires.to_ok stretch.span
 
 pub loop-number-preserved : goal.loop-number-preserved
 loop-number-preserved g c =
@@ -42,19 +65,19 @@ loop-number-preserved g c =
     let to = stored c.args.to c.requires.to_ok in
     let i = rw (from, to) at c.loop-number.invariant in
     let comes = rw (stored c.args.self.fiber.z c.requires.self_ok.fiber_ok.z_ok) at c.in-Some.ensures in
-    let stretch = rw (from, to, c.tris-tris.ensures.list) at c.in-Some-stretch.ensures.stretch in
-    let cost = rw (from, to) at c.in-Some-stretch.ensures.cost in
-    rw (from, to, c.in_ok-push.ensures.items) (goes_on_with c.args.self.cutter c.args.part.now c.args.self.fiber c.args.from c.args.to c.requires.self_ok.cutter_ok comes i stretch cost)
+    let stretch = rw (from, to, c.tris-tris.ensures.list, c.deref.ensures.value) at c.in-Some-new_stretch.ensures.stretch in
+    let cost = rw (from, to) at c.in-Some-new_stretch.ensures.cost in
+    rw (from, to) (goes_on_with c.args.self.cutter c.args.part.now c.args.self.fiber c.args.from c.args.to c.requires.self_ok.cutter_ok comes i stretch c.in_ok-add.ensures cost)
 
-pub returns-in_err-push-clause-cost : goal.returns-in_err-push-clause-cost
-returns-in_err-push-clause-cost g c =
+pub returns-in_err-add-clause-cost : goal.returns-in_err-add-clause-cost
+returns-in_err-add-clause-cost g c =
     let from = stored c.args.from c.requires.from_ok in
     let to = stored c.args.to c.requires.to_ok in
     let i = rw (from, to) at c.loop-number.invariant in
     let comes = rw (stored c.args.self.fiber.z c.requires.self_ok.fiber_ok.z_ok) at c.in-Some.ensures in
-    let stretch = rw (from, to, c.tris-tris.ensures.list) at c.in-Some-stretch.ensures.stretch in
-    let cost = rw (from, to) at c.in-Some-stretch.ensures.cost in
-    collect_cost c.args.self.cutter c.args.part.now c.args.self.fiber c.args.from c.args.to (goes_on_with c.args.self.cutter c.args.part.now c.args.self.fiber c.args.from c.args.to c.requires.self_ok.cutter_ok comes i stretch cost)
+    let stretch = rw (from, to, c.tris-tris.ensures.list, c.deref.ensures.value) at c.in-Some-new_stretch.ensures.stretch in
+    let cost = rw (from, to) at c.in-Some-new_stretch.ensures.cost in
+    collect_cost c.args.self.cutter c.args.part.now c.args.self.fiber c.args.from c.args.to (goes_on_with c.args.self.cutter c.args.part.now c.args.self.fiber c.args.from c.args.to c.requires.self_ok.cutter_ok comes i stretch (grown_by_one c.loop-number.runs.items _) cost)
 
 pub returns-clause-stretches : goal.returns-clause-stretches
 returns-clause-stretches g c =

@@ -1,0 +1,49 @@
+use Rattle.std.proofs.Common.{rules, w32, arith}
+use Rattle.std.proofs.lemmas.Int.{ints, to_z-of_z}
+use lib.Signed.{◌≤ℤ◌}
+use Rattle.mill_push.proofs.Cutting.{all_known, new_answer, cost_of_half, cost_of_rest, spans_in_range}
+use Rattle.mill_push.proofs.Stored.{stored, through}
+use Rattle.mill_push.proofs.stretch.Pusher.new_stretch.Goals as goal
+
+pub cut-rest-requires : goal.cut-rest-requires
+cut-rest-requires g c = λ run member. spans_in_range c.args.from c.args.to c.args.known.now c.requires.from_ok c.requires.to_ok c.requires.known run (c.latest.ensures run member)
+
+pub returns-then-rest-clause-stretch : goal.returns-then-rest-clause-stretch
+returns-then-rest-clause-stretch g c =
+    let window = rw (stored c.args.from c.requires.from_ok, stored c.args.to c.requires.to_ok) at c.window-window.ensures.window in
+    let rest = c.cut-rest.result in
+    let test = rw (to_z-of_z w32 rest.first (search rules), to_z-of_z w32 rest.last (search rules)) at c.if-rest.true in
+    all_known c.args.self.cutter c.args.tri.now c.args.self.fiber c.args.from c.args.to c.latest.result.now c.args.known.now c.window-window.result rest window c.cut-rest.ensures c.latest.ensures (omega (test, arith, ints))
+
+pub returns-in-Some-clause-stretch : goal.returns-in-Some-clause-stretch
+returns-in-Some-clause-stretch g c =
+    let window = rw (stored c.args.from c.requires.from_ok, stored c.args.to c.requires.to_ok) at c.window-window.ensures.window in
+    let rest = c.cut-rest.result in
+    let found = rw (to_z-of_z w32 rest.first (search rules), to_z-of_z w32 rest.last (search rules)) at c.stretch_from.ensures.stretch in
+    new_answer c.args.self.cutter c.args.tri.now c.args.self.fiber c.args.from c.args.to c.latest.result.now c.args.known.now c.window-window.result rest c.stretch_from.result window c.cut-rest.ensures c.latest.ensures found
+
+pub returns-in-Some-clause-cost : goal.returns-in-Some-clause-cost
+returns-in-Some-clause-cost g c =
+    let rest = c.cut-rest.result in
+    let start = rw (stored c.args.from c.requires.from_ok, stored c.args.to c.requires.to_ok) at c.in-Some.ensures in
+    let cost = rw (to_z-of_z w32 rest.first (search rules), to_z-of_z w32 rest.last (search rules)) at c.stretch_from.ensures.cost in
+    cost_of_half c.args.from c.args.to rest.first rest.last c.args.steps.now c.stretch_from.new.steps start.narrow cost
+
+pub returns-in-None-clause-stretch : goal.returns-in-None-clause-stretch
+returns-in-None-clause-stretch g c =
+    let window = rw (stored c.args.from c.requires.from_ok, stored c.args.to c.requires.to_ok) at c.window-window.ensures.window in
+    let rest = c.cut-rest.result in
+    let found = rw (to_z-of_z w32 rest.first (search rules), to_z-of_z w32 rest.last (search rules)) at c.stretch.ensures.stretch in
+    new_answer c.args.self.cutter c.args.tri.now c.args.self.fiber c.args.from c.args.to c.latest.result.now c.args.known.now c.window-window.result rest c.stretch.result window c.cut-rest.ensures c.latest.ensures found
+
+pub returns-in-None-clause-cost : goal.returns-in-None-clause-cost
+returns-in-None-clause-cost g c =
+    let window = rw (stored c.args.from c.requires.from_ok, stored c.args.to c.requires.to_ok) at c.window-window.ensures.window in
+    let rest = c.cut-rest.result in
+    let first = to_z-of_z w32 rest.first (search rules) in
+    let last = to_z-of_z w32 rest.last (search rules) in
+    let cost = rw (first, last) at c.stretch.ensures.cost in
+    let test = rw (first, last) at c.if-rest.false in
+    let after = through c.args.from c.window-window.result.first rest.first window.after c.cut-rest.ensures.after in
+    let within = through rest.last c.window-window.result.last c.args.to c.cut-rest.ensures.within window.within in
+    cost_of_rest c.args.from c.args.to rest.first rest.last c.args.steps.now c.stretch.new.steps after (omega (test, arith, ints)) within cost

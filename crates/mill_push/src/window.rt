@@ -1,0 +1,84 @@
+ghost use Rattle.std.specs.Prelude.{◌≡◌, ◌≤ℤ◌, IfSome};
+ghost use Rattle.mill_base.specs.Numbers.{Within};
+ghost use Rattle.mill_base.specs.declared.limits.TheConstants.{MAX_COORDINATE};
+ghost use Rattle.mill_base.specs.Ranges.{TriInRange};
+ghost use Rattle.mill_push.specs.inner.Known.{IsRunInRange, IsStart, IsWindow};
+ghost use Rattle.mill_push.specs.inner.Pushers.{IsPusher};
+ghost use Rattle.mill_push.specs.inner.Windows.{reach_along, reach_of};
+
+use crate::fiber::Run;
+use crate::stretch::Pusher;
+use mill_base::Tri;
+use mill_geom::Axis;
+
+impl Pusher {
+    /// The positions from `from` to `to` at which the cutter can come over the triangle's box: at no
+    /// other is the triangle touched.
+    pub fn window(self, tri: &Tri, from: i32, to: i32) -> Run
+        requires self_ok { IsPusher self }
+        requires tri_ok { TriInRange tri.now }
+        requires from_ok { Within MAX_COORDINATE from }
+        requires to_ok { Within MAX_COORDINATE to }
+        ensures in_range { IsRunInRange result }
+        ensures window { IsWindow self.cutter tri.now self.fiber from to result }
+    {
+        let radius = self.cutter.radius();
+        let reach = reach(tri, self.fiber.axis);
+        Run {
+            first: from.max(reach.first - radius),
+            last: to.min(reach.last + radius),
+        }
+    }
+}
+
+/// From the least to the greatest coordinate of the triangle's corners along the axis.
+fn reach(tri: &Tri, axis: Axis) -> Run
+    requires { TriInRange tri.now }
+    ensures value { result ≡ reach_along axis tri.now }
+    ensures in_range { IsRunInRange result }
+{
+    match axis {
+        Axis::X => reach_of_three(tri.a.x, tri.b.x, tri.c.x),
+        Axis::Y => reach_of_three(tri.a.y, tri.b.y, tri.c.y),
+    }
+}
+
+/// From the least to the greatest of three coordinates.
+fn reach_of_three(a: i32, b: i32, c: i32) -> Run
+    requires a_ok { Within MAX_COORDINATE a }
+    requires b_ok { Within MAX_COORDINATE b }
+    requires c_ok { Within MAX_COORDINATE c }
+    ensures value { result ≡ reach_of a b c }
+    ensures in_range { IsRunInRange result }
+{
+    Run {
+        first: a.min(b.min(c)),
+        last: a.max(b.max(c)),
+    }
+}
+
+/// Where the search in the rest of a window begins: at the end that was cut off, since a triangle
+/// mostly reaches on from what is known.
+///
+/// There is none where no end was cut off, nor where the rest is more than half of the positions
+/// from `from` to `to`: if the triangle isn't touched at that end, a search by halves in so many
+/// would take more touches than a triangle may.
+pub fn start_in(rest: Run, window: Run, from: i32, to: i32) -> Option<i32>
+    requires rest_ok { IsRunInRange rest }
+    requires order { rest.first ≤ℤ rest.last }
+    requires from_ok { Within MAX_COORDINATE from }
+    requires to_ok { Within MAX_COORDINATE to }
+    requires from_to { from ≤ℤ to }
+    ensures { IfSome result (IsStart from to rest) }
+{
+    if 2 * (rest.last - rest.first + 1) > to - from + 1 {
+        return None;
+    }
+    if window.first < rest.first {
+        return Some(rest.first);
+    }
+    if rest.last < window.last {
+        return Some(rest.last);
+    }
+    None
+}
