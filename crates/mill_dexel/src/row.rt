@@ -4,6 +4,7 @@ ghost use Rattle.mill_base.specs.declared.motion.Kind.TheVariants.{Rapid};
 ghost use Rattle.mill_job.specs.Columns.{row_count, column_count};
 ghost use Rattle.mill_job.specs.Jobs.{IsJob};
 ghost use Rattle.mill_dexel.specs.inner.Bands.{PassesOver};
+ghost use Rattle.mill_dexel.specs.inner.Readiness.{IsNext};
 ghost use Rattle.mill_dexel.specs.Cuts.{IsCutAt};
 ghost use Rattle.mill_dexel.specs.Tops.{tops_after_move};
 ghost use Rattle.mill_dexel.specs.Rows.{IsRowOf, PassesRow, IsFirstStop, IsColumnBlocked, row_point, uncut_tri};
@@ -139,9 +140,7 @@ impl Row {
         requires job { IsJob job.now }
         requires moves_ok { MovesInRange moves.now }
         requires row { IsRowOf job.now self.old }
-        requires unfailed { self.old.failed ≡ None }
-        requires next { t ≡ self.old.done }
-        requires there { t < length moves.now }
+        requires next { IsNext moves.now self.old t }
         requires last { IfSome last (λ tip. IsCutAt job.now self.old.row tip self.old.tops) }
         ensures clears { IsTrue result → ClearsRow job.now self.old (move_at moves.now t) }
         ensures cut { IsTrue result → self.new ≡ turned job.now (move_at moves.now t) self.old }

@@ -5,6 +5,7 @@ ghost use Rattle.mill_base.specs.declared.limits.TheConstants.{MAX_WORKERS};
 ghost use Rattle.mill_job.specs.Jobs.{IsJob};
 ghost use Rattle.mill_dexel.specs.Rows.{IsRowOf};
 ghost use Rattle.mill_dexel.specs.inner.Bands.{IsBand};
+ghost use Rattle.mill_dexel.specs.inner.Readiness.{AreReady};
 ghost use Rattle.mill_dexel.specs.Turns.{IsTurned, IsTurnedUpTo};
 ghost use denote.Param.Send.{IsSync};
 
@@ -41,10 +42,7 @@ pub fn rows_static<R: Threads + Sync>(
 
 /// Halves the rows among the workers, until each has its chunk.
 fn spread<R: Threads + Sync>(rt: &R, job: &Job, moves: &[Move], workers: u32, rows: &mut [Row])
-    requires job { IsJob job.now }
-    requires rows_ok { All (IsRowOf job.now) rows.old }
-    requires moves_ok { MovesInRange moves.now }
-    requires few { workers ≤ MAX_WORKERS }
+    requires ready { AreReady job.now moves.now workers rows.old }
     ensures { AllZip (IsTurned job.now moves.now) rows.old rows.new }
 {
     if workers <= 1 || rows.len() <= 1 {
@@ -59,18 +57,12 @@ fn spread<R: Threads + Sync>(rt: &R, job: &Job, moves: &[Move], workers: u32, ro
         rt,
         &mut || -> ()
             requires sync { IsSync R.row }
-            requires job { IsJob job.now }
-            requires rows_ok { All (IsRowOf job.now) left.now }
-            requires moves_ok { MovesInRange moves.now }
-            requires few { left_workers ≤ MAX_WORKERS }
+            requires ready { AreReady job.now moves.now left_workers left.now }
             ensures { AllZip (IsTurned job.entry.now moves.entry.now) left.entry.now left.exit.now }
         { spread(rt, job, moves, left_workers, left) },
         &mut || -> ()
             requires sync { IsSync R.row }
-            requires job { IsJob job.now }
-            requires rows_ok { All (IsRowOf job.now) right.now }
-            requires moves_ok { MovesInRange moves.now }
-            requires few { right_workers ≤ MAX_WORKERS }
+            requires ready { AreReady job.now moves.now right_workers right.now }
             ensures { AllZip (IsTurned job.entry.now moves.entry.now) right.entry.now right.exit.now }
         { spread(rt, job, moves, right_workers, right) },
     );

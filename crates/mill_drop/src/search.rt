@@ -4,7 +4,7 @@ ghost use Rattle.mill_base.specs.declared.limits.TheConstants.{MAX_COORDINATE};
 ghost use Rattle.mill_base.specs.Points.{highest as highest_of};
 ghost use Rattle.mill_base.specs.Ranges.{TriInRange};
 ghost use Rattle.mill_drop.specs.Drops.{TouchesAt};
-ghost use Rattle.mill_drop.specs.inner.Spindles.{IsSpindle};
+ghost use Rattle.mill_drop.specs.inner.Spindles.{IsBracket, IsSpindle};
 
 use mill_base::{Cutter, Pt3, Tri};
 use mill_sweep::holds_some;
@@ -39,11 +39,7 @@ impl Spindle {
     fn least_free(self, tri: &Tri, low: i32, top: i32) -> i32
         requires self_ok { IsSpindle self }
         requires tri_ok { TriInRange tri.now }
-        requires low_ok { Within MAX_COORDINATE low }
-        requires top_ok { Within MAX_COORDINATE top }
-        requires order { low <ℤ top }
-        requires held { TouchesAt self.cutter tri.now self.x self.y low }
-        requires free { ¬ TouchesAt self.cutter tri.now self.x self.y top }
+        requires bracket { IsBracket self tri.now low top }
         ensures over { low <ℤ result }
         ensures under { result ≤ℤ top }
         ensures free { ¬ TouchesAt self.cutter tri.now self.x self.y result }

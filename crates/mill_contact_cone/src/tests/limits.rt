@@ -9,35 +9,27 @@ use mill_base::{Cutter, Pt3, Tri};
 use mill_geom::{Axis, Touch};
 use std::test::Fail;
 
+/// The greatest coordinate.
+const END: i32 = 524_287;
+
+type Place = (i32, i32, i32);
+
+/// A line whose height is its x.
+const LINE: [Place; 3] = [(-END, 0, -END), (END, 0, END), (END, 0, END)];
+
 /// A point of the range that calls take.
-fn corner(p: (i32, i32, i32)) -> Pt3
+fn corner(p: Place) -> Pt3
     ensures { IsInRange result }
 {
     Pt3 {
-        x: p.0.clamp(-524_287, 524_287),
-        y: p.1.clamp(-524_287, 524_287),
-        z: p.2.clamp(-524_287, 524_287),
+        x: p.0.clamp(-END, END),
+        y: p.1.clamp(-END, END),
+        z: p.2.clamp(-END, END),
     }
 }
 
-/// A tip, which may be lower.
-fn tip(p: (i32, i32, i32)) -> Pt3
-    ensures { IsCentre result }
-{
-    Pt3 {
-        x: p.0.clamp(-524_287, 524_287),
-        y: p.1.clamp(-524_287, 524_287),
-        z: p.2.clamp(-545_000, 524_287),
-    }
-}
-
-/// What both calls answer.
-fn answers(
-    cutter: Cutter,
-    corners: [(i32, i32, i32); 3],
-    at: (i32, i32, i32),
-    axis: Axis,
-) -> (bool, Touch)
+/// What both calls answer; a tip may be lower than a point.
+fn answers(cutter: Cutter, corners: [Place; 3], at: Place, axis: Axis) -> (bool, Touch)
     requires cutter_ok { IsWideCutter cutter }
     requires shape_ok { IsConical cutter }
 {
@@ -46,7 +38,10 @@ fn answers(
         b: corner(corners[1]),
         c: corner(corners[2]),
     };
-    let tip = tip(at);
+    let tip = Pt3 {
+        z: at.2.clamp(-545_000, END),
+        ..corner(at)
+    };
     (is_inside(&tri, cutter, tip), touch(&tri, cutter, tip, axis))
 }
 
@@ -59,66 +54,28 @@ fn slope_one_in_two(rt: HostRuntime) -> Result<(), Fail> {
         rise: 1,
         run: 2,
     };
-    for (a, b, c, at, axis, wanted) in [
-        (
-            (-131_071, -131_071, -131_071),
-            (131_071, -131_071, 131_071),
-            (0, 131_071, 0),
-            (0, 0, 4_999),
-            Axis::X,
-            INSIDE,
-        ),
-        (
-            (-131_071, -131_071, -131_071),
-            (131_071, -131_071, 131_071),
-            (0, 131_071, 0),
-            (0, 0, 5_000),
-            Axis::X,
-            MORE,
-        ),
-        (
-            (-524_287, -524_287, -524_287),
-            (524_287, -524_287, 524_287),
-            (0, 524_287, 0),
-            (0, 0, 4_999),
-            Axis::X,
-            INSIDE,
-        ),
-        (
-            (-524_287, -524_287, -524_287),
-            (524_287, -524_287, 524_287),
-            (0, 524_287, 0),
-            (0, 0, 5_000),
-            Axis::X,
-            MORE,
-        ),
-        (
-            (-524_287, 0, -524_287),
-            (524_287, 0, 524_287),
-            (524_287, 0, 524_287),
-            (0, 0, 4_999),
-            Axis::X,
-            INSIDE,
-        ),
-        (
-            (-524_287, 0, -524_287),
-            (524_287, 0, 524_287),
-            (524_287, 0, 524_287),
-            (0, 0, 5_000),
-            Axis::X,
-            MORE,
-        ),
+    let small = [
+        (-131_071, -131_071, -131_071),
+        (131_071, -131_071, 131_071),
+        (0, 131_071, 0),
+    ];
+    let plane = [(-END, -END, -END), (END, -END, END), (0, END, 0)];
+    for (tri, at, axis, wanted) in [
+        (small, (0, 0, 4_999), Axis::X, INSIDE),
+        (small, (0, 0, 5_000), Axis::X, MORE),
+        (plane, (0, 0, 4_999), Axis::X, INSIDE),
+        (plane, (0, 0, 5_000), Axis::X, MORE),
+        (LINE, (0, 0, 4_999), Axis::X, INSIDE),
+        (LINE, (0, 0, 5_000), Axis::X, MORE),
     ] {
-        assert_eq!(rt;
-            answers(cone, [a, b, c], at, axis),
-            (wanted == INSIDE, wanted)
-        );
+        assert_eq!(rt; answers(cone, tri, at, axis), (wanted == INSIDE, wanted));
     }
     Ok(())
 }
 
-// A cone at 45 degrees with the greatest numbers: a line at its wall, a plane twice as steep at its rim, and upright planes
-// far from it, one and the next unit off its shank, the farther ones by more than a volume whose square is computed.
+// A cone at 45 degrees with the greatest numbers: a line at its wall, a plane twice as steep at its rim, upright planes
+// far from it, one and the next unit off its shank, the farther ones by more than a volume whose square is computed, and a
+// point at its rim.
 #[test]
 fn slope_of_the_greatest_numbers(rt: HostRuntime) -> Result<(), Fail> {
     let cone = Cutter::Cone {
@@ -126,111 +83,38 @@ fn slope_of_the_greatest_numbers(rt: HostRuntime) -> Result<(), Fail> {
         rise: 100,
         run: 100,
     };
-    for (a, b, c, at, axis, wanted) in [
-        (
-            (-524_287, 0, -524_287),
-            (524_287, 0, 524_287),
-            (524_287, 0, 524_287),
-            (0, 0, -1),
-            Axis::X,
-            INSIDE,
-        ),
-        (
-            (-524_287, 0, -524_287),
-            (524_287, 0, 524_287),
-            (524_287, 0, 524_287),
-            (0, 0, 0),
-            Axis::X,
-            MORE,
-        ),
-        (
-            (-256_632, 0, -524_287),
-            (267_655, -524_287, 524_287),
-            (267_655, 524_287, 524_287),
-            (0, 0, 0),
-            Axis::X,
-            INSIDE,
-        ),
-        (
-            (-256_632, 0, -524_287),
-            (267_655, -524_287, 524_287),
-            (267_655, 524_287, 524_287),
-            (0, 0, 1),
-            Axis::X,
-            MORE,
-        ),
-        (
-            (-424_287, 524_287, -524_287),
-            (524_287, -424_287, -524_287),
-            (50_000, 50_000, 524_287),
-            (0, 0, 0),
-            Axis::X,
-            MORE,
-        ),
-        (
-            (-424_287, 524_287, -524_287),
-            (524_287, -424_287, -524_287),
-            (50_000, 50_000, 524_287),
-            (42_204, 42_204, 0),
-            Axis::Y,
-            MORE,
-        ),
-        (
-            (-424_287, 524_287, -524_287),
-            (524_287, -424_287, -524_287),
-            (50_000, 50_000, 524_287),
-            (42_205, 42_205, 0),
-            Axis::Y,
-            INSIDE,
-        ),
-        (
-            (-384_287, 524_287, -524_287),
-            (524_287, -384_287, -524_287),
-            (70_000, 70_000, 524_287),
-            (0, 0, 0),
-            Axis::X,
-            MORE,
-        ),
-        (
-            (-384_287, 524_287, -524_287),
-            (524_287, -384_287, -524_287),
-            (70_000, 70_000, 524_287),
-            (62_204, 62_204, 0),
-            Axis::Y,
-            MORE,
-        ),
-        (
-            (-384_287, 524_287, -524_287),
-            (524_287, -384_287, -524_287),
-            (70_000, 70_000, 524_287),
-            (62_205, 62_205, 0),
-            Axis::Y,
-            INSIDE,
-        ),
+    let steep = [
+        (-256_632, 0, -END),
+        (267_655, -END, END),
+        (267_655, END, END),
+    ];
+    let far = [
+        (-424_287, END, -END),
+        (END, -424_287, -END),
+        (50_000, 50_000, END),
+    ];
+    let farther = [
+        (-384_287, END, -END),
+        (END, -384_287, -END),
+        (70_000, 70_000, END),
+    ];
+    let point = [(END, 513_264, -513_264); 3];
+    let higher = [(END, 513_264, -513_263); 3];
+    for (tri, at, axis, wanted) in [
+        (LINE, (0, 0, -1), Axis::X, INSIDE),
+        (LINE, (0, 0, 0), Axis::X, MORE),
+        (steep, (0, 0, 0), Axis::X, INSIDE),
+        (steep, (0, 0, 1), Axis::X, MORE),
+        (far, (0, 0, 0), Axis::X, MORE),
+        (far, (42_204, 42_204, 0), Axis::Y, MORE),
+        (far, (42_205, 42_205, 0), Axis::Y, INSIDE),
+        (farther, (0, 0, 0), Axis::X, MORE),
+        (farther, (62_204, 62_204, 0), Axis::Y, MORE),
+        (farther, (62_205, 62_205, 0), Axis::Y, INSIDE),
+        (point, (END, END, -END), Axis::Y, LESS),
+        (higher, (END, END, -END), Axis::Y, INSIDE),
     ] {
-        assert_eq!(rt;
-            answers(cone, [a, b, c], at, axis),
-            (wanted == INSIDE, wanted)
-        );
-    }
-    for (a, at, axis, wanted) in [
-        (
-            (524_287, 513_264, -513_264),
-            (524_287, 524_287, -524_287),
-            Axis::Y,
-            LESS,
-        ),
-        (
-            (524_287, 513_264, -513_263),
-            (524_287, 524_287, -524_287),
-            Axis::Y,
-            INSIDE,
-        ),
-    ] {
-        assert_eq!(rt;
-            answers(cone, [a, a, a], at, axis),
-            (wanted == INSIDE, wanted)
-        );
+        assert_eq!(rt; answers(cone, tri, at, axis), (wanted == INSIDE, wanted));
     }
     Ok(())
 }
@@ -244,75 +128,26 @@ fn steepest_slope(rt: HostRuntime) -> Result<(), Fail> {
         rise: 16,
         run: 1,
     };
-    for (a, b, c, at, axis, wanted) in [
-        (
-            (-524_287, 0, -524_287),
-            (524_287, 0, 524_287),
-            (524_287, 0, 524_287),
-            (0, 0, -1),
-            Axis::X,
-            INSIDE,
-        ),
-        (
-            (-524_287, 0, -524_287),
-            (524_287, 0, 524_287),
-            (524_287, 0, 524_287),
-            (0, 0, 0),
-            Axis::X,
-            MORE,
-        ),
-        (
-            (1_867, 0, -524_284),
-            (62_900, -524_287, 513_277),
-            (62_900, 524_287, 513_277),
-            (0, 0, -545_000),
-            Axis::X,
-            INSIDE,
-        ),
-        (
-            (1_867, 0, -524_284),
-            (62_900, -524_287, 513_277),
-            (62_900, 524_287, 513_277),
-            (0, 0, -544_999),
-            Axis::X,
-            MORE,
-        ),
+    let steep = [
+        (1_867, 0, -524_284),
+        (62_900, -END, 513_277),
+        (62_900, END, 513_277),
+    ];
+    let east = [(521_287, 520_287, -465_000); 3];
+    let west = [(-521_287, -520_287, -465_000); 3];
+    let higher_east = [(521_287, 520_287, -464_999); 3];
+    let higher_west = [(-521_287, -520_287, -464_999); 3];
+    for (tri, at, axis, wanted) in [
+        (LINE, (0, 0, -1), Axis::X, INSIDE),
+        (LINE, (0, 0, 0), Axis::X, MORE),
+        (steep, (0, 0, -545_000), Axis::X, INSIDE),
+        (steep, (0, 0, -544_999), Axis::X, MORE),
+        (east, (END, END, -545_000), Axis::X, LESS),
+        (west, (-END, -END, -545_000), Axis::Y, MORE),
+        (higher_east, (END, END, -545_000), Axis::X, INSIDE),
+        (higher_west, (-END, -END, -545_000), Axis::Y, INSIDE),
     ] {
-        assert_eq!(rt;
-            answers(cone, [a, b, c], at, axis),
-            (wanted == INSIDE, wanted)
-        );
-    }
-    for (a, at, axis, wanted) in [
-        (
-            (521_287, 520_287, -465_000),
-            (524_287, 524_287, -545_000),
-            Axis::X,
-            LESS,
-        ),
-        (
-            (-521_287, -520_287, -465_000),
-            (-524_287, -524_287, -545_000),
-            Axis::Y,
-            MORE,
-        ),
-        (
-            (521_287, 520_287, -464_999),
-            (524_287, 524_287, -545_000),
-            Axis::X,
-            INSIDE,
-        ),
-        (
-            (-521_287, -520_287, -464_999),
-            (-524_287, -524_287, -545_000),
-            Axis::Y,
-            INSIDE,
-        ),
-    ] {
-        assert_eq!(rt;
-            answers(cone, [a, a, a], at, axis),
-            (wanted == INSIDE, wanted)
-        );
+        assert_eq!(rt; answers(cone, tri, at, axis), (wanted == INSIDE, wanted));
     }
     Ok(())
 }
@@ -325,79 +160,20 @@ fn flattest_slope(rt: HostRuntime) -> Result<(), Fail> {
         rise: 1,
         run: 100,
     };
-    for (a, b, c, at, axis, wanted) in [
-        (
-            (-524_287, -524_287, 524_287),
-            (524_287, -524_287, 524_287),
-            (-524_287, 524_287, 524_287),
-            (524_287, -508_697, -545_000),
-            Axis::X,
-            INSIDE,
-        ),
-        (
-            (-524_287, -524_287, 524_287),
-            (524_287, -524_287, 524_287),
-            (-524_287, 524_287, 524_287),
-            (524_287, -508_697, -545_000),
-            Axis::Y,
-            INSIDE,
-        ),
-        (
-            (-524_287, -524_287, 524_287),
-            (524_287, -524_287, 524_287),
-            (-524_287, 524_287, 524_287),
-            (524_287, -508_696, -545_000),
-            Axis::X,
-            LESS,
-        ),
-        (
-            (-524_287, -524_287, 524_287),
-            (524_287, -524_287, 524_287),
-            (-524_287, 524_287, 524_287),
-            (524_287, -508_696, -545_000),
-            Axis::Y,
-            LESS,
-        ),
-        (
-            (-524_287, 11_023, -524_287),
-            (524_287, 11_023, 524_287),
-            (524_287, 11_023, 524_287),
-            (0, 0, -545_000),
-            Axis::Y,
-            INSIDE,
-        ),
-        (
-            (-524_287, 11_023, -524_287),
-            (524_287, 11_023, 524_287),
-            (524_287, 11_023, 524_287),
-            (0, -1, -545_000),
-            Axis::Y,
-            MORE,
-        ),
+    let level = [(-END, -END, END), (END, -END, END), (-END, END, END)];
+    let rising = [(-END, 11_023, -END), (END, 11_023, END), (END, 11_023, END)];
+    let point = [(-513_264, END, END); 3];
+    for (tri, at, axis, wanted) in [
+        (level, (END, -508_697, -545_000), Axis::X, INSIDE),
+        (level, (END, -508_697, -545_000), Axis::Y, INSIDE),
+        (level, (END, -508_696, -545_000), Axis::X, LESS),
+        (level, (END, -508_696, -545_000), Axis::Y, LESS),
+        (rising, (0, 0, -545_000), Axis::Y, INSIDE),
+        (rising, (0, -1, -545_000), Axis::Y, MORE),
+        (point, (-END, END, 524_177), Axis::X, MORE),
+        (point, (-END, END, 524_176), Axis::X, INSIDE),
     ] {
-        assert_eq!(rt;
-            answers(cone, [a, b, c], at, axis),
-            (wanted == INSIDE, wanted)
-        );
-    }
-    for (a, at, axis, wanted) in [
-        (
-            (-513_264, 524_287, 524_287),
-            (-524_287, 524_287, 524_177),
-            Axis::X,
-            MORE,
-        ),
-        (
-            (-513_264, 524_287, 524_287),
-            (-524_287, 524_287, 524_176),
-            Axis::X,
-            INSIDE,
-        ),
-    ] {
-        assert_eq!(rt;
-            answers(cone, [a, a, a], at, axis),
-            (wanted == INSIDE, wanted)
-        );
+        assert_eq!(rt; answers(cone, tri, at, axis), (wanted == INSIDE, wanted));
     }
     Ok(())
 }

@@ -36,7 +36,7 @@ loop-low-preserved-then-holds_some c =
 pub returns-clause-least : goal.returns-clause-least
 returns-clause-least c =
     let i = c.loop-low.invariant in
-    let fits = next_fits c.args.low (to_z w32 c.loop-low.low-bits) (to_z w32 c.loop-low.high-bits) c.args.top c.requires.low_ok c.requires.top_ok
+    let fits = next_fits c.args.low (to_z w32 c.loop-low.low-bits) (to_z w32 c.loop-low.high-bits) c.args.top c.requires.bracket.low_ok c.requires.bracket.top_ok
     (rw (to_z-of_z w32 c.args.low c.ranges.low) at i.from) i.order (rw (to_z-of_z w32 c.args.top c.ranges.top) at i.to) in
     let test = rw (to_z-of_z w32 (to_z w32 c.loop-low.low-bits +ℤ pos 1) fits) at c.loop-low-test.false in
     subst (TouchesAt c.args.self.cutter c.args.tri.now c.args.self.x c.args.self.y) (next _ _ i.order test) i.held

@@ -18,16 +18,17 @@ returns-then-top-from-clause-free c =
     let from = to_z-of_z w32 c.args.from c.ranges.from in
     rw from (over_top_free c.args.self.cutter c.args.tri.now c.args.self.x c.args.self.y c.args.from c.requires.self_ok.cutter_ok (at_most _ _ _ _ (stored ∙ c.highest-top.ensures) from c.if-top-from.true))
 
-pub least_free-requires-clause-top_ok : goal.least_free-requires-clause-top_ok
-least_free-requires-clause-top_ok c =
-    let fits : FitsSigned w32 c.highest-top.result = search rules in
-    rw (to_z-of_z w32 c.highest-top.result fits, c.highest-top.ensures) (highest_within c.args.tri.now c.requires.tri_ok)
-
-pub least_free-requires-clause-free : goal.least_free-requires-clause-free
-least_free-requires-clause-free c =
+pub least_free-requires-clause-bracket : goal.least_free-requires-clause-bracket
+least_free-requires-clause-bracket c =
     let fits : FitsSigned w32 c.highest-top.result = search rules in
     let stored = to_z-of_z w32 c.highest-top.result fits in
-    over_top_free c.args.self.cutter c.args.tri.now c.args.self.x c.args.self.y _ c.requires.self_ok.cutter_ok (same _ _ (stored ∙ c.highest-top.ensures))
+    record {
+      low_ok = search rules;
+      top_ok = rw (stored, c.highest-top.ensures) (highest_within c.args.tri.now c.requires.tri_ok);
+      order = search rules;
+      held = search rules;
+      free = over_top_free c.args.self.cutter c.args.tri.now c.args.self.x c.args.self.y _ c.requires.self_ok.cutter_ok (same _ _ (stored ∙ c.highest-top.ensures));
+    }
   where
     same : (z h : ℤ) → z ≡ h → h ≤ℤ z
     same z h e = omega (arith, ints)
