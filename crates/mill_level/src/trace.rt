@@ -144,9 +144,12 @@ fn least_of(map: &LevelMap, edges: &[Edge]) -> usize
     ensures { IsLeast map.now edges.now result }
 {
     let mut least = 0;
+    let mut least_rank = map.rank(edges[0]);
     for at in 1..edges.len() {
-        if map.rank(edges[at]) < map.rank(edges[least]) {
+        let rank = map.rank(edges[at]);
+        if rank < least_rank {
             least = at;
+            least_rank = rank;
         }
     }
     least

@@ -1,5 +1,5 @@
 //! All chains of a lattice at a height.
-ghost use Rattle.std.specs.Prelude.{◌≡◌, ◌*◌, false, All, IfOk, replicate};
+ghost use Rattle.std.specs.Prelude.{All, IfOk};
 ghost use Rattle.mill_level.specs.Chains.{AreChains};
 ghost use Rattle.mill_level.specs.inner.Maps.{IsSized, grid_of};
 ghost use Rattle.mill_level.specs.inner.Trails.{AreTrails, IsTrail, chains_of};
@@ -25,7 +25,7 @@ fn all_trails(alloc: Global, map: &LevelMap) -> Result<Vec<Trail>, WantOfMemory>
     requires { IsSized map.now }
     ensures { IfOk result (λ trails. AreTrails map.now trails.items) }
 {
-    let mut passed = none_passed(alloc, map)?;
+    let mut passed = vec![in alloc; false; map.edge_count() as usize]?;
     let mut trails = Vec::new(alloc);
     for number in 0..map.edge_count() {
         let edge = map.edge(number);
@@ -34,16 +34,4 @@ fn all_trails(alloc: Global, map: &LevelMap) -> Result<Vec<Trail>, WantOfMemory>
         }
     }
     Ok(trails)
-}
-
-/// A mark for each edge, none of them set.
-fn none_passed(alloc: Global, map: &LevelMap) -> Result<Vec<bool>, WantOfMemory>
-    requires { IsSized map.now }
-    ensures { IfOk result (λ passed. passed.items ≡ replicate (2 * (map.now.columns * map.now.rows)) false) }
-{
-    let mut passed = Vec::new(alloc);
-    for _ in 0..map.edge_count() {
-        passed.push(false)?;
-    }
-    Ok(passed)
 }

@@ -9,7 +9,6 @@ use Rattle.mill_level.specs.declared.edge.Edge.{Edge}
 use Rattle.mill_level.specs.inner.Maps.{grid_of}
 use Rattle.mill_level.specs.inner.Trails.{is_passed}
 use Rattle.mill_level.specs.inner.Ways.{GoesBack}
-use Rattle.mill_level.proofs.Apart.{crosses_from}
 use Rattle.mill_level.proofs.Edges.{crossing_has_edge}
 use Rattle.mill_level.proofs.Marking.{fewer_left, not_both}
 use Rattle.mill_level.proofs.Tracks.{first_kept, goes_back, keeps_back, last_crosses, leads_to_new, track_one, track_push}
@@ -46,13 +45,13 @@ unmarked c =
 
 pub loop-before-smaller : goal.loop-before-smaller
 loop-before-smaller c =
-    let crossing = crosses_from (grid_of c.args.map.now) c.in-Some.before c.loop-before.edge c.in-Some.ensures in
+    let crossing = (goes_back (grid_of c.args.map.now)).crosses c.loop-before.edge c.in-Some.before c.in-Some.ensures in
     rw c.in_ok-pass-2.ensures.marks (fewer_left c.args.map.now c.loop-before.passed.items c.loop-before.invariant.track.size c.in-Some.before
     (crossing_has_edge (grid_of c.args.map.now) c.in-Some.before crossing) (unmarked c))
 
 pub loop-before-preserved : goal.loop-before-preserved
 loop-before-preserved c =
-    let crossing = crosses_from (grid_of c.args.map.now) c.in-Some.before c.loop-before.edge c.in-Some.ensures in
+    let crossing = (goes_back (grid_of c.args.map.now)).crosses c.loop-before.edge c.in-Some.before c.in-Some.ensures in
     rw (c.in_ok-pass-2.ensures.edges, c.in_ok-pass-2.ensures.marks) (record {
       track = track_push _ _ _ _ _ _ c.loop-before.invariant.track c.in-Some.before c.in-Some.ensures crossing (unmarked c);
       starts = first_kept _ _ _ _ _ _ c.loop-before.invariant.track c.in-Some.before c.args.start c.loop-before.invariant.starts;

@@ -2,13 +2,15 @@ use Rattle.mill_level.specs.declared.trace.Trail.{Trail}
 use Rattle.mill_level.specs.Grids.{is_crossing}
 use Rattle.mill_level.specs.inner.Maps.{grid_of}
 use Rattle.mill_level.specs.inner.Trails.{is_passed}
-use Rattle.std.proofs.Common.{◌≡◌, ◌+◌, ◌*◌, Bool, true, List, arith, sym, subst, ◌∙◌, true≢false}
+use Rattle.std.proofs.Common.{◌≡◌, ℕ, ◌+◌, ◌*◌, Bool, true, false, List, replicate, arith, sym, subst, ap, ◌∙◌, true≢false}
 use Rattle.mill_level.proofs.Found.{FoundBelow, found_none, found_next, found_trail, found_all, marked_at}
 use Rattle.mill_level.proofs.trails.all_trails.Goals as goal
 use Rattle.mill_level.proofs.trails.all_trails.Goals.{then-is_crossing+then-not-index+in_ok-trace+in_ok-push, else-is_crossing, else-is_crossing-via-then-is_crossing+else-not-index, else-is_crossing-via-else-is_crossing}
 
 pub loop-number-init : goal.loop-number-init
-loop-number-init c = found_none c.args.map.now c.in_ok-passed.passed.items c.new-trails.result.items c.in_ok-passed.ensures c.new-trails.ensures.items
+loop-number-init c =
+    found_none c.args.map.now c.in_ok-passed.passed.items c.new-trails.result.items
+    (c.in_ok-passed.ensures.items_if_clones_equal (λ y e. e) ∙ ap (λ (n : ℕ). replicate n false) c.edge_count.ensures) c.new-trails.ensures.items
 
 pub index-requires : goal.index-requires
 index-requires c = omega (arith, c.loop-number.invariant.marks.size)
