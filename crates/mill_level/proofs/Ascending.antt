@@ -1,7 +1,7 @@
 -- Runs that ascend, and the positions that stand in them.
 use Rattle.std.specs.Prelude.{◌≡◌, ℕ, ◌+◌, ◌≤◌, ◌<◌, ℤ, ◌<ℤ◌, ◌≤ℤ◌, int_le, Bool, true, false, List, length, slice_index_or, MatchBool, refl}
 use Rattle.std.proofs.Common.{◌⊎◌, inl, inr, arith, sym, subst}
-use Rattle.std.proofs.lemmas.Bool.{cases_lt, true≢false}
+use Rattle.std.proofs.lemmas.Bool.{cases_lt}
 use Rattle.std.proofs.lemmas.Int.{ints, by_lt_z}
 use Rattle.std.proofs.lemmas.List.{get_or_default}
 use Rattle.mill_push.specs.declared.fiber.Run.{Run}
@@ -121,11 +121,3 @@ module _ (runs : List Run) (ascend : AreAscending runs) (v : ℤ) (i : ℕ) (is 
       by : (b : Bool) → int_le (slice_index_or runs i run).first v ≡ b → MatchBool b (StandsIn runs v) (¬ StandsIn runs v)
       by true e = held_at run inside (test _ v e)
       by false e = λ s. not_both v _ (tested _ v e) (held_there s run).first
-
-  -- and where there is none
-  pub told_past : length runs ≤ i → (b : Bool) → b ≡ false → MatchBool b (StandsIn runs v) (¬ StandsIn runs v)
-  told_past past true e = absurd (true≢false e)
-  told_past past false e = λ s. absurd (passed i (length runs) past (held_there s s.run).inside)
-    where
-      passed : (i n : ℕ) → n ≤ i → i < n → ⊥
-      passed i n h e = omega (h, e, arith)

@@ -4,9 +4,11 @@ ghost use Rattle.mill_level.specs.Chains.{AreChains};
 ghost use Rattle.mill_level.specs.inner.Maps.{IsSized, grid_of};
 ghost use Rattle.mill_level.specs.inner.Trails.{AreTrails, IsTrail, chains_of};
 
+use crate::edge::Edge;
 use crate::grid::LevelMap;
 use crate::trace::{Trail, trace};
 use mill_base::WantOfMemory;
+use mill_geom::Axis;
 use std::alloc::Global;
 
 /// The chains of the crossings, in the order of their first crossings.
@@ -25,13 +27,19 @@ fn all_trails(alloc: Global, map: &LevelMap) -> Result<Vec<Trail>, WantOfMemory>
     requires { IsSized map.now }
     ensures { IfOk result (λ trails. AreTrails map.now trails.items) }
 {
-    let mut passed = vec![in alloc; false; map.edge_count() as usize]?;
+    let count = map.edge_count();
+    let mut passed = vec![in alloc; false; count as usize]?;
     let mut trails = Vec::new(alloc);
-    for number in 0..map.edge_count() {
-        let edge = map.edge(number);
+    let mut edge = Edge {
+        column: 0,
+        row: 0,
+        axis: Axis::X,
+    };
+    for number in 0..count {
         if map.is_crossing(edge) && !passed[number as usize] {
             trails.push(trace(alloc, map, edge, &mut passed)?)?;
         }
+        edge = map.next_edge(edge);
     }
     Ok(trails)
 }

@@ -29,7 +29,7 @@ pub loop-before-init : goal.loop-before-init
 loop-before-init c =
     let edges : c.pass.new.edges.items ≡ c.args.start ∷ [] = c.in_ok-pass.ensures.edges ∙ ap (λ (es : List Edge). es ++ c.args.start ∷ []) c.requires.empty in
     let one = track_one c.args.map.now c.args.passed.now.items (GoesBack (grid_of c.args.map.now)) c.args.start
-    c.requires.marks_ok.size c.requires.start_ok c.requires.start_new in
+    c.requires.start_ok.marks.size c.requires.start_ok.crosses c.requires.start_ok.unmarked in
     rw (edges, c.in_ok-pass.ensures.marks) (record { track = one; starts = λ d. refl })
 
 pub before-requires-clause-edge_ok : goal.before-requires-clause-edge_ok
@@ -39,7 +39,7 @@ before-requires-clause-edge_ok c = last_crosses _ _ _ _ _ _ c.loop-before.invari
 unmarked : (c : goal.In_ok-pass-2) → is_passed c.args.map.now c.loop-before.passed.items c.in-Some.before ≡ false
 unmarked c =
     let grid = grid_of c.args.map.now in
-    leads_to_new _ _ _ _ _ _ c.loop-before.invariant.track (goes_back grid) (keeps_back c.args.map.now c.args.passed.now.items c.requires.marks_ok)
+    leads_to_new _ _ _ _ _ _ c.loop-before.invariant.track (goes_back grid) (keeps_back c.args.map.now c.args.passed.now.items c.requires.start_ok.marks)
     c.in-Some.before c.in-Some.ensures
     (λ d at. differ c.in-Some.before c.args.start c.eq.result c.eq.ensures c.if-eq.false (sym at ∙ c.loop-before.invariant.starts d))
 
