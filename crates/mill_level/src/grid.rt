@@ -1,6 +1,6 @@
 //! What is known of a lattice at a height.
-ghost use Rattle.std.specs.Prelude.{◌≡◌, ◌+◌, ◌<◌, ◌*◌, true, pos};
-ghost use Rattle.mill_level.specs.Grids.{edge as edge_of, has_edge, is_blocked, is_crossing};
+ghost use Rattle.std.specs.Prelude.{◌≡◌, ◌+◌, ◌<◌, ◌*◌, true};
+ghost use Rattle.mill_level.specs.Grids.{has_edge, is_blocked, is_crossing};
 ghost use Rattle.mill_level.specs.inner.Maps.{IsSized, crossing_at, edge_number, grid_of};
 
 use crate::edge::Edge;

@@ -8,7 +8,7 @@ use Rattle.mill_geom.specs.declared.touch.Axis.{Axis}
 use Rattle.mill_push.specs.Fibers.{IsBlocked}
 use Rattle.mill_level.specs.declared.cut.Cut.{Cut}
 
--- the cells are those of the part, and the cutter's sizes and the height are such as camtool takes
+-- the cells are those of the part, and the cutter and the height are in range
 pub record IsCut (cut : Cut) : Type 0 where
   pub cells_ok : cut.cells.now ≡ sorted_of cut.part.now
   pub cutter_ok : IsCutter cut.cutter

@@ -8,7 +8,7 @@ use Rattle.mill_level.specs.Chains.{comes_before}
 use Rattle.mill_level.specs.inner.Maps.{crossing_at, grid_of}
 use Rattle.mill_level.specs.inner.Trails.{AreMarks, is_passed, mark}
 
--- an edge that crosses and has no mark
+-- an edge that crosses and has no mark, beside marks of whole chains
 pub record MayStart (level : LevelMap) (passed : List Bool) (e : Edge) : Type 0 where
   pub crosses : is_crossing (grid_of level) e ≡ true
   pub unmarked : is_passed level passed e ≡ false
