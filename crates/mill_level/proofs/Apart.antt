@@ -20,59 +20,48 @@ only x y h = elim (Contains-push_cases [] x y h) [
   | inr same ↦ same
 ]
 
--- a join comes to a side that begins at a free corner and ends at a blocked one
-pub record Comes (a b side : Edge) (begins ends : Bool) (prior : Edge) : Type 0 where
-  pub begins_free : begins ≡ false
-  pub ends_blocked : ends ≡ true
-  pub to : b ≡ side
-  pub from : a ≡ prior
+-- one end of a join is at a side between a free corner and a blocked one, and the other end is at the side that is told
+pub record Meets (mine other side : Edge) (free blocked : Bool) (far : Edge) : Type 0 where
+  pub is_free : free ≡ false
+  pub is_blocked : blocked ≡ true
+  pub at : mine ≡ side
+  pub to : other ≡ far
 
--- a join goes from a side that begins at a blocked corner and ends at a free one
-pub record Goes (a b side : Edge) (begins ends : Bool) (next : Edge) : Type 0 where
-  pub begins_blocked : begins ≡ true
-  pub ends_free : ends ≡ false
-  pub from : a ≡ side
-  pub to : b ≡ next
-
-comes : (a b side other : Edge) → Contains (join other side ∷ []) (join a b) → Comes a b side false true other
+comes : (a b side other : Edge) → Contains (join other side ∷ []) (join a b) → Meets b a side false true other
 comes a b side other h =
     let e = only (join other side) (join a b) h in
-    record { begins_free = refl; ends_blocked = refl; to = sym (ap (λ (j : Join). j.to) e); from = sym (ap (λ (j : Join). j.from) e) }
+    record { is_free = refl; is_blocked = refl; at = sym (ap (λ (j : Join). j.to) e); to = sym (ap (λ (j : Join). j.from) e) }
 
-comes_at : (a b before side next last : Edge) (first second third fourth : Bool)
-    → Contains (join_at before first side second next third last fourth) (join a b) → Comes a b before fourth first (first_of_three second third side next last)
-comes_at a b before side next last false second third fourth h = absurd (none _ h)
-comes_at a b before side next last true second third true h = absurd (none _ h)
-comes_at a b before side next last true false third false h = comes a b before side h
-comes_at a b before side next last true true false false h = comes a b before next h
-comes_at a b before side next last true true true false h = comes a b before last h
+module _ (a b before side next last : Edge) where
+  abbrev MeetsBefore : Bool → Bool → Bool → Bool → Type 0
+  MeetsBefore first second third fourth = Meets b a before fourth first (first_of_three second third side next last)
 
-goes_at : (a b before side next last : Edge) (first second third fourth : Bool) → Comes a b before fourth first (first_of_three second third side next last)
-    → Goes a b side first second (first_of_three fourth third before last next)
-    ⊎ (Goes a b next second third (first_of_three first fourth side before last) ⊎ Goes a b last third fourth (first_of_three second first next side before))
-goes_at a b before side next last false second third fourth h = absurd (false≢true h.ends_blocked)
-goes_at a b before side next last true second third true h = absurd (true≢false h.begins_free)
-goes_at a b before side next last true false third false h = inl (record { begins_blocked = refl; ends_free = refl; from = h.from; to = h.to })
-goes_at a b before side next last true true false false h = inr (inl (record { begins_blocked = refl; ends_free = refl; from = h.from; to = h.to }))
-goes_at a b before side next last true true true false h = inr (inr (record { begins_blocked = refl; ends_free = refl; from = h.from; to = h.to }))
+  comes_at : (first second third fourth : Bool) → Contains (join_at before first side second next third last fourth) (join a b) → MeetsBefore first second third fourth
+  comes_at false second third fourth h = absurd (none _ h)
+  comes_at true second third true h = absurd (none _ h)
+  comes_at true false third false h = comes a b before side h
+  comes_at true true false false h = comes a b before next h
+  comes_at true true true false h = comes a b before last h
 
-back_at : (a b before side next last : Edge) (first second third fourth : Bool) → Goes a b side first second (first_of_three fourth third before last next)
-    → Comes a b before fourth first (first_of_three second third side next last)
-    ⊎ (Comes a b last third fourth (first_of_three first second before side next) ⊎ Comes a b next second third (first_of_three fourth first last before side))
-back_at a b before side next last false second third fourth h = absurd (false≢true h.begins_blocked)
-back_at a b before side next last true true third fourth h = absurd (true≢false h.ends_free)
-back_at a b before side next last true false third false h = inl (record { begins_free = refl; ends_blocked = refl; to = h.to; from = h.from })
-back_at a b before side next last true false false true h = inr (inl (record { begins_free = refl; ends_blocked = refl; to = h.to; from = h.from }))
-back_at a b before side next last true false true true h = inr (inr (record { begins_free = refl; ends_blocked = refl; to = h.to; from = h.from }))
+  the_only : (x y : Edge) → b ≡ y → a ≡ x → Contains (join x y ∷ []) (join a b)
+  the_only x y p q = (0, omega arith, cc)
 
--- a join of a square, seen from the side that it comes to, and from the side that it goes from
-pub record ComesTo (q : Square) (a b : Edge) : Type 0 where
-  pub side : Side
-  pub is : Comes a b (side_of q side) (is_begin_blocked q side) (is_end_blocked q side) (prior_of q side)
+  joined_at : (first second third fourth : Bool) → MeetsBefore first second third fourth → Contains (join_at before first side second next third last fourth) (join a b)
+  joined_at false second third fourth h = absurd (false≢true h.is_blocked)
+  joined_at true second third true h = absurd (true≢false h.is_free)
+  joined_at true false third false h = the_only side before h.at h.to
+  joined_at true true false false h = the_only next before h.at h.to
+  joined_at true true true false h = the_only last before h.at h.to
 
-pub record GoesFrom (q : Square) (a b : Edge) : Type 0 where
-  pub side : Side
-  pub is : Goes a b (side_of q side) (is_begin_blocked q side) (is_end_blocked q side) (next_of q side)
+  -- seen from its other end
+  other_end : (first second third fourth : Bool) → MeetsBefore first second third fourth
+      → Meets a b side second first (first_of_three fourth third before last next)
+      ⊎ (Meets a b next third second (first_of_three first fourth side before last) ⊎ Meets a b last fourth third (first_of_three second first next side before))
+  other_end false second third fourth h = absurd (false≢true h.is_blocked)
+  other_end true second third true h = absurd (true≢false h.is_free)
+  other_end true false third false h = inl (record { is_free = refl; is_blocked = refl; at = h.to; to = h.at })
+  other_end true true false false h = inr (inl (record { is_free = refl; is_blocked = refl; at = h.to; to = h.at }))
+  other_end true true true false h = inr (inr (record { is_free = refl; is_blocked = refl; at = h.to; to = h.at }))
 
 -- the joins of a square that come to a side
 abbrev joins_to : Square → Side → List Join
@@ -96,79 +85,55 @@ to_four ws xs ys zs x (inr (inl w)) = Contains-append_left (ws ++ xs ++ ys) zs x
 to_four ws xs ys zs x (inr (inr (inl w))) = Contains-append_left (ws ++ xs ++ ys) zs x (Contains-append_right (ws ++ xs) ys x w)
 to_four ws xs ys zs x (inr (inr (inr w))) = Contains-append_right (ws ++ xs ++ ys) zs x w
 
-comes_to : (q : Square) (a b : Edge) → Contains (joins_of q) (join a b) → ComesTo q a b
-comes_to q a b h = elim (of_four (joins_to q Left) (joins_to q Bottom) (joins_to q Right) (joins_to q Top) (join a b) h) [
-  | inl l ↦ record { side = Left; is = comes_at a b q.left q.bottom q.right q.top q.low_left q.low_right q.high_right q.high_left l }
-  | inr (inl m) ↦ record { side = Bottom; is = comes_at a b q.bottom q.right q.top q.left q.low_right q.high_right q.high_left q.low_left m }
-  | inr (inr (inl r)) ↦ record { side = Right; is = comes_at a b q.right q.top q.left q.bottom q.high_right q.high_left q.low_left q.low_right r }
-  | inr (inr (inr t)) ↦ record { side = Top; is = comes_at a b q.top q.left q.bottom q.right q.high_left q.low_left q.low_right q.high_right t }
-]
+-- where the join goes to from a side, if forward, or else where it comes from
+abbrev pub far_of : Square → Bool → Side → Edge
+far_of q forward side = if forward then next_of q side else prior_of q side
 
--- and the other way round
-the_only : (a b c d : Edge) → a ≡ c → b ≡ d → Contains (join c d ∷ []) (join a b)
-the_only a b c d p q = (0, omega arith, cc)
+-- one end of a join of the square, where it goes from, if forward, or else where it comes to, is at this side
+abbrev MeetsAt : Square → Bool → Edge → Edge → Side → Type 0
+MeetsAt q forward mine other s =
+    Meets mine other (side_of q s) (if forward then is_end_blocked q s else is_begin_blocked q s) (if forward then is_begin_blocked q s else is_end_blocked q s) (far_of q forward s)
 
-joined_at : (a b before side next last : Edge) (first second third fourth : Bool) → Comes a b before fourth first (first_of_three second third side next last)
-    → Contains (join_at before first side second next third last fourth) (join a b)
-joined_at a b before side next last false second third fourth h = absurd (false≢true h.ends_blocked)
-joined_at a b before side next last true second third true h = absurd (true≢false h.begins_free)
-joined_at a b before side next last true false third false h = the_only a b side before h.from h.to
-joined_at a b before side next last true true false false h = the_only a b next before h.from h.to
-joined_at a b before side next last true true true false h = the_only a b last before h.from h.to
+abbrev MeetsSide : Square → Bool → Edge → Edge → Type 0
+MeetsSide q forward mine other = (s : Side) × MeetsAt q forward mine other s
 
-joined : (q : Square) (a b : Edge) → ComesTo q a b → Contains (joins_of q) (join a b)
-joined q a b h = to_four (joins_to q Left) (joins_to q Bottom) (joins_to q Right) (joins_to q Top) (join a b) (by h.side h.is)
-  where
-    by : (s : Side) → Comes a b (side_of q s) (is_begin_blocked q s) (is_end_blocked q s) (prior_of q s)
-        → Contains (joins_to q Left) (join a b) ⊎ (Contains (joins_to q Bottom) (join a b) ⊎ (Contains (joins_to q Right) (join a b) ⊎ Contains (joins_to q Top) (join a b)))
-    by Left is = inl (joined_at a b q.left q.bottom q.right q.top q.low_left q.low_right q.high_right q.high_left is)
-    by Bottom is = inr (inl (joined_at a b q.bottom q.right q.top q.left q.low_right q.high_right q.high_left q.low_left is))
-    by Right is = inr (inr (inl (joined_at a b q.right q.top q.left q.bottom q.high_right q.high_left q.low_left q.low_right is)))
-    by Top is = inr (inr (inr (joined_at a b q.top q.left q.bottom q.right q.high_left q.low_left q.low_right q.high_right is)))
+pick : (P : Side → Type 0) (s t u : Side) → P s ⊎ (P t ⊎ P u) → (v : Side) × P v
+pick P s t u (inl h) = (s, h)
+pick P s t u (inr (inl h)) = (t, h)
+pick P s t u (inr (inr h)) = (u, h)
 
-goes_from : (q : Square) (a b : Edge) (s : Side) → Comes a b (side_of q s) (is_begin_blocked q s) (is_end_blocked q s) (prior_of q s) → GoesFrom q a b
-goes_from q a b Left h = elim (goes_at a b q.left q.bottom q.right q.top q.low_left q.low_right q.high_right q.high_left h) [
-  | inl g ↦ record { side = Bottom; is = g }
-  | inr (inl g) ↦ record { side = Right; is = g }
-  | inr (inr g) ↦ record { side = Top; is = g }
-]
-goes_from q a b Bottom h = elim (goes_at a b q.bottom q.right q.top q.left q.low_right q.high_right q.high_left q.low_left h) [
-  | inl g ↦ record { side = Right; is = g }
-  | inr (inl g) ↦ record { side = Top; is = g }
-  | inr (inr g) ↦ record { side = Left; is = g }
-]
-goes_from q a b Right h = elim (goes_at a b q.right q.top q.left q.bottom q.high_right q.high_left q.low_left q.low_right h) [
-  | inl g ↦ record { side = Top; is = g }
-  | inr (inl g) ↦ record { side = Left; is = g }
-  | inr (inr g) ↦ record { side = Bottom; is = g }
-]
-goes_from q a b Top h = elim (goes_at a b q.top q.left q.bottom q.right q.high_left q.low_left q.low_right q.high_right h) [
-  | inl g ↦ record { side = Left; is = g }
-  | inr (inl g) ↦ record { side = Bottom; is = g }
-  | inr (inr g) ↦ record { side = Right; is = g }
-]
+module _ (q : Square) (a b : Edge) where
+  comes_to : Contains (joins_of q) (join a b) → MeetsSide q false b a
+  comes_to h = elim (of_four (joins_to q Left) (joins_to q Bottom) (joins_to q Right) (joins_to q Top) (join a b) h) [
+    | inl l ↦ (Left, comes_at a b q.left q.bottom q.right q.top q.low_left q.low_right q.high_right q.high_left l)
+    | inr (inl m) ↦ (Bottom, comes_at a b q.bottom q.right q.top q.left q.low_right q.high_right q.high_left q.low_left m)
+    | inr (inr (inl r)) ↦ (Right, comes_at a b q.right q.top q.left q.bottom q.high_right q.high_left q.low_left q.low_right r)
+    | inr (inr (inr t)) ↦ (Top, comes_at a b q.top q.left q.bottom q.right q.high_left q.low_left q.low_right q.high_right t)
+  ]
 
-back : (q : Square) (a b : Edge) (s : Side) → Goes a b (side_of q s) (is_begin_blocked q s) (is_end_blocked q s) (next_of q s) → ComesTo q a b
-back q a b Bottom h = elim (back_at a b q.left q.bottom q.right q.top q.low_left q.low_right q.high_right q.high_left h) [
-  | inl c ↦ record { side = Left; is = c }
-  | inr (inl c) ↦ record { side = Top; is = c }
-  | inr (inr c) ↦ record { side = Right; is = c }
-]
-back q a b Right h = elim (back_at a b q.bottom q.right q.top q.left q.low_right q.high_right q.high_left q.low_left h) [
-  | inl c ↦ record { side = Bottom; is = c }
-  | inr (inl c) ↦ record { side = Left; is = c }
-  | inr (inr c) ↦ record { side = Top; is = c }
-]
-back q a b Top h = elim (back_at a b q.right q.top q.left q.bottom q.high_right q.high_left q.low_left q.low_right h) [
-  | inl c ↦ record { side = Right; is = c }
-  | inr (inl c) ↦ record { side = Bottom; is = c }
-  | inr (inr c) ↦ record { side = Left; is = c }
-]
-back q a b Left h = elim (back_at a b q.top q.left q.bottom q.right q.high_left q.low_left q.low_right q.high_right h) [
-  | inl c ↦ record { side = Top; is = c }
-  | inr (inl c) ↦ record { side = Right; is = c }
-  | inr (inr c) ↦ record { side = Bottom; is = c }
-]
+  -- and the other way round
+  joined : MeetsSide q false b a → Contains (joins_of q) (join a b)
+  joined h = to_four (joins_to q Left) (joins_to q Bottom) (joins_to q Right) (joins_to q Top) (join a b) (by h.0 h.1)
+    where
+      by : (s : Side) → MeetsAt q false b a s
+          → Contains (joins_to q Left) (join a b) ⊎ (Contains (joins_to q Bottom) (join a b) ⊎ (Contains (joins_to q Right) (join a b) ⊎ Contains (joins_to q Top) (join a b)))
+      by Left m = inl (joined_at a b q.left q.bottom q.right q.top q.low_left q.low_right q.high_right q.high_left m)
+      by Bottom m = inr (inl (joined_at a b q.bottom q.right q.top q.left q.low_right q.high_right q.high_left q.low_left m))
+      by Right m = inr (inr (inl (joined_at a b q.right q.top q.left q.bottom q.high_right q.high_left q.low_left q.low_right m)))
+      by Top m = inr (inr (inr (joined_at a b q.top q.left q.bottom q.right q.high_left q.low_left q.low_right q.high_right m)))
+
+  -- the other end: round the square one way and the other
+  far_end : (s : Side) → MeetsAt q false b a s → MeetsSide q true a b
+  far_end Left m = pick (MeetsAt q true a b) Bottom Right Top (other_end a b q.left q.bottom q.right q.top q.low_left q.low_right q.high_right q.high_left m)
+  far_end Bottom m = pick (MeetsAt q true a b) Right Top Left (other_end a b q.bottom q.right q.top q.left q.low_right q.high_right q.high_left q.low_left m)
+  far_end Right m = pick (MeetsAt q true a b) Top Left Bottom (other_end a b q.right q.top q.left q.bottom q.high_right q.high_left q.low_left q.low_right m)
+  far_end Top m = pick (MeetsAt q true a b) Left Bottom Right (other_end a b q.top q.left q.bottom q.right q.high_left q.low_left q.low_right q.high_right m)
+
+  near_end : (s : Side) → MeetsAt q true b a s → MeetsSide q false a b
+  near_end Left m = pick (MeetsAt q false a b) Top Right Bottom (other_end a b q.left q.top q.right q.bottom q.high_left q.high_right q.low_right q.low_left m)
+  near_end Bottom m = pick (MeetsAt q false a b) Left Top Right (other_end a b q.bottom q.left q.top q.right q.low_left q.high_left q.high_right q.low_right m)
+  near_end Right m = pick (MeetsAt q false a b) Bottom Left Top (other_end a b q.right q.bottom q.left q.top q.low_right q.low_left q.high_left q.high_right m)
+  near_end Top m = pick (MeetsAt q false a b) Right Bottom Left (other_end a b q.top q.right q.bottom q.left q.high_right q.low_right q.low_left q.high_left m)
 
 -- two sides that are one edge, both upward or both not, are one side of one square
 pub same_side : (grid : Grid) (i j k l : ℕ) (s t : Side) → side_of (square_at grid i j) s ≡ side_of (square_at grid k l) t → is_upward s ≡ is_upward t → (i ≡ k) × (j ≡ l) × (s ≡ t)
@@ -238,98 +203,72 @@ pub one_side : (grid : Grid) (i j k l : ℕ) (s t : Side) (b : Bool) → side_of
 one_side grid i j k l s t b e p q v w = same_side grid i j k l s t e (same_direction (is_upward s) (is_upward t) b
     (sym (lower_at grid i j s b p q) ∙ (ap (is_lower_blocked grid) e ∙ lower_at grid k l t b v w)))
 
--- a join of the grid, seen from both of its sides
-pub record Going (grid : Grid) (a b : Edge) : Type 0 where
+-- a join goes from the first edge to the second, if forward, or else the other way
+abbrev pub Joined : Grid → Bool → Edge → Edge → Type 0
+Joined grid true a b = IsJoin grid a b
+Joined grid false a b = IsJoin grid b a
+
+-- a join of the grid, seen from one of its sides
+pub record Seen (grid : Grid) (forward : Bool) (a b : Edge) : Type 0 where
   pub column : ℕ
   pub row : ℕ
   pub side : Side
   pub at : IsSide grid a column row side
-  pub begins : is_begin_blocked (square_at grid column row) side ≡ true
-  pub ends : is_end_blocked (square_at grid column row) side ≡ false
-  pub to : b ≡ next_of (square_at grid column row) side
+  pub begins : is_begin_blocked (square_at grid column row) side ≡ forward
+  pub ends : is_end_blocked (square_at grid column row) side ≡ not forward
+  pub to : b ≡ far_of (square_at grid column row) forward side
 
-pub record Coming (grid : Grid) (a b : Edge) : Type 0 where
-  pub column : ℕ
-  pub row : ℕ
-  pub side : Side
-  pub at : IsSide grid b column row side
-  pub begins : is_begin_blocked (square_at grid column row) side ≡ false
-  pub ends : is_end_blocked (square_at grid column row) side ≡ true
-  pub from : a ≡ prior_of (square_at grid column row) side
+module _ (grid : Grid) (a b : Edge) where
+  seen_at : (forward : Bool) (i j : ℕ) → i + 1 < grid.columns → j + 1 < grid.rows → MeetsSide (square_at grid i j) forward a b → Seen grid forward a b
+  seen_at forward i j p q h = record {
+    column = i;
+    row = j;
+    side = h.0;
+    at = record { column_ok = p; row_ok = q; same = h.1.at };
+    begins = begins forward _ _ h.1.is_free h.1.is_blocked;
+    ends = ends forward _ _ h.1.is_free h.1.is_blocked;
+    to = h.1.to;
+  }
+    where
+      begins : (f x y : Bool) → (if f then y else x) ≡ false → (if f then x else y) ≡ true → x ≡ f
+      begins true x y p q = q
+      begins false x y p q = p
 
-pub coming : (grid : Grid) (a b : Edge) → IsJoin grid a b → Coming grid a b
-coming grid a b h =
-    let c = comes_to (square_at grid h.column h.row) a b h.joined in
-    record {
-      column = h.column;
-      row = h.row;
-      side = c.side;
-      at = record { column_ok = h.column_ok; row_ok = h.row_ok; same = c.is.to };
-      begins = c.is.begins_free;
-      ends = c.is.ends_blocked;
-      from = c.is.from;
-    }
+      ends : (f x y : Bool) → (if f then y else x) ≡ false → (if f then x else y) ≡ true → y ≡ not f
+      ends true x y p q = p
+      ends false x y p q = q
 
-pub going : (grid : Grid) (a b : Edge) → IsJoin grid a b → Going grid a b
-going grid a b h =
-    let c = comes_to (square_at grid h.column h.row) a b h.joined in
-    let g = goes_from (square_at grid h.column h.row) a b c.side c.is in
-    record {
-      column = h.column;
-      row = h.row;
-      side = g.side;
-      at = record { column_ok = h.column_ok; row_ok = h.row_ok; same = g.is.from };
-      begins = g.is.begins_blocked;
-      ends = g.is.ends_free;
-      to = g.is.to;
-    }
+  meets : (forward : Bool) (h : Seen grid forward a b) → MeetsAt (square_at grid h.column h.row) forward a b h.side
+  meets true h = record { is_free = h.ends; is_blocked = h.begins; at = h.at.same; to = h.to }
+  meets false h = record { is_free = h.begins; is_blocked = h.ends; at = h.at.same; to = h.to }
 
-pub from_coming : (grid : Grid) (a b : Edge) → Coming grid a b → IsJoin grid a b
-from_coming grid a b h = record {
-  column = h.column;
-  row = h.row;
-  column_ok = h.at.column_ok;
-  row_ok = h.at.row_ok;
-  joined = joined (square_at grid h.column h.row) a b (record { side = h.side; is = record { begins_free = h.begins; ends_blocked = h.ends; to = h.at.same; from = h.from } });
-}
+  pub seen : (forward : Bool) → Joined grid forward a b → Seen grid forward a b
+  seen true h =
+      let m = comes_to (square_at grid h.column h.row) a b h.joined in
+      seen_at true h.column h.row h.column_ok h.row_ok (far_end (square_at grid h.column h.row) a b m.0 m.1)
+  seen false h = seen_at false h.column h.row h.column_ok h.row_ok (comes_to (square_at grid h.column h.row) b a h.joined)
 
-pub from_going : (grid : Grid) (a b : Edge) → Going grid a b → IsJoin grid a b
-from_going grid a b h = record {
-  column = h.column;
-  row = h.row;
-  column_ok = h.at.column_ok;
-  row_ok = h.at.row_ok;
-  joined =
-      joined (square_at grid h.column h.row) a b
-      (back (square_at grid h.column h.row) a b h.side (record { begins_blocked = h.begins; ends_free = h.ends; from = h.at.same; to = h.to }));
-}
+  is_join : (c d : Edge) (i j : ℕ) → i + 1 < grid.columns → j + 1 < grid.rows → MeetsSide (square_at grid i j) false d c → IsJoin grid c d
+  is_join c d i j p q m = record { column = i; row = j; column_ok = p; row_ok = q; joined = joined (square_at grid i j) c d m }
 
-pub crosses_from : (grid : Grid) (a b : Edge) → IsJoin grid a b → is_crossing grid a ≡ true
-crosses_from grid a b h =
-    let g = going grid a b h in
-    ap (is_crossing grid) g.at.same ∙ side_crosses grid g.column g.row g.side true g.at.column_ok g.at.row_ok g.begins g.ends
+  pub from_seen : (forward : Bool) → Seen grid forward a b → Joined grid forward a b
+  from_seen true h = is_join a b h.column h.row h.at.column_ok h.at.row_ok (near_end (square_at grid h.column h.row) b a h.side (meets true h))
+  from_seen false h = is_join b a h.column h.row h.at.column_ok h.at.row_ok (h.side, meets false h)
 
-pub crosses_to : (grid : Grid) (a b : Edge) → IsJoin grid a b → is_crossing grid b ≡ true
-crosses_to grid a b h =
-    let g = coming grid a b h in
-    ap (is_crossing grid) g.at.same ∙ side_crosses grid g.column g.row g.side false g.at.column_ok g.at.row_ok g.begins g.ends
+  pub crosses : (forward : Bool) → Joined grid forward a b → is_crossing grid a ≡ true
+  crosses forward h =
+      let s = seen forward h in
+      ap (is_crossing grid) s.at.same ∙ side_crosses grid s.column s.row s.side forward s.at.column_ok s.at.row_ok s.begins s.ends
 
 same_place : (grid : Grid) (f : Square → Side → Edge) (i j k l : ℕ) (s t : Side) → i ≡ k → j ≡ l → s ≡ t → f (square_at grid i j) s ≡ f (square_at grid k l) t
 same_place grid f i j k l s t p q r = cc
 
-apart_from : (grid : Grid) (a b c : Edge) → IsJoin grid a b → IsJoin grid a c → b ≡ c
-apart_from grid a b c h k =
-    let g = going grid a b h in
-    let m = going grid a c k in
-    let o = one_side grid g.column g.row m.column m.row g.side m.side true (sym g.at.same ∙ m.at.same) g.begins g.ends m.begins m.ends in
-    g.to ∙ (same_place grid next_of _ _ _ _ _ _ o.0 o.1 o.2 ∙ sym m.to)
-
-apart_to : (grid : Grid) (a b c : Edge) → IsJoin grid b a → IsJoin grid c a → b ≡ c
-apart_to grid a b c h k =
-    let g = coming grid b a h in
-    let m = coming grid c a k in
-    let o = one_side grid g.column g.row m.column m.row g.side m.side false (sym g.at.same ∙ m.at.same) g.begins g.ends m.begins m.ends in
-    g.from ∙ (same_place grid prior_of _ _ _ _ _ _ o.0 o.1 o.2 ∙ sym m.from)
+apart : (grid : Grid) (forward : Bool) (a b c : Edge) → Joined grid forward a b → Joined grid forward a c → b ≡ c
+apart grid forward a b c h k =
+    let g = seen grid a b forward h in
+    let m = seen grid a c forward k in
+    let o = one_side grid g.column g.row m.column m.row g.side m.side forward (sym g.at.same ∙ m.at.same) g.begins g.ends m.begins m.ends in
+    g.to ∙ (same_place grid (λ (q : Square). far_of q forward) _ _ _ _ _ _ o.0 o.1 o.2 ∙ sym m.to)
 
 pub joins_are_apart : JoinsAreApart
-joins_are_apart = record { from = apart_from; to = apart_to }
+joins_are_apart = record { from = λ grid. apart grid true; to = λ grid. apart grid false }

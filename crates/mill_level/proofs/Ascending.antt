@@ -1,36 +1,13 @@
 -- Runs that ascend, and the positions that stand in them.
-use Rattle.std.specs.Prelude.{◌≡◌, ℕ, ◌≤◌, ◌<◌, ℤ, ◌<ℤ◌, ◌≤ℤ◌, int_lt, int_le, Bool, true, false, List, length, slice_index_or, MatchBool, refl}
-use Rattle.std.specs.List.Sorted.{IsPartitionedBy, IsPartitionPoint}
-use Rattle.std.proofs.Common.{arith, sym, subst}
+use Rattle.std.specs.Prelude.{◌≡◌, ℕ, ◌+◌, ◌≤◌, ◌<◌, ℤ, ◌<ℤ◌, ◌≤ℤ◌, int_le, Bool, true, false, List, length, slice_index_or, MatchBool, refl}
+use Rattle.std.proofs.Common.{◌⊎◌, inl, inr, arith, sym, subst}
+use Rattle.std.proofs.lemmas.Bool.{cases_lt}
 use Rattle.std.proofs.lemmas.Int.{ints, by_lt_z}
 use Rattle.std.proofs.lemmas.List.{get_or_default}
 use Rattle.mill_push.specs.declared.fiber.Run.{Run}
 use Rattle.mill_push.specs.Runs.{StandsIn}
-use Rattle.mill_level.specs.inner.Fibers.{AreAscending, IsBefore}
-
-still_before : (a b c : ℤ) → a ≤ℤ b → int_lt b c ≡ true → int_lt a c ≡ true
-still_before a b c h k = grind (arith, ints)
-
--- those that end before a position come before the others
-pub IsPartitionedBy-lasts : (runs : List Run) (v : ℤ) → AreAscending runs → IsPartitionedBy (λ (run : Run). int_lt run.last v) runs
-IsPartitionedBy-lasts runs v ascend i j run order inside h = still_before _ _ v (ascend.lasts i j run order inside) h
-
--- where their search for a position ends
-pub is_before : (runs : List Run) (v : ℤ) (i : ℕ)
-    → IsPartitionPoint (λ (run : Run). int_lt run.last v ≡ true) (λ (run : Run). int_lt run.last v ≡ false) runs i → IsBefore runs v i
-is_before runs v i h = record {
-  before = λ k run below. less_at (slice_index_or runs k run).last (h.0 k run (omega arith) below);
-  after = λ k run over inside. more_at (slice_index_or runs k run).last (h.1 k run over inside);
-}
-  where
-    less_at : (a : ℤ) → int_lt a v ≡ true → a <ℤ v
-    less_at a h = omega (h, arith, ints)
-
-    more_at : (a : ℤ) → int_lt a v ≡ false → v ≤ℤ a
-    more_at a h = omega (h, arith, ints)
-
-pub through : (a b c : ℤ) → a ≤ℤ b → b ≤ℤ c → a ≤ℤ c
-through a b c h k = omega (h, k, arith, ints)
+use Rattle.mill_push.proofs.Stored.{through}
+use Rattle.mill_level.specs.inner.Fibers.{AreAscending, EndBefore, IsBefore}
 
 pub not_both : (a b : ℤ) → a <ℤ b → b ≤ℤ a → ⊥
 not_both a b h k = omega (h, k, arith, ints)
@@ -43,6 +20,49 @@ from i k refuted = omega (refuted, arith)
 
 pub less : (i k n : ℕ) → i ≤ k → k < n → i < n
 less i k n h e = omega (h, e, arith)
+
+-- what rises from one number to each later one is nowhere less at a later one
+pub at_most_later : (f : ℕ → ℤ) (i j : ℕ) → i ≤ j → (i < j → f i ≤ℤ f j) → f i ≤ℤ f j
+at_most_later f i j order h = elim (cases_lt i j) [
+  | inl less ↦ h less
+  | inr more ↦ subst (λ (k : ℕ). f i ≤ℤ f k) (equal order more) (kept (f i))
+]
+  where
+    equal : i ≤ j → j ≤ i → i ≡ j
+    equal a b = omega (a, b, arith)
+
+    kept : (a : ℤ) → a ≤ℤ a
+    kept a = omega (arith, ints)
+
+-- no run ends before a position, and what ends before one ends before a later one
+pub none_before : (runs : List Run) (v : ℤ) → EndBefore runs v 0
+none_before runs v = record { few = omega arith; each = λ k run below. absurd (omega (below, arith)) }
+
+pub later_too : (runs : List Run) (v w : ℤ) (i : ℕ) → v <ℤ w → EndBefore runs v i → EndBefore runs w i
+later_too runs v w i order h = record { few = h.few; each = λ k run below. chain (slice_index_or runs k run).last (h.each k run below) }
+  where
+    chain : (a : ℤ) → a <ℤ v → a <ℤ w
+    chain a h = omega (h, order, arith, ints)
+
+-- one more run that ends before it, and one that doesn't
+pub one_more_before : (runs : List Run) (v : ℤ) (i : ℕ) (d : Run) → i < length runs → (slice_index_or runs i d).last <ℤ v → EndBefore runs v i → EndBefore runs v (i + 1)
+one_more_before runs v i d inside ends h = record { few = omega (inside, arith); each = λ k run below. by k run (cases_lt k i) below }
+  where
+    by : (k : ℕ) (run : Run) → (k < i) ⊎ (i ≤ k) → k < i + 1 → (slice_index_or runs k run).last <ℤ v
+    by k run (inl less) below = h.each k run less
+    by k run (inr more) below =
+        let same : i ≡ k = omega (more, below, arith) in
+        subst (λ (n : ℕ). (slice_index_or runs n run).last <ℤ v) same (subst (λ (r : Run). r.last <ℤ v) (get_or_default runs i d run inside) ends)
+
+pub stops_before : (runs : List Run) (v : ℤ) (i : ℕ) (d : Run) → AreAscending runs → v ≤ℤ (slice_index_or runs i d).last → EndBefore runs v i → IsBefore runs v i
+stops_before runs v i d ascend ends h = record {
+  before = h;
+  after = λ k run over inside.
+      through v _ _ (subst (λ (r : Run). v ≤ℤ r.last) (get_or_default runs i d run (less i k (length runs) over inside)) ends) (ascend.lasts i k run over inside);
+}
+
+pub all_before : (runs : List Run) (v : ℤ) (i : ℕ) → length runs ≤ i → EndBefore runs v i → IsBefore runs v i
+all_before runs v i past h = record { before = h; after = λ k run over inside. absurd (omega (past, over, inside, arith)) }
 
 -- the run of this number is one that a position stands in
 pub record IsAt (runs : List Run) (v : ℤ) (k : ℕ) (run : Run) : Type 0 where
@@ -68,7 +88,7 @@ stands_at runs v k run h = record {
 module _ (runs : List Run) (ascend : AreAscending runs) (v : ℤ) (i : ℕ) (is : IsBefore runs v i) where
   -- the position stands in no run before that one
   pub not_before : (k : ℕ) (run : Run) → IsAt runs v k run → i ≤ k
-  not_before k run h = from i k (λ less. not_both _ v (is.before k run less) h.last)
+  not_before k run h = from i k (λ less. not_both _ v (is.before.each k run less) h.last)
 
   pub held_at : (run : Run) → i < length runs → (slice_index_or runs i run).first ≤ℤ v → StandsIn runs v
   held_at run inside first = stands_at runs v i run (record { inside = inside; first = first; last = is.after i run (omega arith) inside })
@@ -101,14 +121,3 @@ module _ (runs : List Run) (ascend : AreAscending runs) (v : ℤ) (i : ℕ) (is 
       by : (b : Bool) → int_le (slice_index_or runs i run).first v ≡ b → MatchBool b (StandsIn runs v) (¬ StandsIn runs v)
       by true e = held_at run inside (test _ v e)
       by false e = λ s. not_both v _ (tested _ v e) (held_there s run).first
-
-  -- and where there is none
-  pub told_past : length runs ≤ i → (b : Bool) → b ≡ false → MatchBool b (StandsIn runs v) (¬ StandsIn runs v)
-  told_past past true e = absurd (differ e)
-    where
-      differ : true ≡ false → ⊥
-      differ e = cc
-  told_past past false e = λ s. absurd (passed i (length runs) past (held_there s s.run).inside)
-    where
-      passed : (i n : ℕ) → n ≤ i → i < n → ⊥
-      passed i n h e = omega (h, e, arith)

@@ -1,34 +1,25 @@
 -- The positions that stand in the runs of a fiber are those that are blocked.
-use Rattle.std.specs.Prelude.{◌≡◌, ◌↔◌, ℕ, ◌+◌, ◌-◌, ◌≤◌, ◌<◌, ℤ, pos, ◌+ℤ◌, ◌-ℤ◌, ◌<ℤ◌, ◌≤ℤ◌, Bool, true, false, List, length, slice_index_or, IfOk, MatchBool}
+use Rattle.std.specs.Prelude.{◌↔◌, ℕ, ◌+◌, ◌-◌, ◌≤◌, ◌<◌, ℤ, pos, ◌+ℤ◌, ◌-ℤ◌, ◌<ℤ◌, ◌≤ℤ◌, Bool, true, false, List, length, slice_index_or, IfOk, MatchBool}
 use Rattle.std.specs.declared.result.Result.{Result}
 use Rattle.std.specs.declared.result.Result.TheVariants.{Ok, Err}
-use Rattle.std.proofs.Common.{arith, inl, inr, subst}
-use Rattle.std.proofs.lemmas.Bool.{cases_lt}
+use Rattle.std.proofs.Common.{arith, subst}
 use Rattle.std.proofs.lemmas.Int.{ints}
 use Rattle.std.proofs.lemmas.List.{get_or_default}
 use Rattle.mill_push.specs.declared.fiber.Run.{Run}
 use Rattle.mill_push.specs.Runs.{StandsIn}
 use Rattle.mill_level.specs.inner.Fibers.{AreAdded, ArePositions, HoldBlocked, IsDown, IsPlaceBetween, IsUp, Places, Tells}
 use Rattle.mill_level.proofs.Adding.{added_as}
+use Rattle.mill_level.proofs.Ascending.{at_most_later}
 
 pub last_one : (n : ℕ) → 0 < n → n - 1 < n
 last_one n h = omega (h, arith)
 
 -- a position is not before one of a lower number
-rises : (positions : List ℤ) → ArePositions positions → (i j : ℕ) (v : ℤ) → i ≤ j → j < length positions → slice_index_or positions i v ≤ℤ slice_index_or positions j v
-rises positions ok i j v order inside = elim (cases_lt i j) [
-  | inl less ↦ weaken (ok.rising i j v less inside)
-  | inr more ↦ subst (λ (k : ℕ). slice_index_or positions i v ≤ℤ slice_index_or positions k v) (equal order more) (kept (slice_index_or positions i v))
-]
+pub rises : (positions : List ℤ) → ArePositions positions → (i j : ℕ) (v : ℤ) → i ≤ j → j < length positions → slice_index_or positions i v ≤ℤ slice_index_or positions j v
+rises positions ok i j v order inside = at_most_later (λ (k : ℕ). slice_index_or positions k v) i j order (λ less. weaken (ok.rising i j v less inside))
   where
     weaken : {a b : ℤ} → a <ℤ b → a ≤ℤ b
     weaken h = omega (h, arith, ints)
-
-    equal : i ≤ j → j ≤ i → i ≡ j
-    equal a b = omega (a, b, arith)
-
-    kept : (a : ℤ) → a ≤ℤ a
-    kept a = omega (arith, ints)
 
 module _ (Here There : ℤ → Type 0) (from to : ℤ) (same : (v : ℤ) → from ≤ℤ v → v ≤ℤ to → There v ↔ Here v) where
   within : (low high v : ℤ) → from ≤ℤ low → high ≤ℤ to → low ≤ℤ v → v ≤ℤ high → There v ↔ Here v

@@ -1,5 +1,5 @@
 -- Edges: when two are one, which are the grid's, and their numbers.
-use Rattle.std.proofs.Common.{◌≡◌, ℕ, ◌+◌, ◌*◌, ◌<◌, true, [], refl, sym, arith}
+use Rattle.std.proofs.Common.{◌≡◌, ℕ, ◌+◌, ◌*◌, ◌≤◌, ◌<◌, true, [], refl, sym, ap, ◌∙◌, mul_comm, arith}
 use Rattle.std.proofs.lemmas.Bool.{and_parts, and_from, eqb-true, eq-eqb, ltb-true}
 use Rattle.std.proofs.lemmas.Nat.{same_from_place, mul-add-lt}
 use Rattle.mill_geom.specs.declared.touch.Axis.{Axis}
@@ -60,3 +60,14 @@ one_place c r i j k l Y Y p q s t e = let same = same_from_place i j k l r q t (
 pub one_number : (grid : Grid) (a b : Edge) → a.column < grid.columns → a.row < grid.rows → b.column < grid.columns → b.row < grid.rows
     → edge_number grid a ≡ edge_number grid b → a ≡ b
 one_number grid a b p q s t e = one_place grid.columns grid.rows a.column a.row b.column b.row a.axis b.axis p q s t e
+
+-- the first number of edges along Y is the next after the last of those along X
+pub after_last : (grid : Grid) (e : Edge) → e.axis ≡ X → e.column < grid.columns → grid.columns ≤ e.column + 1 → e.row < grid.rows → grid.rows ≤ e.row + 1
+    → edge_number grid (edge 0 0 Y) ≡ edge_number grid e + 1
+after_last grid e x p q s t = by grid.columns grid.rows e.column e.row p q s t ∙ ap (λ (a : Axis). edge_number grid (edge e.column e.row a) + 1) (sym x)
+  where
+    by : (c r i j : ℕ) → i < c → c ≤ i + 1 → j < r → r ≤ j + 1 → c * r + (0 * r + 0) ≡ j * c + i + 1
+    by c r i j p q s t =
+        let rows : r ≡ j + 1 = omega (s, t, arith) in
+        let all : c * r ≡ (j + 1) * c = mul_comm c r ∙ ap (λ n. n * c) rows in
+        omega (p, q, all, arith)

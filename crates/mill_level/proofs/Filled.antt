@@ -1,6 +1,7 @@
 -- A map with all its rows and columns is that of the lattice.
-use Rattle.std.specs.Prelude.{◌≡◌, ℕ, ◌+◌, ◌*◌, ◌≤◌, ◌<◌, nat_lt, ℤ, pos, ◌+ℤ◌, ◌-ℤ◌, Bool, true, false, ◌&&◌, if◌then◌else◌, List, ◌++◌, length, slice_index_or, MatchBool, refl}
+use Rattle.std.specs.Prelude.{◌≡◌, ℕ, ◌+◌, ◌*◌, ◌≤◌, ◌<◌, nat_lt, ℤ, pos, ◌+ℤ◌, ◌-ℤ◌, Bool, true, false, if◌then◌else◌, List, ◌++◌, length, slice_index_or, MatchBool, refl}
 use Rattle.std.proofs.Common.{arith, ltb-true, sym, subst, ap, ◌∙◌, mul_comm}
+use Rattle.std.proofs.lemmas.Bool.{and_parts, false≢true}
 use Rattle.std.proofs.lemmas.List.{length-append, get_or_append_left, get_or-append-add}
 use Rattle.mill_base.specs.Contact.{Gouges}
 use Rattle.mill_base.specs.Lattices.{lattice_xs, lattice_ys, IsMapLattice}
@@ -23,13 +24,6 @@ use Rattle.mill_level.proofs.Mapping.{ColumnsDone, PlaceColumn, PlaceRow, TellRo
 use Rattle.mill_level.proofs.Positions.{some_columns, some_rows}
 use Rattle.mill_level.proofs.Tables.{IsTable, before}
 use Rattle.mill_level.proofs.Ways.{last_free, way_down, way_up}
-
-both : (a b : Bool) → (a && b) ≡ true → (a ≡ true) × (b ≡ true)
-both true b h = (refl, h)
-both false b h = absurd (wrong h)
-  where
-    wrong : false ≡ true → ⊥
-    wrong e = cc
 
 less : (i n : ℕ) → i + 1 < n → i < n
 less i n h = omega (h, arith)
@@ -58,14 +52,8 @@ module _ (cutter : Cutter) (part : List Tri) (z : ℤ) (lattice : Lattice) (grid
   crossing_has between true false e d held free =
       last_free cutter part z lattice grid c tip (λ n. high +ℤ (pos 0 -ℤ pos n)) place (way_down Blocked low high place (between.down held free))
       (λ n. way_from_upper lattice z grid c.edge n e ∙ down n) here
-  crossing_has between true true e d held also = absurd (wrong d)
-    where
-      wrong : false ≡ true → ⊥
-      wrong e = cc
-  crossing_has between false false e d free also = absurd (wrong d)
-    where
-      wrong : false ≡ true → ⊥
-      wrong e = cc
+  crossing_has between true true e d held also = absurd (false≢true d)
+  crossing_has between false false e d free also = absurd (false≢true d)
 
 -- a map whose rows and columns are all done
 pub record IsFilled (cutter : Cutter) (part : List Tri) (z : ℤ) (lattice : Lattice) (level : LevelMap) : Type 0 where
@@ -120,8 +108,8 @@ module _ (cutter : Cutter) (part : List Tri) (z : ℤ) (lattice : Lattice) (leve
 
   crosses_x : (i j : ℕ) → is_crossing grid (edge i j X) ≡ true → HasLastFree cutter part z lattice grid (crossing_at level (edge i j X))
   crosses_x i j e =
-      let parts = both (has_edge grid (edge i j X)) (differ (is_blocked grid i j) (is_blocked grid (i + 1) j)) e in
-      let ends = both (nat_lt (i + 1) level.columns) (nat_lt j level.rows) parts.0 in
+      let parts = and_parts (has_edge grid (edge i j X)) (differ (is_blocked grid i j) (is_blocked grid (i + 1) j)) e in
+      let ends = and_parts (nat_lt (i + 1) level.columns) (nat_lt j level.rows) parts.0 in
       let next = ltb-true (i + 1) level.columns ends.0 in
       let row = ltb-true j level.rows ends.1 in
       let inside = less i level.columns next in
@@ -133,8 +121,8 @@ module _ (cutter : Cutter) (part : List Tri) (z : ℤ) (lattice : Lattice) (leve
 
   crosses_y : (i j : ℕ) → is_crossing grid (edge i j Y) ≡ true → HasLastFree cutter part z lattice grid (crossing_at level (edge i j Y))
   crosses_y i j e =
-      let parts = both (has_edge grid (edge i j Y)) (differ (is_blocked grid i j) (is_blocked grid i (j + 1))) e in
-      let ends = both (nat_lt i level.columns) (nat_lt (j + 1) level.rows) parts.0 in
+      let parts = and_parts (has_edge grid (edge i j Y)) (differ (is_blocked grid i j) (is_blocked grid i (j + 1))) e in
+      let ends = and_parts (nat_lt i level.columns) (nat_lt (j + 1) level.rows) parts.0 in
       let inside = ltb-true i level.columns ends.0 in
       let next = ltb-true (j + 1) level.rows ends.1 in
       let row = less j level.rows next in

@@ -1,6 +1,5 @@
 -- The trails that are found from the edges below a number.
 use Rattle.std.proofs.Common.{◌≡◌, ℕ, zero, suc, ◌+◌, ◌*◌, ◌<◌, Bool, true, false, cond, ◌&&◌, if◌then◌else◌, ◌⊎◌, ⊎_elim, List, [], ◌∷◌, ◌++◌, replicate, slice_index_or, length, All, refl, sym, ap, ◌∙◌, subst, true≢false, arith, mul-le-mul_right, eq-or-lt_of_le}
-use Rattle.std.proofs.lemmas.Bool.{and_from}
 use Rattle.std.proofs.lemmas.List.{get_or_default, length-replicate, map-append}
 use Rattle.std.proofs.lemmas.List.Elements.{All-nil, All-push}
 use Rattle.std.proofs.lemmas.List.Sums.{sum_by_push}
@@ -62,11 +61,12 @@ found_next level passed trails edge n is column row here f = record { each = f.e
         let one : e ≡ edge = one_number (grid_of level) e edge within.0 within.1 column row (same ∙ is) in
         subst (λ d. is_passed level passed d ≡ true) (sym one) (here (subst (λ d. is_crossing (grid_of level) d ≡ true) one h))
 
--- a crossing whose mark is read at its number
-pub marked_at : (level : LevelMap) (passed : List Bool) (edge : Edge) (n : ℕ) (b : Bool) → n ≡ edge_number (grid_of level) edge → n < length passed → b ≡ slice_index_or passed n b → b ≡ true
-    → is_crossing (grid_of level) edge ≡ true → is_passed level passed edge ≡ true
-marked_at level passed edge n b is less at set h =
-    and_from _ _ (crossing_has_edge (grid_of level) edge h) (ap (λ k. slice_index_or passed k false) (sym is) ∙ get_or_default passed n false b less ∙ sym at ∙ set)
+-- a crossing's mark, read at its number
+pub mark_at : (level : LevelMap) (passed : List Bool) (edge : Edge) (n : ℕ) (b : Bool) → n ≡ edge_number (grid_of level) edge → n < length passed → b ≡ slice_index_or passed n b
+    → is_crossing (grid_of level) edge ≡ true → is_passed level passed edge ≡ b
+mark_at level passed edge n b is less at h =
+    ap (λ has. has && slice_index_or passed (edge_number (grid_of level) edge) false) (crossing_has_edge (grid_of level) edge h)
+    ∙ ap (λ k. slice_index_or passed k false) (sym is) ∙ get_or_default passed n false b less ∙ sym at
 
 still_marked : (a b : Bool) (k : ℕ) → cond b 1 0 ≡ cond a 1 0 + k → a ≡ true → b ≡ true
 still_marked a true k e h = refl

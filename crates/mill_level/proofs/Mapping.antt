@@ -1,6 +1,6 @@
 -- A map as it is filled, row by row and then column by column.
 use Rattle.std.specs.Prelude.{◌≡◌, ℕ, ◌+◌, ◌<◌, ℤ, pos, Bool, List, [], ◌++◌, length, slice_index_or, refl}
-use Rattle.std.proofs.Common.{of_z, to_z, w32, sym, subst, ap, ◌∙◌}
+use Rattle.std.proofs.Common.{sym, subst, ap, ◌∙◌}
 use Rattle.std.proofs.lemmas.List.{append-nil, append_assoc}
 use Rattle.mill_base.specs.Lattices.{lattice_xs, lattice_ys}
 use Rattle.mill_base.specs.declared.points.Tri.{Tri}
@@ -8,12 +8,9 @@ use Rattle.mill_base.specs.declared.cutter.Cutter.{Cutter}
 use Rattle.mill_base.specs.declared.lattice.Lattice.{Lattice}
 use Rattle.mill_base.specs.Numbers.{Within}
 use Rattle.mill_base.specs.declared.limits.TheConstants.{MAX_COORDINATE}
-use Rattle.mill_geom.specs.declared.touch.Axis.{Axis}
 use Rattle.mill_geom.specs.declared.touch.Axis.TheVariants.{X, Y}
 use Rattle.mill_push.specs.declared.fiber.Fiber.{Fiber}
 use Rattle.mill_push.specs.Fibers.{IsBlocked}
-use Rattle.mill_push.specs.Touches.{IsFiber}
-use Rattle.mill_push.proofs.Stored.{stored}
 use Rattle.mill_level.specs.inner.Fibers.{AreAdded, ArePositions, Places, Tells}
 use Rattle.mill_level.proofs.Tables.{IsTable, no_rows, one_row}
 
@@ -78,9 +75,6 @@ module _ (cutter : Cutter) (part : List Tri) (z : ℤ) (lattice : Lattice) where
     place = one_row PlaceColumn (length (lattice_ys lattice)) count h.rest (h.rest ++ p.added) h.place (record { added = p.added; is = refl; size = p.size; each = p.each });
   }
 
--- the fiber at an item of positions
+-- an item of positions is in range
 pub item_within : (items positions : List ℤ) → items ≡ positions → ArePositions positions → (k : ℕ) → k < length items → Within MAX_COORDINATE (slice_index_or items k (pos 0))
 item_within items positions e ok k inside = subst (λ zs. Within MAX_COORDINATE (slice_index_or zs k (pos 0))) (sym e) (ok.within k (pos 0) (subst (λ zs. k < length zs) e inside))
-
-pub fiber_ok : (axis : Axis) (at z : ℤ) → Within MAX_COORDINATE at → Within MAX_COORDINATE z → IsFiber (record { axis = axis; at = to_z w32 (of_z w32 at); z = to_z w32 (of_z w32 z) })
-fiber_ok axis at z a b = record { at_ok = subst (Within MAX_COORDINATE) (sym (stored at a)) a; z_ok = subst (Within MAX_COORDINATE) (sym (stored z b)) b }

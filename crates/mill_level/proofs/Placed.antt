@@ -1,13 +1,13 @@
 -- Each crossing of the chains is at the place that the map has for it; so what was found makes a waterline.
 use Rattle.std.proofs.Common.{◌≡◌, inl, inr, w32, to_z, of_z, ℤ, zero, suc, ◌<◌, Bool, true, false, if◌then◌else◌, List, [], ◌∷◌, length, map, Contains, refl, sym, ◌∙◌, ap, subst, arith}
 use Rattle.std.proofs.lemmas.List.Elements.{All-contains}
-use Rattle.std.proofs.lemmas.Int.{ints, to_z-of_z, fits_signed_from_abs}
-use Rattle.std.specs.Prelude.{All, nat_abs}
+use Rattle.std.specs.Prelude.{All}
 use Rattle.mill_base.specs.Numbers.{Within}
 use Rattle.mill_base.specs.declared.limits.TheConstants.{MAX_COORDINATE}
 use Rattle.mill_base.specs.declared.points.Tri.{Tri}
 use Rattle.mill_base.specs.declared.cutter.Cutter.{Cutter}
 use Rattle.mill_base.specs.declared.lattice.Lattice.{Lattice}
+use Rattle.mill_push.proofs.Stored.{stored}
 use Rattle.mill_level.specs.declared.edge.Edge.{Edge}
 use Rattle.mill_level.specs.declared.grid.LevelMap.{LevelMap}
 use Rattle.mill_level.specs.declared.trace.Trail.{Trail}
@@ -64,12 +64,6 @@ module _ (level : LevelMap) (P : Crossing → Type 0) (places : (e : Edge) → i
 same_outlines : (level : LevelMap) (z : ℤ) (trails : List Trail) → map (λ trail. outline z (chain_of level trail)) trails ≡ map (outline z) (chains_of level trails)
 same_outlines level z [] = refl
 same_outlines level z (trail ∷ trails) = ap (λ os. outline z (chain_of level trail) ∷ os) (same_outlines level z trails)
-
-stored : (z : ℤ) → Within MAX_COORDINATE z → to_z w32 (of_z w32 z) ≡ z
-stored z h = to_z-of_z w32 z (fits_signed_from_abs w32 z small)
-  where
-    small : nat_abs z < 2147483648
-    small = let w = h.within in omega (arith, ints)
 
 -- what was found of a lattice at a height, which the machine stores, makes its waterline
 pub waterline_of : (cutter : Cutter) (part : List Tri) (z : ℤ) (lattice : Lattice) (level : LevelMap) (trails : List Trail) (outlines : List Outline)

@@ -7,8 +7,9 @@ use Rattle.mill_base.specs.Numbers.{Within}
 use Rattle.mill_base.specs.declared.limits.TheConstants.{MAX_COORDINATE}
 use Rattle.mill_push.specs.declared.fiber.Run.{Run}
 use Rattle.mill_push.specs.Runs.{StandsIn}
+use Rattle.mill_push.proofs.Stored.{through}
 use Rattle.mill_level.specs.inner.Fibers.{AreAscending, IsBefore, IsPlaceBetween}
-use Rattle.mill_level.proofs.Ascending.{at_from, stands_at, held_at, not_both, through, beyond, from, less}
+use Rattle.mill_level.proofs.Ascending.{at_from, stands_at, held_at, not_both, beyond, from, less}
 
 below : (a b c : ℤ) → a <ℤ b → b ≤ℤ c → a ≤ℤ c
 below a b c h e = omega (h, e, arith, ints)
@@ -46,10 +47,13 @@ module _ (runs : List Run) (ascend : AreAscending runs) (low high : ℤ) (i : �
   later : i ≤ blocked.member.0
   later =
       let h = at_from runs high blocked in
-      from i blocked.member.0 (λ k. not_both _ low (is.before blocked.member.0 blocked.run k) (below low high _ order h.last))
+      from i blocked.member.0 (λ k. not_both _ low (is.before.each blocked.member.0 blocked.run k) (below low high _ order h.last))
 
-  pub inside_up : i < length runs
+  inside_up : i < length runs
   inside_up = less i blocked.member.0 (length runs) later blocked.member.1
+
+  pub start_ok : (run : Run) → Within MAX_COORDINATE (slice_index_or runs i run).first
+  start_ok run = ascend.first_ok i run inside_up
 
   start_over : (run : Run) → low <ℤ (slice_index_or runs i run).first
   start_over run = beyond _ low (λ at. free (held_at runs ascend low i is run inside_up at))
@@ -65,7 +69,7 @@ module _ (runs : List Run) (ascend : AreAscending runs) (low high : ℤ) (i : �
   passes run w a b s =
       let h = at_from runs w s in
       let k = s.member.0 in
-      let over : i ≤ k = from i k (λ e. not_both _ low (is.before k s.run e) (through low w _ a h.last)) in
+      let over : i ≤ k = from i k (λ e. not_both _ low (is.before.each k s.run e) (through low w _ a h.last)) in
       let first = through _ _ w (ascend.firsts i k s.run over h.inside) h.first in
       clash _ w (subst (λ (r : Run). r.first ≤ℤ w) (get_or_default runs i s.run run inside_up) first) b
     where
@@ -98,25 +102,25 @@ module _ (runs : List Run) (ascend : AreAscending runs) (low high : ℤ) (i : �
       not_from : (i k : ℕ) → (i ≤ k → ⊥) → k < i
       not_from i k refuted = omega (refuted, arith)
 
-  pub some_down : 0 < i
-  some_down = let h = sooner in omega (h, arith)
+  inside_down : i - 1 < length runs
+  inside_down = let h = sooner in omega (h, is.before.few, arith)
 
-  pub inside_down : i ≤ length runs → i - 1 < length runs
-  inside_down bound = let h = sooner in omega (h, bound, arith)
+  pub end_ok : (run : Run) → Within MAX_COORDINATE (slice_index_or runs (i - 1) run).last
+  end_ok run = ascend.last_ok (i - 1) run inside_down
 
-  pub ends_before : (run : Run) → (slice_index_or runs (i - 1) run).last <ℤ high
-  ends_before run = let h = sooner in is.before (i - 1) run (omega (h, arith))
+  ends_before : (run : Run) → (slice_index_or runs (i - 1) run).last <ℤ high
+  ends_before run = let h = sooner in is.before.each (i - 1) run (omega (h, arith))
 
-  pub ends_after : (run : Run) → i ≤ length runs → low ≤ℤ (slice_index_or runs (i - 1) run).last
-  ends_after run bound =
+  ends_after : (run : Run) → low ≤ℤ (slice_index_or runs (i - 1) run).last
+  ends_after run =
       let h = at_from runs low blocked in
       let k = sooner in
-      subst (λ (r : Run). low ≤ℤ r.last) (get_or_default runs (i - 1) blocked.run run (inside_down bound))
-      (through low _ _ h.last (ascend.lasts blocked.member.0 (i - 1) blocked.run (omega (k, arith)) (inside_down bound)))
+      subst (λ (r : Run). low ≤ℤ r.last) (get_or_default runs (i - 1) blocked.run run inside_down)
+      (through low _ _ h.last (ascend.lasts blocked.member.0 (i - 1) blocked.run (omega (k, arith)) inside_down))
 
   -- after that run's end nothing is blocked
-  passed : (run : Run) → i ≤ length runs → (w : ℤ) → ((slice_index_or runs (i - 1) run).last +ℤ pos 1) ≤ℤ w → w ≤ℤ high → ¬ StandsIn runs w
-  passed run bound w a b s =
+  passed : (run : Run) (w : ℤ) → ((slice_index_or runs (i - 1) run).last +ℤ pos 1) ≤ℤ w → w ≤ℤ high → ¬ StandsIn runs w
+  passed run w a b s =
       let h = at_from runs w s in
       let k = s.member.0 in
       let mine : Run = slice_index_or runs k s.run in
@@ -124,22 +128,22 @@ module _ (runs : List Run) (ascend : AreAscending runs) (low high : ℤ) (i : �
       free (stands_at runs high k s.run (record { inside = h.inside; first = through mine.first w high h.first b; last = over }))
     where
       start : (other : Run) → ((slice_index_or runs (i - 1) run).last +ℤ pos 1) ≤ℤ w → ((slice_index_or runs (i - 1) other).last +ℤ pos 1) ≤ℤ w
-      start other a = subst (λ (r : Run). (r.last +ℤ pos 1) ≤ℤ w) (get_or_default runs (i - 1) run other (inside_down bound)) a
+      start other a = subst (λ (r : Run). (r.last +ℤ pos 1) ≤ℤ w) (get_or_default runs (i - 1) run other inside_down) a
 
       lasts : (k : ℕ) → k < i → (slice_index_or runs k s.run).last ≤ℤ (slice_index_or runs (i - 1) s.run).last
-      lasts k e = ascend.lasts k (i - 1) s.run (omega (e, arith)) (inside_down bound)
+      lasts k e = ascend.lasts k (i - 1) s.run (omega (e, arith)) inside_down
 
       clash : (a w : ℤ) → (a +ℤ pos 1) ≤ℤ w → w ≤ℤ a → ⊥
       clash a w h e = omega (h, e, arith, ints)
 
-  pub place_down : (run : Run) → i ≤ length runs → IsPlaceBetween (StandsIn runs) low high ((slice_index_or runs (i - 1) run).last +ℤ pos 1)
-  place_down run bound = record {
+  pub place_down : (run : Run) → IsPlaceBetween (StandsIn runs) low high ((slice_index_or runs (i - 1) run).last +ℤ pos 1)
+  place_down run = record {
     up = λ held _. absurd (held blocked);
     down = λ _ _. record {
-      from = after_it low _ (ends_after run bound);
+      from = after_it low _ (ends_after run);
       to = to_after _ high (ends_before run);
-      free = passed run bound;
-      blocked = subst (StandsIn runs) (back_again _) (end_stands runs ascend (i - 1) run (inside_down bound));
+      free = passed run;
+      blocked = subst (StandsIn runs) (back_again _) (end_stands runs ascend (i - 1) run inside_down);
     };
   }
 

@@ -1,7 +1,6 @@
 -- The runs of a fiber ascend.
-use Rattle.std.specs.Prelude.{◌≡◌, ℕ, zero, suc, ◌≤◌, ◌<◌, ℤ, pos, ◌+ℤ◌, ◌<ℤ◌, ◌≤ℤ◌, List, [], ◌∷◌, length, slice_index_or}
-use Rattle.std.proofs.Common.{arith, inl, inr, subst}
-use Rattle.std.proofs.lemmas.Bool.{cases_lt}
+use Rattle.std.specs.Prelude.{ℕ, zero, suc, ◌<◌, ℤ, pos, ◌+ℤ◌, ◌<ℤ◌, ◌≤ℤ◌, List, [], ◌∷◌, length, slice_index_or}
+use Rattle.std.proofs.Common.{arith}
 use Rattle.std.proofs.lemmas.Int.{ints}
 use Rattle.mill_base.specs.Numbers.{Within}
 use Rattle.mill_base.specs.declared.limits.TheConstants.{MAX_COORDINATE}
@@ -9,6 +8,7 @@ use Rattle.mill_push.specs.declared.fiber.Run.{Run}
 use Rattle.mill_push.specs.Runs.{RunsOf}
 use Rattle.mill_push.proofs.Stored.{within_between, through}
 use Rattle.mill_level.specs.inner.Fibers.{AreAscending}
+use Rattle.mill_level.proofs.Ascending.{at_most_later}
 
 module _ (Blocked : ℤ → Type 0) (to : ℤ) where
   -- each run starts where the runs may start, is some positions long, and ends where they end
@@ -41,22 +41,10 @@ module _ (Blocked : ℤ → Type 0) (to : ℤ) where
       past a b h = omega (h, arith, ints)
   rises from (r ∷ rs) h (suc i) (suc j) d less inside = rises (r.last +ℤ pos 1) rs h.1 i j d (omega (less, arith)) (omega (inside, arith))
 
-  same_or_less : (f : Run → ℤ) (runs : List Run) (i j : ℕ) (d : Run) → i ≤ j → (i < j → f (slice_index_or runs i d) ≤ℤ f (slice_index_or runs j d)) → f (slice_index_or runs i d) ≤ℤ f (slice_index_or runs j d)
-  same_or_less f runs i j d order h = elim (cases_lt i j) [
-    | inl less ↦ h less
-    | inr more ↦ subst (λ (k : ℕ). f (slice_index_or runs i d) ≤ℤ f (slice_index_or runs k d)) (equal order more) (kept (f (slice_index_or runs i d)))
-  ]
-    where
-      equal : i ≤ j → j ≤ i → i ≡ j
-      equal a b = omega (a, b, arith)
-
-      kept : (a : ℤ) → a ≤ℤ a
-      kept a = omega (arith, ints)
-
   pub ascends : (from : ℤ) (runs : List Run) → RunsOf Blocked from to runs → Within MAX_COORDINATE from → Within MAX_COORDINATE to → AreAscending runs
   ascends from runs h low high = record {
-    firsts = λ i j d order inside. same_or_less (λ r. r.first) runs i j d order (λ less. over (each from runs h i d (before i j (length runs) less inside)).some (rises from runs h i j d less inside));
-    lasts = λ i j d order inside. same_or_less (λ r. r.last) runs i j d order (λ less. under (rises from runs h i j d less inside) (each from runs h j d inside).some);
+    firsts = λ i j d order inside. at_most_later (λ (k : ℕ). (slice_index_or runs k d).first) i j order (λ less. over (each from runs h i d (before i j (length runs) less inside)).some (rises from runs h i j d less inside));
+    lasts = λ i j d order inside. at_most_later (λ (k : ℕ). (slice_index_or runs k d).last) i j order (λ less. under (rises from runs h i j d less inside) (each from runs h j d inside).some);
     some = λ k d inside. (each from runs h k d inside).some;
     first_ok = λ k d inside. let e = each from runs h k d inside in within_between from _ to low high e.starts (through _ _ to e.some e.ends);
     last_ok = λ k d inside. let e = each from runs h k d inside in within_between from _ to low high (through from _ _ e.starts e.some) e.ends;

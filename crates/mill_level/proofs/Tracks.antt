@@ -11,7 +11,7 @@ use Rattle.mill_level.specs.Joins.{IsJoin}
 use Rattle.mill_level.specs.inner.Maps.{edge_number, grid_of}
 use Rattle.mill_level.specs.inner.Trails.{AreMarks, is_passed, mark}
 use Rattle.mill_level.specs.inner.Ways.{GoesBack, GoesOn, GrewAlike, IsTrack, MayGoOn}
-use Rattle.mill_level.proofs.Apart.{crosses_from, crosses_to, joins_are_apart}
+use Rattle.mill_level.proofs.Apart.{crosses, joins_are_apart}
 use Rattle.mill_level.proofs.Edges.{crossing_has_edge}
 use Rattle.mill_level.proofs.Marking.{at_most_one, is_none, is_one, mark_set, not_both}
 use Rattle.mill_level.proofs.Steps.{Stands, counts_stands, no_steps, one_when, stands_counts, steps_push, twice}
@@ -28,10 +28,10 @@ pub record KeepsMarks (level : LevelMap) (passed : List Bool) (Step : Edge → E
   pub back : (a b : Edge) → Step a b → is_passed level passed b ≡ true → is_passed level passed a ≡ true
 
 pub goes_on : (grid : Grid) → IsOneWay grid (GoesOn grid)
-goes_on grid = record { from = joins_are_apart.from grid; to = joins_are_apart.to grid; crosses = λ a b h. crosses_to grid a b h }
+goes_on grid = record { from = joins_are_apart.from grid; to = joins_are_apart.to grid; crosses = λ a b. crosses grid b a false }
 
 pub goes_back : (grid : Grid) → IsOneWay grid (GoesBack grid)
-goes_back grid = record { from = joins_are_apart.to grid; to = joins_are_apart.from grid; crosses = λ a b h. crosses_from grid b a h }
+goes_back grid = record { from = joins_are_apart.to grid; to = joins_are_apart.from grid; crosses = λ a b. crosses grid b a true }
 
 pub keeps_on : (level : LevelMap) (passed : List Bool) → AreMarks level passed → KeepsMarks level passed (GoesOn (grid_of level))
 keeps_on level passed h = record { on = h.after; back = h.before }
@@ -166,7 +166,7 @@ module _ (level : LevelMap) (new : List Bool) (last : Edge) (edges : List Edge) 
   way_push = record {
     old = way.old;
     old_ok = way.old_ok;
-    track = track_push _ _ _ _ _ _ way.track x next (crosses_to (grid_of level) last x next) new_after;
+    track = track_push _ _ _ _ _ _ way.track x next ((goes_on (grid_of level)).crosses last x next) new_after;
     starts = λ d. subst (λ (e : Edge). (a : Edge) → ¬ IsJoin (grid_of level) a e) (sym (get_or_append_left edges (x ∷ []) d 0 way.track.some)) (way.starts d);
   }
 

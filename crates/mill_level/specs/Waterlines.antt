@@ -1,9 +1,8 @@
 -- The chains of a lattice at a height.
-use Rattle.std.specs.Prelude.{◌≡◌, ℕ, ◌<◌, ◌≤ℤ◌, Bool, ℤ, pos, List, map, Contains}
-use Rattle.mill_base.specs.Numbers.{Within}
+use Rattle.std.specs.Prelude.{◌≡◌, ℕ, ◌<◌, Bool, ℤ, List, map, Contains}
 use Rattle.mill_base.specs.Points.{point_at}
 use Rattle.mill_base.specs.Lattices.{node_count}
-use Rattle.mill_base.specs.declared.limits.TheConstants.{MAX_COORDINATE, MAX_NODES}
+use Rattle.mill_base.specs.declared.limits.TheConstants.{MAX_NODES}
 use Rattle.mill_base.specs.declared.points.Pt3.{Pt3}
 use Rattle.mill_base.specs.declared.points.Tri.{Tri}
 use Rattle.mill_base.specs.declared.cutter.Cutter.{Cutter}

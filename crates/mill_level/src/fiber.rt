@@ -1,102 +1,98 @@
 //! What the runs of a fiber say of positions on it.
-ghost use Rattle.std.specs.Prelude.{◌≡◌, ◌≤◌, ◌<◌, ◌≤ℤ◌, ◌<ℤ◌, IfOk, MatchBool, length};
+ghost use Rattle.std.specs.Prelude.{◌≡◌, ◌≤ℤ◌, ◌<ℤ◌, ◌<◌, IfOk, MatchBool, length};
 ghost use Rattle.mill_base.specs.Numbers.{Within};
 ghost use Rattle.mill_base.specs.declared.limits.TheConstants.{MAX_COORDINATE};
-ghost use Rattle.mill_base.specs.Sizes.{IsCutter};
-ghost use Rattle.mill_cells.specs.Sorted.{sorted_of};
-ghost use Rattle.mill_push.specs.Fibers.{IsBlocked};
+ghost use Rattle.mill_geom.specs.declared.touch.Axis.TheVariants.{X, Y};
 ghost use Rattle.mill_push.specs.Runs.{AreRuns, StandsIn};
 ghost use Rattle.mill_push.specs.Touches.{IsFiber};
-ghost use Rattle.mill_level.specs.inner.Fibers.{AreAdded, AreAscending, ArePositions, HoldBlocked, IsBefore, IsPlaceBetween, Places, Tells};
+ghost use Rattle.mill_level.specs.inner.Cuts.{BlockedOn, IsCut};
+ghost use Rattle.mill_level.specs.inner.Fibers.{AreAdded, AreAscending, ArePositions, EndBefore, HoldBlocked, IsPlaceBetween, IsSpot, Places, Tells};
 
-use mill_base::{Cutter, Steps, WantOfMemory};
-use mill_cells::Cells;
-use mill_part::Part;
+use crate::cut::Cut;
+use mill_base::{Steps, WantOfMemory};
+use mill_geom::Axis;
 use mill_push::{Fiber, Run, push};
 use std::alloc::Global;
 use std::marker::Brand;
 use std::sync::ledger::{Blank, Ledger};
 
-/// Adds for each position of a fiber whether it is blocked, and for each but the last the place
-/// between it and the next; and 0 for the last.
+/// A position, and how many of a fiber's runs end before it.
+#[derive(Clone, Copy)]
+struct Spot {
+    position: i32,
+    before: usize,
+}
+
+/// Adds for each position of the row at y whether it is blocked, and for each but the last the
+/// place between it and the next; and 0 for the last.
 pub fn add_row(
     alloc: Global,
-    part: &Part,
-    cells: &Cells,
-    cutter: Cutter,
-    fiber: Fiber,
-    positions: &[i32],
+    cut: &Cut<'_>,
+    y: i32,
+    xs: &[i32],
     blocked: &mut Vec<bool>,
     places: &mut Vec<i32>,
 ) -> Result<(), WantOfMemory>
-    requires cells_ok { cells.now ≡ sorted_of part.now }
-    requires cutter_ok { IsCutter cutter }
-    requires fiber_ok { IsFiber fiber }
-    requires positions_ok { ArePositions positions.now }
-    ensures blocked { IfOk result (λ _. AreAdded (Tells (IsBlocked cutter part.now fiber) positions.now) (length positions.now) blocked.old.items blocked.new.items) }
-    ensures places { IfOk result (λ _. AreAdded (Places (IsBlocked cutter part.now fiber) positions.now) (length positions.now) places.old.items places.new.items) }
+    requires cut_ok { IsCut cut.now }
+    requires y_ok { Within MAX_COORDINATE y }
+    requires xs_ok { ArePositions xs.now }
+    ensures blocked { IfOk result (λ _. AreAdded (Tells (BlockedOn cut.now X y) xs.now) (length xs.now) blocked.old.items blocked.new.items) }
+    ensures places { IfOk result (λ _. AreAdded (Places (BlockedOn cut.now X y) xs.now) (length xs.now) places.old.items places.new.items) }
 {
-    let runs = fiber_runs(alloc, part, cells, cutter, fiber, positions)?;
-    add_blocked(&runs, positions, blocked)?;
-    add_places(&runs, positions, places)
+    let runs = fiber_runs(alloc, cut, Axis::X, y, xs)?;
+    add_blocked(&runs, xs, blocked)?;
+    add_places(&runs, xs, places)
 }
 
-/// Adds for each position of a fiber but the last the place between it and the next; and 0 for the
-/// last.
+/// Adds for each position of the column at x but the last the place between it and the next; and 0
+/// for the last.
 pub fn add_column(
     alloc: Global,
-    part: &Part,
-    cells: &Cells,
-    cutter: Cutter,
-    fiber: Fiber,
-    positions: &[i32],
+    cut: &Cut<'_>,
+    x: i32,
+    ys: &[i32],
     places: &mut Vec<i32>,
 ) -> Result<(), WantOfMemory>
-    requires cells_ok { cells.now ≡ sorted_of part.now }
-    requires cutter_ok { IsCutter cutter }
-    requires fiber_ok { IsFiber fiber }
-    requires positions_ok { ArePositions positions.now }
-    ensures { IfOk result (λ _. AreAdded (Places (IsBlocked cutter part.now fiber) positions.now) (length positions.now) places.old.items places.new.items) }
+    requires cut_ok { IsCut cut.now }
+    requires x_ok { Within MAX_COORDINATE x }
+    requires ys_ok { ArePositions ys.now }
+    ensures { IfOk result (λ _. AreAdded (Places (BlockedOn cut.now Y x) ys.now) (length ys.now) places.old.items places.new.items) }
 {
-    let runs = fiber_runs(alloc, part, cells, cutter, fiber, positions)?;
-    add_places(&runs, positions, places)
+    let runs = fiber_runs(alloc, cut, Axis::Y, x, ys)?;
+    add_places(&runs, ys, places)
 }
 
-/// The runs of a fiber from its first position to its last at which the cutter gouges the part. The
-/// touches aren't counted.
+/// The runs of a fiber, from the first of the positions to the last, at which the cutter gouges the
+/// part. The touches aren't counted.
 fn fiber_runs(
     alloc: Global,
-    part: &Part,
-    cells: &Cells,
-    cutter: Cutter,
-    fiber: Fiber,
+    cut: &Cut<'_>,
+    axis: Axis,
+    at: i32,
     positions: &[i32],
 ) -> Result<Vec<Run>, WantOfMemory>
-    requires cells_ok { cells.now ≡ sorted_of part.now }
-    requires cutter_ok { IsCutter cutter }
-    requires fiber_ok { IsFiber fiber }
+    requires cut_ok { IsCut cut.now }
+    requires at_ok { Within MAX_COORDINATE at }
     requires positions_ok { ArePositions positions.now }
     ensures ascending { IfOk result (λ runs. AreAscending runs.items) }
-    ensures blocked { IfOk result (λ runs. HoldBlocked (IsBlocked cutter part.now fiber) positions.now runs.items) }
+    ensures blocked { IfOk result (λ runs. HoldBlocked (BlockedOn cut.now axis at) positions.now runs.items) }
 {
+    let fiber = Fiber { axis, at, z: cut.z };
     let from = positions[0];
     let to = positions[positions.len() - 1];
-    counted_runs::<Brand>(alloc, part, cells, cutter, fiber, from, to, Blank::new(1))
+    counted_runs::<Brand>(alloc, cut, fiber, from, to, Blank::new(1))
 }
 
 /// The runs from one position to another, with a counter of a blank ledger.
 fn counted_runs<L: Ledger>(
     alloc: Global,
-    part: &Part,
-    cells: &Cells,
-    cutter: Cutter,
+    cut: &Cut<'_>,
     fiber: Fiber,
     from: i32,
     to: i32,
     blank: Blank,
 ) -> Result<Vec<Run>, WantOfMemory>
-    requires cells_ok { cells.now ≡ sorted_of part.now }
-    requires cutter_ok { IsCutter cutter }
+    requires cut_ok { IsCut cut.now }
     requires fiber_ok { IsFiber fiber }
     requires from_ok { Within MAX_COORDINATE from }
     requires to_ok { Within MAX_COORDINATE to }
@@ -104,40 +100,50 @@ fn counted_runs<L: Ledger>(
     requires name { blank.name ≡ L.name }
     requires parts { blank.parts ≡ L.parts }
     requires some { 0 < blank.parts }
-    ensures runs { IfOk result (λ runs. AreRuns cutter part.now fiber from to runs.items) }
+    ensures runs { IfOk result (λ runs. AreRuns cut.now.cutter cut.now.part.now fiber from to runs.items) }
 {
     let mut steps = Steps::<L>::new(blank);
-    push(alloc, part, cells, cutter, fiber, from, to, &mut steps)
+    push(
+        alloc, cut.part, cut.cells, cut.cutter, fiber, from, to, &mut steps,
+    )
 }
 
-/// How many of the runs end before a position.
-fn runs_before(runs: &[Run], position: i32) -> usize
+/// The spot of a position, where so many of the runs are known to end before it.
+fn spot_at(runs: &[Run], known: usize, position: i32) -> Spot
     requires ascending { AreAscending runs.now }
-    ensures bound { result ≤ length runs.now }
-    ensures before { IsBefore runs.now position result }
+    requires known { EndBefore runs.now position known }
+    ensures position { result.position ≡ position }
+    ensures spot { IsSpot runs.now result }
 {
-    runs.partition_point(|run| run.last < position)
+    let mut before = known;
+    while before < runs.len() && runs[before].last < position {
+        before += 1;
+    }
+    Spot { position, before }
 }
 
-/// Whether a position stands in one of the runs.
-fn is_held(runs: &[Run], position: i32) -> bool
+/// Whether the position of a spot stands in one of the runs.
+fn is_held(runs: &[Run], spot: Spot) -> bool
     requires ascending { AreAscending runs.now }
-    ensures { MatchBool result (StandsIn runs.now position) (¬ StandsIn runs.now position) }
+    requires spot { IsSpot runs.now spot }
+    ensures { MatchBool result (StandsIn runs.now spot.position) (¬ StandsIn runs.now spot.position) }
 {
-    let at = runs_before(runs, position);
-    at < runs.len() && runs[at].first <= position
+    let Spot { position, before } = spot;
+    before < runs.len() && runs[before].first <= position
 }
 
 /// The last free position on the way between two positions of which one is free and one blocked,
 /// from the free one; 0 if both are free or both are blocked.
-fn place_between(runs: &[Run], low: i32, high: i32) -> i32
+fn place_between(runs: &[Run], low: Spot, high: Spot) -> i32
     requires ascending { AreAscending runs.now }
-    requires order { low <ℤ high }
-    ensures { IsPlaceBetween (StandsIn runs.now) low high result }
+    requires low_ok { IsSpot runs.now low }
+    requires high_ok { IsSpot runs.now high }
+    requires order { low.position <ℤ high.position }
+    ensures { IsPlaceBetween (StandsIn runs.now) low.position high.position result }
 {
     match (is_held(runs, low), is_held(runs, high)) {
-        (false, true) => runs[runs_before(runs, low)].first - 1,
-        (true, false) => runs[runs_before(runs, high) - 1].last + 1,
+        (false, true) => runs[low.before].first - 1,
+        (true, false) => runs[high.before - 1].last + 1,
         _ => 0,
     }
 }
@@ -148,8 +154,11 @@ fn add_blocked(runs: &[Run], positions: &[i32], blocked: &mut Vec<bool>) -> Resu
     requires positions_ok { ArePositions positions.now }
     ensures { IfOk result (λ _. AreAdded (Tells (StandsIn runs.now) positions.now) (length positions.now) blocked.old.items blocked.new.items) }
 {
+    let mut before = 0;
     for position in positions {
-        blocked.push(is_held(runs, *position))?;
+        let spot = spot_at(runs, before, *position);
+        blocked.push(is_held(runs, spot))?;
+        before = spot.before;
     }
     Ok(())
 }
@@ -160,8 +169,11 @@ fn add_places(runs: &[Run], positions: &[i32], places: &mut Vec<i32>) -> Result<
     requires positions_ok { ArePositions positions.now }
     ensures { IfOk result (λ _. AreAdded (Places (StandsIn runs.now) positions.now) (length positions.now) places.old.items places.new.items) }
 {
+    let mut low = spot_at(runs, 0, positions[0]);
     for at in 1..positions.len() {
-        places.push(place_between(runs, positions[at - 1], positions[at]))?;
+        let high = spot_at(runs, low.before, positions[at]);
+        places.push(place_between(runs, low, high))?;
+        low = high;
     }
     places.push(0)?;
     Ok(())

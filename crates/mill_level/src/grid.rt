@@ -1,6 +1,6 @@
 //! What is known of a lattice at a height.
-ghost use Rattle.std.specs.Prelude.{◌≡◌, ◌<◌, ◌*◌, true, pos};
-ghost use Rattle.mill_level.specs.Grids.{edge as edge_of, has_edge, is_blocked, is_crossing};
+ghost use Rattle.std.specs.Prelude.{◌≡◌, ◌+◌, ◌<◌, ◌*◌, true};
+ghost use Rattle.mill_level.specs.Grids.{has_edge, is_blocked, is_crossing};
 ghost use Rattle.mill_level.specs.inner.Maps.{IsSized, crossing_at, edge_number, grid_of};
 
 use crate::edge::Edge;
@@ -44,26 +44,43 @@ impl LevelMap {
         number as usize
     }
 
-    /// The edge of a number. At the end of a row or column it may lead out of the lattice.
-    pub fn edge(&self, number: u32) -> Edge
+    /// The edge of the next number. At the end of a row or column an edge may lead out of the
+    /// lattice; after the last number there is none in the lattice.
+    pub fn next_edge(&self, edge: Edge) -> Edge
         requires sized { IsSized self.now }
-        requires number_ok { number < 2 * (self.now.columns * self.now.rows) }
-        ensures number { number ≡ edge_number (grid_of self.now) result }
-        ensures column { result.column < self.now.columns }
+        requires column_ok { edge.column < self.now.columns }
+        requires row_ok { edge.row < self.now.rows }
+        ensures number { edge_number (grid_of self.now) result ≡ edge_number (grid_of self.now) edge + 1 }
+        ensures column { edge_number (grid_of self.now) result < 2 * (self.now.columns * self.now.rows) → result.column < self.now.columns }
         ensures row { result.row < self.now.rows }
     {
-        let nodes = self.columns * self.rows;
-        if number < nodes {
-            return Edge {
-                column: number % self.columns,
-                row: number / self.columns,
-                axis: Axis::X,
-            };
-        }
-        Edge {
-            column: (number - nodes) / self.rows,
-            row: (number - nodes) % self.rows,
-            axis: Axis::Y,
+        let Edge { column, row, axis } = edge;
+        match axis {
+            Axis::X if column + 1 < self.columns => Edge {
+                column: column + 1,
+                row,
+                axis,
+            },
+            Axis::X if row + 1 < self.rows => Edge {
+                column: 0,
+                row: row + 1,
+                axis,
+            },
+            Axis::X => Edge {
+                column: 0,
+                row: 0,
+                axis: Axis::Y,
+            },
+            Axis::Y if row + 1 < self.rows => Edge {
+                column,
+                row: row + 1,
+                axis,
+            },
+            Axis::Y => Edge {
+                column: column + 1,
+                row: 0,
+                axis,
+            },
         }
     }
 

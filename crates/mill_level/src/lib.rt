@@ -9,6 +9,7 @@
 #![tactic(auto)]
 
 mod chain;
+mod cut;
 mod edge;
 mod fault;
 mod fiber;

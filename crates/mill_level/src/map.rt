@@ -1,36 +1,21 @@
 //! Finds which nodes of a lattice are blocked at a height, and where its crossings are.
-ghost use Rattle.std.specs.Prelude.{◌≡◌, ◌<◌, ◌≤◌, ◌*◌, ◌≤ℤ◌, length, IfOk};
-ghost use Rattle.mill_base.specs.Numbers.{Within};
-ghost use Rattle.mill_base.specs.declared.limits.TheConstants.{MAX_COORDINATE};
+ghost use Rattle.std.specs.Prelude.{◌≡◌, IfOk};
 ghost use Rattle.mill_base.specs.Lattices.{lattice_xs, lattice_ys, IsMapLattice};
-ghost use Rattle.mill_base.specs.Sizes.{IsCutter};
-ghost use Rattle.mill_cells.specs.Sorted.{sorted_of};
+ghost use Rattle.mill_level.specs.inner.Cuts.{IsCut};
 ghost use Rattle.mill_level.specs.inner.Maps.{IsMapOf};
 
+use crate::cut::Cut;
 use crate::fiber::{add_column, add_row};
 use crate::grid::LevelMap;
-use mill_base::{Cutter, Lattice, WantOfMemory};
-use mill_cells::Cells;
-use mill_geom::Axis;
-use mill_part::Part;
-use mill_push::Fiber;
+use mill_base::{Lattice, WantOfMemory};
 use std::alloc::Global;
 
-/// Which nodes of the lattice are blocked at a height, and where its crossings are: by the runs of
-/// one fiber for each row and for each column.
-pub fn level_map(
-    alloc: Global,
-    part: &Part,
-    cells: &Cells,
-    cutter: Cutter,
-    z: i32,
-    lattice: &Lattice,
-) -> Result<LevelMap, WantOfMemory>
-    requires cells_ok { cells.now ≡ sorted_of part.now }
-    requires cutter_ok { IsCutter cutter }
-    requires z_ok { Within MAX_COORDINATE z }
+/// Which nodes of the lattice are blocked at the cut's height, and where its crossings are: by the
+/// runs of one fiber for each row and for each column.
+pub fn level_map(alloc: Global, cut: &Cut<'_>, lattice: &Lattice) -> Result<LevelMap, WantOfMemory>
+    requires cut_ok { IsCut cut.now }
     requires lattice_ok { IsMapLattice lattice.now }
-    ensures { IfOk result (IsMapOf cutter part.now z lattice.now) }
+    ensures { IfOk result (IsMapOf cut.now.cutter cut.now.part.now cut.now.z lattice.now) }
 {
     let xs = xs_of(alloc, lattice)?;
     let ys = ys_of(alloc, lattice)?;
@@ -38,21 +23,10 @@ pub fn level_map(
     let mut blocked = Vec::with_capacity(alloc, nodes)?;
     let mut places = Vec::with_capacity(alloc, 2 * nodes)?;
     for y in &ys {
-        let fiber = fiber_at(Axis::X, *y, z);
-        add_row(
-            alloc,
-            part,
-            cells,
-            cutter,
-            fiber,
-            &xs,
-            &mut blocked,
-            &mut places,
-        )?;
+        add_row(alloc, cut, *y, &xs, &mut blocked, &mut places)?;
     }
     for x in &xs {
-        let fiber = fiber_at(Axis::Y, *x, z);
-        add_column(alloc, part, cells, cutter, fiber, &ys, &mut places)?;
+        add_column(alloc, cut, *x, &ys, &mut places)?;
     }
     Ok(LevelMap {
         columns: lattice.node_columns(),
@@ -64,20 +38,14 @@ pub fn level_map(
     })
 }
 
-/// The fiber along an axis at a coordinate across it and a height.
-fn fiber_at(axis: Axis, at: i32, z: i32) -> Fiber
-    ensures { result ≡ record { axis = axis; at = at; z = z } }
-{
-    Fiber { axis, at, z }
-}
-
 /// The lattice's positions in x.
 fn xs_of(alloc: Global, lattice: &Lattice) -> Result<Vec<i32>, WantOfMemory>
     requires { IsMapLattice lattice.now }
     ensures { IfOk result (λ xs. xs.items ≡ lattice_xs lattice.now) }
 {
-    let mut xs = Vec::new(alloc);
-    for column in 0..lattice.node_columns() {
+    let columns = lattice.node_columns();
+    let mut xs = Vec::with_capacity(alloc, columns as usize)?;
+    for column in 0..columns {
         xs.push(lattice.node(column).0)?;
     }
     Ok(xs)
@@ -89,8 +57,9 @@ fn ys_of(alloc: Global, lattice: &Lattice) -> Result<Vec<i32>, WantOfMemory>
     ensures { IfOk result (λ ys. ys.items ≡ lattice_ys lattice.now) }
 {
     let columns = lattice.node_columns();
-    let mut ys = Vec::new(alloc);
-    for row in 0..lattice.node_rows() {
+    let rows = lattice.node_rows();
+    let mut ys = Vec::with_capacity(alloc, rows as usize)?;
+    for row in 0..rows {
         ys.push(lattice.node(row * columns).1)?;
     }
     Ok(ys)

@@ -21,7 +21,7 @@ pub fn chains_at(
     requires trails_ok { All (IsTrail map.now) trails.now }
     ensures { IfOk result (λ chains. map_list seen chains.items ≡ map_list (λ trail. outline z (chain_of map.now trail)) trails.now) }
 {
-    let mut chains = Vec::new(alloc);
+    let mut chains = Vec::with_capacity(alloc, trails.len())?;
     for trail in trails {
         chains.push(chain_at(alloc, map, trail, z)?)?;
     }
@@ -34,7 +34,7 @@ fn chain_at(alloc: Global, map: &LevelMap, trail: &Trail, z: i32) -> Result<Chai
     requires trail_ok { IsTrail map.now trail.now }
     ensures { IfOk result (λ chain. seen chain ≡ outline z (chain_of map.now trail.now)) }
 {
-    let mut points = Vec::new(alloc);
+    let mut points = Vec::with_capacity(alloc, trail.edges.len())?;
     for edge in &trail.edges {
         let (x, y) = map.place(*edge);
         points.push(Pt3 { x, y, z })?;

@@ -2,10 +2,10 @@
 ghost use Rattle.std.specs.Prelude.{◌≡◌, ◌+◌, ◌*◌, ◌<◌, true, false, [], ◌∷◌, ◌++◌, All, IfOk, length, slice_set};
 ghost use Rattle.mill_level.specs.declared.edge.Edge.{Edge};
 ghost use Rattle.mill_level.specs.Chains.{times_in};
-ghost use Rattle.mill_level.specs.Grids.{has_edge, is_crossing};
+ghost use Rattle.mill_level.specs.Grids.{has_edge};
 ghost use Rattle.mill_level.specs.inner.Maps.{IsSized, crossing_at, edge_number, grid_of};
 ghost use Rattle.mill_level.specs.inner.Trails.{AreMarks, IsTrail, chain_of, is_passed, mark, rank_of};
-ghost use Rattle.mill_level.specs.inner.Ways.{IsLeast, MayGoOn, WentBack, WentOn};
+ghost use Rattle.mill_level.specs.inner.Ways.{IsLeast, MayGoOn, MayStart, WentBack, WentOn};
 
 use crate::edge::Edge;
 use crate::grid::LevelMap;
@@ -47,9 +47,7 @@ pub fn trace(
     passed: &mut Vec<bool>,
 ) -> Result<Trail, WantOfMemory>
     requires sized { IsSized map.now }
-    requires start_ok { is_crossing (grid_of map.now) start ≡ true }
-    requires start_new { is_passed map.now passed.old.items start ≡ false }
-    requires marks_ok { AreMarks map.now passed.old.items }
+    requires start_ok { MayStart map.now passed.old.items start }
     ensures trail { IfOk result (IsTrail map.now) }
     ensures once { IfOk result (λ trail. (e : Edge)
         → mark map.now passed.new.items e ≡ mark map.now passed.old.items e + times_in e (chain_of map.now trail)) }
@@ -81,9 +79,7 @@ fn go_back(
     edges: &mut Vec<Edge>,
 ) -> Result<bool, WantOfMemory>
     requires sized { IsSized map.now }
-    requires start_ok { is_crossing (grid_of map.now) start ≡ true }
-    requires start_new { is_passed map.now passed.old.items start ≡ false }
-    requires marks_ok { AreMarks map.now passed.old.items }
+    requires start_ok { MayStart map.now passed.old.items start }
     requires empty { edges.old.items ≡ [] }
     ensures { IfOk result (λ closed. WentBack map.now passed.old.items passed.new.items start closed edges.new.items) }
 {
@@ -144,9 +140,12 @@ fn least_of(map: &LevelMap, edges: &[Edge]) -> usize
     ensures { IsLeast map.now edges.now result }
 {
     let mut least = 0;
+    let mut least_rank = map.rank(edges[0]);
     for at in 1..edges.len() {
-        if map.rank(edges[at]) < map.rank(edges[least]) {
+        let rank = map.rank(edges[at]);
+        if rank < least_rank {
             least = at;
+            least_rank = rank;
         }
     }
     least

@@ -1,12 +1,14 @@
 //! All chains of a lattice at a height.
-ghost use Rattle.std.specs.Prelude.{◌≡◌, ◌*◌, false, All, IfOk, replicate};
+ghost use Rattle.std.specs.Prelude.{All, IfOk};
 ghost use Rattle.mill_level.specs.Chains.{AreChains};
 ghost use Rattle.mill_level.specs.inner.Maps.{IsSized, grid_of};
 ghost use Rattle.mill_level.specs.inner.Trails.{AreTrails, IsTrail, chains_of};
 
+use crate::edge::Edge;
 use crate::grid::LevelMap;
 use crate::trace::{Trail, trace};
 use mill_base::WantOfMemory;
+use mill_geom::Axis;
 use std::alloc::Global;
 
 /// The chains of the crossings, in the order of their first crossings.
@@ -25,25 +27,19 @@ fn all_trails(alloc: Global, map: &LevelMap) -> Result<Vec<Trail>, WantOfMemory>
     requires { IsSized map.now }
     ensures { IfOk result (λ trails. AreTrails map.now trails.items) }
 {
-    let mut passed = none_passed(alloc, map)?;
+    let count = map.edge_count();
+    let mut passed = vec![in alloc; false; count as usize]?;
     let mut trails = Vec::new(alloc);
-    for number in 0..map.edge_count() {
-        let edge = map.edge(number);
+    let mut edge = Edge {
+        column: 0,
+        row: 0,
+        axis: Axis::X,
+    };
+    for number in 0..count {
         if map.is_crossing(edge) && !passed[number as usize] {
             trails.push(trace(alloc, map, edge, &mut passed)?)?;
         }
+        edge = map.next_edge(edge);
     }
     Ok(trails)
-}
-
-/// A mark for each edge, none of them set.
-fn none_passed(alloc: Global, map: &LevelMap) -> Result<Vec<bool>, WantOfMemory>
-    requires { IsSized map.now }
-    ensures { IfOk result (λ passed. passed.items ≡ replicate (2 * (map.now.columns * map.now.rows)) false) }
-{
-    let mut passed = Vec::new(alloc);
-    for _ in 0..map.edge_count() {
-        passed.push(false)?;
-    }
-    Ok(passed)
 }

@@ -8,6 +8,7 @@ ghost use Rattle.mill_level.specs.declared.fault.LevelFault.TheVariants.{TooMany
 ghost use Rattle.mill_level.specs.Waterlines.{HasManyNodes, IsWaterline, seen};
 
 use crate::chain::Chain;
+use crate::cut::Cut;
 use crate::fault::LevelFault;
 use crate::map::level_map;
 use crate::outline::chains_at;
@@ -48,7 +49,13 @@ pub fn waterline(
     if nodes > MAX_NODES {
         return Err(LevelFault::TooManyNodes { nodes });
     }
-    let map = level_map(alloc, part, cells, cutter, z, lattice)?;
+    let cut = Cut {
+        part,
+        cells,
+        cutter,
+        z,
+    };
+    let map = level_map(alloc, &cut, lattice)?;
     let trails = trails(alloc, &map)?;
     Ok(chains_at(alloc, &map, &trails, z)?)
 }

@@ -4,6 +4,7 @@ use Rattle.mill_base.specs.Numbers.{Within}
 use Rattle.mill_base.specs.declared.limits.TheConstants.{MAX_COORDINATE}
 use Rattle.mill_push.specs.declared.fiber.Run.{Run}
 use Rattle.mill_push.specs.Runs.{StandsIn}
+use Rattle.mill_level.specs.declared.fiber.Spot.{Spot}
 
 -- the runs ascend by their firsts and by their lasts, no run is empty, and all are in range
 pub record AreAscending (runs : List Run) : Type 0 where
@@ -13,10 +14,18 @@ pub record AreAscending (runs : List Run) : Type 0 where
   pub first_ok : (k : ℕ) (run : Run) → k < length runs → Within MAX_COORDINATE (slice_index_or runs k run).first
   pub last_ok : (k : ℕ) (run : Run) → k < length runs → Within MAX_COORDINATE (slice_index_or runs k run).last
 
--- where a search for the position ends: the runs before end before it, and no other does
+-- so many of the runs, the first ones, end before the position
+pub record EndBefore (runs : List Run) (v : ℤ) (i : ℕ) : Type 0 where
+  pub few : i ≤ length runs
+  pub each : (k : ℕ) (run : Run) → k < i → (slice_index_or runs k run).last <ℤ v
+
+-- and no others do
 pub record IsBefore (runs : List Run) (v : ℤ) (i : ℕ) : Type 0 where
-  pub before : (k : ℕ) (run : Run) → k < i → (slice_index_or runs k run).last <ℤ v
+  pub before : EndBefore runs v i
   pub after : (k : ℕ) (run : Run) → i ≤ k → k < length runs → v ≤ℤ (slice_index_or runs k run).last
+
+abbrev pub IsSpot : List Run → Spot → Type 0
+IsSpot runs spot = IsBefore runs spot.position spot.before
 
 -- there are positions, each is in range, and each is below those after it
 pub record ArePositions (positions : List ℤ) : Type 0 where

@@ -6,7 +6,13 @@ use Rattle.mill_level.specs.Grids.{Grid, is_crossing, same_edge}
 use Rattle.mill_level.specs.Joins.{IsJoin}
 use Rattle.mill_level.specs.Chains.{comes_before}
 use Rattle.mill_level.specs.inner.Maps.{crossing_at, grid_of}
-use Rattle.mill_level.specs.inner.Trails.{AreMarks, mark}
+use Rattle.mill_level.specs.inner.Trails.{AreMarks, is_passed, mark}
+
+-- an edge that crosses and has no mark, beside marks of whole chains
+pub record MayStart (level : LevelMap) (passed : List Bool) (e : Edge) : Type 0 where
+  pub crosses : is_crossing (grid_of level) e ≡ true
+  pub unmarked : is_passed level passed e ≡ false
+  pub marks : AreMarks level passed
 
 -- from each edge but the last, a step leads to the next
 abbrev pub AreSteps : (Edge → Edge → Type 0) → List Edge → Type 0

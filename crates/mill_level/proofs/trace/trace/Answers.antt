@@ -8,7 +8,7 @@ use Rattle.mill_level.proofs.trace.trace.Goals as goal
 use Rattle.mill_level.proofs.trace.trace.Goals.{then-closed, else-closed+in_ok-go_on}
 
 pub go_on-requires-clause-way : goal.go_on-requires-clause-way
-go_on-requires-clause-way c = rw c.reverse.ensures.items (went_back_open _ _ _ _ _ _ c.if-closed.false c.requires.marks_ok c.in_ok-closed.ensures)
+go_on-requires-clause-way c = rw c.reverse.ensures.items (went_back_open _ _ _ _ _ _ c.if-closed.false c.requires.start_ok.marks c.in_ok-closed.ensures)
 
 traced : (c : goal.After-rank) → IsTraced c.args.map.now c.args.passed.now.items c.if-closed.passed.items c.args.start c.in_ok-closed.closed c.if-closed.edges.items
 traced c =
@@ -43,7 +43,7 @@ returns-clause-once c e =
     (sym (times_of c.args.map.now c.in_ok-closed.closed c.if-closed.edges.items e t.track.some))
 
 pub returns-clause-marks : goal.returns-clause-marks
-returns-clause-marks c = traced_marks _ _ _ _ _ _ c.requires.marks_ok (traced c)
+returns-clause-marks c = traced_marks _ _ _ _ _ _ c.requires.start_ok.marks (traced c)
 
 pub returns-clause-start : goal.returns-clause-start
 returns-clause-start c = (traced c).start_marked
