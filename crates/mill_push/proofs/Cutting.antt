@@ -1,6 +1,6 @@
 -- A window from whose ends known runs are cut off, and what its triangle's stretch in the rest tells.
 use Rattle.std.proofs.Common.{◌≡◌, ℕ, ◌+◌, ◌*◌, ◌<◌, ◌≤◌, List, false, arith}
-use Rattle.std.specs.Prelude.{◌^◌, nat_abs, Option, Some, None}
+use Rattle.std.specs.Prelude.{◌^◌, Option, Some, None}
 use Rattle.std.specs.List.{Contains}
 use Rattle.std.proofs.lemmas.Int.{ints, by_lt_z}
 use lib.IntN.{ℤ, pos, ◌+ℤ◌, ◌-ℤ◌, ◌*ℤ◌}
@@ -13,9 +13,9 @@ use Rattle.mill_push.specs.declared.fiber.Fiber.{Fiber}
 use Rattle.mill_push.specs.declared.fiber.Run.{Run}
 use Rattle.mill_push.specs.Fibers.{IsTouched}
 use Rattle.mill_push.specs.Runs.{StandsIn}
-use Rattle.mill_push.specs.Stretches.{IsClear, IsStretchAnswer, IsTouchedStretch}
+use Rattle.mill_push.specs.Stretches.{IsStretchAnswer}
 use Rattle.mill_push.specs.Touches.{position_count}
-use Rattle.mill_push.specs.inner.Known.{AreAmong, IsAt, IsKnown, IsNewAnswer, IsNewStretch, IsRest, IsRunInRange, AreInRange, IsStart, IsWindow}
+use Rattle.mill_push.specs.inner.Known.{AreAmong, IsAt, IsKnown, IsNewAnswer, IsRest, IsRunInRange, AreInRange, IsStart, IsWindow}
 use Rattle.mill_push.specs.inner.Unions.{AreSpans, IsSpan}
 use Rattle.mill_push.proofs.Halving.{half_under}
 use Rattle.mill_push.proofs.Stored.{within_between}

@@ -1,5 +1,5 @@
 -- A list of runs with one stretch more.
-use Rattle.std.proofs.Common.{◌≡◌, ◌⊎◌, inl, inr, ℕ, ◌<◌, List, [], ◌∷◌, ◌++◌, length, get_or, set, refl, sym, subst, ap, ◌∙◌, arith}
+use Rattle.std.proofs.Common.{◌≡◌, ◌⊎◌, inl, inr, ℕ, ◌<◌, List, [], ◌∷◌, ◌++◌, length, get_or, set, sym, subst, ap, ◌∙◌, arith}
 use Rattle.std.specs.Int.{int_min, int_max}
 use Rattle.std.specs.List.{Contains}
 use Rattle.std.proofs.lemmas.Bool.{cases_eq}
@@ -11,7 +11,7 @@ use lib.Signed.{◌<ℤ◌, ◌≤ℤ◌}
 use Rattle.mill_push.specs.declared.fiber.Run.{Run}
 use Rattle.mill_push.specs.Runs.{StandsIn}
 use Rattle.mill_push.specs.inner.Known.{AreJoined, IsAt, IsGrown, IsHull}
-use Rattle.mill_push.specs.inner.Unions.{IsSpan, AreSpans}
+use Rattle.mill_push.specs.inner.Unions.{IsSpan}
 
 module _ (a b : Run) where
   -- the hull of two runs between which no free position lies

@@ -1,5 +1,5 @@
 -- The window of a triangle: the cutter comes over its box there alone.
-use Rattle.std.proofs.Common.{◌≡◌, ◌<◌, ◌≤◌, w32, to_z, of_z, FitsSigned, sym, subst, ap, arith}
+use Rattle.std.proofs.Common.{◌≡◌, ◌<◌, ◌≤◌, w32, FitsSigned, sym, subst, arith}
 use Rattle.std.specs.Prelude.{nat_abs}
 use Rattle.std.specs.Int.{int_min, int_max}
 use Rattle.std.proofs.lemmas.Int.{ints, fits_signed_from_abs}

@@ -8,7 +8,7 @@ use Rattle.mill_push.specs.declared.fiber.Fiber.{Fiber}
 use Rattle.mill_push.specs.declared.fiber.Run.{Run}
 use Rattle.mill_push.specs.Fibers.{IsTouched}
 use Rattle.mill_push.specs.Runs.{StandsIn}
-use Rattle.mill_push.specs.Stretches.{IsClear, IsHeld}
+use Rattle.mill_push.specs.Stretches.{IsHeld}
 use Rattle.mill_push.specs.Touches.{position_count}
 use Rattle.mill_push.specs.inner.Unions.{IsSpan, AreSpans}
 

@@ -1,6 +1,3 @@
-use Rattle.std.proofs.Common.{rules, w32, arith}
-use Rattle.std.proofs.lemmas.Int.{ints, to_z-of_z}
-use lib.Signed.{◌≤ℤ◌}
 use Rattle.mill_push.proofs.Cutting.{starts_first, starts_last}
 use Rattle.mill_push.proofs.Stored.{stored, difference, count, twice}
 use Rattle.mill_push.proofs.window.start_in.Goals as goal

@@ -1,6 +1,5 @@
 use Rattle.std.proofs.Common.{rules, w32, arith}
 use Rattle.std.proofs.lemmas.Int.{ints, to_z-of_z}
-use lib.Signed.{◌≤ℤ◌}
 use Rattle.mill_push.proofs.Cutting.{all_known, new_answer, cost_of_half, cost_of_rest, spans_in_range}
 use Rattle.mill_push.proofs.Stored.{stored, through}
 use Rattle.mill_push.proofs.stretch.Pusher.new_stretch.Goals as goal

@@ -1,7 +1,6 @@
 use Rattle.std.proofs.Common.{rules, arith}
 use mir.Syntax.{w32}
 use lib.IntN.{pos, ◌+ℤ◌, ◌-ℤ◌}
-use lib.Signed.{◌<ℤ◌, ◌≤ℤ◌}
 use Rattle.std.proofs.lemmas.Int.{ints, to_z-of_z}
 use Rattle.mill_push.specs.Fibers.{IsTouched}
 use Rattle.mill_push.proofs.Searching.{touched_here, window_never, clear_from, clear_up_to, answer_before, answer_after, start_found, start_found_cost, start_part_cost}
