@@ -20,7 +20,7 @@ import common
 
 LIBRARIES = (
     "mill_base mill_decimal mill_shape mill_geom mill_contact_flat mill_contact_ball mill_contact_cone"
-    " mill_part mill_cells mill_sweep mill_stl anyhow itoa thiserror"
+    " mill_part mill_cells mill_stl anyhow itoa thiserror"
 )
 MAIN = """\
 //! Times a call on a part. The script bench/crate_program.py writes this program.
