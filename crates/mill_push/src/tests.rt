@@ -13,6 +13,7 @@ use crate::{
 use mill_base::{Cutter, Pt3, Steps, Tri};
 use mill_part::{Part, SortedPart};
 use std::marker::Brand;
+use std::process::Abort;
 use std::sync::ledger::{Blank, Ledger};
 use std::test::Fail;
 
@@ -187,64 +188,69 @@ fn two_points(rt: HostRuntime) -> Result<(), Fail> {
     Ok(())
 }
 
-// In the first row the second bar's stretch begins just after the first one's, the third one's
-// overlaps both, and the fourth one's lies apart. In the second row the first one's stretch holds all
-// positions at which the cutter can come over the second bar; the third one's begins before it, and
-// the fourth one's ends after it. In the third row the first one's stretch lies in the middle of the
-// second one's, and the third one's ends just before that.
-//
-// In the last row the fourth bar leaves the fiber, 4 to the side for each 3 along: the position 1125
-// is four fifths of 125 from it, so it isn't touched there nor further on. Its box reaches to 1600,
-// where the second one's stretch is.
-#[test]
-fn bars_that_overlap_touch_and_lie_apart(rt: HostRuntime) -> Result<(), Fail> {
-    let along = fiber(Axis::X, 0, 0);
-    for (bars, want) in [
-        (
-            [
-                (1000, 1000, 0),
-                (1199, 1199, 0),
-                (960, 1150, 0),
-                (300, 300, 0),
-            ],
-            [run(201, 399), run(861, 1298)].as_slice(),
-        ),
-        (
-            [
-                (1000, 1100, 0),
-                (1050, 1050, 0),
-                (850, 880, 0),
-                (1180, 1400, 0),
-            ],
-            [run(751, 1499)].as_slice(),
-        ),
-        (
-            [
-                (1000, 1000, 0),
-                (800, 1400, 0),
-                (601, 601, 0),
-                (900, 1300, 0),
-            ],
-            [run(502, 1499)].as_slice(),
-        ),
-        (
-            [
-                (300, 300, 0),
-                (1650, 1650, 0),
-                (401, 500, 0),
-                (1000, 1600, 800),
-            ],
-            [run(201, 599), run(901, 1124), run(1551, 1749)].as_slice(),
-        ),
-    ] {
-        let [a, b, c, d] = bars;
-        for order in [[a, b, c, d], [d, c, b, a], [c, a, d, b]] {
-            let part = part_of_bars(&rt, order)?;
-            let found = runs(&rt, &part, FLAT, along, (0, 3000))?;
-            assert_eq!(rt; found.as_slice(), want, "{order:?}");
-        }
+/// Looks at the runs along X over four bars, which come in three orders.
+fn look_at_bars<R: Abort + AllocGlobal>(
+    rt: &R,
+    bars: [(i16, i16, i16); 4],
+    want: &[Run],
+) -> Result<(), Fail> {
+    let [a, b, c, d] = bars;
+    for order in [[a, b, c, d], [d, c, b, a], [c, a, d, b]] {
+        let part = part_of_bars(rt, order)?;
+        let found = runs(rt, &part, FLAT, fiber(Axis::X, 0, 0), (0, 3000))?;
+        assert_eq!(rt; found.as_slice(), want, "{order:?}");
     }
     Ok(())
+}
+
+// In the first row the second bar's stretch begins just after the first one's, the third one's
+// overlaps both, and the fourth one's lies apart. In the second row the first one's stretch lies in
+// the middle of the second one's, the third one's ends just before that, and the fourth one's lies
+// within it.
+#[test]
+fn bars_that_overlap_touch_and_lie_apart(rt: HostRuntime) -> Result<(), Fail> {
+    let mixed = [
+        (1000, 1000, 0),
+        (1199, 1199, 0),
+        (960, 1150, 0),
+        (300, 300, 0),
+    ];
+    let around = [
+        (1000, 1000, 0),
+        (800, 1400, 0),
+        (601, 601, 0),
+        (900, 1300, 0),
+    ];
+    look_at_bars(&rt, mixed, &[run(201, 399), run(861, 1298)])?;
+    look_at_bars(&rt, around, &[run(502, 1499)])
+}
+
+// In the first row the first bar's stretch holds all positions at which the cutter can come over the
+// second one; the third one's begins before it, and the fourth one's ends after it.
+//
+// In the second row the fourth bar leaves the fiber, 4 to the side for each 3 along: the position
+// 1125 is four fifths of 125 from it, so it isn't touched there nor further on. Its box reaches to
+// 1600, where the second one's stretch is.
+#[test]
+fn bars_over_known_positions(rt: HostRuntime) -> Result<(), Fail> {
+    let held = [
+        (1000, 1100, 0),
+        (1050, 1050, 0),
+        (850, 880, 0),
+        (1180, 1400, 0),
+    ];
+    let aside = [
+        (300, 300, 0),
+        (1650, 1650, 0),
+        (401, 500, 0),
+        (1000, 1600, 800),
+    ];
+    look_at_bars(&rt, held, &[run(751, 1499)])?;
+    look_at_bars(
+        &rt,
+        aside,
+        &[run(201, 599), run(901, 1124), run(1551, 1749)],
+    )
 }
 
 // The edge is 20 over the tip. There the ball is a disk of radius 60, since its centre is 80 over the
