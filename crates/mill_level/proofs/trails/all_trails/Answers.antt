@@ -1,8 +1,5 @@
 use Rattle.mill_level.specs.declared.trace.Trail.{Trail}
-use Rattle.mill_level.specs.Grids.{is_crossing}
-use Rattle.mill_level.specs.inner.Maps.{grid_of}
-use Rattle.mill_level.specs.inner.Trails.{is_passed}
-use Rattle.std.proofs.Common.{◌≡◌, ℕ, ◌+◌, ◌*◌, ◌<◌, Bool, true, false, List, replicate, arith, sym, subst, ap, ◌∙◌, true≢false}
+use Rattle.std.proofs.Common.{◌≡◌, ℕ, ◌+◌, ◌*◌, ◌<◌, Bool, false, List, replicate, arith, sym, subst, ap, ◌∙◌, true≢false}
 use Rattle.mill_level.proofs.Found.{FoundBelow, found_none, found_next, found_trail, found_all, mark_at}
 use Rattle.mill_level.proofs.trails.all_trails.Goals as goal
 use Rattle.mill_level.proofs.trails.all_trails.Goals.{then-is_crossing+then-not-index+in_ok-trace+in_ok-push, else-is_crossing, else-is_crossing-via-then-is_crossing+else-not-index, else-is_crossing-via-else-is_crossing}
