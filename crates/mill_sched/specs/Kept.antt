@@ -1,0 +1,26 @@
+-- What every core keeps, whatever work it was given.
+use Rattle.std.specs.Prelude.{◌≡◌, ℕ, ◌+◌, ◌≤◌, Bool, true, false, IsTrue, length, count_by, Some}
+use Rattle.mill_sched.specs.declared.piece.Piece.{Piece}
+use Rattle.mill_sched.specs.declared.worker.Worker.{Worker}
+use Rattle.mill_sched.specs.declared.worker.Worker.TheVariants.{Done}
+use Rattle.mill_sched.specs.States.{State, piece_at}
+use Rattle.mill_sched.specs.Laws.{IsPlaced, IsCaused}
+
+-- a piece is on its turn, as far as its span lets it
+pub record GoesOn (p : Piece) : Type 0 where
+  pub from : p.task.first ≤ p.next
+  pub to : p.task.first ≤ p.task.limit → p.next ≤ p.task.limit
+  pub not_past : (f : ℕ) → p.task.fails ≡ Some f → p.task.first ≤ f → p.next ≤ f
+  pub failed : IsTrue p.failed → p.task.fails ≡ Some p.next
+
+abbrev pub is_done : Worker → Bool
+is_done Done = true
+is_done k = false
+
+-- what a core keeps; the claim counts the pieces that were drawn and the workers that have ended
+pub record Kept (s : State) : Type 0 where
+  pub pieces : (n : ℕ) → GoesOn (piece_at s n)
+  pub placed : IsPlaced s
+  pub claim : s.claim ≤ length s.pieces + count_by is_done s.workers
+  pub cause : IsCaused s
+  pub under : s.least ≤ s.turns
