@@ -12,7 +12,7 @@ use Rattle.mill_sched.specs.declared.worker.Worker.{Worker}
 use Rattle.mill_sched.specs.declared.worker.Worker.TheVariants.{Free, Drawn, Holding}
 use Rattle.mill_sched.specs.States.{State, Work, piece_at, untouched, no_task, worker_at, work_of}
 use Rattle.mill_sched.specs.Steps.{Step, actor_of, is_failure, is_stopped, looked, look_outcome, outcomes_of, state_after, step_by, step_of, turned}
-use Rattle.mill_sched.specs.Laws.{DrawsEachOnce, is_drawing, times_drawn}
+use Rattle.mill_sched.specs.Laws.{DrawsEachOnce, SameGiven, is_drawing, times_drawn}
 use Rattle.mill_sched.proofs.Events.{by_test}
 
 -- 1 where the number is under both the claim and the count of pieces, else 0
@@ -23,15 +23,21 @@ under n claim count = cond (ltb n (min claim count)) 1 0
 abbrev pub drew : ℕ → Outcome → ℕ
 drew n o = cond (is_drawing n o) 1 0
 
--- what one event, or a list of them, says of a number that is drawn so many times, of the pieces, of the least value and of the work
+-- what one event, or a list of them, says of a number that is drawn so many times, of the least value and of what was given
 pub record Steady (n : ℕ) (s t : State) (drawn : ℕ) : Type 0 where
   pub numbers : drawn + under n s.claim (length s.pieces) ≡ under n t.claim (length t.pieces)
-  pub pieces : length t.pieces ≡ length s.pieces
   pub falls : t.least ≤ s.least
-  pub work : work_of t ≡ work_of s
+  pub same : SameGiven s t
+
+-- nothing that was given is in the claim, in the least value, or in what a worker is about
+same_given : (s : State) → SameGiven s s
+same_given s = record { work = refl; pieces = refl; workers = refl }
+
+worker_set : (s : State) (w claim : ℕ) (k : Worker) → SameGiven s record s { claim = claim; workers = set s.workers w k }
+worker_set s w claim k = record { work = refl; pieces = refl; workers = length-set s.workers w k }
 
 stays : (n : ℕ) (s : State) → Steady n s s 0
-stays n s = record { numbers = omega arith; pieces = refl; falls = omega arith; work = refl }
+stays n s = record { numbers = omega arith; falls = omega arith; same = same_given s }
 
 under_more : (n claim count : ℕ) → claim < count → cond (claim == n) 1 0 + under n claim count ≡ under n (claim + 1) count
 under_more n claim count lt = grind (arith, nat_tests)
@@ -40,14 +46,17 @@ under_same : (n claim count : ℕ) → count ≤ claim → 0 + under n claim cou
 under_same n claim count le = grind (arith, nat_tests)
 
 -- a piece comes to another of the same task, and a worker to another
-sets : (n : ℕ) (s : State) (m : ℕ) (q : Piece) (ws : List Worker) → q.task ≡ (piece_at s m).task → Steady n s record s { pieces = set s.pieces m q; workers = ws } 0
-sets n s m q ws same =
+sets : (n : ℕ) (s : State) (m : ℕ) (q : Piece) (ws : List Worker) → q.task ≡ (piece_at s m).task → length ws ≡ length s.workers → Steady n s record s { pieces = set s.pieces m q; workers = ws } 0
+sets n s m q ws same count =
     let len = length-set s.pieces m q in
     record {
       numbers = zero-add (under n s.claim (length s.pieces)) ∙ ap (under n s.claim) (sym len);
-      pieces = len;
       falls = omega arith;
-      work = ap (λ (tasks : List Task). let w : Work = record { turns = s.turns; tasks = tasks } in w) (map-set_same (λ (p : Piece). p.task) s.pieces m q (untouched no_task) same);
+      same = record {
+        work = ap (λ (tasks : List Task). let w : Work = record { turns = s.turns; tasks = tasks } in w) (map-set_same (λ (p : Piece). p.task) s.pieces m q (untouched no_task) same);
+        pieces = len;
+        workers = count;
+      };
     }
 
 looked_task : (least : ℕ) (p : Piece) → (looked least p).task ≡ p.task
@@ -60,16 +69,16 @@ looked_draws n least p = by_test (λ (o : Outcome). drew n o ≡ 0) (is_stopped 
 
 steady_by : (n : ℕ) (s : State) (e : Event) (k : Worker) → Steady n s (step_by s e k).state (drew n (step_by s e k).outcome)
 steady_by n s (Draw w) Free = by_test (λ (t : Step). Steady n s t.state (drew n t.outcome)) (ltb s.claim (length s.pieces)) _ _
-    (λ t. record { numbers = under_more n s.claim (length s.pieces) (grind (arith, nat_tests)); pieces = refl; falls = omega arith; work = refl })
-    (λ t. record { numbers = under_same n s.claim (length s.pieces) (grind (arith, nat_tests)); pieces = refl; falls = omega arith; work = refl })
-steady_by n s (Take w) (Drawn m) = sets n s m _ _ refl
+    (λ t. record { numbers = under_more n s.claim (length s.pieces) (grind (arith, nat_tests)); falls = omega arith; same = worker_set s w _ _ })
+    (λ t. record { numbers = under_same n s.claim (length s.pieces) (grind (arith, nat_tests)); falls = omega arith; same = worker_set s w _ _ })
+steady_by n s (Take w) (Drawn m) = sets n s m _ _ refl (length-set s.workers w _)
 steady_by n s (Look w) (Holding m) =
     subst (λ drawn. Steady n s record s { pieces = set s.pieces m (looked s.least (piece_at s m)) } drawn) (sym (looked_draws n s.least (piece_at s m)))
-    (sets n s m (looked s.least (piece_at s m)) s.workers (looked_task s.least (piece_at s m)))
+    (sets n s m (looked s.least (piece_at s m)) s.workers (looked_task s.least (piece_at s m)) refl)
 steady_by n s (Lower w) (Holding m) = by_test (λ (t : Step). Steady n s t.state (drew n t.outcome)) (piece_at s m).failed _ _
-    (λ _. record { numbers = omega arith; pieces = refl; falls = omega arith; work = refl })
+    (λ _. record { numbers = omega arith; falls = omega arith; same = record { work = refl; pieces = refl; workers = refl } })
     (λ _. stays n s)
-steady_by n s (Put w) (Holding m) = sets n s m _ _ refl
+steady_by n s (Put w) (Holding m) = sets n s m _ _ refl (length-set s.workers w _)
 steady_by n s e k = stays n s
 
 pub steady_step : (n : ℕ) (s : State) (e : Event) → Steady n s (step_of s e).state (drew n (step_of s e).outcome)
@@ -83,9 +92,12 @@ steady_after n s (e ∷ es) =
     let times = sum_by-cons (drew n) (step_of s e).outcome (outcomes_of (step_of s e).state es) in
     record {
       numbers = omega (arith, first.numbers, rest.numbers, times);
-      pieces = rest.pieces ∙ first.pieces;
       falls = omega (arith, first.falls, rest.falls);
-      work = rest.work ∙ first.work;
+      same = record {
+        work = rest.same.work ∙ first.same.work;
+        pieces = rest.same.pieces ∙ first.same.pieces;
+        workers = rest.same.workers ∙ first.same.workers;
+      };
     }
 
 -- one number, by the two claims
@@ -99,7 +111,7 @@ drawn_not n old new count times e other = grind (arith, nat_tests)
 pub draws_each_once : (s : State) (es : List Event) → DrawsEachOnce s (state_after s es) (outcomes_of s es)
 draws_each_once s es =
     let numbers : (n : ℕ) → times_drawn n (outcomes_of s es) + under n s.claim (length (state_after s es).pieces) ≡ under n (state_after s es).claim (length (state_after s es).pieces)
-    = λ n. let t = steady_after n s es in ap (λ count. times_drawn n (outcomes_of s es) + under n s.claim count) t.pieces ∙ t.numbers in
+    = λ n. let t = steady_after n s es in ap (λ count. times_drawn n (outcomes_of s es) + under n s.claim count) t.same.pieces ∙ t.numbers in
     record {
       once = λ n. drawn_once n s.claim (state_after s es).claim (length (state_after s es).pieces) _ (numbers n);
       no_earlier = λ n earlier. drawn_not n s.claim (state_after s es).claim (length (state_after s es).pieces) _ (numbers n) (inl earlier);

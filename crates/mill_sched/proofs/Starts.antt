@@ -1,12 +1,13 @@
 -- At the start a core keeps what it has to keep.
-use Rattle.std.proofs.Common.{◌≡◌, ◌∙◌, ℕ, List, [], ◌∷◌, get_or, map, refl, sym, ap, subst, suc, zero, arith, inl, Some, None}
+use Rattle.std.proofs.Common.{◌≡◌, ◌∙◌, ℕ, List, [], ◌∷◌, get_or, map, refl, sym, ap, subst, suc, zero, arith, inl, Option, Some, None}
 use Rattle.std.specs.Prelude.{replicate}
 use Rattle.std.proofs.Math.ListN.{get_or-map}
+use Rattle.std.proofs.lemmas.List.{length-map}
 use Rattle.mill_sched.specs.declared.piece.Task.{Task}
 use Rattle.mill_sched.specs.declared.piece.Piece.{Piece}
 use Rattle.mill_sched.specs.declared.worker.Worker.{Worker}
 use Rattle.mill_sched.specs.declared.worker.Worker.TheVariants.{Free, Done}
-use Rattle.mill_sched.specs.States.{State, Work, no_task, piece_at, start_of, untouched, work_of}
+use Rattle.mill_sched.specs.States.{State, Work, no_task, piece_at, start_of, tasks_given, untouched, work_of}
 use Rattle.mill_sched.specs.Laws.{IsUntouched, number_of}
 use Rattle.mill_sched.specs.Kept.{GoesOn, Kept}
 
@@ -49,6 +50,15 @@ tasks_kept (t ∷ ts) = ap (λ (l : List Task). t ∷ l) (tasks_kept ts)
 -- the work is what was given
 pub start_work : (work : Work) (workers : ℕ) → work_of (start_of work workers) ≡ work
 start_work work workers = ap (λ (tasks : List Task). let w : Work = record { turns = work.turns; tasks = tasks } in w) (tasks_kept work.tasks)
+
+-- there are as many tasks as spans
+tasks_count : (spans : List (ℕ × ℕ)) (fails : List (Option ℕ)) → length fails ≡ length spans → length (tasks_given spans fails) ≡ length spans
+tasks_count [] fails e = refl
+tasks_count (span ∷ spans) [] e = absurd (omega (arith, e))
+tasks_count (span ∷ spans) (turn ∷ fails) e = let rest = tasks_count spans fails (omega (arith, e)) in omega (arith, rest)
+
+pub pieces_count : (spans : List (ℕ × ℕ)) (fails : List (Option ℕ)) (ps : List Piece) → length fails ≡ length spans → ps ≡ map untouched (tasks_given spans fails) → length ps ≡ length spans
+pieces_count spans fails ps e is = ap length is ∙ length-map (tasks_given spans fails) untouched ∙ tasks_count spans fails e
 
 -- a core with such pieces and workers is as at the start
 pub start_is : (work : Work) (workers : ℕ) (ps : List Piece) (ws : List Worker) → ps ≡ map untouched work.tasks → ws ≡ replicate workers Free

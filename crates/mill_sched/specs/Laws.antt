@@ -8,18 +8,27 @@ use Rattle.mill_sched.specs.declared.piece.Task.{Task}
 use Rattle.mill_sched.specs.declared.piece.Piece.{Piece}
 use Rattle.mill_sched.specs.declared.worker.Worker.{Worker}
 use Rattle.mill_sched.specs.declared.worker.Worker.TheVariants.{Free, Drawn, Holding, Done}
-use Rattle.mill_sched.specs.States.{State, Work, piece_at, worker_at}
+use Rattle.mill_sched.specs.States.{State, Work, piece_at, work_of, worker_at}
 
 -- ----------------------------------------------------------------
 -- who can do what
 
--- the event's worker is there, and can do it now: only a free one draws, one that has drawn a number takes its piece, and the rest is for one that holds a piece, which has failed where it is to lower
+-- the event's worker is there, and can do it now: a free one draws, one that has drawn a number takes its piece, one that holds a piece looks and puts it back, and lowers where the piece has failed
 abbrev pub CanDo : State → Event → Type 0
 CanDo s (Draw w) = slice_get s.workers w ≡ Some Free
 CanDo s (Take w) = (n : ℕ) × (slice_get s.workers w ≡ Some (Drawn n))
 CanDo s (Look w) = (n : ℕ) × (slice_get s.workers w ≡ Some (Holding n))
 CanDo s (Lower w) = (n : ℕ) × (slice_get s.workers w ≡ Some (Holding n)) × IsTrue (piece_at s n).failed
 CanDo s (Put w) = (n : ℕ) × (slice_get s.workers w ≡ Some (Holding n))
+
+-- ----------------------------------------------------------------
+-- what was given
+
+-- the work stays as it was given, and so do the pieces and the workers in their number
+pub record SameGiven (old new : State) : Type 0 where
+  pub work : work_of new ≡ work_of old
+  pub pieces : length new.pieces ≡ length old.pieces
+  pub workers : length new.workers ≡ length old.workers
 
 -- ----------------------------------------------------------------
 -- the numbers

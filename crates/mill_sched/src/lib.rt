@@ -16,6 +16,8 @@
 mod event;
 mod piece;
 mod state;
+#[cfg(test)]
+mod tests;
 mod worker;
 
 pub use event::{Event, Outcome};

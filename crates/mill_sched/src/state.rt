@@ -1,7 +1,7 @@
 ghost use Rattle.std.specs.Prelude.{◌≡◌, ◌+◌, ◌<◌, ◌≤◌, ◌⊎◌, All, IfOk, length, map};
 ghost use Rattle.mill_sched.specs.States.{piece_at, start_of, tasks_given, untouched, work_given, work_of};
 ghost use Rattle.mill_sched.specs.Steps.{outcomes_of, state_after, step_of};
-ghost use Rattle.mill_sched.specs.Laws.{CanDo, DrawsEachOnce, Fits, IsCaused, IsOnTurn, IsPlaced, IsSettled, least_failure};
+ghost use Rattle.mill_sched.specs.Laws.{CanDo, DrawsEachOnce, Fits, IsCaused, IsOnTurn, IsPlaced, IsSettled, SameGiven, least_failure};
 
 use crate::event::{Event, Outcome};
 use crate::piece::{Piece, Task};
@@ -51,6 +51,7 @@ impl Core {
         requires { length fails.now ≡ length spans.now }
         ensures start { IfOk result (λ core. core ≡ start_of (work_given turns spans.now fails.now) workers) }
         ensures work { IfOk result (λ core. work_of core ≡ work_given turns spans.now fails.now) }
+        ensures pieces { IfOk result (λ core. length core.pieces ≡ length spans.now) }
     {
         let pieces = untouched(alloc, spans, fails)?;
         let workers = vec![in alloc; Worker::Free; workers as usize]?;
@@ -100,7 +101,7 @@ impl Core {
         ensures outcome { result ≡ (step_of self.old event).outcome }
         ensures able { CanDo self.old event ⊎ (result ≡ Outcome.Idle) }
         ensures idle { result ≡ Outcome.Idle → (¬ CanDo self.old event) × (self.new ≡ self.old) }
-        ensures work { work_of self.new ≡ work_of self.old }
+        ensures same { SameGiven self.old self.new }
         ensures falls { self.new.least ≤ self.old.least }
     {
         self.act(event)
@@ -114,7 +115,7 @@ impl Core {
     /// turn.
     pub fn run(&mut self, events: &[Event])
         ensures state { self.new ≡ state_after self.old events.now }
-        ensures work { work_of self.new ≡ work_of self.old }
+        ensures same { SameGiven self.old self.new }
         ensures drawn { DrawsEachOnce self.old self.new (outcomes_of self.old events.now) }
         ensures most { self.new.claim ≤ length self.new.pieces + length self.new.workers }
         ensures placed { IsPlaced self.new }
@@ -127,6 +128,7 @@ impl Core {
         for event in events {
             self.act(*event);
         }
+        // What every core keeps is known once a field of it is read.
         prove!(self.least <= self.turns);
     }
 

@@ -2,16 +2,16 @@ use Rattle.std.proofs.Common.{◌≡◌, ◌∙◌, ◌≤◌, ap, subst, sym}
 use Rattle.std.specs.Prelude.{All}
 use Rattle.mill_sched.specs.States.{State, work_of}
 use Rattle.mill_sched.specs.Steps.{outcomes_of}
-use Rattle.mill_sched.specs.Laws.{DrawsEachOnce, Fits, IsOnTurn, IsSettled, least_failure}
+use Rattle.mill_sched.specs.Laws.{DrawsEachOnce, Fits, IsOnTurn, IsSettled, SameGiven, least_failure}
 use Rattle.mill_sched.proofs.Laws.{draws_each_once, run_end, steady_after}
 use Rattle.mill_sched.proofs.Leasts.{all_on_turn, never_under, settled_least}
 use Rattle.mill_sched.proofs.state.Core.run.Goals as goal
 
-pub returns-clause-work : goal.returns-clause-work
-returns-clause-work c =
+pub returns-clause-same : goal.returns-clause-same
+returns-clause-same c =
     let ended = run_end c.args.self.now c.loop-event.self c.args.events.now c.loop-event.event-index c.loop-event-test.false c.loop-event.invariant in
     let steady = steady_after 0 c.args.self.now c.args.events.now in
-    ap work_of ended ∙ steady.work
+    subst (λ (s : State). SameGiven c.args.self.now s) (sym ended) steady.same
 
 pub returns-clause-drawn : goal.returns-clause-drawn
 returns-clause-drawn c =

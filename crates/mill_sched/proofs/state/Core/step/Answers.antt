@@ -1,5 +1,6 @@
 use Rattle.std.proofs.Common.{◌∙◌, ◌≤◌, sym, subst, ap}
 use Rattle.mill_sched.specs.States.{State, work_of}
+use Rattle.mill_sched.specs.Laws.{SameGiven}
 use Rattle.mill_sched.proofs.Able.{able, idle}
 use Rattle.mill_sched.proofs.Laws.{steady_step}
 use Rattle.mill_sched.proofs.state.Core.step.Goals as goal
@@ -10,8 +11,8 @@ returns-clause-able c = able c.args.self.now c.args.event _ c.act.ensures.outcom
 pub returns-clause-idle : goal.returns-clause-idle
 returns-clause-idle c = idle c.args.self.now _ c.args.event _ c.act.ensures.state c.act.ensures.outcome
 
-pub returns-clause-work : goal.returns-clause-work
-returns-clause-work c = let t = steady_step 0 c.args.self.now c.args.event in ap work_of c.act.ensures.state ∙ t.work
+pub returns-clause-same : goal.returns-clause-same
+returns-clause-same c = let t = steady_step 0 c.args.self.now c.args.event in subst (λ (s : State). SameGiven c.args.self.now s) (sym c.act.ensures.state) t.same
 
 pub returns-clause-falls : goal.returns-clause-falls
 returns-clause-falls c = let t = steady_step 0 c.args.self.now c.args.event in subst (λ (s : State). s.least ≤ c.args.self.now.least) (sym c.act.ensures.state) t.falls
