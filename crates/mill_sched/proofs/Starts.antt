@@ -1,5 +1,5 @@
 -- At the start a core keeps what it has to keep.
-use Rattle.std.proofs.Common.{◌≡◌, ◌∙◌, ℕ, List, [], ◌∷◌, get_or, map, refl, sym, ap, subst, suc, zero, arith, inl, Option, Some, None}
+use Rattle.std.proofs.Common.{◌≡◌, ◌∙◌, ℕ, List, [], ◌∷◌, length, get_or, map, refl, sym, ap, subst, suc, zero, arith, inl, Option, Some, None}
 use Rattle.std.specs.Prelude.{replicate}
 use Rattle.std.proofs.Math.ListN.{get_or-map}
 use Rattle.std.proofs.lemmas.List.{length-map}

@@ -177,7 +177,7 @@ impl Dice {
 
     /// An event of a worker, or of the first one that isn't there.
     pub fn event(&mut self, workers: u32) -> Event {
-        let worker = self.roll(u64::from(workers) + 1) as u32;
+        let worker = u32::try_from(self.roll(u64::from(workers) + 1)).unwrap_or(workers);
         match self.roll(5) {
             0 => Event::Draw(worker),
             1 => Event::Take(worker),
