@@ -10,7 +10,7 @@ use Rattle.mill_sched.specs.declared.piece.Task.{Task}
 use Rattle.mill_sched.specs.declared.piece.Piece.{Piece}
 use Rattle.mill_sched.specs.declared.worker.Worker.{Worker}
 use Rattle.mill_sched.specs.declared.worker.Worker.TheVariants.{Free, Drawn, Holding}
-use Rattle.mill_sched.specs.States.{State, Work, piece_at, untouched, no_task, worker_at, work_of}
+use Rattle.mill_sched.specs.States.{State, Work, piece_at, untouched, no_task, worker_at}
 use Rattle.mill_sched.specs.Steps.{Step, actor_of, is_failure, is_stopped, looked, look_outcome, outcomes_of, state_after, step_by, step_of, turned}
 use Rattle.mill_sched.specs.Laws.{DrawsEachOnce, SameGiven, is_drawing, times_drawn}
 use Rattle.mill_sched.proofs.Events.{by_test}

@@ -22,7 +22,7 @@ piece_is : (work : Work) (workers n : ℕ) → piece_at (start_of work workers) 
 piece_is work workers n = get_or-map untouched work.tasks n no_task
 
 is_untouched : (t : Task) → IsUntouched (untouched t)
-is_untouched t = record { next = refl; passed = refl; home = refl }
+is_untouched t = record { next = refl; unfailed = refl; home = refl }
 
 untouched_goes_on : (t : Task) → GoesOn (untouched t)
 untouched_goes_on t = record { from = omega arith; to = λ order. order; not_past = λ f e own. own; failed = λ e. absurd (cc) }

@@ -33,6 +33,7 @@ pub record SameGiven (old new : State) : Type 0 where
 -- ----------------------------------------------------------------
 -- the numbers
 
+-- an outcome tells that this number was drawn
 abbrev pub is_drawing : ℕ → Outcome → Bool
 is_drawing n (Drew m) = m == n
 is_drawing n o = false
@@ -41,7 +42,7 @@ is_drawing n o = false
 abbrev pub times_drawn : ℕ → List Outcome → ℕ
 times_drawn n outcomes = count_by (is_drawing n) outcomes
 
--- between two states each number from the one claim on, under the other and under the count of pieces was drawn exactly once, and no other was drawn
+-- from one state to another each number from the old claim on that is under the new one and under the count of pieces was drawn exactly once, and no other number was drawn
 pub record DrawsEachOnce (old new : State) (outcomes : List Outcome) : Type 0 where
   pub once : (n : ℕ) → old.claim ≤ n → n < new.claim → n < length new.pieces → times_drawn n outcomes ≡ 1
   pub no_earlier : (n : ℕ) → n < old.claim → times_drawn n outcomes ≡ 0
@@ -61,7 +62,7 @@ number_of Done = None
 -- a piece is home, and none of its turns is done
 pub record IsUntouched (p : Piece) : Type 0 where
   pub next : p.next ≡ p.task.first
-  pub passed : p.failed ≡ false
+  pub unfailed : p.failed ≡ false
   pub home : p.holder ≡ None
 
 -- a piece at or over the claim is untouched, and no worker has drawn or holds it; every other is home, or held by the one worker that it names; no two workers have drawn or hold the same
@@ -80,11 +81,11 @@ pub record IsFit (turns : ℕ) (task : Task) : Type 0 where
   pub under : task.limit ≤ turns
   pub fails : IfSome task.fails (λ f. (task.first ≤ f) × (f < task.limit))
 
--- every task is so
+-- each task of the work is fit
 abbrev pub Fits : Work → Type 0
 Fits work = All (IsFit work.turns) work.tasks
 
--- a piece's next turn is one of its own, or it is through; it isn't past the turn at which the piece fails; and where the piece has failed, it is this turn
+-- a piece's next turn is one of its own, or its turns are through; it isn't past the turn at which the piece fails, and where the piece has failed, it is this turn
 pub record IsOnTurn (p : Piece) : Type 0 where
   pub from : p.task.first ≤ p.next
   pub to : p.next ≤ p.task.limit
@@ -94,11 +95,12 @@ pub record IsOnTurn (p : Piece) : Type 0 where
 -- ----------------------------------------------------------------
 -- the least value
 
--- the least turn at which a piece fails, or the number of turns
+-- the least of the turns at which these tasks fail, or this number of turns
 abbrev pub least_of : ℕ → List Task → ℕ
 least_of turns [] = turns
 least_of turns (task ∷ tasks) = min (unwrap_or task.fails turns) (least_of turns tasks)
 
+-- the least turn at which a piece of the work fails, or the number of turns
 abbrev pub least_failure : Work → ℕ
 least_failure work = least_of work.turns work.tasks
 

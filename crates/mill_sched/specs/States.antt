@@ -44,6 +44,7 @@ tasks_given [] fails = []
 tasks_given (span ∷ spans) [] = []
 tasks_given (span ∷ spans) (turn ∷ fails) = record { first = span.0; limit = span.1; fails = turn } ∷ tasks_given spans fails
 
+-- the work that is given by these numbers
 abbrev pub work_given : ℕ → List (ℕ × ℕ) → List (Option ℕ) → Work
 work_given turns spans fails = record { turns = turns; tasks = tasks_given spans fails }
 

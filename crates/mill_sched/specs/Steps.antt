@@ -41,12 +41,15 @@ draw s w =
     then record { state = record s { claim = s.claim + 1; workers = slice_set s.workers w (Drawn s.claim) }; outcome = Drew s.claim }
     else record { state = record s { claim = s.claim + 1; workers = slice_set s.workers w Done }; outcome = Ended }
 
+-- the piece of the number that was drawn goes from home to the worker
 abbrev pub take : State → ℕ → ℕ → Step
 take s w n = record { state = record s { pieces = slice_set s.pieces n (record (piece_at s n) { holder = Some w }); workers = slice_set s.workers w (Holding n) }; outcome = Took }
 
+-- the piece that is held is looked at
 abbrev pub look : State → ℕ → Step
 look s n = record { state = record s { pieces = slice_set s.pieces n (looked s.least (piece_at s n)) }; outcome = look_outcome s.least (piece_at s n) }
 
+-- nothing is done
 abbrev pub idle : State → Step
 idle s = record { state = s; outcome = Idle }
 
@@ -54,9 +57,11 @@ idle s = record { state = s; outcome = Idle }
 abbrev pub lower : State → ℕ → Step
 lower s n = if (piece_at s n).failed then record { state = record s { least = min s.least (piece_at s n).next }; outcome = Lowered } else idle s
 
+-- the piece that is held goes home, and the worker is free
 abbrev pub put : State → ℕ → ℕ → Step
 put s w n = record { state = record s { pieces = slice_set s.pieces n (record (piece_at s n) { holder = None }); workers = slice_set s.workers w Free }; outcome = Back }
 
+-- whose event it is
 abbrev pub actor_of : Event → ℕ
 actor_of (Draw w) = w
 actor_of (Take w) = w

@@ -95,7 +95,8 @@ impl Core {
         self.pieces[number as usize].next
     }
 
-    /// Does what the event says, if that worker can do it now. No memory is taken.
+    /// Does what the event says, if its worker can do it now. Where it can't, or isn't there, the
+    /// outcome is `Idle`, and nothing changes. No memory is taken.
     pub fn step(&mut self, event: Event) -> Outcome
         ensures state { self.new ≡ (step_of self.old event).state }
         ensures outcome { result ≡ (step_of self.old event).outcome }

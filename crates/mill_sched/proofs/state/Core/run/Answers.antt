@@ -1,4 +1,4 @@
-use Rattle.std.proofs.Common.{◌≡◌, ◌∙◌, ◌≤◌, ap, subst, sym}
+use Rattle.std.proofs.Common.{◌≡◌, ◌≤◌, subst, sym}
 use Rattle.std.specs.Prelude.{All}
 use Rattle.mill_sched.specs.States.{State, work_of}
 use Rattle.mill_sched.specs.Steps.{outcomes_of}

@@ -1,5 +1,5 @@
-use Rattle.std.proofs.Common.{◌∙◌, ◌≤◌, sym, subst, ap}
-use Rattle.mill_sched.specs.States.{State, work_of}
+use Rattle.std.proofs.Common.{◌≤◌, sym, subst}
+use Rattle.mill_sched.specs.States.{State}
 use Rattle.mill_sched.specs.Laws.{SameGiven}
 use Rattle.mill_sched.proofs.Able.{able, idle}
 use Rattle.mill_sched.proofs.Laws.{steady_step}
