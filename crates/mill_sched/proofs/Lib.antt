@@ -1,0 +1,6 @@
+pub mod Members
+pub mod Events
+pub mod Laws
+pub mod Leasts
+pub mod Able
+pub mod Starts
