@@ -5,9 +5,9 @@ pub mod Range
 pub mod Machine
 mod DivisionCerts
 pub mod Divisions
-mod Positions
 pub mod RootLemmas
 pub mod Squares
 pub mod ExitCerts
 pub mod Exit
 pub mod Ranges
+pub mod NodeLemmas

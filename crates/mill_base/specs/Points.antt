@@ -1,5 +1,5 @@
 -- Points of triangles, as weighted sums of their corners over a whole denominator.
-use Rattle.std.specs.Prelude.{◌≡◌, ℤ, pos, ◌+ℤ◌, ◌-ℤ◌, ◌*ℤ◌, ◌<ℤ◌, ◌≤ℤ◌}
+use Rattle.std.specs.Prelude.{◌≡◌, ℕ, ℤ, pos, List, slice_index_or, ◌+ℤ◌, ◌-ℤ◌, ◌*ℤ◌, ◌<ℤ◌, ◌≤ℤ◌}
 use Rattle.mill_base.specs.Numbers.{lesser, greater}
 use Rattle.mill_base.specs.declared.points.Pt3.{Pt3}
 use Rattle.mill_base.specs.declared.points.Tri.{Tri}
@@ -33,6 +33,10 @@ pub record IsPointOf (tri : Tri) (n : ℤ) (p : Pt3) : Type 0 where
 -- the triangle of three equal corners, which is a point
 abbrev pub point_tri : Pt3 → Tri
 point_tri p = record { a = p; b = p; c = p }
+
+-- triangle i; there is none past the end, so what stands there is never looked at
+abbrev pub tri_at : List Tri → ℕ → Tri
+tri_at part i = slice_index_or part i (point_tri (point_at (pos 0) (pos 0) (pos 0)))
 
 -- the greatest of a triangle's three heights
 abbrev pub highest : Tri → ℤ

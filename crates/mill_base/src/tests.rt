@@ -75,3 +75,26 @@ fn nodes_are_counted(rt: HostRuntime) -> Result<(), Fail> {
     assert_eq!(rt; finest.nodes(), 4004001);
     Ok(())
 }
+
+#[test]
+fn nodes_come_row_by_row(rt: HostRuntime) -> Result<(), Fail> {
+    let area = Box2 {
+        x0: -200,
+        y0: 7,
+        x1: 0,
+        y1: 17,
+    };
+    let lattice = Lattice { area, step: 75 };
+    assert_eq!(rt; (lattice.node_columns(), lattice.node_rows()), (4, 2));
+    let places: [(u32, (i32, i32)); 5] = [
+        (0, (-200, 7)),
+        (2, (-50, 7)),
+        (3, (0, 7)),
+        (4, (-200, 17)),
+        (7, (0, 17)),
+    ];
+    for (number, place) in places {
+        assert_eq!(rt; lattice.node(number), place);
+    }
+    Ok(())
+}

@@ -5,5 +5,5 @@ pub mod NearCerts
 pub mod NearLemmas
 pub mod Dropping
 pub mod Scanning
-pub mod NodeLemmas
+pub mod Listed
 pub mod Uniqueness

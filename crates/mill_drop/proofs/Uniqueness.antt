@@ -6,7 +6,8 @@ use Rattle.std.proofs.lemmas.Int.{ints}
 use Rattle.mill_base.specs.declared.cutter.Cutter.{Cutter}
 use Rattle.mill_base.specs.declared.points.Tri.{Tri}
 use Rattle.mill_drop.specs.Drops.{IsDropHeight}
-use Rattle.mill_drop.specs.Maps.{IsHeightAt, nodes_of}
+use Rattle.mill_base.specs.Lattices.{nodes_of}
+use Rattle.mill_drop.specs.Maps.{IsHeightAt}
 use Rattle.mill_drop.specs.Unique.{OneListOfHeights}
 
 level : (z : ℤ) → z ≤ℤ z

@@ -4,15 +4,14 @@
 //! contact test of a cutter. It promises that `drop_at` gives the least whole height at which the
 //! cutter doesn't gouge, exactly, for every triangle and cutter, and `drop_once` the same without
 //! cells; `drop_map` gives the list of them over a lattice, whatever the number of threads.
-//! `specs/Drops` says what a drop height is, `specs/Maps` in which order the nodes of a lattice come,
-//! and `specs/Unique` that a lattice has one list of drop heights at most.
+//! `specs/Drops` says what a drop height is, `specs/Maps` what the drop heights over a lattice are, and
+//! `specs/Unique` that a lattice has one list of them at most.
 #![tactic(auto)]
 
 mod drop;
 mod laws;
 mod map;
 mod near;
-mod nodes;
 mod once;
 mod search;
 #[cfg(test)]
@@ -21,5 +20,4 @@ mod tests;
 pub use drop::drop_at;
 pub use laws::drop_heights_are_unique;
 pub use map::drop_map;
-pub use nodes::{node, node_columns, node_rows};
 pub use once::drop_once;

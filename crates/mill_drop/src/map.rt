@@ -3,10 +3,10 @@ ghost use Rattle.mill_base.specs.Numbers.{Within};
 ghost use Rattle.mill_base.specs.declared.limits.TheConstants.{MAX_COORDINATE};
 ghost use Rattle.mill_base.specs.Sizes.{IsCutter};
 ghost use Rattle.mill_cells.specs.Sorted.{sorted_of};
-ghost use Rattle.mill_drop.specs.Maps.{AreDropHeights, IsHeightAt, IsMapLattice, IsNodeTask, node_at};
+ghost use Rattle.mill_base.specs.Lattices.{node_at, IsMapLattice};
+ghost use Rattle.mill_drop.specs.Maps.{AreDropHeights, IsHeightAt, IsNodeTask};
 
 use crate::drop::drop_at;
-use crate::nodes::node;
 use mill_base::{Cutter, Lattice, WantOfMemory};
 use mill_cells::Cells;
 use mill_part::Part;
@@ -59,6 +59,6 @@ fn height_at(
     requires { IsNodeTask part.now cells.now cutter lattice.now floor number }
     ensures { IsHeightAt cutter part.now floor (node_at lattice.now number) result }
 {
-    let (x, y) = node(lattice, number);
+    let (x, y) = lattice.node(number);
     drop_at(part, cells, cutter, x, y, floor)
 }

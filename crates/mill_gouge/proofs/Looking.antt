@@ -8,7 +8,7 @@ use Rattle.std.proofs.lemmas.List.Elements.{Contains-get_or}
 use lib.IntN.{ℤ, pos, ◌+ℤ◌, ◌-ℤ◌}
 use lib.Signed.{◌≤ℤ◌}
 use Rattle.mill_base.specs.Numbers.{lesser, greater}
-use Rattle.mill_base.specs.Points.{highest}
+use Rattle.mill_base.specs.Points.{highest, tri_at}
 use Rattle.mill_base.specs.Covers.{IsUnder}
 use Rattle.mill_base.specs.Ranges.{MoveInRange, TriInRange, TrisInRange}
 use Rattle.mill_base.specs.Sizes.{IsCutter, radius_of}
@@ -28,7 +28,7 @@ use Rattle.mill_sweep.specs.Moments.{IsFar, FarPasses}
 use Rattle.mill_sweep.specs.declared.leaf.Leaf.{Leaf}
 use Rattle.mill_sweep.proofs.Passing.{radius_least}
 use Rattle.mill_gouge.specs.declared.gouge.Gouge.{Gouge}
-use Rattle.mill_gouge.specs.Gouges.{tri_at, PassesPart, IsFirstGouge}
+use Rattle.mill_gouge.specs.Gouges.{PassesPart, IsFirstGouge}
 use Rattle.mill_gouge.specs.inner.Firsts.{ComesBefore, IsEarlier, IsGouge}
 use Rattle.mill_gouge.specs.inner.Near.{IsOver, area_of, margin_of}
 

@@ -3,7 +3,7 @@ use Rattle.std.specs.Prelude.{◌≡◌, ℕ, ◌<◌, List, length, slice_index
 use Rattle.std.proofs.Common.{subst, ap, ◌∙◌}
 use Rattle.std.proofs.lemmas.List.{get_or_default}
 use Rattle.mill_base.specs.declared.points.Tri.{Tri}
-use Rattle.mill_gouge.specs.Gouges.{tri_at}
+use Rattle.mill_base.specs.Points.{tri_at}
 
 tri_read : (tris part : List Tri) (t : ℕ) (d : Tri) → tris ≡ part → t < length tris → slice_index_or tris t d ≡ tri_at part t
 tri_read tris part t d e h = get_or_default tris t d _ h ∙ ap (λ (v : List Tri). tri_at v t) e

@@ -1,16 +1,12 @@
 -- Whether a move passes each triangle of a part, and if not, which is the first that it doesn't pass.
-use Rattle.std.specs.Prelude.{ℕ, ◌<◌, pos, List, length, slice_index_or}
+use Rattle.std.specs.Prelude.{ℕ, ◌<◌, List, length}
 use Rattle.mill_base.specs.declared.points.Tri.{Tri}
 use Rattle.mill_base.specs.declared.motion.Move.{Move}
 use Rattle.mill_base.specs.declared.cutter.Cutter.{Cutter}
-use Rattle.mill_base.specs.Points.{point_tri, point_at}
+use Rattle.mill_base.specs.Points.{tri_at}
 use Rattle.mill_sweep.specs.Leaves.{span_of}
 use Rattle.mill_sweep.specs.Halving.{Passes, FailsAt, Blocks}
 use Rattle.mill_gouge.specs.declared.gouge.Gouge.{Gouge}
-
--- triangle t; there is none past the end, so what stands there is never looked at
-abbrev pub tri_at : List Tri → ℕ → Tri
-tri_at part t = slice_index_or part t (point_tri (point_at (pos 0) (pos 0) (pos 0)))
 
 -- the move passes each triangle of the part, by halving
 abbrev pub PassesPart : Cutter → Move → List Tri → Type 0

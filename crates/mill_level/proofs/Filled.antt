@@ -3,14 +3,13 @@ use Rattle.std.specs.Prelude.{◌≡◌, ℕ, ◌+◌, ◌*◌, ◌≤◌, ◌<�
 use Rattle.std.proofs.Common.{arith, ltb-true, sym, subst, ap, ◌∙◌, mul_comm}
 use Rattle.std.proofs.lemmas.List.{length-append, get_or_append_left, get_or-append-add}
 use Rattle.mill_base.specs.Contact.{Gouges}
-use Rattle.mill_base.specs.Lattices.{lattice_xs, lattice_ys}
+use Rattle.mill_base.specs.Lattices.{lattice_xs, lattice_ys, IsMapLattice}
 use Rattle.mill_base.specs.Points.{point_at}
 use Rattle.mill_base.specs.declared.limits.TheConstants.{MAX_NODES}
 use Rattle.mill_base.specs.declared.points.Pt3.{Pt3}
 use Rattle.mill_base.specs.declared.points.Tri.{Tri}
 use Rattle.mill_base.specs.declared.cutter.Cutter.{Cutter}
 use Rattle.mill_base.specs.declared.lattice.Lattice.{Lattice}
-use Rattle.mill_drop.specs.Maps.{IsMapLattice}
 use Rattle.mill_geom.specs.declared.touch.Axis.{Axis}
 use Rattle.mill_geom.specs.declared.touch.Axis.TheVariants.{X, Y}
 use Rattle.mill_push.specs.Fibers.{tip_on}

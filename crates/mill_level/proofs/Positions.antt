@@ -6,12 +6,11 @@ use Rattle.std.proofs.Math.Nat.{mul-le-mul_right, mod-eq_of_lt, mul-div_cancel}
 use Rattle.std.proofs.lemmas.Grind.{div_ceil_times}
 use Rattle.std.proofs.lemmas.Int.{ints}
 use Rattle.std.proofs.lemmas.List.{get_or_default, take_more}
-use Rattle.mill_base.specs.Lattices.{lattice_positions, lattice_xs, lattice_ys}
+use Rattle.mill_base.specs.Lattices.{lattice_positions, lattice_xs, lattice_ys, nodes_of, node_at, IsMapLattice}
 use Rattle.mill_base.specs.Numbers.{Within}
 use Rattle.mill_base.specs.declared.lattice.Lattice.{Lattice}
 use Rattle.mill_base.specs.declared.limits.TheConstants.{MAX_COORDINATE}
-use Rattle.mill_drop.specs.Maps.{IsMapLattice, node_at, nodes_of}
-use Rattle.mill_drop.proofs.NodeLemmas.{length-positions, length-rows, get_or-positions, get_or-rows, position_within}
+use Rattle.mill_base.proofs.NodeLemmas.{length-rows, get_or-rows, length-positions, get_or-positions, position_within}
 use Rattle.mill_level.specs.inner.Fibers.{ArePositions}
 
 module _ (lo hi step : ℤ) where
@@ -85,10 +84,10 @@ module _ (lo hi step : ℤ) where
     }
 
 pub xs_are_positions : (lattice : Lattice) → IsMapLattice lattice → ArePositions (lattice_xs lattice)
-xs_are_positions lattice h = are_positions lattice.area.x0 lattice.area.x1 lattice.step h.x_order h.step_ok h.x0_ok h.x1_ok
+xs_are_positions lattice h = are_positions lattice.area.x0 lattice.area.x1 lattice.step h.lattice_ok.x_order h.lattice_ok.step_ok h.lattice_ok.x0_ok h.lattice_ok.x1_ok
 
 pub ys_are_positions : (lattice : Lattice) → IsMapLattice lattice → ArePositions (lattice_ys lattice)
-ys_are_positions lattice h = are_positions lattice.area.y0 lattice.area.y1 lattice.step h.y_order h.step_ok h.y0_ok h.y1_ok
+ys_are_positions lattice h = are_positions lattice.area.y0 lattice.area.y1 lattice.step h.lattice_ok.y_order h.lattice_ok.step_ok h.lattice_ok.y0_ok h.lattice_ok.y1_ok
 
 module _ (lattice : Lattice) where
   abbrev columns : ℕ

@@ -41,16 +41,6 @@ abbrev pub OneWaterline : Type 0
 OneWaterline = (cutter : Cutter) (part : List Tri) (z : ℤ) (lattice : Lattice) (outlines others : List Outline)
     → IsWaterline cutter part z lattice outlines → IsWaterline cutter part z lattice others → outlines ≡ others
 
--- the lattice's ends are in range and the right way round, and its step is at least one unit
-pub record IsLattice (lattice : Lattice) : Type 0 where
-  pub x0_ok : Within MAX_COORDINATE lattice.area.x0
-  pub x1_ok : Within MAX_COORDINATE lattice.area.x1
-  pub y0_ok : Within MAX_COORDINATE lattice.area.y0
-  pub y1_ok : Within MAX_COORDINATE lattice.area.y1
-  pub x_order : lattice.area.x0 ≤ℤ lattice.area.x1
-  pub y_order : lattice.area.y0 ≤ℤ lattice.area.y1
-  pub step_ok : (pos 1) ≤ℤ lattice.step
-
 -- the lattice has this many nodes, which are more than a lattice may have
 pub record HasManyNodes (lattice : Lattice) (nodes : ℕ) : Type 0 where
   pub count : nodes ≡ node_count lattice

@@ -2,17 +2,15 @@
 ghost use Rattle.std.specs.Prelude.{◌≡◌, ◌<◌, ◌≤◌, ◌*◌, ◌≤ℤ◌, length, IfOk};
 ghost use Rattle.mill_base.specs.Numbers.{Within};
 ghost use Rattle.mill_base.specs.declared.limits.TheConstants.{MAX_COORDINATE};
-ghost use Rattle.mill_base.specs.Lattices.{lattice_xs, lattice_ys};
+ghost use Rattle.mill_base.specs.Lattices.{lattice_xs, lattice_ys, IsMapLattice};
 ghost use Rattle.mill_base.specs.Sizes.{IsCutter};
 ghost use Rattle.mill_cells.specs.Sorted.{sorted_of};
-ghost use Rattle.mill_drop.specs.Maps.{IsMapLattice};
 ghost use Rattle.mill_level.specs.inner.Maps.{IsMapOf};
 
 use crate::fiber::{add_column, add_row};
 use crate::grid::LevelMap;
 use mill_base::{Cutter, Lattice, WantOfMemory};
 use mill_cells::Cells;
-use mill_drop::{node, node_columns, node_rows};
 use mill_geom::Axis;
 use mill_part::Part;
 use mill_push::Fiber;
@@ -57,8 +55,8 @@ pub fn level_map(
         add_column(alloc, part, cells, cutter, fiber, &ys, &mut places)?;
     }
     Ok(LevelMap {
-        columns: node_columns(lattice),
-        rows: node_rows(lattice),
+        columns: lattice.node_columns(),
+        rows: lattice.node_rows(),
         xs,
         ys,
         blocked,
@@ -79,8 +77,8 @@ fn xs_of(alloc: Global, lattice: &Lattice) -> Result<Vec<i32>, WantOfMemory>
     ensures { IfOk result (λ xs. xs.items ≡ lattice_xs lattice.now) }
 {
     let mut xs = Vec::new(alloc);
-    for column in 0..node_columns(lattice) {
-        xs.push(node(lattice, column).0)?;
+    for column in 0..lattice.node_columns() {
+        xs.push(lattice.node(column).0)?;
     }
     Ok(xs)
 }
@@ -90,10 +88,10 @@ fn ys_of(alloc: Global, lattice: &Lattice) -> Result<Vec<i32>, WantOfMemory>
     requires { IsMapLattice lattice.now }
     ensures { IfOk result (λ ys. ys.items ≡ lattice_ys lattice.now) }
 {
-    let columns = node_columns(lattice);
+    let columns = lattice.node_columns();
     let mut ys = Vec::new(alloc);
-    for row in 0..node_rows(lattice) {
-        ys.push(node(lattice, row * columns).1)?;
+    for row in 0..lattice.node_rows() {
+        ys.push(lattice.node(row * columns).1)?;
     }
     Ok(ys)
 }

@@ -3,7 +3,7 @@ ghost use Rattle.mill_base.specs.Numbers.{Within};
 ghost use Rattle.mill_base.specs.declared.limits.TheConstants.{MAX_COORDINATE, MAX_RADIUS};
 ghost use Rattle.mill_base.specs.Ranges.{IsInRange, TriInRange};
 ghost use Rattle.mill_base.specs.Sizes.{HasRadius, IsCutter};
-ghost use Rattle.mill_level.specs.Waterlines.{IsLattice};
+ghost use Rattle.mill_base.specs.Lattices.{IsLattice};
 
 use crate::{LevelFault, joins_are_apart, one_waterline, waterline};
 use mill_base::{Box2, Cutter, Lattice, MAX_COORDINATE, Pt3, Tri};

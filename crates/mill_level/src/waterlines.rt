@@ -1,11 +1,11 @@
 ghost use Rattle.std.specs.Prelude.{◌≡◌, ◌↔◌, ◌≤◌, ℕ, IfOk, IsErrOf, map as map_list};
 ghost use Rattle.mill_base.specs.Numbers.{Within};
 ghost use Rattle.mill_base.specs.declared.limits.TheConstants.{MAX_COORDINATE, MAX_NODES};
-ghost use Rattle.mill_base.specs.Lattices.{node_count};
+ghost use Rattle.mill_base.specs.Lattices.{node_count, IsLattice};
 ghost use Rattle.mill_base.specs.Sizes.{IsCutter};
 ghost use Rattle.mill_cells.specs.Sorted.{sorted_of};
 ghost use Rattle.mill_level.specs.declared.fault.LevelFault.TheVariants.{TooManyNodes};
-ghost use Rattle.mill_level.specs.Waterlines.{HasManyNodes, IsLattice, IsWaterline, seen};
+ghost use Rattle.mill_level.specs.Waterlines.{HasManyNodes, IsWaterline, seen};
 
 use crate::chain::Chain;
 use crate::fault::LevelFault;

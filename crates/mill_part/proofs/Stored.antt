@@ -6,17 +6,15 @@ use lib.IntN.{ℤ, pos, negsuc, nat_abs, ◌+ℤ◌, ◌-ℤ◌, ◌*ℤ◌}
 use lib.Signed.{◌<ℤ◌, ◌≤ℤ◌, lt_z}
 use Rattle.mill_base.specs.Numbers.{Within}
 use Rattle.mill_base.specs.declared.limits.TheConstants.{MAX_COORDINATE}
+use Rattle.mill_base.proofs.Ranges.{coordinate}
 use Rattle.mill_base.proofs.Machine.{X, Read, Lit, Sum, Diff, stored, roomy, exact, stays, sum_fits, diff_fits, kept}
 use Rattle.mill_part.specs.inner.Columns.{weigh}
 
--- a coordinate is stored as it is
-pub coordinate : (z : ℤ) → Within MAX_COORDINATE z → stored w32 z ≡ z
-coordinate z h = kept w32 z 524287 h.within refl
-
+-- the bounds of a coordinate
 pub coordinate_bounds : (z : ℤ) → Within MAX_COORDINATE z → (negsuc 524286 ≤ℤ z) × (z ≤ℤ pos 524287)
 coordinate_bounds z h = let k = h.within in (omega (arith, ints), omega (arith, ints))
 
--- and so is the next lower number
+-- the number before a coordinate is stored as it is
 pub next_lower : (z : ℤ) → Within MAX_COORDINATE z → stored w32 (stored w32 z -ℤ pos 1) ≡ z -ℤ pos 1
 next_lower z h = exact (z ∷ []) (524287 ∷ []) (Diff w32 (Read w32 0) (Lit (pos 1))) (h.within, tt) refl
 

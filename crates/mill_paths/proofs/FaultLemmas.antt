@@ -3,11 +3,10 @@ use Rattle.std.proofs.Common.{◌≡◌, ℕ, zero, suc, ◌<◌, ◌≤◌, Lis
 use Rattle.std.specs.Prelude.{ℤ, pos, negsuc, ◌<ℤ◌, ◌≤ℤ◌, Result, Ok, Err}
 use Rattle.std.proofs.lemmas.Int.{ints}
 use mir.Val.{of_z, to_z}
-use Rattle.mill_base.specs.Lattices.{node_count}
+use Rattle.mill_base.specs.Lattices.{node_count, IsMapLattice}
 use Rattle.mill_base.specs.Numbers.{Within}
 use Rattle.mill_base.specs.declared.limits.TheConstants.{MAX_NODES, MAX_TEXT_COORDINATE}
 use Rattle.mill_base.specs.declared.lattice.Lattice.{Lattice}
-use Rattle.mill_drop.specs.Maps.{IsMapLattice}
 use Rattle.mill_paths.proofs.Kept.{text_coordinate}
 use Rattle.mill_paths.specs.Limits.{change_count, most_changes, HasManyNodes, IsHeightsFault, IsListFault}
 use Rattle.mill_paths.specs.declared.fault.PathFault.{PathFault}

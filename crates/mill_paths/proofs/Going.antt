@@ -9,7 +9,7 @@ use Rattle.std.proofs.lemmas.List.Elements.{All-head, All-tail, Contains-get_or,
 use Rattle.mill_base.specs.Covers.{IsUnder}
 use Rattle.mill_base.specs.Numbers.{Within, greater}
 use Rattle.mill_base.specs.declared.limits.TheConstants.{MAX_TEXT_COORDINATE}
-use Rattle.mill_base.specs.Points.{highest, point_at, point_tri}
+use Rattle.mill_base.specs.Points.{highest, point_at, point_tri, tri_at}
 use Rattle.mill_base.specs.Ranges.{IsInTextRange, MoveInTextRange}
 use Rattle.mill_base.specs.declared.points.Pt3.{Pt3}
 use Rattle.mill_base.specs.declared.points.Tri.{Tri}
@@ -18,7 +18,6 @@ use Rattle.mill_base.specs.declared.motion.Kind.TheVariants.{Rapid, Feed}
 use Rattle.mill_dexel.specs.Tops.{top_after}
 use Rattle.mill_dexel.proofs.TopLaws.{top_after_stays}
 use Rattle.mill_dexel.proofs.Cleared.{passes_after_cut}
-use Rattle.mill_gouge.specs.Gouges.{tri_at}
 use Rattle.mill_job.specs.Columns.{home}
 use Rattle.mill_job.specs.Jobs.{IsJob}
 use Rattle.mill_job.specs.declared.job.Job.{Job}

@@ -4,8 +4,7 @@ use Rattle.std.specs.Prelude.{ℤ}
 use Rattle.mill_base.specs.Numbers.{Within}
 use Rattle.mill_base.specs.declared.limits.TheConstants.{MAX_TEXT_COORDINATE}
 use Rattle.mill_base.proofs.Machine.{stored}
-use Rattle.mill_base.proofs.Ranges.{within_of_text}
-use Rattle.mill_part.proofs.Stored.{coordinate}
+use Rattle.mill_base.proofs.Ranges.{within_of_text, coordinate}
 
 pub text_coordinate : (z : ℤ) → Within MAX_TEXT_COORDINATE z → stored w32 z ≡ z
 text_coordinate z h = coordinate z (within_of_text z h)

@@ -4,7 +4,7 @@ use Rattle.std.specs.Prelude.{if◌then◌else◌, int_lt, int_le, ℤ, ◌+ℤ�
 use Rattle.std.proofs.lemmas.Int.{ints}
 use Rattle.mill_base.specs.declared.lattice.Lattice.{Lattice}
 use Rattle.mill_base.specs.Points.{point_at}
-use Rattle.mill_drop.specs.Maps.{node_at}
+use Rattle.mill_base.specs.Lattices.{node_at}
 use Rattle.mill_job.specs.declared.job.Job.{Job}
 use Rattle.mill_paths.specs.Lattices.{finish_lattice, rough_lattice}
 use Rattle.mill_paths.specs.Visits.{height_at, visit_at, visit_if}

@@ -8,12 +8,12 @@ use Rattle.std.proofs.lemmas.List.Elements.{All-append, All-cons, All-nil}
 use Rattle.std.proofs.lemmas.List.FromFn.{length-range_with_len, get_or-range_with_len}
 use Rattle.mill_base.specs.Numbers.{Within}
 use Rattle.mill_base.specs.declared.limits.TheConstants.{MAX_TEXT_COORDINATE}
-use Rattle.mill_base.specs.Lattices.{lattice_positions, lattice_xs, lattice_ys}
+use Rattle.mill_base.specs.Lattices.{lattice_positions, lattice_xs, lattice_ys, nodes_of, node_at}
 use Rattle.mill_base.specs.declared.lattice.Lattice.{Lattice}
 use Rattle.mill_base.specs.declared.points.Tri.{Tri}
 use Rattle.mill_drop.specs.Drops.{IsDropHeight}
-use Rattle.mill_drop.specs.Maps.{AreDropHeights, IsHeightAt, node_at, nodes_of}
-use Rattle.mill_drop.proofs.NodeLemmas.{get_or-rows, get_or-positions, length-positions, length-rows, row_within}
+use Rattle.mill_drop.specs.Maps.{AreDropHeights, IsHeightAt}
+use Rattle.mill_base.proofs.NodeLemmas.{length-rows, get_or-rows, row_within, length-positions, get_or-positions}
 use Rattle.mill_job.specs.Jobs.{IsFrom, IsJob}
 use Rattle.mill_job.specs.Tables.{IsArea}
 use Rattle.mill_job.specs.declared.job.Job.{Job}

@@ -5,10 +5,9 @@ use Rattle.std.specs.List.{flat_map, range_with_len}
 use Rattle.std.proofs.Math.Nat.{mul-le-mul_right}
 use Rattle.std.proofs.lemmas.List.{length-reverse, get_or-reverse}
 use Rattle.std.proofs.lemmas.List.FromFn.{length-range_with_len, get_or-range_with_len}
-use Rattle.mill_base.specs.Lattices.{lattice_xs, lattice_ys, node_count}
+use Rattle.mill_base.specs.Lattices.{lattice_xs, lattice_ys, node_count, nodes_of}
 use Rattle.mill_base.specs.declared.lattice.Lattice.{Lattice}
-use Rattle.mill_drop.specs.Maps.{nodes_of}
-use Rattle.mill_drop.proofs.NodeLemmas.{length-rows}
+use Rattle.mill_base.proofs.NodeLemmas.{length-rows}
 use Rattle.mill_paths.specs.Lattices.{zigzag_of, zigzag_row}
 use Rattle.mill_paths.proofs.Adding.{flat_map-nested}
 

@@ -6,7 +6,8 @@ use Rattle.mill_base.specs.Ranges.{IsInTextRange}
 use Rattle.mill_base.specs.declared.lattice.Lattice.{Lattice}
 use Rattle.mill_base.specs.declared.points.Tri.{Tri}
 use Rattle.mill_drop.specs.Drops.{GougesAt}
-use Rattle.mill_drop.specs.Maps.{AreDropHeights, node_at}
+use Rattle.mill_base.specs.Lattices.{node_at}
+use Rattle.mill_drop.specs.Maps.{AreDropHeights}
 use Rattle.mill_job.specs.Jobs.{IsFrom, IsJob}
 use Rattle.mill_job.specs.declared.job.Job.{Job}
 use Rattle.mill_paths.specs.Lattices.{finish_lattice, rough_lattice, zigzag_of}

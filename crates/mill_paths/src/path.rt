@@ -1,12 +1,11 @@
 ghost use Rattle.std.specs.Prelude.{◌≡◌, ◌<◌, length, option_to_list};
-ghost use Rattle.mill_drop.specs.Maps.{IsMapLattice, nodes_of};
+ghost use Rattle.mill_base.specs.Lattices.{nodes_of, IsMapLattice};
 ghost use Rattle.mill_job.specs.Jobs.{IsJob};
 ghost use Rattle.mill_paths.specs.inner.Paths.{path_height, path_lattice, path_visit};
 
 use crate::lattices::{finish_lattice, rough_lattice};
 use crate::visit::Visit;
 use mill_base::{Lattice, Pt3};
-use mill_drop::node;
 use mill_job::Job;
 
 /// A path over a lattice.
@@ -39,7 +38,7 @@ pub(crate) fn visit_of(job: &Job, heights: &[i32], path: Path, number: u32) -> O
 {
     let z = tip_height(job, path, heights[number as usize])?;
     let lattice = lattice_of(job, path);
-    let (x, y) = node(&lattice, number);
+    let (x, y) = lattice.node(number);
     Some(Visit {
         at: Pt3 { x, y, z },
         step: lattice.step,

@@ -1,6 +1,7 @@
 ghost use Rattle.std.specs.Prelude.{◌≡◌, ◌↔◌, ℕ, ◌<◌, ◌≤◌, ◌++◌, pos, ◌<ℤ◌, length, slice_index_or, All, IfErr, IfOk, IsErrOf, OnOk};
 ghost use Rattle.mill_cells.specs.Sorted.{sorted_of};
-ghost use Rattle.mill_drop.specs.Maps.{AreDropHeights, IsMapLattice, nodes_of};
+ghost use Rattle.mill_base.specs.Lattices.{nodes_of, IsMapLattice};
+ghost use Rattle.mill_drop.specs.Maps.{AreDropHeights};
 ghost use Rattle.mill_job.specs.Jobs.{IsFrom, IsJob};
 ghost use Rattle.mill_paths.specs.Lattices.{finish_lattice, lattice_by, rough_lattice};
 ghost use Rattle.mill_paths.specs.Limits.{change_count, most_changes, HasManyNodes, IsHeightsFault, IsListFault};

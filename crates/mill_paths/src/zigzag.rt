@@ -1,7 +1,6 @@
 ghost use Rattle.std.specs.Prelude.{◌≡◌, ◌+◌, ◌*◌, ◌<◌, ◌≤◌, ◌++◌, length, slice_index, IfErr, OnOk};
 ghost use Rattle.std.specs.List.{flat_map};
-ghost use Rattle.mill_base.specs.Lattices.{lattice_xs, lattice_ys};
-ghost use Rattle.mill_drop.specs.Maps.{IsMapLattice, nodes_of};
+ghost use Rattle.mill_base.specs.Lattices.{lattice_xs, lattice_ys, nodes_of, IsMapLattice};
 ghost use Rattle.mill_job.specs.Jobs.{IsJob};
 ghost use Rattle.mill_paths.specs.Lattices.{zigzag_row};
 ghost use Rattle.mill_paths.specs.Limits.{IsListFault};
@@ -11,7 +10,6 @@ ghost use Rattle.mill_paths.specs.inner.Paths.{path_lattice, path_visit, path_vi
 use crate::fault::PathFault;
 use crate::path::{Path, lattice_of, visit_of};
 use crate::visit_list::VisitList;
-use mill_drop::{node_columns, node_rows};
 use mill_job::Job;
 
 /// Adds the visits of a path, in zigzag order. `heights` are the drop heights at the nodes of its
@@ -31,8 +29,8 @@ pub(crate) fn add_path(
         (IsListFault (list.old.visits.items ++ path_visits job.now heights.now path)) }
 {
     let lattice = lattice_of(job, path);
-    let columns = node_columns(&lattice);
-    for row in 0..node_rows(&lattice) {
+    let columns = lattice.node_columns();
+    for row in 0..lattice.node_rows() {
         add_row(job, heights, path, columns, row, list)?;
     }
     Ok(())

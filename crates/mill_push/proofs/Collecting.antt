@@ -13,7 +13,7 @@ use lib.IntN.{ℤ, pos}
 use lib.Signed.{◌<ℤ◌, ◌≤ℤ◌}
 use Rattle.mill_base.specs.Numbers.{Within}
 use Rattle.mill_base.specs.declared.limits.TheConstants.{MAX_COORDINATE}
-use Rattle.mill_base.specs.Points.{highest, point_at, point_tri}
+use Rattle.mill_base.specs.Points.{highest, point_at, point_tri, tri_at}
 use Rattle.mill_base.specs.Sizes.{IsCutter}
 use Rattle.mill_base.specs.declared.points.Tri.{Tri}
 use Rattle.mill_base.specs.declared.points.Box2.{Box2}
@@ -28,7 +28,7 @@ use Rattle.mill_push.specs.declared.fiber.Run.{Run}
 use Rattle.mill_push.specs.Fibers.{IsTouched, IsBlocked}
 use Rattle.mill_push.specs.Runs.{StandsIn}
 use Rattle.mill_push.specs.Stretches.{IsTouchedStretch, IsClear}
-use Rattle.mill_push.specs.Touches.{IsTried, TouchesFew, position_count, strip_of, tri_at}
+use Rattle.mill_push.specs.Touches.{IsTried, TouchesFew, position_count, strip_of}
 use Rattle.mill_push.specs.inner.Unions.{AreSpans, IsSpan, AreStretches}
 use Rattle.mill_push.proofs.Meeting.{touched_near}
 

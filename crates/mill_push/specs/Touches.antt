@@ -1,8 +1,8 @@
 -- How many touches a push may take.
-use Rattle.std.specs.Prelude.{ℕ, ◌+◌, ◌*◌, ◌^◌, ◌<◌, ◌≤◌, nat_abs, nat_eq, ℤ, pos, ◌+ℤ◌, ◌-ℤ◌, ◌<ℤ◌, List, length, slice_index_or, Contains}
+use Rattle.std.specs.Prelude.{ℕ, ◌+◌, ◌*◌, ◌^◌, ◌<◌, ◌≤◌, nat_abs, nat_eq, ℤ, ◌+ℤ◌, ◌-ℤ◌, ◌<ℤ◌, List, length, Contains}
 use Rattle.std.specs.List.{IsDistinct}
 use Rattle.mill_base.specs.Numbers.{Within}
-use Rattle.mill_base.specs.Points.{highest, point_at, point_tri}
+use Rattle.mill_base.specs.Points.{highest, tri_at}
 use Rattle.mill_base.specs.Sizes.{radius_of}
 use Rattle.mill_base.specs.declared.limits.TheConstants.{MAX_COORDINATE}
 use Rattle.mill_base.specs.declared.points.Tri.{Tri}
@@ -34,10 +34,6 @@ pub record IsNearFiber (cutter : Cutter) (fiber : Fiber) (from to : ℤ) (tri : 
 -- how many positions lie from a to b
 abbrev pub position_count : ℤ → ℤ → ℕ
 position_count a b = nat_abs (b -ℤ a) + 1
-
--- the triangle of number i; the origin if there is none
-abbrev pub tri_at : List Tri → ℕ → Tri
-tri_at part i = slice_index_or part i (point_tri (point_at (pos 0) (pos 0) (pos 0)))
 
 -- the part has a triangle of number i, and it is near the fiber
 pub record IsTried (cutter : Cutter) (part : List Tri) (fiber : Fiber) (from to : ℤ) (i : ℕ) : Type 0 where

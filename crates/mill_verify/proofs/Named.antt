@@ -1,7 +1,7 @@
 -- A leaf that a rejection names is one of the last of its move, and blocked.
 use Rattle.std.specs.Prelude.{◌≡◌, ℕ, ◌<◌, List, length, take, refl}
 use Rattle.std.proofs.Common.{subst}
-use Rattle.mill_base.specs.Points.{point_tri}
+use Rattle.mill_base.specs.Points.{point_tri, tri_at}
 use Rattle.mill_base.specs.Ranges.{MoveInRange, MovesInRange}
 use Rattle.mill_base.specs.declared.points.Tri.{Tri}
 use Rattle.mill_base.specs.declared.motion.Move.{Move}
@@ -9,7 +9,6 @@ use Rattle.mill_job.specs.declared.job.Job.{Job}
 use Rattle.mill_job.specs.Jobs.{IsJob}
 use Rattle.mill_dexel.specs.Tops.{top_point}
 use Rattle.mill_dexel.specs.Turns.{move_at}
-use Rattle.mill_gouge.specs.Gouges.{tri_at}
 use Rattle.mill_sweep.specs.declared.leaf.Leaf.{Leaf}
 use Rattle.mill_sweep.specs.Moments.{FailingIsBlocked}
 use Rattle.mill_verify.proofs.ReadLemmas.{move_read}

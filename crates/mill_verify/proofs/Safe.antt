@@ -24,7 +24,7 @@ use Rattle.mill_base.proofs.Ranges.{in_range_of_text}
 use Rattle.mill_verify.proofs.Ranges.{column_within, top_within}
 use Rattle.mill_verify.specs.Tests.{GoodBefore, PassesTri}
 use Rattle.mill_dexel.specs.Turns.{move_at}
-use Rattle.mill_gouge.specs.Gouges.{tri_at}
+use Rattle.mill_base.specs.Points.{tri_at}
 use Rattle.mill_verify.specs.Verdicts.{Accepts}
 use Rattle.mill_verify.specs.Claims.{NeverGouges, RapidsMissStock, LeftIsCovered, PartIsLeft, CutsSafely, LeavesPoint, IsColumnPoint}
 

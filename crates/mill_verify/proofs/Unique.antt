@@ -5,7 +5,7 @@ use Rattle.std.proofs.lemmas.Int.{ints}
 use Rattle.mill_base.specs.declared.points.Tri.{Tri}
 use Rattle.mill_base.specs.declared.motion.Move.{Move}
 use Rattle.mill_base.specs.declared.cutter.Cutter.{Cutter}
-use Rattle.mill_base.specs.Points.{point_tri}
+use Rattle.mill_base.specs.Points.{point_tri, tri_at}
 use Rattle.mill_sweep.specs.declared.leaf.Leaf.{Leaf}
 use Rattle.mill_sweep.specs.Halving.{FailsAt, LeadsTo}
 use Rattle.mill_sweep.specs.Leaves.{depth_of}
@@ -14,7 +14,6 @@ use Rattle.mill_job.specs.Columns.{IsBefore}
 use Rattle.mill_dexel.specs.Tops.{top_point}
 use Rattle.mill_verify.specs.Tests.{IsOverFloor, ClearsPart, IsGood, GoodBefore}
 use Rattle.mill_dexel.specs.Turns.{move_at}
-use Rattle.mill_gouge.specs.Gouges.{tri_at}
 use Rattle.mill_verify.specs.Verdicts.{FailsFloor, FailsPart, FailsStock, FailsCut, Accepts, IsRejection, IsVerdict}
 use Rattle.mill_verify.specs.declared.verdict.Verdict.{Verdict}
 use Rattle.mill_verify.specs.declared.verdict.Verdict.TheVariants.{Accept, Reject}

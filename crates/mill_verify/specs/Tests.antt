@@ -9,7 +9,8 @@ use Rattle.mill_job.specs.declared.job.Job.{Job}
 use Rattle.mill_job.specs.Columns.{IsColumn, column_x, column_y}
 use Rattle.mill_dexel.specs.Tops.{top_after, top_point}
 use Rattle.mill_dexel.specs.Turns.{move_at}
-use Rattle.mill_gouge.specs.Gouges.{PassesPart, tri_at}
+use Rattle.mill_base.specs.Points.{tri_at}
+use Rattle.mill_gouge.specs.Gouges.{PassesPart}
 
 -- test (i): both ends of move k are at or over the floor
 pub record IsOverFloor (job : Job) (moves : List Move) (k : ℕ) : Type 0 where

@@ -8,14 +8,13 @@ use Rattle.mill_base.specs.declared.limits.TheConstants.{MAX_LAST_REACH}
 use Rattle.mill_sweep.specs.Leaves.{reach_of, span_of}
 use Rattle.mill_sweep.specs.Halving.{FailsAt, Blocks}
 use Rattle.mill_sweep.specs.declared.leaf.Leaf.{Leaf}
-use Rattle.mill_base.specs.Points.{point_tri}
+use Rattle.mill_base.specs.Points.{point_tri, tri_at}
 use Rattle.mill_base.specs.Covers.{IsHighestCovered}
 use Rattle.mill_job.specs.declared.job.Job.{Job}
 use Rattle.mill_job.specs.Columns.{IsColumn, IsBefore, column_x, column_y, row_count, column_count}
 use Rattle.mill_dexel.specs.Tops.{top_after, top_point}
 use Rattle.mill_verify.specs.Tests.{IsOverFloor, PassesTri, ClearsPart, PassesColumn, IsCut, GoodBefore}
 use Rattle.mill_dexel.specs.Turns.{move_at}
-use Rattle.mill_gouge.specs.Gouges.{tri_at}
 use Rattle.mill_verify.specs.declared.verdict.Verdict.{Verdict}
 use Rattle.mill_verify.specs.declared.verdict.Verdict.TheVariants.{Accept, Reject}
 use Rattle.mill_verify.specs.declared.verdict.Reason.{Reason}

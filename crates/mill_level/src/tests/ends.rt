@@ -1,7 +1,7 @@
 ghost use Rattle.std.specs.Prelude.{◌≤ℤ◌, pos};
 ghost use Rattle.mill_base.specs.Numbers.{Within};
 ghost use Rattle.mill_base.specs.declared.limits.TheConstants.{MAX_COORDINATE};
-ghost use Rattle.mill_level.specs.Waterlines.{IsLattice};
+ghost use Rattle.mill_base.specs.Lattices.{IsLattice};
 
 use super::{at, has_waterline, tri};
 use mill_base::{Box2, Cutter, Lattice};

@@ -4,7 +4,7 @@ use Rattle.std.specs.Int.{int_max}
 use Rattle.mill_base.specs.declared.points.Tri.{Tri}
 use Rattle.mill_base.specs.declared.motion.Move.{Move}
 use Rattle.mill_base.specs.declared.motion.Kind.TheVariants.{Rapid}
-use Rattle.mill_base.specs.Points.{point_tri}
+use Rattle.mill_base.specs.Points.{point_tri, tri_at}
 use Rattle.mill_base.specs.Covers.{Covered, IsHighestCovered}
 use Rattle.mill_sweep.specs.Halving.{Blocks, FailsAt}
 use Rattle.mill_sweep.specs.Leaves.{span_of}
@@ -15,7 +15,7 @@ use Rattle.mill_dexel.specs.Tops.{top_after, top_point}
 use Rattle.mill_dexel.specs.declared.fail.RowFail.{RowFail}
 use Rattle.mill_verify.specs.Tests.{ClearsPart, PassesColumn, ClearsStock, IsOverFloor, IsCut, GoodBefore}
 use Rattle.mill_dexel.specs.Turns.{move_at}
-use Rattle.mill_gouge.specs.Gouges.{IsFirstGouge, tri_at}
+use Rattle.mill_gouge.specs.Gouges.{IsFirstGouge}
 use Rattle.mill_verify.specs.Verdicts.{IsLeftOver, IsMostLeft, IsRejection}
 use Rattle.mill_verify.specs.declared.limit.Limit.{Limit}
 use Rattle.mill_verify.specs.declared.verdict.Verdict.{Verdict}

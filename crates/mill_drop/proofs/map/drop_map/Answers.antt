@@ -4,10 +4,11 @@ use Rattle.std.specs.List.{AllZip, range_with_len}
 use Rattle.rayon.specs.Numbers.{nat_range}
 use Rattle.rayon.proofs.ListFacts.{IfOk-then}
 use Rattle.rayon.proofs.ToStd.{nat_range-All}
-use Rattle.mill_base.specs.Lattices.{lattice_xs, lattice_ys}
-use Rattle.mill_part.proofs.Stored.{coordinate}
-use Rattle.mill_drop.specs.Maps.{AreDropHeights, IsHeightAt, IsNodeTask, node_at, nodes_of}
-use Rattle.mill_drop.proofs.NodeLemmas.{length-rows, AllZip-listed}
+use Rattle.mill_base.specs.Lattices.{lattice_xs, lattice_ys, nodes_of, node_at}
+use Rattle.mill_base.proofs.Ranges.{coordinate}
+use Rattle.mill_drop.specs.Maps.{AreDropHeights, IsHeightAt, IsNodeTask}
+use Rattle.mill_base.proofs.NodeLemmas.{length-rows}
+use Rattle.mill_drop.proofs.Listed.{AllZip-listed}
 use Rattle.mill_drop.proofs.map.drop_map.Goals as goal
 
 pub collect-requires-clause-ready : goal.collect-requires-clause-ready

@@ -2,7 +2,7 @@ use Rattle.std.proofs.Common.{FitsSigned, rules, to_z}
 use Rattle.std.proofs.lemmas.List.Elements.{Contains-get_or}
 use mir.Syntax.{w32}
 use Rattle.std.proofs.lemmas.Int.{to_z-of_z}
-use Rattle.mill_part.proofs.Stored.{coordinate}
+use Rattle.mill_base.proofs.Ranges.{coordinate}
 use Rattle.mill_drop.proofs.Dropping.{no_tri, raise_starts, next_within, raise_goes_on, raise_ends}
 use Rattle.mill_drop.proofs.near.raised_near.Goals as goal
 

@@ -2,7 +2,7 @@ use Rattle.std.proofs.Common.{FitsSigned, rules, to_z}
 use Rattle.std.proofs.lemmas.List.Elements.{Contains-get_or}
 use mir.Syntax.{w32}
 use Rattle.std.proofs.lemmas.Int.{to_z-of_z}
-use Rattle.mill_part.proofs.Stored.{coordinate}
+use Rattle.mill_base.proofs.Ranges.{coordinate}
 use Rattle.mill_drop.proofs.Scanning.{one_more, drop_after}
 use Rattle.mill_drop.proofs.once.drop_once.Goals as goal
 

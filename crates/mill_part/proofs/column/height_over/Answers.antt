@@ -1,5 +1,5 @@
 use Rattle.mill_part.specs.inner.Columns.{AreApart}
-use Rattle.mill_part.proofs.Stored.{coordinate}
+use Rattle.mill_base.proofs.Ranges.{coordinate}
 use Rattle.mill_part.proofs.FaceLemmas.{none_over_x, none_over_y}
 use Rattle.mill_part.proofs.column.height_over.Goals as goal
 

@@ -2,7 +2,8 @@ use Rattle.std.proofs.Common.{◌^◌, refl, sym, ap, ◌∙◌, of_z}
 use mir.Syntax.{w64}
 use lib.IntN.{pos, ◌-ℤ◌}
 use Rattle.mill_base.proofs.Machine.{stored}
-use Rattle.mill_part.proofs.Stored.{coordinate, sum3_fits, turn_kept, minus_is, minus_within, positive_total, negative_total, zero_total, zero_turn, third_is_0}
+use Rattle.mill_base.proofs.Ranges.{coordinate}
+use Rattle.mill_part.proofs.Stored.{sum3_fits, turn_kept, minus_is, minus_within, positive_total, negative_total, zero_total, zero_turn, third_is_0}
 use Rattle.mill_part.proofs.FaceLemmas.{face_greatest, face_of, opposite_face_of, turns_are_0}
 use Rattle.mill_part.proofs.column.near_height.Goals as goal
 

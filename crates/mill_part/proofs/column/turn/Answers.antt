@@ -1,7 +1,8 @@
 use Rattle.std.proofs.Common.{◌^◌, [], ◌∷◌, refl, ◌∙◌}
 use mir.Syntax.{w64}
 use Rattle.mill_base.proofs.Machine.{Read, Diff, kept, stays}
-use Rattle.mill_part.proofs.Stored.{coordinate, less2_is, less2_fits}
+use Rattle.mill_base.proofs.Ranges.{coordinate}
+use Rattle.mill_part.proofs.Stored.{less2_is, less2_fits}
 use Rattle.mill_part.proofs.column.turn.Goals as goal
 
 pub overflow_sub-result : goal.overflow_sub-result

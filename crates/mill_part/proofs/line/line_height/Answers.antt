@@ -1,5 +1,5 @@
 use Rattle.std.proofs.Common.{◌≡◌, Bool, false, IsTrue}
-use Rattle.mill_part.proofs.Stored.{coordinate}
+use Rattle.mill_base.proofs.Ranges.{coordinate}
 use Rattle.mill_part.proofs.AxisLemmas.{upright_greatest, aslant_greatest}
 use Rattle.mill_part.proofs.line.line_height.Goals as goal
 

@@ -1,7 +1,8 @@
 use Rattle.std.proofs.Common.{◌∙◌, ap, sym}
 use lib.IntN.{pos, ◌-ℤ◌}
 use Rattle.std.proofs.lemmas.List.Elements.{Contains-get_or}
-use Rattle.mill_part.proofs.Stored.{coordinate, next_lower}
+use Rattle.mill_base.proofs.Ranges.{coordinate}
+use Rattle.mill_part.proofs.Stored.{next_lower}
 use Rattle.mill_part.proofs.CoverLemmas.{point_of_part}
 use Rattle.mill_part.proofs.NearScan.{no_tri, search_starts, search_goes_on, search_ends}
 use Rattle.mill_part.proofs.part.has_near_point_over.Goals as goal

@@ -3,7 +3,7 @@ use Rattle.std.specs.Prelude.{nat_abs}
 use mir.Syntax.{w64}
 use lib.IntN.{◌*ℤ◌}
 use Rattle.mill_base.proofs.Machine.{Read, Prod, exact, stays}
-use Rattle.mill_part.proofs.Stored.{coordinate}
+use Rattle.mill_base.proofs.Ranges.{coordinate}
 use Rattle.mill_part.proofs.whole.weighted.Goals as goal
 
 pub returns-clause-value : goal.returns-clause-value

@@ -3,8 +3,8 @@ use Rattle.std.specs.Prelude.{ℤ}
 use Rattle.std.proofs.lemmas.Int.{ints}
 use Rattle.mill_base.proofs.Machine.{stored}
 use Rattle.mill_base.specs.declared.lattice.Lattice.{Lattice}
-use Rattle.mill_drop.specs.Maps.{nodes_of}
-use Rattle.mill_part.proofs.Stored.{coordinate}
+use Rattle.mill_base.specs.Lattices.{nodes_of}
+use Rattle.mill_base.proofs.Ranges.{coordinate}
 use Rattle.mill_paths.specs.inner.Paths.{path_height}
 use Rattle.mill_paths.specs.Visits.{height_at}
 use Rattle.mill_paths.proofs.PathLemmas.{visit_made, visit_nowhere}

@@ -2,7 +2,8 @@ use Rattle.std.proofs.Common.{◌≡◌, ◌∙◌, List, refl, sym, subst}
 use Rattle.std.specs.Prelude.{All, Err}
 use Rattle.std.proofs.lemmas.Result.{err_from_is_err_and}
 use Rattle.std.proofs.lemmas.Slice.Zip.{AllZip-long}
-use Rattle.mill_drop.specs.Maps.{AreDropHeights, IsHeightAt, IsMapLattice, nodes_of}
+use Rattle.mill_base.specs.Lattices.{nodes_of, IsMapLattice}
+use Rattle.mill_drop.specs.Maps.{AreDropHeights, IsHeightAt}
 use Rattle.mill_part.proofs.Stored.{band_kept}
 use Rattle.mill_paths.specs.Lattices.{finish_lattice}
 use Rattle.mill_paths.specs.Limits.{IsHeightsFault, IsListFault}

@@ -4,7 +4,8 @@ use Rattle.std.specs.List.{flat_map}
 use Rattle.std.proofs.lemmas.List.Elements.{All-nil}
 use Rattle.std.proofs.lemmas.Result.{err_from_is_err_and}
 use Rattle.std.proofs.lemmas.Slice.Zip.{AllZip-long}
-use Rattle.mill_drop.specs.Maps.{AreDropHeights, IsHeightAt, IsMapLattice, nodes_of}
+use Rattle.mill_base.specs.Lattices.{nodes_of, IsMapLattice}
+use Rattle.mill_drop.specs.Maps.{AreDropHeights, IsHeightAt}
 use Rattle.mill_part.proofs.Stored.{band_kept}
 use Rattle.mill_paths.specs.Lattices.{rough_lattice}
 use Rattle.mill_paths.specs.Limits.{IsHeightsFault, IsListFault}

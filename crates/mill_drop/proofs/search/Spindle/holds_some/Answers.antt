@@ -5,7 +5,7 @@ use Rattle.mill_base.specs.Numbers.{Within}
 use Rattle.mill_base.specs.declared.limits.TheConstants.{MAX_COORDINATE}
 use Rattle.mill_base.specs.Points.{point_at}
 use Rattle.mill_geom.specs.Offsets.{IsCentre}
-use Rattle.mill_part.proofs.Stored.{coordinate}
+use Rattle.mill_base.proofs.Ranges.{coordinate}
 use Rattle.mill_drop.proofs.Heights.{is_wide}
 use Rattle.mill_drop.proofs.search.Spindle.holds_some.Goals as goal
 

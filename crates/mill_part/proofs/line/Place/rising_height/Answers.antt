@@ -1,7 +1,8 @@
 use Rattle.std.proofs.Common.{FitsSigned, rules}
 use mir.Syntax.{w32}
 use Rattle.std.proofs.lemmas.Int.{to_z-of_z}
-use Rattle.mill_part.proofs.Stored.{coordinate, same_place, over_0, not_over_0, under_0, not_under_0, level_places, apart_places}
+use Rattle.mill_base.proofs.Ranges.{coordinate}
+use Rattle.mill_part.proofs.Stored.{same_place, over_0, not_over_0, under_0, not_under_0, level_places, apart_places}
 use Rattle.mill_part.proofs.EdgeLemmas.{before_none, after_none, level_greatest, between_greatest}
 use Rattle.mill_part.proofs.line.Place.rising_height.Goals as goal
 

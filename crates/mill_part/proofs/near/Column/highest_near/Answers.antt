@@ -1,7 +1,7 @@
 use Rattle.std.proofs.Common.{◌∙◌, ap, to_z, of_z}
 use lib.IntN.{ℤ, pos, ◌-ℤ◌}
 use mir.Syntax.{w32}
-use Rattle.mill_part.proofs.Stored.{coordinate}
+use Rattle.mill_base.proofs.Ranges.{coordinate}
 use Rattle.mill_part.proofs.CoverLemmas.{between, raised_low, lowered_high, halved_out, smaller_low, smaller_high, weaker}
 use Rattle.mill_part.proofs.near.Column.highest_near.Goals as goal
 

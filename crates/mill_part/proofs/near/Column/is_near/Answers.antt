@@ -4,7 +4,7 @@ use lib.IntN.{ℤ, pos, nat_abs}
 use lib.Signed.{◌≤ℤ◌}
 use mir.Syntax.{w32}
 use Rattle.mill_base.proofs.Machine.{kept}
-use Rattle.mill_part.proofs.Stored.{coordinate}
+use Rattle.mill_base.proofs.Ranges.{coordinate}
 use Rattle.mill_part.proofs.CoverLemmas.{reaches_of_covers, covers_of_reaches}
 use Rattle.mill_part.proofs.near.Column.is_near.Goals as goal
 

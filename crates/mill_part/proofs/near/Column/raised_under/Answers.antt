@@ -1,7 +1,7 @@
 use Rattle.std.proofs.Common.{FitsSigned, rules}
 use mir.Syntax.{w32}
 use Rattle.std.proofs.lemmas.Int.{to_z-of_z}
-use Rattle.mill_part.proofs.Stored.{coordinate}
+use Rattle.mill_base.proofs.Ranges.{coordinate}
 use Rattle.mill_part.proofs.CoverLemmas.{covers_of_stands, stands_of_covers, raised_reached, raised_highest}
 use Rattle.mill_part.proofs.near.Column.raised_under.Goals as goal
 

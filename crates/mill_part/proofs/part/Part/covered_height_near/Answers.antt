@@ -2,7 +2,8 @@ use Rattle.std.proofs.Common.{FitsSigned, rules, to_z}
 use Rattle.std.proofs.lemmas.List.Elements.{Contains-get_or}
 use mir.Syntax.{w32}
 use Rattle.std.proofs.lemmas.Int.{to_z-of_z}
-use Rattle.mill_part.proofs.Stored.{coordinate, band_kept}
+use Rattle.mill_base.proofs.Ranges.{coordinate}
+use Rattle.mill_part.proofs.Stored.{band_kept}
 use Rattle.mill_part.proofs.NearScan.{no_tri, scan_starts, next_within, scan_goes_on, scan_ends, scan_bound}
 use Rattle.mill_part.proofs.part.Part.covered_height_near.Goals as goal
 

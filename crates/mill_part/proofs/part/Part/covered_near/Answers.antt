@@ -1,6 +1,7 @@
 use Rattle.std.proofs.lemmas.Int.{to_z-of_z}
 use mir.Syntax.{w32}
-use Rattle.mill_part.proofs.Stored.{coordinate, band_kept}
+use Rattle.mill_base.proofs.Ranges.{coordinate}
+use Rattle.mill_part.proofs.Stored.{band_kept}
 use Rattle.mill_part.proofs.CoverLemmas.{covered_by_point, too_high}
 use Rattle.mill_part.proofs.part.Part.covered_near.Goals as goal
 

@@ -1,11 +1,11 @@
 -- The nodes of a lattice by their numbers.
 use Rattle.std.proofs.Common.{◌≡◌, ℕ, suc, ◌+◌, ◌-◌, ◌*◌, ◌/◌, ◌%◌, ◌<◌, ◌≤◌, min, Bool, true, false, List, [], ◌∷◌, ◌++◌, length, map, take, get_or, inl, inr, refl, sym, ap, ap₂, ◌∙◌, subst, arith, append-nil, mul-zero, mul-suc, mul_comm, add_comm, mul-le-mul_right, div-mul-le_self, mod-lt, div-lt_iff_lt-mul}
 use Rattle.std.specs.Prelude.{◌==◌, if◌then◌else◌, nat_abs}
-use Rattle.std.specs.List.{AllZip, flat_map, range_with_len}
+use Rattle.std.specs.List.{flat_map, range_with_len}
 use Rattle.std.specs.Int.{div_ceil}
 use Rattle.std.proofs.lemmas.Bool.{cases_lt, eqb-true, eqb-false}
 use Rattle.std.proofs.lemmas.Int.{ints}
-use Rattle.std.proofs.lemmas.List.{same_lists, length-append, length-map, length-take-le, get_or-map, get_or_append_left, get_or-append_right, get_or_default}
+use Rattle.std.proofs.lemmas.List.{length-append, length-map, length-take-le, get_or-map, get_or_append_left, get_or-append_right}
 use Rattle.std.proofs.lemmas.List.Concat.{get_or-flat_map}
 use Rattle.std.proofs.lemmas.List.FromFn.{length-map-range_with_len, get_or-map-range_with_len}
 use Rattle.std.proofs.Math.Nat.{div-add-mod, lt-mul-div-succ}
@@ -13,8 +13,7 @@ use lib.IntN.{ℤ, pos, ◌+ℤ◌, ◌-ℤ◌, ◌*ℤ◌}
 use lib.Signed.{◌≤ℤ◌}
 use Rattle.mill_base.specs.Numbers.{Within}
 use Rattle.mill_base.specs.declared.limits.TheConstants.{MAX_COORDINATE}
-use Rattle.mill_base.specs.Lattices.{lattice_positions}
-use Rattle.mill_drop.specs.Maps.{rows_of}
+use Rattle.mill_base.specs.Lattices.{lattice_positions, rows_of}
 
 pub length-rows : (xs ys : List ℤ) → length (rows_of xs ys) ≡ length xs * length ys
 length-rows xs [] = sym (mul-zero (length xs))
@@ -169,22 +168,3 @@ position_within lo hi n l h order =
     let a = l.within in
     let b = h.within in
     record { within = omega (arith, ints) }
-
--- a list is that of its own items by number
-listed : {X : Type 0} (xs : List X) (d : X) → map (λ k. get_or xs k d) (range_with_len 0 (length xs)) ≡ xs
-listed xs d = same_lists _ _ (length-map-range_with_len (λ k. get_or xs k d) 0 (length xs)) (λ k e h.
-    let inside : k < length xs = subst (λ n. k < n) (length-map-range_with_len (λ k. get_or xs k d) 0 (length xs)) h in
-    get_or-map-range_with_len (λ k. get_or xs k d) 0 (length xs) k k e inside (plain k) ∙ get_or_default xs k d e inside)
-  where
-    plain : (n : ℕ) → 0 + n ≡ n
-    plain n = omega arith
-
-mapped : {A B C : Type 0} (R : B → C → Type 0) (f : A → B) (xs : List A) (ys : List C) → AllZip (λ x y. R (f x) y) xs ys → AllZip R (map f xs) ys
-mapped R f [] [] h = h
-mapped R f [] (y ∷ ys) h = h
-mapped R f (x ∷ xs) [] h = h
-mapped R f (x ∷ xs) (y ∷ ys) h = (h.0, mapped R f xs ys h.1)
-
--- what holds of a list's items by number holds of them
-pub AllZip-listed : {X Y : Type 0} (R : X → Y → Type 0) (xs : List X) (d : X) (ys : List Y) → AllZip (λ k y. R (get_or xs k d) y) (range_with_len 0 (length xs)) ys → AllZip R xs ys
-AllZip-listed R xs d ys h = subst (λ zs. AllZip R zs ys) (listed xs d) (mapped R (λ k. get_or xs k d) (range_with_len 0 (length xs)) ys h)

@@ -4,8 +4,8 @@ use Rattle.std.proofs.lemmas.Int.{ints, to_z-of_z, to_z_pos, fits_signed_from_ab
 use lib.IntN.{ℤ, ◌-ℤ◌}
 use Rattle.mill_base.specs.Numbers.{Within}
 use Rattle.mill_base.specs.declared.limits.TheConstants.{MAX_COORDINATE}
-use Rattle.mill_drop.proofs.NodeLemmas.{get_or-positions, position_within}
-use Rattle.mill_drop.proofs.nodes.position.Goals as goal
+use Rattle.mill_base.proofs.NodeLemmas.{get_or-positions, position_within}
+use Rattle.mill_base.proofs.lattice.position.Goals as goal
 
 small : (a b : ℤ) (n : ℕ) → Within MAX_COORDINATE a → Within MAX_COORDINATE b → min n (nat_abs (b -ℤ a)) < 2147483648
 small a b n ha hb = let k = ha.within in let l = hb.within in omega (arith, ints)
