@@ -1,5 +1,5 @@
 //! The command `sample`: a sample part of a size that is asked for, planned and verified.
-ghost use Rattle.std.specs.Prelude.{◌≡◌, ◌-◌, ◌^◌, ◌<◌, ◌≤◌, ◌++◌, List, IfOk, OnOk};
+ghost use Rattle.std.specs.Prelude.{◌≡◌, ◌-◌, ◌^◌, ◌<◌, ◌≤◌, ◌++◌, ℕ, List, IfOk, Ok, OnOk};
 ghost use Rattle.mill_base.specs.declared.motion.Move.{Move as OneMove};
 ghost use Rattle.mill_command.specs.Requests.{sample as asks_sample};
 ghost use Rattle.mill_io.specs.Views.{StoreView};
@@ -11,7 +11,7 @@ ghost use Rattle.camtool.specs.Calls.{call_of};
 ghost use Rattle.camtool.specs.inner.Loads.{AreMoves, AreWorkers, IsSample, IsSetup, IsSize};
 ghost use Rattle.camtool.specs.Outcomes.{Serves};
 ghost use Rattle.camtool.specs.Sample.{sample_job as job_of, sample_line, sample_node, sample_part as part_of, sample_row, sample_square};
-ghost use Rattle.camtool.specs.inner.Prints.{TriesSample};
+ghost use Rattle.camtool.specs.inner.Prints.{TriesSample, sample_start};
 ghost use Rattle.camtool.specs.Statuses.{status_code};
 
 use crate::load::Setup;
@@ -132,8 +132,8 @@ fn verified<R: Threads + Sync>(
 /// The moves of a program's text, which has some.
 fn read_back(alloc: Global, job: &Job, program: &[u8]) -> Result<Vec<Move>, WantOfMemory>
     requires job_ok { IsJob job.now }
-    requires reads { (moves : List OneMove) × (program_of (home job.now) program.now ≡ Result.Ok moves) }
-    ensures told { IfOk result (λ moves. program_of (home job.now) program.now ≡ Result.Ok moves.items) }
+    requires reads { (moves : List OneMove) × (program_of (home job.now) program.now ≡ Ok moves) }
+    ensures told { IfOk result (λ moves. program_of (home job.now) program.now ≡ Ok moves.items) }
     ensures ready { IfOk result (λ moves. AreMoves job.now moves.items) }
 {
     match read_program(alloc, program, job.home()) {
@@ -157,10 +157,7 @@ fn line_of_sample(
         → line.items ≡ sample_line size (done program moves columns most_left)) }
 {
     let mut line = Vec::new(alloc);
-    add_text(&mut line, b"sample ")?;
-    add_number(&mut line, u64::from(size))?;
-    add_text(&mut line, b" triangles ")?;
-    add_number(&mut line, u64::from(2 * size * size))?;
+    add_part(&mut line, size)?;
     add_text(&mut line, b" columns ")?;
     add_number(&mut line, columns)?;
     add_text(&mut line, b" moves ")?;
@@ -169,6 +166,17 @@ fn line_of_sample(
     add_length(&mut line, most_left)?;
     add_text(&mut line, b"\n")?;
     Ok(line)
+}
+
+// The words of the part: its size, and how many triangles it has.
+fn add_part(line: &mut Vec<u8>, size: u32) -> Result<(), WantOfMemory>
+    requires { IsSize size }
+    ensures { OnOk result (line.new.items ≡ line.old.items ++ sample_start size) }
+{
+    add_text(line, b"sample ")?;
+    add_number(line, u64::from(size))?;
+    add_text(line, b" triangles ")?;
+    add_number(line, u64::from(2 * size * size))
 }
 
 /// The job and the part of a size.

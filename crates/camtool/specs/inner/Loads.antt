@@ -130,8 +130,9 @@ pub record IsSize (n : ℕ) : Type 0 where
   pub some : 1 ≤ n
   pub few : n ≤ 100
 
--- the job and the part of this size
+-- the job and the part of this size, which a sample part may have
 pub record IsSample (n : ℕ) (s : Setup) : Type 0 where
+  pub size_ok : IsSize n
   pub job_is : s.job ≡ sample_job n
   pub part_is : s.part ≡ sample_part n
   pub ready : IsSetup s

@@ -1,5 +1,5 @@
 -- What printing a line comes to.
-use Rattle.std.specs.Prelude.{◌⊎◌, ◌≡◌, ◌<◌, ℕ, ℤ, List, Result, Ok, Err, string_bytes}
+use Rattle.std.specs.Prelude.{◌⊎◌, ◌≡◌, ◌<◌, ◌*◌, ◌++◌, ℕ, ℤ, codes, decimal, List, Result, Ok, Err, string_bytes}
 use Rattle.std.specs.Global.{Vec}
 use Rattle.mill_base.specs.declared.memory.WantOfMemory.{WantOfMemory}
 use Rattle.mill_command.specs.declared.refusal.Refusal.{Refusal}
@@ -118,6 +118,10 @@ pub record ShowsPlan (s : Setup) (name : List ℕ) (call : Call) : Type 0 where
 -- so it is, or it is shown that memory was short
 abbrev pub ShowsPlanOr : Setup → List ℕ → Call → Type 0
 ShowsPlanOr s name call = ShowsPlan s name call ⊎ Shows call no_memory
+
+-- the beginning of a sample's line: its size, and how many triangles it has
+abbrev pub sample_start : ℕ → List ℕ
+sample_start n = codes "sample " ++ decimal n ++ codes " triangles " ++ decimal (2 * n * n)
 
 -- the planner's answer to the sample part of a size is printed, or that memory was short
 pub record PrintsSample (n status : ℕ) (sink sink_after : SinkView) : Type 0 where

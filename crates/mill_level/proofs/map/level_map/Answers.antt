@@ -59,5 +59,5 @@ returns c =
     let done = rw (stored c.args.z c.requires.z_ok) at c.loop-x.invariant in
     let xs : c.deref-x-items.result.now ≡ lattice_xs c.args.lattice.now = c.deref-x-items.ensures.value ∙ c.in_ok-xs.ensures in
     let all : c.loop-x.x-index ≡ length c.deref-x-items.result.now = omega arith in
-    filled c.args.cutter c.args.part.now c.args.z c.args.lattice.now _ c.loop-x.x-index c.requires.lattice_ok c.node_columns.ensures c.node_rows.ensures c.in_ok-xs.ensures c.in_ok-ys.ensures
+    filled c.args.cutter c.args.part.now c.args.z c.args.lattice.now _ c.loop-x.x-index c.requires.lattice_ok c.node_columns.ensures.value c.node_rows.ensures.value c.in_ok-xs.ensures c.in_ok-ys.ensures
     (all ∙ ap (λ (zs : List ℤ). length zs) xs) done
