@@ -15,7 +15,7 @@ use Rattle.mill_job.proofs.OneAnswer.{one_answer}
 use Rattle.mill_verify.specs.Verdicts.{IsVerdict}
 use Rattle.mill_verify.specs.declared.verdict.Verdict.{Verdict}
 use Rattle.mill_plan.specs.Plans.{done, too_many_nodes, too_many_moves, uncut}
-use Rattle.mill_command.specs.Requests.{verify, plan, drop, level}
+use Rattle.mill_command.specs.Requests.{verify, plan, drop, level, sample}
 use Rattle.camtool.specs.declared.file.File.TheVariants.{Job as JobFile, Part as PartFile, Program as ProgramFile}
 use Rattle.camtool.specs.declared.load.Unfit.{Unfit}
 use Rattle.camtool.specs.declared.load.Unfit.TheVariants.{TooLong, JobRefused, PartRefused, ProgramRefused, PartTop}
@@ -23,7 +23,7 @@ use Rattle.camtool.specs.declared.place.Coordinate.{Coordinate}
 use Rattle.camtool.specs.declared.place.Coordinate.TheVariants.{X, Y, Z}
 use Rattle.mill_job.specs.declared.job.Place.{Place}
 use Rattle.mill_decimal.specs.declared.fault.DecFault.{DecFault}
-use Rattle.camtool.specs.Answers.{Answer, refused_word, unfit, judged, planned, dropped, leveled, answer_status, IsAnswer}
+use Rattle.camtool.specs.Answers.{Answer, refused_word, unfit, judged, planned, dropped, leveled, sampled, answer_status, IsAnswer}
 use Rattle.camtool.specs.Drop.{ReadsPlace, RefusesWord}
 use Rattle.camtool.specs.Level.{ReadsHeight, RefusesHeight, outlines, too_many_nodes as too_fine}
 use Rattle.camtool.specs.Setup.{SetupTexts, setup_texts, AreSetupTold, IsTooLong, IsJobText, IsRefusedJob, ReadsJob, IsPartText, IsRefusedPart, ReadsPart, ReadsSetup, LongPart, RefusesPart, HighPart, IsUnfit}
@@ -171,6 +171,7 @@ is_judged contents files workers job part moves (judged j p m v) told r h =
 is_judged contents files workers job part moves (planned name answer) told r h = absurd h
 is_judged contents files workers job part moves (dropped height) told r h = absurd h
 is_judged contents files workers job part moves (leveled answer) told r h = absurd h
+is_judged contents files workers job part moves (sampled n answer) told r h = absurd h
 
 -- ---- `plan`
 
@@ -187,6 +188,7 @@ is_planned contents files workers job part (planned name (too_many_nodes nodes))
 is_planned contents files workers job part (planned name too_many_moves) told r h = inr (inr refl)
 is_planned contents files workers job part (dropped height) told r h = absurd h
 is_planned contents files workers job part (leveled answer) told r h = absurd h
+is_planned contents files workers job part (sampled n answer) told r h = absurd h
 
 -- ---- `drop`
 
@@ -205,6 +207,7 @@ is_dropped contents given place job part (judged j q m v) p told r h = absurd h
 is_dropped contents given place job part (planned name answer) p told r h = absurd h
 is_dropped contents given place job part (dropped height) p told r h = refl
 is_dropped contents given place job part (leveled answer) p told r h = absurd h
+is_dropped contents given place job part (sampled n answer) p told r h = absurd h
 
 -- ---- `level`
 
@@ -224,3 +227,20 @@ is_leveled contents given height job part (planned name answer) z told r h = abs
 is_leveled contents given height job part (dropped place) z told r h = absurd h
 is_leveled contents given height job part (leveled (outlines found)) z told r h = inl refl
 is_leveled contents given height job part (leveled (too_fine nodes)) z told r h = inr refl
+is_leveled contents given height job part (sampled n answer) z told r h = absurd h
+
+-- ---- `sample`
+
+-- a sample has a plan, or there is none, and nothing is refused
+pub is_sampled : (contents : List ℕ → Option (List ℕ)) (n workers : ℕ) (a : Answer) → IsAnswer contents (sample n workers) a
+    → (answer_status a ≡ 0) ⊎ ((answer_status a ≡ 8) ⊎ (answer_status a ≡ 9))
+is_sampled contents n workers (refused_word coordinate fault) h = absurd h
+is_sampled contents n workers (unfit u) h = absurd h
+is_sampled contents n workers (judged j p m v) h = absurd h
+is_sampled contents n workers (planned name answer) h = absurd h
+is_sampled contents n workers (dropped height) h = absurd h
+is_sampled contents n workers (leveled answer) h = absurd h
+is_sampled contents n workers (sampled size (done text count columns left)) h = inl refl
+is_sampled contents n workers (sampled size (uncut row col top)) h = inr (inl refl)
+is_sampled contents n workers (sampled size (too_many_nodes nodes)) h = inr (inr refl)
+is_sampled contents n workers (sampled size too_many_moves) h = inr (inr refl)

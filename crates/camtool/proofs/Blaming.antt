@@ -2,10 +2,10 @@
 use Rattle.std.proofs.Common.{◌≡◌, ◌≢◌, ◌⊎◌, ℕ, List, Option, Some, None, refl, sym, subst, ◌∙◌, inl, inr, arith}
 use Rattle.std.specs.Prelude.{◌<◌}
 use Rattle.mill_io.specs.Views.{ReadsOnly}
-use Rattle.mill_command.specs.Requests.{Request, verify, plan, drop, level, request}
+use Rattle.mill_command.specs.Requests.{Request, verify, plan, drop, level, sample, request}
 use Rattle.mill_plan.specs.Plans.{done, too_many_nodes, too_many_moves, uncut}
 use Rattle.mill_verify.specs.declared.verdict.Verdict.TheVariants.{Accept, Reject}
-use Rattle.camtool.specs.Answers.{Answer, refused_word, unfit, judged, planned, dropped, leveled, answer_status, answer_file, IsAnswer}
+use Rattle.camtool.specs.Answers.{Answer, refused_word, unfit, judged, planned, dropped, leveled, sampled, answer_status, answer_file, IsAnswer}
 use Rattle.camtool.specs.Calls.{Call, NamedText, NoFault, Stores, BlamesWrites, BlamesReads}
 use Rattle.camtool.specs.Level.{outlines, too_many_nodes as too_fine}
 use Rattle.camtool.specs.Outcomes.{Outcome, help, bad_words, no_memory, read_fault, answered, outcome_status, outcome_file, IsOutcomeOf, ShowsWhole, FailsToStore, FailsToPrint, CountsReads, Shows, HasOutcome}
@@ -32,6 +32,10 @@ status_not n n0 n3 n4 n8 n9 (planned name too_many_moves) e = n9 e
 status_not n n0 n3 n4 n8 n9 (dropped height) e = n0 e
 status_not n n0 n3 n4 n8 n9 (leveled (outlines found)) e = n0 e
 status_not n n0 n3 n4 n8 n9 (leveled (too_fine nodes)) e = n9 e
+status_not n n0 n3 n4 n8 n9 (sampled size (done text moves columns left)) e = n0 e
+status_not n n0 n3 n4 n8 n9 (sampled size (uncut row column top)) e = n8 e
+status_not n n0 n3 n4 n8 n9 (sampled size (too_many_nodes nodes)) e = n9 e
+status_not n n0 n3 n4 n8 n9 (sampled size too_many_moves) e = n9 e
 
 pub no : (a b : ℕ) → a < b → a ≢ b
 no a b h e = omega (h, e, arith)
@@ -148,8 +152,10 @@ answer_stores contents words (verify job part program workers) (planned name ans
 answer_stores contents words (plan job part out workers) (planned name answer) taken no_plan h = absurd (no_plan (record { job = job; part = part; out = out }) (workers, taken))
 answer_stores contents words (drop job part x y) (planned name answer) taken no_plan h = absurd h
 answer_stores contents words (level job part z) (planned name answer) taken no_plan h = absurd h
+answer_stores contents words (sample n workers) (planned name answer) taken no_plan h = absurd h
 answer_stores contents words asked (dropped height) taken no_plan h = refl
 answer_stores contents words asked (leveled answer) taken no_plan h = refl
+answer_stores contents words asked (sampled n answer) taken no_plan h = refl
 
 outcome_stores : (contents : List ℕ → Option (List ℕ)) (words : List (List ℕ)) (o : Outcome) → AsksNoPlan words → IsOutcomeOf words contents o → outcome_file o ≡ None
 outcome_stores contents words (help text) no_plan h = refl

@@ -6,7 +6,7 @@ use Rattle.mill_io.specs.Views.{IsStored, IsWritten}
 use Rattle.mill_plan.specs.Plans.{done, too_many_nodes, too_many_moves, uncut}
 use Rattle.mill_verify.specs.Verdicts.{IsVerdict, OneVerdict}
 use Rattle.mill_verify.specs.declared.verdict.Verdict.TheVariants.{Accept, Reject}
-use Rattle.camtool.specs.Answers.{Answer, refused_word, unfit, judged, planned, dropped, leveled, answer_status, answer_line, answer_file, IsAnswer}
+use Rattle.camtool.specs.Answers.{Answer, refused_word, unfit, judged, planned, dropped, leveled, sampled, answer_status, answer_line, answer_file, IsAnswer}
 use Rattle.camtool.specs.Calls.{Call, Stores}
 use Rattle.camtool.specs.Headline.{AcceptsSafely, RejectsFirst, Headline, StoresSafely, PlanHeadline}
 use Rattle.camtool.specs.Outcomes.{HasOutcome}
@@ -35,6 +35,7 @@ accepts_by contents files workers (judged job part moves (Reject reason)) is e =
 accepts_by contents files workers (planned name answer) is e = absurd is
 accepts_by contents files workers (dropped height) is e = absurd is
 accepts_by contents files workers (leveled answer) is e = absurd is
+accepts_by contents files workers (sampled n answer) is e = absurd is
 
 rejects_by : (call : Call) (files : Files) (workers : ℕ) (a : Answer) → IsAnswer call.store.contents (verify files.job files.part files.program workers) a
     → answer_status a ≡ 3 → IsWritten (answer_line a) call.sink call.sink_after → RejectsFirst call (texts_of call.store.contents files)
@@ -46,6 +47,7 @@ rejects_by call files workers (judged job part moves (Reject reason)) is e print
 rejects_by call files workers (planned name answer) is e printed = absurd is
 rejects_by call files workers (dropped height) is e printed = absurd is
 rejects_by call files workers (leveled answer) is e printed = absurd is
+rejects_by call files workers (sampled n answer) is e printed = absurd is
 
 pub headline_of : OneVerdict → (words : List (List ℕ)) (call : Call) → HasOutcome words call → Headline words call
 headline_of one words call has = record {
@@ -100,6 +102,7 @@ plans_by call files workers (planned name (too_many_nodes nodes)) is e printed s
 plans_by call files workers (planned name too_many_moves) is e printed stored = absurd (on 9 0 (omega arith) e)
 plans_by call files workers (dropped height) is e printed stored = absurd is
 plans_by call files workers (leveled answer) is e printed stored = absurd is
+plans_by call files workers (sampled n answer) is e printed stored = absurd is
 
 pub plan_headline_of : (words : List (List ℕ)) (call : Call) → HasOutcome words call → PlanHeadline words call
 plan_headline_of words call has = λ files asks e.

@@ -5,6 +5,7 @@ pub mod Answering
 pub mod Blaming
 pub mod Serving
 pub mod Planning
+pub mod Samples
 pub mod Lengths
 pub mod Outcomes
 pub mod Headlines

@@ -1,6 +1,6 @@
 -- What a call came to, where its words are taken and nothing of the outside is blamed.
 use Rattle.std.proofs.Common.{◌≡◌, ◌≢◌, ◌⊎◌, ℕ, List, Some, false, sym, ◌∙◌, inl, inr, arith}
-use Rattle.mill_command.specs.Requests.{Request, is_taken, request, verify, plan, drop, level}
+use Rattle.mill_command.specs.Requests.{Request, is_taken, request, verify, plan, drop, level, sample}
 use Rattle.mill_verify.specs.declared.verdict.Verdict.{Verdict}
 use Rattle.mill_verify.specs.declared.verdict.Verdict.TheVariants.{Accept, Reject}
 use Rattle.camtool.specs.Answers.{answer_status}
@@ -8,7 +8,7 @@ use Rattle.camtool.specs.Calls.{Call, NoFault}
 use Rattle.camtool.specs.Headline.{Answered, Answers, Completes, Untaken}
 use Rattle.camtool.specs.Outcomes.{Outcome, help, bad_words, no_memory, read_fault, answered, outcome_status, IsOutcomeOf, ShowsHelp, RefusesWords, ShowsWhole, HasOutcome}
 use Rattle.camtool.specs.Verify.{verdict_status}
-use Rattle.camtool.proofs.Answering.{is_judged, is_planned, is_dropped, is_leveled}
+use Rattle.camtool.proofs.Answering.{is_judged, is_planned, is_dropped, is_leveled, is_sampled}
 use Rattle.camtool.proofs.Blaming.{no, on, answer_not_2, not_6, not_7, shown_whole}
 use Rattle.camtool.proofs.Taken.{not_taken, asked_outcome}
 
@@ -83,6 +83,11 @@ completes_of words call has = record {
       elim (served_fine words call (level given.job given.part given.z) has asks fine) [
         | inl a ↦ level_statuses call.status (answer_status a.answer) a.status (is_leveled call.store.contents given height job part a.answer reads told read a.is)
         | inr e ↦ inr (inr e)
+      ];
+  samples = λ n asks fine.
+      elim (served_fine words call (sample n asks.0) has asks.1 fine) [
+        | inl a ↦ plan_statuses call.status (answer_status a.answer) a.status (is_sampled call.store.contents n asks.0 a.answer a.is)
+        | inr e ↦ inr (inr (inr e))
       ];
 }
 

@@ -15,7 +15,7 @@ use Rattle.camtool.specs.Calls.{Call, CanCount}
 use Rattle.camtool.specs.inner.Loads.{LoadsSetup, OnlyLoads}
 use Rattle.camtool.specs.Outcomes.{no_memory, answered, IsOutcome, Shows, ShowsOr, Serves}
 use Rattle.camtool.specs.Plan.{plan_line}
-use Rattle.camtool.specs.inner.Prints.{Prints, PrintsOutcome, PrintsOr, ShowsPlanOr, fault_outcome, plan_fault_outcome}
+use Rattle.camtool.specs.inner.Prints.{Prints, PrintsOutcome, PrintsPlanFault, ShowsPlanOr, fault_outcome}
 use Rattle.camtool.specs.Setup.{setup_texts}
 use Rattle.camtool.proofs.Reading.{rises}
 use Rattle.camtool.proofs.Serving.{printed_shows, answer_shows}
@@ -95,12 +95,11 @@ short_shows call same p = printed_shows call no_memory refl (untouched call same
 
 -- there is no program, and that is printed
 pub fault_shows : (s : Setup) (name : List ℕ) (call : Call) (f : PlanFault) → IsPlanFault s.job s.part f → call.store_after ≡ call.store
-    → PrintsOr (plan_fault_outcome name f) call.status call.sink call.sink_after → ShowsPlanOr s name call
+    → PrintsPlanFault f call.status call.sink call.sink_after → ShowsPlanOr s name call
 fault_shows s name call (plan_fault.TooManyNodes nodes) is same p =
     made_shows s name call (too_many_nodes nodes) is (answer_shows call (planned name (too_many_nodes nodes)) refl (untouched call same) (unread call same) p)
 fault_shows s name call plan_fault.TooManyMoves is same p =
     made_shows s name call too_many_moves is (answer_shows call (planned name too_many_moves) refl (untouched call same) (unread call same) p)
 fault_shows s name call (plan_fault.Uncut row col top) is same p =
     made_shows s name call (uncut row col top) is (answer_shows call (planned name (uncut row col top)) refl (untouched call same) (unread call same) p)
-fault_shows s name call plan_fault.WantOfMemory is same (inl p) = inr (short_shows call same p)
-fault_shows s name call plan_fault.WantOfMemory is same (inr p) = inr (short_shows call same p)
+fault_shows s name call plan_fault.WantOfMemory is same p = inr (short_shows call same p)

@@ -1,5 +1,5 @@
 -- What was read and what was printed, put together as the work on a request.
-use Rattle.std.proofs.Common.{◌≡◌, ℕ, List, Option, Some, None, Result, Ok, Err, refl, sym, ap, subst, inl, inr}
+use Rattle.std.proofs.Common.{◌≡◌, ◌⊎◌, ℕ, List, Option, Some, None, Result, Ok, Err, refl, sym, ap, subst, inl, inr}
 use Rattle.std.specs.Prelude.{IfOk, ℤ}
 use Rattle.std.specs.Global.{Vec}
 use Rattle.mill_base.specs.declared.memory.WantOfMemory.{WantOfMemory}
@@ -64,6 +64,12 @@ fault_serves asked call (load_fault.Unfit fault) is room loads p =
     answer_serves asked call (unfit fault) is (answer_shows call (unfit fault) refl loads.only loads.reads p)
 
 -- ---- lines
+
+-- the line that was made is this text, or memory was short
+pub text_prints : (line : Result (Vec ℕ) WantOfMemory) (text : List ℕ) (wanted status : ℕ) (sink sink_after : SinkView) → IfOk line (λ v. v.items ≡ text)
+    → PrintsMade line wanted status sink sink_after → Prints text wanted status sink sink_after ⊎ PrintsOutcome no_memory status sink sink_after
+text_prints (Ok v) text wanted status sink sink_after same p = inl (subst (λ (l : List ℕ). Prints l wanted status sink sink_after) same p)
+text_prints (Err f) text wanted status sink sink_after same p = inr p
 
 -- the line that was made is its answer's
 pub made_prints : (line : Result (Vec ℕ) WantOfMemory) (a : Answer) (wanted status : ℕ) (sink sink_after : SinkView)

@@ -2,7 +2,7 @@
 use Rattle.std.specs.Prelude.{◌≡◌, ℕ, ℤ, List, Option, None, Some}
 use Rattle.mill_base.specs.declared.points.Tri.{Tri}
 use Rattle.mill_base.specs.declared.motion.Move.{Move}
-use Rattle.mill_command.specs.Requests.{Request, verify, plan, drop, level}
+use Rattle.mill_command.specs.Requests.{Request, verify, plan, drop, level, sample}
 use Rattle.mill_decimal.specs.declared.fault.DecFault.{DecFault}
 use Rattle.mill_job.specs.declared.job.Job.{Job}
 use Rattle.mill_plan.specs.Plans.{PlanAnswer, done}
@@ -14,11 +14,12 @@ use Rattle.camtool.specs.Drop.{HasPlace, RefusesWord, Drops, height_line}
 use Rattle.camtool.specs.Faults.{word_line, unfit_line}
 use Rattle.camtool.specs.Level.{HasHeight, RefusesHeight, LevelAnswer, Levels, level_status, level_line}
 use Rattle.camtool.specs.Plan.{Plans, plan_status, plan_line}
+use Rattle.camtool.specs.Sample.{Samples, sample_status, sample_line}
 use Rattle.camtool.specs.Setup.{setup_texts, IsUnfit}
 use Rattle.camtool.specs.Verify.{texts_of, IsUnfitProgram, Judges, verdict_status, verdict_line}
 
 -- what can be answered: a word is refused; a file is refused or too long, or the part is too high; a verdict on a job, a part and moves;
--- the planner's answer, with the name that a program is stored under; a drop height; the answer at a height
+-- the planner's answer, with the name that a program is stored under; a drop height; the answer at a height; the planner's answer to the sample part of a size
 pub data Answer : Type 0 where
   refused_word : Coordinate → DecFault → Answer
   unfit : Unfit → Answer
@@ -26,6 +27,7 @@ pub data Answer : Type 0 where
   planned : List ℕ → PlanAnswer → Answer
   dropped : ℤ → Answer
   leveled : LevelAnswer → Answer
+  sampled : ℕ → PlanAnswer → Answer
 
 -- its exit status
 abbrev pub answer_status : Answer → ℕ
@@ -35,6 +37,7 @@ answer_status (judged job part moves verdict) = verdict_status verdict
 answer_status (planned name answer) = plan_status answer
 answer_status (dropped height) = 0
 answer_status (leveled answer) = level_status answer
+answer_status (sampled n answer) = sample_status answer
 
 -- its line
 abbrev pub answer_line : Answer → List ℕ
@@ -44,6 +47,7 @@ answer_line (judged job part moves verdict) = verdict_line job moves verdict
 answer_line (planned name answer) = plan_line answer
 answer_line (dropped height) = height_line height
 answer_line (leveled answer) = level_line answer
+answer_line (sampled n answer) = sample_line n answer
 
 -- the text that is stored with it, and under which name
 abbrev pub answer_file : Answer → Option NamedText
@@ -62,4 +66,5 @@ IsAnswer contents (drop job part x y) (dropped height) = Drops x y (setup_texts 
 IsAnswer contents (level job part z) (refused_word coordinate fault) = RefusesHeight z coordinate fault
 IsAnswer contents (level job part z) (unfit fault) = HasHeight z × IsUnfit (setup_texts contents job part) fault
 IsAnswer contents (level job part z) (leveled answer) = Levels z (setup_texts contents job part) answer
+IsAnswer contents (sample n workers) (sampled size answer) = (size ≡ n) × Samples n answer
 IsAnswer contents asked answer = ⊥

@@ -19,7 +19,7 @@ use Rattle.camtool.specs.Outcomes.{ShowsHelp, RefusesWords}
 use Rattle.camtool.specs.Plan.{plan_line}
 use Rattle.camtool.specs.Setup.{setup_texts, AreSetupTold, ReadsSetup}
 use Rattle.camtool.specs.Verify.{Texts, texts_of, AreTold, Reads, Judges, NamesBlocked, verdict_line}
-use Rattle.camtool.specs.Words.{Files, AsksVerify, PlanFiles, AsksPlan, DropWords, AsksDrop, LevelWords, AsksLevel}
+use Rattle.camtool.specs.Words.{Files, AsksVerify, PlanFiles, AsksPlan, DropWords, AsksDrop, LevelWords, AsksLevel, AsksSample}
 
 -- ---- from bytes to bytes
 
@@ -36,7 +36,8 @@ abbrev pub Answers : List (List ℕ) → Call → Type 0
 Answers words call = (asked : Request) → request words ≡ Some asked → NoFault call → call.status ≢ 5 → Answered call asked
 
 -- where the files are told and read, the part isn't over the job's top and nothing of the outside failed, a program is accepted or rejected;
--- a plan is stored, or leaves stock uncut, or is too large; a drop height is told; the chains at a height are told, or the lattice is too large; or memory was short
+-- a plan is stored, or leaves stock uncut, or is too large; a drop height is told; the chains at a height are told, or the lattice is too large; or memory was short;
+-- where nothing of the outside failed, a sample is planned, or its plan leaves stock uncut, or is too large; or memory was short
 pub record Completes (words : List (List ℕ)) (call : Call) : Type 0 where
   pub verifies : (files : Files) (job : Job) (part : List Tri) (moves : List Move) → AsksVerify words files → AreTold (texts_of call.store.contents files)
       → Reads (texts_of call.store.contents files) job part moves → NoFault call → (call.status ≡ 0) ⊎ ((call.status ≡ 3) ⊎ (call.status ≡ 5))
@@ -49,6 +50,7 @@ pub record Completes (words : List (List ℕ)) (call : Call) : Type 0 where
   pub levels : (given : LevelWords) (height : ℤ) (job : Job) (part : List Tri) → AsksLevel words given → ReadsHeight given.z height
       → AreSetupTold (setup_texts call.store.contents given.job given.part) → ReadsSetup (setup_texts call.store.contents given.job given.part) job part
       → NoFault call → (call.status ≡ 0) ⊎ ((call.status ≡ 9) ⊎ (call.status ≡ 5))
+  pub samples : (n : ℕ) → AsksSample words n → NoFault call → (call.status ≡ 0) ⊎ ((call.status ≡ 8) ⊎ ((call.status ≡ 9) ⊎ (call.status ≡ 5)))
 
 -- where the words aren't taken and nothing of the outside failed, the status is that of help, of a mistake or of want of memory;
 -- status 2 comes only where they aren't taken

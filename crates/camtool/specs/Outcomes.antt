@@ -2,7 +2,7 @@
 use Rattle.std.specs.Prelude.{◌⊎◌, ◌≡◌, ◌<◌, ℕ, codes, false, List, [], ◌∷◌, Option, None, Some}
 use Rattle.mill_io.specs.Contents.{AppendedPart}
 use Rattle.mill_io.specs.Views.{IsWritten, IsPartStored}
-use Rattle.mill_command.specs.Requests.{AsksHelp, IsMistaken, Request, faults, is_taken, request, verify, plan, drop, level}
+use Rattle.mill_command.specs.Requests.{AsksHelp, IsMistaken, Request, faults, is_taken, request, verify, plan, drop, level, sample}
 use Rattle.camtool.specs.declared.file.File.{File}
 use Rattle.camtool.specs.Answers.{Answer, IsAnswer, answer_status, answer_line, answer_file}
 use Rattle.camtool.specs.Calls.{Call, NamedText, Stores}
@@ -44,12 +44,13 @@ outcome_file _ = None
 
 -- ---- which outcome it is
 
--- all that a command reads and checks before one of its files holds, by each file that the store tells
+-- all that a command reads and checks before one of its files holds, by each file that the store tells; `sample` has none
 abbrev pub ReadsBefore : (List ℕ → Option (List ℕ)) → Request → File → Type 0
 ReadsBefore contents (verify job part program workers) file = IsReadBeforeProgram (texts_of contents (record { job = job; part = part; program = program })) file
 ReadsBefore contents (plan job part out workers) file = IsReadBefore (setup_texts contents job part) file
 ReadsBefore contents (drop job part x y) file = HasPlace x y × IsReadBefore (setup_texts contents job part) file
 ReadsBefore contents (level job part z) file = HasHeight z × IsReadBefore (setup_texts contents job part) file
+ReadsBefore contents (sample n workers) file = ⊥
 
 -- the work on a request comes to this: memory was short; or a file couldn't be read, and all before it could; or this is the answer
 abbrev pub IsOutcome : (List ℕ → Option (List ℕ)) → Request → Outcome → Type 0

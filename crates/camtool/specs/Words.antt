@@ -1,6 +1,6 @@
 -- What the words of the command line ask for.
-use Rattle.std.specs.Prelude.{◌≡◌, ℕ, List, Some}
-use Rattle.mill_command.specs.Requests.{request, verify, plan, drop, level}
+use Rattle.std.specs.Prelude.{◌≡◌, ◌⊎◌, ℕ, false, List, Some}
+use Rattle.mill_command.specs.Requests.{is_taken, request, verify, plan, drop, level, sample}
 
 -- the names of the job's, the part's and the program's file
 pub record Files : Type 0 where
@@ -46,3 +46,11 @@ pub record LevelWords : Type 0 where
 -- the words are taken as `level` with these
 abbrev pub AsksLevel : List (List ℕ) → LevelWords → Type 0
 AsksLevel words given = request words ≡ Some (level given.job given.part given.z)
+
+-- the words are taken as `sample` with this size, with any number of workers
+abbrev pub AsksSample : List (List ℕ) → ℕ → Type 0
+AsksSample words n = (workers : ℕ) × (request words ≡ Some (sample n workers))
+
+-- the words name no file: they aren't taken, or are taken as `sample`
+abbrev pub AsksNoFile : List (List ℕ) → Type 0
+AsksNoFile words = (is_taken words ≡ false) ⊎ ((n : ℕ) × AsksSample words n)

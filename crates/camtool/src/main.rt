@@ -2,7 +2,7 @@
 //! part, a cutter and a stock. `camtool plan JOB PART OUT [--workers=W]` plans a program that it
 //! accepts, and stores it. `camtool drop JOB PART --x=X --y=Y` tells how low the cutter comes at one
 //! place. `camtool level JOB PART --z=Z` prints the lines along which the cutter goes round the part
-//! at one height.
+//! at one height. `camtool sample N [--workers=W]` plans and verifies a sample part.
 //!
 //! `run` is all that the program does, over any store of files and any sink. Its contract goes
 //! from bytes to bytes: `specs/Answers` says which answer a command has on its files,
@@ -19,6 +19,7 @@ mod place;
 mod plan;
 mod print;
 mod run;
+mod sample;
 mod status;
 mod tell;
 #[cfg(test)]

@@ -7,7 +7,7 @@ ghost use Rattle.camtool.specs.Calls.{CanCount, call_of};
 ghost use Rattle.camtool.specs.inner.Loads.{AreWorkers, IsSetup};
 ghost use Rattle.camtool.specs.Outcomes.{Serves, ShowsOr, answered};
 ghost use Rattle.camtool.specs.Plan.{plan_line};
-ghost use Rattle.camtool.specs.inner.Prints.{PrintsOr, ShowsPlanOr, plan_fault_outcome};
+ghost use Rattle.camtool.specs.inner.Prints.{PrintsPlanFault, ShowsPlanOr};
 ghost use Rattle.camtool.specs.Statuses.{status_code};
 
 use crate::load::{Setup, load_setup};
@@ -61,7 +61,7 @@ fn tell_plan<R: Threads + Sync, S: Shelf, O: Sink>(
 {
     match plan(rt, alloc, &setup.job, &setup.part, workers) {
         Ok(planned) => store_plan(alloc, shelf, name, &planned, out),
-        Err(fault) => tell_plan_fault(alloc, name, fault, out),
+        Err(fault) => tell_plan_fault(alloc, fault, out),
     }
 }
 
@@ -90,11 +90,10 @@ fn store_plan<S: Shelf, O: Sink>(
     }
 }
 
-/// Prints why there is no program to be stored under `name`.
-fn tell_plan_fault<O: Sink>(alloc: Global, name: &str, fault: PlanFault, out: &mut O) -> Status
+/// Prints why there is no program.
+pub fn tell_plan_fault<O: Sink>(alloc: Global, fault: PlanFault, out: &mut O) -> Status
     requires { (O.shows out.old).faults < 2 ^ 64 - 1 }
-    ensures { PrintsOr (plan_fault_outcome name.now fault)
-        (status_code result) (O.shows out.old) (O.shows out.new) }
+    ensures { PrintsPlanFault fault (status_code result) (O.shows out.old) (O.shows out.new) }
 {
     match fault {
         PlanFault::TooManyNodes { nodes } => {

@@ -1,17 +1,18 @@
 //! All that the program does: the words, and the choice of the command.
-ghost use Rattle.std.specs.Prelude.{◌≡◌, ◌-◌, ◌^◌, ◌<◌, false, map, string_bytes};
-ghost use Rattle.mill_command.specs.Requests.{HasWorkers, is_taken, request_of};
+ghost use Rattle.std.specs.Prelude.{◌≡◌, ◌-◌, ◌^◌, ◌<◌, ℕ, map, string_bytes};
+ghost use Rattle.mill_command.specs.Requests.{IsBounded, request_of, sample as asks_sample};
 ghost use Rattle.mill_io.specs.Views.{ReadsOnly};
 ghost use Rattle.camtool.specs.Calls.{CanCount, BlamesReads, BlamesWrites, call_of};
 ghost use Rattle.camtool.specs.Headline.{Answers, Completes, Untaken, Headline, PlanHeadline};
 ghost use Rattle.camtool.specs.Outcomes.{HasOutcome, Serves};
 ghost use Rattle.camtool.specs.inner.Prints.{PrintsOutcome, refusal_outcome};
 ghost use Rattle.camtool.specs.Statuses.{status_code};
-ghost use Rattle.camtool.specs.Words.{AsksNoPlan};
+ghost use Rattle.camtool.specs.Words.{AsksNoFile, AsksNoPlan};
 
 use crate::drop::drop_cutter;
 use crate::level::level_part;
 use crate::plan::plan_program;
+use crate::sample::sample;
 use crate::status::Status;
 use crate::tell::tell;
 use crate::verify::verify_program;
@@ -49,8 +50,8 @@ pub fn run<R: Threads + Sync, S: Shelf, O: Sink>(
     ensures kept { AsksNoPlan (map string_bytes words.now) →
         ReadsOnly (S.shows shelf.old) (S.shows shelf.new) }
 
-    // Where the words aren't taken, no call on the store is made.
-    ensures untouched { is_taken (map string_bytes words.now) ≡ false → shelf.new ≡ shelf.old }
+    // Where the words name no file, no call on the store is made.
+    ensures untouched { AsksNoFile (map string_bytes words.now) → shelf.new ≡ shelf.old }
 
     // What the call came to, whatever the outside did, by each file that the store tells; what was
     // printed and what was stored.
@@ -87,7 +88,7 @@ fn work<R: Threads + Sync, S: Shelf, O: Sink>(
     requires { CanCount (S.shows shelf.old) (O.shows out.old) }
     ensures outcome { HasOutcome (map string_bytes words.now) (call_of result
         (S.shows shelf.old) (S.shows shelf.new) (O.shows out.old) (O.shows out.new)) }
-    ensures untouched { is_taken (map string_bytes words.now) ≡ false → shelf.new ≡ shelf.old }
+    ensures untouched { AsksNoFile (map string_bytes words.now) → shelf.new ≡ shelf.old }
 {
     match read_words(alloc, words) {
         Ok(command) => serve(rt, alloc, shelf, command, out),
@@ -116,10 +117,12 @@ fn serve<R: Threads + Sync, S: Shelf, O: Sink>(
     command: Command<'_>,
     out: &mut O,
 ) -> Status
-    requires workers { HasWorkers (request_of command) }
+    requires bounded { IsBounded (request_of command) }
     requires counts { CanCount (S.shows shelf.old) (O.shows out.old) }
-    ensures { Serves (request_of command.entry) (call_of result
+    ensures served { Serves (request_of command.entry) (call_of result
         (S.shows shelf.old) (S.shows shelf.new) (O.shows out.old) (O.shows out.new)) }
+    ensures untouched { (size workers : ℕ) → request_of command.entry ≡ asks_sample size workers
+        → shelf.new ≡ shelf.old }
 {
     match command {
         Command::Verify {
@@ -136,5 +139,6 @@ fn serve<R: Threads + Sync, S: Shelf, O: Sink>(
         } => plan_program(rt, alloc, shelf, job, part, name, workers, out),
         Command::Drop { job, part, x, y } => drop_cutter(alloc, shelf, job, part, x, y, out),
         Command::Level { job, part, z } => level_part(alloc, shelf, job, part, z, out),
+        Command::Sample { size, workers } => sample(rt, alloc, size, workers, out),
     }
 }

@@ -5,7 +5,7 @@ ghost use Rattle.camtool.specs.Statuses.{status_code};
 #[derive(Clone, Copy, Debug, PartialEq, Eq)]
 pub enum Status {
     /// The program is accepted, a planned program is stored, the drop height or the chains at a height
-    /// are told, or clap's help or version is shown.
+    /// are told, a sample's program is verified, or clap's help or version is shown.
     Done,
     /// The words aren't taken.
     Words,

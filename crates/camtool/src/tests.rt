@@ -10,6 +10,7 @@ mod faults;
 mod levels;
 mod missing;
 mod plans;
+mod samples;
 mod untaken;
 mod verdicts;
 

@@ -2,7 +2,7 @@
 use Rattle.std.proofs.Common.{◌≡◌, ◌∷◌, [], codes, refl, Some}
 use Rattle.clap.specs.declared.error.kind.ErrorKind.TheVariants as kind
 use Rattle.clap.proofs.OnLiterals.{clap_on_literals}
-use Rattle.mill_command.specs.Requests.{faults, request, verify, plan, drop, level}
+use Rattle.mill_command.specs.Requests.{faults, request, verify, plan, drop, level, sample}
 
 verify_of_files : request (codes "verify" ∷ codes "j" ∷ codes "p" ∷ codes "f" ∷ []) ≡ Some (verify (codes "j") (codes "p") (codes "f") 1)
 unfolding clap_on_literals
@@ -64,3 +64,19 @@ level_at_height = refl
 height_missing : faults (codes "level" ∷ codes "j" ∷ codes "p" ∷ []) ≡ kind.MissingRequiredArgument ∷ []
 unfolding clap_on_literals
 height_missing = refl
+
+sample_of_size : request (codes "sample" ∷ codes "100" ∷ []) ≡ Some (sample 100 1)
+unfolding clap_on_literals
+sample_of_size = refl
+
+no_size : faults (codes "sample" ∷ codes "0" ∷ []) ≡ kind.ValueValidation ∷ []
+unfolding clap_on_literals
+no_size = refl
+
+too_large_a_size : faults (codes "sample" ∷ codes "101" ∷ codes "--workers=2" ∷ []) ≡ kind.ValueValidation ∷ []
+unfolding clap_on_literals
+too_large_a_size = refl
+
+size_missing : faults (codes "sample" ∷ []) ≡ kind.MissingRequiredArgument ∷ []
+unfolding clap_on_literals
+size_missing = refl

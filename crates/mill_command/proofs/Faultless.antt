@@ -1,6 +1,6 @@
--- A level of words in which clap finds no fault gives each of its required arguments a value, and a number of workers.
-use Rattle.std.proofs.Common.{◌≡◌, ◌∙◌, ◌&&◌, ◌||◌, ◌++◌, ◌∷◌, [], ℕ, zero, suc, Bool, true, false, not, cond, refl, sym, ap, true≢false, List, length, drop, Option, Some, None, is_some, nat_lt}
-use Rattle.std.specs.Prelude.{encode_utf8, slice_get, option_and_then}
+-- A level of words in which clap finds no fault gives each of its required arguments a value, and those that take numbers a number.
+use Rattle.std.proofs.Common.{◌≡◌, ◌∙◌, ◌&&◌, ◌||◌, ◌++◌, ◌∷◌, [], ℕ, zero, suc, Bool, true, false, not, cond, refl, sym, ap, subst, true≢false, List, length, drop, Option, Some, None, is_some, nat_lt}
+use Rattle.std.specs.Prelude.{if◌then◌else◌, encode_utf8, slice_get, option_and_then}
 use Rattle.std.specs.List.{find, fold, list_all, list_any}
 use Rattle.std.specs.Option.{option_map_or}
 use Rattle.std.specs.Str.{bytes_eq, chars}
@@ -27,7 +27,7 @@ use Rattle.clap.specs.declared.error.kind.ErrorKind.TheVariants as kind
 use Rattle.clap.specs.declared.parser.matches.ValueSource.{ValueSource}
 use Rattle.clap.specs.declared.parser.matches.ValueSource.TheVariants.{DefaultValue, CommandLine}
 use Rattle.clap.proofs.WalkLemmas.{both}
-use Rattle.mill_command.specs.Set.{count_parser}
+use Rattle.mill_command.specs.Set.{up_to}
 
 -- ---- lists of kinds
 
@@ -64,15 +64,24 @@ abbrev pub is_unsigned : Reading → Bool
 is_unsigned WithoutMinus = true
 is_unsigned _ = false
 
--- the values are numbers of workers, and are read so
-abbrev pub are_counts : Reading → List Text → Bool
-are_counts how values = is_unsigned how && list_all (accepts false count_parser) values
+-- the greatest number that is taken under an id, where numbers are
+abbrev pub most_of : Text → Option ℕ
+most_of id = if bytes_eq id (codes "workers") then Some 64 else (if bytes_eq id (codes "n") then Some 100 else None)
 
--- under the id for the workers the values are numbers of workers
+-- the values are numbers from 1 to this one, and are read so
+abbrev pub are_numbers : ℕ → Reading → List Text → Bool
+are_numbers most how values = is_unsigned how && list_all (accepts false (up_to most)) values
+
+-- the values are numbers up to the greatest, where there is one
+abbrev pub are_numbers_if : Option ℕ → Reading → List Text → Bool
+are_numbers_if None how values = true
+are_numbers_if (Some most) how values = are_numbers most how values
+
+-- under an id that takes numbers the values are such numbers
 abbrev pub suits : Text → Reading → List Text → Bool
-suits id how values = not (bytes_eq id (codes "workers")) || are_counts how values
+suits id how values = are_numbers_if (most_of id) how values
 
--- the row has a value, and where it is for the workers, numbers of workers
+-- the row has a value, and where its id takes numbers, such numbers
 abbrev pub is_right : Row → Bool
 is_right r = is_full r.values && suits r.id r.reading r.values
 
@@ -83,14 +92,14 @@ append_full : (xs ys : List Text) → is_full xs ≡ true → is_full (xs ++ ys)
 append_full [] ys e = absurd (true≢false (sym e))
 append_full (x ∷ xs) ys e = refl
 
-append_suits : (b : Bool) (one other : Reading) (xs ys : List Text) → (not b || are_counts one xs) ≡ true → (not b || are_counts other ys) ≡ true
-    → (not b || are_counts one (xs ++ ys)) ≡ true
-append_suits false one other xs ys p q = refl
-append_suits true one other xs ys p q =
-    let first = both (is_unsigned one) (list_all (accepts false count_parser) xs) p in
-    let more = both (is_unsigned other) (list_all (accepts false count_parser) ys) q in
-    and_true (is_unsigned one) (list_all (accepts false count_parser) (xs ++ ys)) first.0
-    (list_all-append (accepts false count_parser) xs ys ∙ and_true _ _ first.1 more.1)
+append_suits : (o : Option ℕ) (one other : Reading) (xs ys : List Text) → are_numbers_if o one xs ≡ true → are_numbers_if o other ys ≡ true
+    → are_numbers_if o one (xs ++ ys) ≡ true
+append_suits None one other xs ys p q = refl
+append_suits (Some most) one other xs ys p q =
+    let first = both (is_unsigned one) (list_all (accepts false (up_to most)) xs) p in
+    let more = both (is_unsigned other) (list_all (accepts false (up_to most)) ys) q in
+    and_true (is_unsigned one) (list_all (accepts false (up_to most)) (xs ++ ys)) first.0
+    (list_all-append (accepts false (up_to most)) xs ys ∙ and_true _ _ first.1 more.1)
 
 at_row_right : (id : Text) (change : Row → List Row) (missing rows : List Row)
     → ((r : Row) → bytes_eq r.id id ≡ true → is_right r ≡ true → all_right (change r) ≡ true)
@@ -110,7 +119,7 @@ more_right id how s values r v same h =
     let under : suits r.id how values ≡ true = ap (λ (t : Text). suits t how values) ((bytes_eq-Decides r.id id).0 same) ∙ v in
     and_true (is_full (r.values ++ values) && suits r.id r.reading (r.values ++ values)) true
     (and_true (is_full (r.values ++ values)) (suits r.id r.reading (r.values ++ values)) (append_full r.values values old.0)
-    (append_suits (bytes_eq r.id (codes "workers")) r.reading how r.values values old.1 under)) refl
+    (append_suits (most_of r.id) r.reading how r.values values old.1 under)) refl
 
 with_values_right : (id : Text) (how : Reading) (s : ValueSource) (values : List Text) (rows : List Row) → is_full values ≡ true → suits id how values ≡ true
     → all_right rows ≡ true → all_right (with_values id how s values rows) ≡ true
@@ -128,17 +137,22 @@ takes_some Help range = true
 takes_some Version range = true
 takes_some _ range = false
 
--- the argument sets a value at each use, or asks for help or the version; the one for the workers takes their number, and has one by itself
+-- the parser takes numbers up to the greatest, where there is one
+abbrev pub ParsesIf : Option ℕ → ValueParser → Type 0
+ParsesIf None parser = Unit {0}
+ParsesIf (Some most) parser = parser ≡ up_to most
+
+-- the argument sets a value at each use, or asks for help or the version; one whose id takes numbers has their parser, and its defaults are such numbers
 pub record IsSound (a : Rule) : Type 0 where
   pub sets : takes_some (action_of a) (unwrap_or_range a.range) ≡ true
-  pub parser : bytes_eq a.id (codes "workers") ≡ true → parser_of_value a.parser ≡ count_parser
+  pub parser : ParsesIf (most_of a.id) (parser_of_value a.parser)
   pub default : suits a.id (reading_by a) a.defaults ≡ true
 
-pub other_sound : (a : Rule) → bytes_eq a.id (codes "workers") ≡ false → takes_some (action_of a) (unwrap_or_range a.range) ≡ true → IsSound a
+pub other_sound : (a : Rule) → most_of a.id ≡ None → takes_some (action_of a) (unwrap_or_range a.range) ≡ true → IsSound a
 other_sound a other sets = record {
   sets = sets;
-  parser = λ e. absurd (true≢false (sym e ∙ other));
-  default = ap (λ b. not b || are_counts (reading_by a) a.defaults) other;
+  parser = subst (λ o. ParsesIf o (parser_of_value a.parser)) (sym other) tt;
+  default = ap (λ o. are_numbers_if o (reading_by a) a.defaults) other;
 }
 
 abbrev pub AreSound : List Rule → Type 0
@@ -156,13 +170,12 @@ all_accepted i p (v ∷ vs) e = and_true (accepts i p v) (list_all (accepts i p)
 
 -- values in which clap finds no fault suit the argument
 values_suit : (a : Rule) (vs : List Text) → IsSound a → values_fault a vs ≡ [] → suits a.id (reading_by a) vs ≡ true
-values_suit a vs sound none = go (bytes_eq a.id (codes "workers")) refl
+values_suit a vs sound none = go (most_of a.id) sound.parser
   where
-    go : (b : Bool) → bytes_eq a.id (codes "workers") ≡ b → (not b || are_counts (reading_by a) vs) ≡ true
-    go false e = refl
-    go true e =
-        let is : parser_of_value a.parser ≡ count_parser = sound.parser e in
-        and_true (is_unsigned (reading_by a)) (list_all (accepts false count_parser) vs)
+    go : (o : Option ℕ) → ParsesIf o (parser_of_value a.parser) → are_numbers_if o (reading_by a) vs ≡ true
+    go None is = refl
+    go (Some most) is =
+        and_true (is_unsigned (reading_by a)) (list_all (accepts false (up_to most)) vs)
         (ap (λ (p : ValueParser). is_unsigned (reading_of p)) is)
         (ap (λ (p : ValueParser). list_all (accepts a.ignore_case p) vs) (sym is) ∙ all_accepted a.ignore_case (parser_of_value a.parser) vs none)
 
@@ -518,3 +531,13 @@ given_value id rows f given = go (find (λ (r : Row). bytes_eq r.id id) rows) (f
         → (v : Text) × (option_and_then (λ (r : Row). slice_get r.values 0) o ≡ Some v)
     go None full e = absurd (true≢false (sym e))
     go (Some r) full e = first_value_of r.values full
+
+-- and has a row
+pub given_row : (id : Text) (rows : List Row) → is_given id rows ≡ true → has_row id rows ≡ true
+given_row id [] given = absurd (true≢false (sym given))
+given_row id (r ∷ rs) given = go (bytes_eq r.id id) given (λ more. given_row id rs more)
+  where
+    go : (b : Bool) → option_map_or (λ (x : Row). explicit_source x.source) (cond b (Some r) (find (λ (x : Row). bytes_eq x.id id) rs)) false ≡ true
+        → (is_given id rs ≡ true → has_row id rs ≡ true) → (b || has_row id rs) ≡ true
+    go true e below = refl
+    go false e below = below e

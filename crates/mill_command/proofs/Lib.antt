@@ -2,4 +2,4 @@ mod Facts
 pub mod Faultless
 pub mod Takes
 pub mod Taken
-pub mod Workers
+pub mod Numbers

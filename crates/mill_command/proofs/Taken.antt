@@ -1,5 +1,5 @@
 -- Words that clap takes make a request.
-use Rattle.std.proofs.Common.{◌≡◌, ◌∙◌, ◌&&◌, ◌||◌, ◌≤◌, ◌∷◌, [], ℕ, Bool, true, false, not, cond, refl, sym, ap, subst, true≢false, List, Option, Some, None, Err, is_some}
+use Rattle.std.proofs.Common.{◌≡◌, ◌∙◌, ◌&&◌, ◌||◌, ◌≤◌, ◌∷◌, [], ℕ, Bool, true, false, not, cond, refl, sym, ap, subst, arith, true≢false, List, Option, Some, None, Err, is_some}
 use Rattle.std.specs.Prelude.{codes, option_and_then}
 use Rattle.std.specs.Option.{option_map, option_map_or}
 use Rattle.std.specs.Str.{bytes_eq}
@@ -11,14 +11,14 @@ use Rattle.clap.proofs.OnLiterals.{clap_on_literals}
 use Rattle.mill_command.proofs.Takes.{built_test, is_bare_app, none}
 use Rattle.clap.specs.Takes.{built_takes, is_given, takes}
 use Rattle.clap.specs.Faults.{entered_fault, level_fault}
-use Rattle.mill_command.specs.Set.{commands, verify, plan, drop, level, workers}
+use Rattle.mill_command.specs.Set.{commands, verify, plan, drop, level, sample, workers}
 use Rattle.clap.specs.Kinds.{IsAmong, Kinds}
 use Rattle.clap.specs.declared.error.kind.ErrorKind.{ErrorKind}
-use Rattle.mill_command.specs.Requests.{HasWorkers, ReadsWords, Refuses, Request, drop_of, faults, is_taken, level_of, plan_of, request, request_in, verify_of, workers_in, verify as verify_files, plan as plan_to, drop as drop_at, level as level_at}
+use Rattle.mill_command.specs.Requests.{IsBounded, ReadsWords, Refuses, Request, drop_of, faults, is_taken, level_of, number_in, plan_of, request, request_in, sample_of, verify_of, verify as verify_files, plan as plan_to, drop as drop_at, level as level_at, sample as sample_with}
 use Rattle.mill_command.specs.declared.refusal.Refusal.{Refusal}
 use Rattle.mill_command.specs.declared.refusal.Refusal.TheVariants as refusal
-use Rattle.mill_command.proofs.Faultless.{AreSound, IsSound, IsStopped, defaults_make, given_value, is_full, level_faultless, none_missing, other_sound}
-use Rattle.mill_command.proofs.Workers.{workers_found}
+use Rattle.mill_command.proofs.Faultless.{AreSound, IsSound, IsStopped, defaults_make, given_row, given_value, is_full, level_faultless, none_missing, other_sound}
+use Rattle.mill_command.proofs.Numbers.{HasNumber, number_found}
 
 -- the shapes of the program and its commands, as building leaves them
 abbrev top : Shape
@@ -39,21 +39,24 @@ drop_shape = built_leaf (inherited above drop.top)
 abbrev level_shape : Shape
 level_shape = built_leaf (inherited above level.top)
 
+abbrev sample_shape : Shape
+sample_shape = built_leaf (inherited above sample.top)
+
 abbrev topic_shape : Shape
 topic_shape = built_leaf help_shape
 
-are_built : (built commands).subs ≡ verify_shape ∷ plan_shape ∷ drop_shape ∷ level_shape ∷ topic_shape ∷ []
+are_built : (built commands).subs ≡ verify_shape ∷ plan_shape ∷ drop_shape ∷ level_shape ∷ sample_shape ∷ topic_shape ∷ []
 are_built = refl
 
 abbrev HasRequest : Option Request → Type 0
-HasRequest o = (asked : Request) × (o ≡ Some asked) × HasWorkers asked
+HasRequest o = (asked : Request) × (o ≡ Some asked) × IsBounded asked
 
 verify_some : (job part file : Option Text) (count : Option ℕ) → ((v : Text) × (job ≡ Some v)) → ((v : Text) × (part ≡ Some v)) → ((v : Text) × (file ≡ Some v))
-    → ((n : ℕ) × (count ≡ Some n) × (1 ≤ n) × (n ≤ 64)) → HasRequest (verify_of job part file count)
+    → HasNumber 64 count → HasRequest (verify_of job part file count)
 verify_some job part file count j p f w = (verify_files j.0 p.0 f.0 w.0, rw (j.1, p.1, f.1, w.1) refl, (w.2, w.3))
 
 plan_some : (job part out : Option Text) (count : Option ℕ) → ((v : Text) × (job ≡ Some v)) → ((v : Text) × (part ≡ Some v)) → ((v : Text) × (out ≡ Some v))
-    → ((n : ℕ) × (count ≡ Some n) × (1 ≤ n) × (n ≤ 64)) → HasRequest (plan_of job part out count)
+    → HasNumber 64 count → HasRequest (plan_of job part out count)
 plan_some job part out count j p o w = (plan_to j.0 p.0 o.0 w.0, rw (j.1, p.1, o.1, w.1) refl, (w.2, w.3))
 
 drop_some : (job part x y : Option Text) → ((v : Text) × (job ≡ Some v)) → ((v : Text) × (part ≡ Some v)) → ((v : Text) × (x ≡ Some v)) → ((v : Text) × (y ≡ Some v))
@@ -62,6 +65,13 @@ drop_some job part x y j p a b = (drop_at j.0 p.0 a.0 b.0, rw (j.1, p.1, a.1, b.
 
 level_some : (job part z : Option Text) → ((v : Text) × (job ≡ Some v)) → ((v : Text) × (part ≡ Some v)) → ((v : Text) × (z ≡ Some v)) → HasRequest (level_of job part z)
 level_some job part z j p a = (level_at j.0 p.0 a.0, rw (j.1, p.1, a.1) refl, tt)
+
+sample_some : (n count : Option ℕ) → HasNumber 100 n → HasNumber 64 count → HasRequest (sample_of n count)
+sample_some n count s w = (sample_with s.0 w.0, rw (s.1, w.1) refl, (s.2, s.3, w.2, w.3))
+
+one_given : (a : Bool) → (not a || false) ≡ false → a ≡ true
+one_given true e = refl
+one_given false e = absurd (true≢false e)
 
 three_given : (a b d : Bool) → (not a || (not b || (not d || false))) ≡ false → (a ≡ true) × (b ≡ true) × (d ≡ true)
 three_given true true true e = (refl, refl, refl)
@@ -79,7 +89,7 @@ four_given false b d f e = absurd (true≢false e)
 -- the arguments of each level are as the proof on its walk wants them
 workers_sound : IsSound (filled workers)
 unfolding clap_on_literals
-workers_sound = record { sets = refl; parser = λ e. refl; default = refl }
+workers_sound = record { sets = refl; parser = refl; default = refl }
 
 top_sound : AreSound top.rules
 top_sound = (other_sound _ refl refl, (other_sound _ refl refl, tt))
@@ -96,6 +106,10 @@ drop_sound = (workers_sound, (other_sound _ refl refl, (other_sound _ refl refl,
 level_sound : AreSound level_shape.rules
 level_sound = (workers_sound, (other_sound _ refl refl, (other_sound _ refl refl, (other_sound _ refl refl, (other_sound _ refl refl, tt)))))
 
+sample_sound : AreSound sample_shape.rules
+unfolding clap_on_literals
+sample_sound = (workers_sound, (record { sets = refl; parser = refl; default = refl }, (other_sound _ refl refl, tt)))
+
 -- there is a row for the workers
 has_workers : (c : List Rule) (words : List Text) → list_any (λ (a : Rule). bytes_eq a.id (codes "workers") && is_full a.defaults) c ≡ true
     → has_row (codes "workers") (rows_after c [] words) ≡ true
@@ -106,18 +120,18 @@ verify_asks words none =
     let rows = rows_after verify_shape.rules [] words in
     let level = level_faultless verify_shape [] words false [] verify_sound none in
     let given = three_given (is_given (codes "job") rows) (is_given (codes "part") rows) (is_given (codes "file") rows) (none_missing verify_shape rows false level.checked).1 in
-    verify_some (first_of (codes "job") rows) (first_of (codes "part") rows) (first_of (codes "file") rows) (workers_in rows)
+    verify_some (first_of (codes "job") rows) (first_of (codes "part") rows) (first_of (codes "file") rows) (number_in (codes "workers") rows)
     (given_value (codes "job") rows level.right given.0) (given_value (codes "part") rows level.right given.1) (given_value (codes "file") rows level.right given.2)
-    (workers_found rows level.right (has_workers verify_shape.rules words refl))
+    (number_found (codes "workers") 64 rows refl (omega arith) level.right (has_workers verify_shape.rules words refl))
 
 plan_asks : (words : List Text) → level_fault plan_shape [] nothing_held words false [] ≡ [] → HasRequest (request_in (codes "plan") (rows_after plan_shape.rules [] words))
 plan_asks words none =
     let rows = rows_after plan_shape.rules [] words in
     let level = level_faultless plan_shape [] words false [] plan_sound none in
     let given = three_given (is_given (codes "job") rows) (is_given (codes "part") rows) (is_given (codes "out") rows) (none_missing plan_shape rows false level.checked).1 in
-    plan_some (first_of (codes "job") rows) (first_of (codes "part") rows) (first_of (codes "out") rows) (workers_in rows)
+    plan_some (first_of (codes "job") rows) (first_of (codes "part") rows) (first_of (codes "out") rows) (number_in (codes "workers") rows)
     (given_value (codes "job") rows level.right given.0) (given_value (codes "part") rows level.right given.1) (given_value (codes "out") rows level.right given.2)
-    (workers_found rows level.right (has_workers plan_shape.rules words refl))
+    (number_found (codes "workers") 64 rows refl (omega arith) level.right (has_workers plan_shape.rules words refl))
 
 drop_asks : (words : List Text) → level_fault drop_shape [] nothing_held words false [] ≡ [] → HasRequest (request_in (codes "drop") (rows_after drop_shape.rules [] words))
 drop_asks words none =
@@ -136,22 +150,32 @@ level_asks words none =
     level_some (first_of (codes "job") rows) (first_of (codes "part") rows) (first_of (codes "z") rows)
     (given_value (codes "job") rows level.right given.0) (given_value (codes "part") rows level.right given.1) (given_value (codes "z") rows level.right given.2)
 
+sample_asks : (words : List Text) → level_fault sample_shape [] nothing_held words false [] ≡ [] → HasRequest (request_in (codes "sample") (rows_after sample_shape.rules [] words))
+sample_asks words none =
+    let rows = rows_after sample_shape.rules [] words in
+    let level = level_faultless sample_shape [] words false [] sample_sound none in
+    let given = one_given (is_given (codes "n") rows) (none_missing sample_shape rows false level.checked).1 in
+    sample_some (number_in (codes "n") rows) (number_in (codes "workers") rows)
+    (number_found (codes "n") 100 rows refl (omega arith) level.right (given_row (codes "n") rows given))
+    (number_found (codes "workers") 64 rows refl (omega arith) level.right (has_workers sample_shape.rules words refl))
+
 -- the command that answers to a name, given which names are its own
-abbrev met : Bool → Bool → Bool → Bool → Bool → Option Shape
-met v p d l h =
-    cond (v || false) (Some verify_shape) (cond (p || false) (Some plan_shape) (cond (d || false) (Some drop_shape) (cond (l || false) (Some level_shape) (cond (h || false) (Some topic_shape) None))))
+abbrev met : Bool → Bool → Bool → Bool → Bool → Bool → Option Shape
+met v p d l s h =
+    cond (v || false) (Some verify_shape) (cond (p || false) (Some plan_shape) (cond (d || false) (Some drop_shape) (cond (l || false) (Some level_shape) (cond (s || false) (Some sample_shape) (cond (h || false) (Some topic_shape) None)))))
 
 -- the subcommand that was met is one of the commands
-named : (v p d l h : Bool) (words : List Text) → h ≡ false
-    → option_map_or (λ (s : Shape). level_fault s [] nothing_held words false []) (met v p d l h) [] ≡ []
-    → is_some (option_map (λ (s : Shape). rows_at s words) (met v p d l h)) ≡ true
-    → HasRequest (option_and_then (λ (m : Text × List Row). request_in m.0 m.1) (option_map (λ (s : Shape). rows_at s words) (met v p d l h)))
-named true p d l h words other none some = verify_asks words none
-named false true d l h words other none some = plan_asks words none
-named false false true l h words other none some = drop_asks words none
-named false false false true h words other none some = level_asks words none
-named false false false false true words other none some = absurd (true≢false other)
-named false false false false false words other none some = absurd (true≢false (sym some))
+named : (v p d l s h : Bool) (words : List Text) → h ≡ false
+    → option_map_or (λ (s : Shape). level_fault s [] nothing_held words false []) (met v p d l s h) [] ≡ []
+    → is_some (option_map (λ (s : Shape). rows_at s words) (met v p d l s h)) ≡ true
+    → HasRequest (option_and_then (λ (m : Text × List Row). request_in m.0 m.1) (option_map (λ (s : Shape). rows_at s words) (met v p d l s h)))
+named true p d l s h words other none some = verify_asks words none
+named false true d l s h words other none some = plan_asks words none
+named false false true l s h words other none some = drop_asks words none
+named false false false true s h words other none some = level_asks words none
+named false false false false true h words other none some = sample_asks words none
+named false false false false false true words other none some = absurd (true≢false other)
+named false false false false false false words other none some = absurd (true≢false (sym some))
 
 -- the name of the command for help, either way round
 help_named : (name : Text) → (bytes_eq name (codes "help") && true) ≡ false → bytes_eq (codes "help") name ≡ false
@@ -165,7 +189,7 @@ help_named name other = go (bytes_eq (codes "help") name) refl
 entered_asks : (stop : Option (Text × List Text)) → IsStopped top stop → entered_fault (built commands) stop ≡ [] → is_some (entered (built commands) stop) ≡ true
     → HasRequest (option_and_then (λ (m : Text × List Row). request_in m.0 m.1) (entered (built commands) stop))
 entered_asks None stop none some = absurd (true≢false (sym some))
-entered_asks (Some p) stop none some = named (bytes_eq (codes "verify") p.0) (bytes_eq (codes "plan") p.0) (bytes_eq (codes "drop") p.0) (bytes_eq (codes "level") p.0) (bytes_eq (codes "help") p.0) p.1 (help_named p.0 stop) none some
+entered_asks (Some p) stop none some = named (bytes_eq (codes "verify") p.0) (bytes_eq (codes "plan") p.0) (bytes_eq (codes "drop") p.0) (bytes_eq (codes "level") p.0) (bytes_eq (codes "sample") p.0) (bytes_eq (codes "help") p.0) p.1 (help_named p.0 stop) none some
 
 wanted : (b : Bool) → (not b && true) ≡ false → b ≡ true
 wanted true e = refl
@@ -219,13 +243,13 @@ whole words = go (is_taken words) refl
     go true e = ap is_some (taken_asks words (all (faults words) (sym (takes_faultless words) ∙ e))).1
     go false e = refl
 
-abbrev HasWorkersIf : Option Request → Type 0
-HasWorkersIf None = Unit {0}
-HasWorkersIf (Some asked) = HasWorkers asked
+abbrev IsBoundedIf : Option Request → Type 0
+IsBoundedIf None = Unit {0}
+IsBoundedIf (Some asked) = IsBounded asked
 
--- and where it has a number of workers, it is from 1 to 64
-pub workers_bounded : (words : List Text) → faults words ≡ [] → (asked : Request)
-    → option_and_then (λ (m : Text × List Row). request_in m.0 m.1) (subcommand_of commands words) ≡ Some asked → HasWorkers asked
-workers_bounded words none asked is =
+-- and its numbers are in their ranges
+pub bounded : (words : List Text) → faults words ≡ [] → (asked : Request)
+    → option_and_then (λ (m : Text × List Row). request_in m.0 m.1) (subcommand_of commands words) ≡ Some asked → IsBounded asked
+bounded words none asked is =
     let some = taken_asks words none in
-    subst (λ (o : Option Request). HasWorkersIf o) (sym some.1 ∙ is) some.2
+    subst (λ (o : Option Request). IsBoundedIf o) (sym some.1 ∙ is) some.2

@@ -11,12 +11,13 @@ use Rattle.mill_command.specs.declared.command.Command.TheVariants as command
 use Rattle.mill_command.specs.declared.refusal.Refusal.{Refusal}
 use Rattle.mill_command.specs.declared.refusal.Refusal.TheVariants as refusal
 
--- a command with its words: the names of files, the number of workers, and coordinates as they were written
+-- a command with its words: the names of files, coordinates as they were written, the size of a sample part, and the number of workers
 pub data Request : Type 0 where
   verify : Text → Text → Text → ℕ → Request
   plan : Text → Text → Text → ℕ → Request
   drop : Text → Text → Text → Text → Request
   level : Text → Text → Text → Request
+  sample : ℕ → ℕ → Request
 
 -- what a command of the code says
 abbrev pub request_of : Command → Request
@@ -24,21 +25,23 @@ request_of (command.Verify job part file workers) = verify job.now part.now file
 request_of (command.Plan job part out workers) = plan job.now part.now out.now workers
 request_of (command.Drop job part x y) = drop job.now part.now x.now y.now
 request_of (command.Level job part z) = level job.now part.now z.now
+request_of (command.Sample size workers) = sample size workers
 
--- where a request has a number of workers, it is from 1 to 64
-abbrev pub HasWorkers : Request → Type 0
-HasWorkers (verify job part file workers) = (1 ≤ workers) × (workers ≤ 64)
-HasWorkers (plan job part out workers) = (1 ≤ workers) × (workers ≤ 64)
-HasWorkers (drop job part x y) = Unit {0}
-HasWorkers (level job part z) = Unit {0}
+-- the numbers that a request has are in their ranges: workers from 1 to 64, the size of a sample part from 1 to 100
+abbrev pub IsBounded : Request → Type 0
+IsBounded (verify job part file workers) = (1 ≤ workers) × (workers ≤ 64)
+IsBounded (plan job part out workers) = (1 ≤ workers) × (workers ≤ 64)
+IsBounded (drop job part x y) = Unit {0}
+IsBounded (level job part z) = Unit {0}
+IsBounded (sample size workers) = (1 ≤ size) × (size ≤ 100) × (1 ≤ workers) × (workers ≤ 64)
 
 -- the number of `u32` that a text stands for
 abbrev pub number_of : Text → Option ℕ
 number_of text = if is_unsigned_in 0 4294967295 text then Some (digits_value 10 (without_leading_plus text)) else None
 
--- how many workers clap's values say
-abbrev pub workers_in : List Row → Option ℕ
-workers_in rows = option_and_then number_of (one_of (codes "workers") rows)
+-- the number that clap's values say under an id
+abbrev pub number_in : Text → List Row → Option ℕ
+number_in id rows = option_and_then number_of (one_of id rows)
 
 -- `verify` where each of its words is there
 abbrev pub verify_of : Option Text → Option Text → Option Text → Option ℕ → Option Request
@@ -60,14 +63,20 @@ abbrev pub level_of : Option Text → Option Text → Option Text → Option Req
 level_of (Some job) (Some part) (Some z) = Some (level job part z)
 level_of _ _ _ = None
 
+-- `sample` where both of its numbers are there
+abbrev pub sample_of : Option ℕ → Option ℕ → Option Request
+sample_of (Some size) (Some workers) = Some (sample size workers)
+sample_of _ _ = None
+
 -- the request of a subcommand's name and of the values that clap gives under its ids
 abbrev pub request_in : Text → List Row → Option Request
 request_in name rows =
-    if bytes_eq name (codes "verify") then verify_of (first_of (codes "job") rows) (first_of (codes "part") rows) (first_of (codes "file") rows) (workers_in rows)
-    else (if bytes_eq name (codes "plan") then plan_of (first_of (codes "job") rows) (first_of (codes "part") rows) (first_of (codes "out") rows) (workers_in rows)
+    if bytes_eq name (codes "verify") then verify_of (first_of (codes "job") rows) (first_of (codes "part") rows) (first_of (codes "file") rows) (number_in (codes "workers") rows)
+    else (if bytes_eq name (codes "plan") then plan_of (first_of (codes "job") rows) (first_of (codes "part") rows) (first_of (codes "out") rows) (number_in (codes "workers") rows)
     else (if bytes_eq name (codes "drop") then drop_of (first_of (codes "job") rows) (first_of (codes "part") rows) (first_of (codes "x") rows) (first_of (codes "y") rows)
     else (if bytes_eq name (codes "level") then level_of (first_of (codes "job") rows) (first_of (codes "part") rows) (first_of (codes "z") rows)
-    else None)))
+    else (if bytes_eq name (codes "sample") then sample_of (number_in (codes "n") rows) (number_in (codes "workers") rows)
+    else None))))
 
 -- clap takes the words: its own test, for this set of commands
 abbrev pub is_taken : List Text → Bool

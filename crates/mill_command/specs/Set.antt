@@ -1,5 +1,5 @@
 -- The set of commands, as clap's own definitions see it.
-use Rattle.std.specs.Prelude.{◌≡◌, [], ◌∷◌, codes, pos, Some, true, false}
+use Rattle.std.specs.Prelude.{◌≡◌, ℕ, [], ◌∷◌, codes, pos, Some, true, false}
 use Rattle.clap.specs.Words.{App, Rule, Text, app_of, new_app, new_rule, with_rule, with_subcommand}
 use Rattle.clap.specs.declared.builder.command.Command.{Command}
 use Rattle.clap.specs.declared.builder.command.Command.TheViews.{out-Command}
@@ -14,9 +14,21 @@ place id = record (new_rule id) { required = true; value_names = 1 }
 abbrev pub option : Text → Rule
 option id = record (new_rule id) { long = Some id; required = true; value_names = 1 }
 
--- a number from 1 to 64
+-- a number from 1 to this one
+abbrev pub up_to : ℕ → ValueParser
+up_to most = Signed (pos 1) (pos most)
+
+-- how many workers there can be
 abbrev pub count_parser : ValueParser
-count_parser = Signed (pos 1) (pos 64)
+count_parser = up_to 64
+
+-- how many squares a sample part can have along each side
+abbrev pub size_parser : ValueParser
+size_parser = up_to 100
+
+-- the word for a sample part's size, a number that must be there
+abbrev pub size : Rule
+size = record (place (codes "n")) { parser = Some size_parser }
 
 -- the option for how many workers, which is 1 where it isn't given
 abbrev pub workers : Rule
@@ -42,13 +54,17 @@ drop = with_rule (with_rule (with_files (codes "drop")) (option (codes "x"))) (o
 abbrev pub level : App
 level = with_rule (with_files (codes "level")) (option (codes "z"))
 
+-- `sample N`
+abbrev pub sample : App
+sample = with_rule (with_rule (new_app (codes "sample")) workers) size
+
 -- the program: its words have no program name, it has a version, and one of its commands must be there
 abbrev pub program : App
 program = record (new_app (codes "camtool")) { top = record (new_app (codes "camtool")).top { no_binary_name = true; has_version = true; subcommand_required = true } }
 
 -- the set of commands
 abbrev pub commands : App
-commands = with_subcommand (with_subcommand (with_subcommand (with_subcommand program verify.top) plan.top) drop.top) level.top
+commands = with_subcommand (with_subcommand (with_subcommand (with_subcommand (with_subcommand program verify.top) plan.top) drop.top) level.top) sample.top
 
 -- the command is as clap sees this one, and none of its arguments is global
 abbrev pub Is : App → Command → Type 0

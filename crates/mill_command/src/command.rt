@@ -1,6 +1,6 @@
 ghost use Rattle.std.specs.Prelude.{◌≡◌, codes, option_map, Some};
 ghost use Rattle.clap.specs.Words.{first_of, found_of, rows_of};
-ghost use Rattle.mill_command.specs.Requests.{drop_of, level_of, plan_of, request_in, request_of, verify_of, workers_in};
+ghost use Rattle.mill_command.specs.Requests.{drop_of, level_of, number_in, plan_of, request_in, request_of, sample_of, verify_of};
 
 use clap::ArgMatches;
 
@@ -37,6 +37,12 @@ pub enum Command<'a> {
         part: &'a str,
         z: &'a str,
     },
+    /// A sample part with `size` squares along each side, from 1 to 100, planned and verified.
+    /// `workers` is how many threads share the work, from 1 to 64.
+    Sample {
+        size: u32,
+        workers: u32,
+    },
 }
 
 impl<'a> Command<'a> {
@@ -49,29 +55,30 @@ impl<'a> Command<'a> {
             "plan" => Command::plan_from(matches),
             "drop" => Command::drop_from(matches),
             "level" => Command::level_from(matches),
+            "sample" => Command::sample_from(matches),
             _ => None,
         }
     }
 
     fn verify_from(matches: &ArgMatches<'a>) -> Option<Command<'a>>
-        ensures { option_map request_of result ≡ verify_of (first_of (codes "job") (rows_of (found_of matches.now))) (first_of (codes "part") (rows_of (found_of matches.now))) (first_of (codes "file") (rows_of (found_of matches.now))) (workers_in (rows_of (found_of matches.now))) }
+        ensures { option_map request_of result ≡ verify_of (first_of (codes "job") (rows_of (found_of matches.now))) (first_of (codes "part") (rows_of (found_of matches.now))) (first_of (codes "file") (rows_of (found_of matches.now))) (number_in (codes "workers") (rows_of (found_of matches.now))) }
     {
         Some(Command::Verify {
             job: value(matches, "job")?,
             part: value(matches, "part")?,
             file: value(matches, "file")?,
-            workers: workers(matches)?,
+            workers: number(matches, "workers")?,
         })
     }
 
     fn plan_from(matches: &ArgMatches<'a>) -> Option<Command<'a>>
-        ensures { option_map request_of result ≡ plan_of (first_of (codes "job") (rows_of (found_of matches.now))) (first_of (codes "part") (rows_of (found_of matches.now))) (first_of (codes "out") (rows_of (found_of matches.now))) (workers_in (rows_of (found_of matches.now))) }
+        ensures { option_map request_of result ≡ plan_of (first_of (codes "job") (rows_of (found_of matches.now))) (first_of (codes "part") (rows_of (found_of matches.now))) (first_of (codes "out") (rows_of (found_of matches.now))) (number_in (codes "workers") (rows_of (found_of matches.now))) }
     {
         Some(Command::Plan {
             job: value(matches, "job")?,
             part: value(matches, "part")?,
             out: value(matches, "out")?,
-            workers: workers(matches)?,
+            workers: number(matches, "workers")?,
         })
     }
 
@@ -95,6 +102,15 @@ impl<'a> Command<'a> {
             z: value(matches, "z")?,
         })
     }
+
+    fn sample_from(matches: &ArgMatches<'a>) -> Option<Command<'a>>
+        ensures { option_map request_of result ≡ sample_of (number_in (codes "n") (rows_of (found_of matches.now))) (number_in (codes "workers") (rows_of (found_of matches.now))) }
+    {
+        Some(Command::Sample {
+            size: number(matches, "n")?,
+            workers: number(matches, "workers")?,
+        })
+    }
 }
 
 /// The word that is the value under this id.
@@ -104,9 +120,9 @@ fn value<'a>(matches: &ArgMatches<'a>, id: &str) -> Option<&'a str>
     matches.get_str(id)
 }
 
-/// How many workers there are.
-fn workers(matches: &ArgMatches<'_>) -> Option<u32>
-    ensures { result ≡ workers_in (rows_of (found_of matches.now)) }
+/// The number that is the value under this id.
+fn number(matches: &ArgMatches<'_>, id: &str) -> Option<u32>
+    ensures { result ≡ number_in id.now (rows_of (found_of matches.now)) }
 {
-    matches.get_one("workers")
+    matches.get_one(id)
 }

@@ -2,7 +2,7 @@
 //! in `specs/Set.antt`, and where matches are read.
 ghost use Rattle.std.specs.Prelude.{◌≡◌, false, IfOk};
 ghost use Rattle.clap.specs.Words.{App, Rule, new_app, rule_of, with_rule, with_subcommand};
-ghost use Rattle.mill_command.specs.Set.{Is, commands, count_parser, drop as drop_command, level, option, place, plan, program, verify, with_files, workers};
+ghost use Rattle.mill_command.specs.Set.{Is, commands, count_parser, drop as drop_command, level, option, place, plan, program, sample, size, size_parser, verify, with_files, workers};
 
 use clap::builder::ValueParser;
 use clap::{Arg, Command, value_parser};
@@ -18,7 +18,8 @@ pub fn commands<'a>(alloc: Global) -> Result<Command<'a>, AllocError>
     let program = with_command(program(alloc)?, verify(alloc)?)?;
     let program = with_command(program, plan(alloc)?)?;
     let program = with_command(program, drop_height(alloc)?)?;
-    with_command(program, level(alloc)?)
+    let program = with_command(program, level(alloc)?)?;
+    with_command(program, sample(alloc)?)
 }
 
 // `bin_name` is for the usage lines, which else lack the program's name.
@@ -91,6 +92,19 @@ fn level<'a>(alloc: Global) -> Result<Command<'a>, AllocError>
     )
 }
 
+/// `sample N`, with how many workers.
+fn sample<'a>(alloc: Global) -> Result<Command<'a>, AllocError>
+    ensures { IfOk result (Is sample) }
+{
+    let command = command(
+        alloc,
+        "sample",
+        "Plans a sample part, verifies the program, and prints its numbers",
+    );
+    let command = with_arg(command, workers(alloc))?;
+    with_arg(command, size(alloc))
+}
+
 /// A command whose first two words are the job's and the part's file, and that takes how many
 /// workers.
 fn with_files<'a>(
@@ -132,6 +146,19 @@ fn option<'a>(alloc: Global, id: &'static str, name: &'static str, help: &'stati
     place(alloc, id, name, help).long(id)
 }
 
+/// The size of a sample part, which must stand at its place.
+fn size<'a>(alloc: Global) -> Arg<'a>
+    ensures { (rule_of result ≡ size) × (result.global ≡ false) }
+{
+    place(
+        alloc,
+        "n",
+        "N",
+        "How many squares the part has along each side, from 1 to 100",
+    )
+    .value_parser(size_parser())
+}
+
 /// `--workers=W`, which may be left out.
 fn workers<'a>(alloc: Global) -> Arg<'a>
     ensures { (rule_of result ≡ workers) × (result.global ≡ false) }
@@ -149,6 +176,13 @@ fn count_parser<'a>() -> ValueParser<'a>
     ensures { result ≡ count_parser }
 {
     value_parser!(u32).range(1..=64)
+}
+
+/// How large a sample part can be.
+fn size_parser<'a>() -> ValueParser<'a>
+    ensures { result ≡ size_parser }
+{
+    value_parser!(u32).range(1..=100)
 }
 
 /// The command with one more argument.

@@ -66,7 +66,15 @@ fn takes_commands(rt: HostRuntime) -> Result<(), Fail> {
         part: "b",
         z: "-1.5",
     };
-    let table: [(&[&str], Command<'_>); 21] = [
+    let sample = Command::Sample {
+        size: 100,
+        workers: 1,
+    };
+    let split = Command::Sample {
+        size: 1,
+        workers: 8,
+    };
+    let table: [(&[&str], Command<'_>); 25] = [
         (&["verify", "a", "b", "c"], verify),
         (&["verify", "--", "a", "b", "c"], verify),
         (&["verify", "--", "-a", "--help", "verify"], dashed),
@@ -94,6 +102,10 @@ fn takes_commands(rt: HostRuntime) -> Result<(), Fail> {
         (&["level", "a", "b", "--z=-1.5"], level),
         (&["level", "--z=-1.5", "a", "--", "b"], level),
         (&["level", "a", "b", "--workers=64", "--z=-1.5"], level),
+        (&["sample", "100"], sample),
+        (&["sample", "--", "0100"], sample),
+        (&["sample", "1", "--workers=8"], split),
+        (&["sample", "--workers", "8", "+1"], split),
     ];
     for (words, command) in table {
         let words = owned(rt.alloc(), words)?;
@@ -104,7 +116,7 @@ fn takes_commands(rt: HostRuntime) -> Result<(), Fail> {
 
 #[test]
 fn shows_help_and_version(rt: HostRuntime) -> Result<(), Fail> {
-    let table: [(&[&str], &str); 13] = [
+    let table: [(&[&str], &str); 14] = [
         (&["--help"], "Usage: camtool <COMMAND>"),
         (&["-h"], "Usage: camtool <COMMAND>"),
         (&["help"], "Usage: camtool <COMMAND>"),
@@ -130,6 +142,7 @@ fn shows_help_and_version(rt: HostRuntime) -> Result<(), Fail> {
             "Usage: camtool level [OPTIONS] --z <Z> <JOB> <PART>",
         ),
         (&["level", "-h"], "as in --z=-1.5"),
+        (&["sample", "-h"], "Usage: camtool sample [OPTIONS] <N>"),
         (&["--version"], "camtool 0.1.0\n"),
         (&["-V"], "camtool 0.1.0\n"),
         (&["-V", "verify"], "camtool 0.1.0\n"),
@@ -146,7 +159,7 @@ fn shows_help_and_version(rt: HostRuntime) -> Result<(), Fail> {
 
 #[test]
 fn refuses_words(rt: HostRuntime) -> Result<(), Fail> {
-    let table: [(&[&str], &str); 37] = [
+    let table: [(&[&str], &str); 43] = [
         (&[], "requires a subcommand"),
         (&["--"], "requires a subcommand"),
         (&["verify"], "<JOB>\n  <PART>\n  <FILE>\n"),
@@ -247,6 +260,12 @@ fn refuses_words(rt: HostRuntime) -> Result<(), Fail> {
             &["level", "a", "b", "--z=1", "--x=1"],
             "unexpected argument '--x'",
         ),
+        (&["sample"], "not provided:\n  <N>\n"),
+        (&["sample", "0"], "0 is not in 1..=100"),
+        (&["sample", "101"], "101 is not in 1..=100"),
+        (&["sample", "ten"], "invalid value 'ten'"),
+        (&["sample", "1", "2"], "unexpected argument '2'"),
+        (&["sample", "1", "--workers=65"], "65 is not in 1..=64"),
     ];
     for (words, part) in table {
         let words = owned(rt.alloc(), words)?;

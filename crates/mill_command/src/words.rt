@@ -1,6 +1,6 @@
 ghost use Rattle.std.specs.Prelude.{◌≡◌, IfOk, is_some, map, option_and_then, option_map, string_bytes};
 ghost use Rattle.clap.specs.Words.{FailsBy, HasKind, Kinds, subcommand_of, subcommand_rows_of};
-ghost use Rattle.mill_command.specs.Requests.{HasWorkers, ReadsWords, Refuses, faults, is_taken, request, request_in, request_of};
+ghost use Rattle.mill_command.specs.Requests.{IsBounded, ReadsWords, Refuses, faults, is_taken, request, request_in, request_of};
 ghost use Rattle.mill_command.specs.Set.{commands};
 
 use crate::command::Command;
@@ -20,7 +20,7 @@ pub fn read_words<'a>(alloc: Global, words: &'a [String]) -> Result<Command<'a>,
 
     // Words that clap takes are a command, with each of its values.
     ensures whole { is_some (request (map string_bytes words.now)) ≡ is_taken (map string_bytes words.now) }
-    ensures workers { IfOk result (λ c. HasWorkers (request_of c)) }
+    ensures bounded { IfOk result (λ c. IsBounded (request_of c)) }
 {
     let matches = match parse(alloc, words) {
         Ok(matches) => matches,

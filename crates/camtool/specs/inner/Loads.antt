@@ -30,6 +30,7 @@ use Rattle.mill_job.specs.declared.job.Place.{Place}
 use Rattle.camtool.specs.declared.place.WordFault.{WordFault}
 use Rattle.camtool.specs.Drop.{ReadsPlace, RefusesWord}
 use Rattle.camtool.specs.Level.{ReadsHeight, RefusesHeight}
+use Rattle.camtool.specs.Sample.{sample_job, sample_part}
 use Rattle.camtool.specs.Setup.{SetupTexts, IsTooLong, IsJobText, IsRefusedJob, IsPartText, IsRefusedPart, ReadsSetup, IsUnfit, IsReadBefore}
 use Rattle.camtool.specs.Verify.{Texts, IsProgramText, IsRefusedProgram, Reads, IsUnfitProgram, IsReadBeforeProgram}
 
@@ -123,6 +124,18 @@ pub record IsReady (l : Loaded) : Type 0 where
 pub record AreWorkers (workers : ℕ) : Type 0 where
   pub some : 1 ≤ workers
   pub few : workers ≤ MAX_WORKERS
+
+-- a size that a sample part may have
+pub record IsSize (n : ℕ) : Type 0 where
+  pub some : 1 ≤ n
+  pub few : n ≤ 100
+
+-- the job and the part of this size, which a sample part may have
+pub record IsSample (n : ℕ) (s : Setup) : Type 0 where
+  pub size_ok : IsSize n
+  pub job_is : s.job ≡ sample_job n
+  pub part_is : s.part ≡ sample_part n
+  pub ready : IsSetup s
 
 -- the answer is the part's greatest height, where that is over the job's top, and none where the part is under it
 abbrev pub IsLow : Job → List Tri → Option ℤ → Type 0

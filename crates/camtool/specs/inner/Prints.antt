@@ -1,5 +1,5 @@
 -- What printing a line comes to.
-use Rattle.std.specs.Prelude.{◌⊎◌, ◌≡◌, ◌<◌, ℕ, ℤ, List, Result, Ok, Err, string_bytes}
+use Rattle.std.specs.Prelude.{◌⊎◌, ◌≡◌, ◌<◌, ◌*◌, ◌++◌, ℕ, ℤ, codes, decimal, List, Result, Ok, Err, string_bytes}
 use Rattle.std.specs.Global.{Vec}
 use Rattle.mill_base.specs.declared.memory.WantOfMemory.{WantOfMemory}
 use Rattle.mill_command.specs.declared.refusal.Refusal.{Refusal}
@@ -17,10 +17,12 @@ use Rattle.camtool.specs.declared.load.LoadFault.TheVariants as load_fault
 use Rattle.camtool.specs.declared.load.Setup.{Setup}
 use Rattle.mill_job.specs.declared.job.Place.{Place}
 use Rattle.camtool.specs.declared.verify.Loaded.{Loaded}
-use Rattle.camtool.specs.Answers.{unfit, judged, planned, dropped, leveled}
+use Rattle.camtool.specs.Answers.{unfit, judged, dropped, leveled, planned, sampled}
 use Rattle.camtool.specs.Calls.{Call}
 use Rattle.camtool.specs.Level.{LevelAnswer, IsLevelAnswer}
 use Rattle.camtool.specs.Outcomes.{Outcome, help, bad_words, no_memory, read_fault, answered, outcome_status, outcome_line, Shows}
+use Rattle.camtool.specs.Plan.{plan_line, plan_status}
+use Rattle.camtool.specs.Sample.{Samples}
 use Rattle.camtool.specs.Verify.{IsNamed, IsSafe}
 
 -- the line was printed, and the status is the one that was wanted
@@ -68,12 +70,16 @@ refusal_outcome (refusal.Help text) = help (string_bytes text)
 refusal_outcome (refusal.NotTaken text) = bad_words (string_bytes text)
 refusal_outcome refusal.WantOfMemory = no_memory
 
--- the outcome of a plan that didn't come to a program; the name is the one that it was to be stored under
-abbrev pub plan_fault_outcome : List ℕ → PlanFault → Outcome
-plan_fault_outcome name (plan_fault.TooManyNodes nodes) = answered (planned name (too_many_nodes nodes))
-plan_fault_outcome name plan_fault.TooManyMoves = answered (planned name too_many_moves)
-plan_fault_outcome name (plan_fault.Uncut row col top) = answered (planned name (uncut row col top))
-plan_fault_outcome name plan_fault.WantOfMemory = no_memory
+-- the line and the status of the planner's answer, or that memory was short
+abbrev pub PrintsPlan : PlanAnswer → ℕ → SinkView → SinkView → Type 0
+PrintsPlan answer status sink sink_after = Prints (plan_line answer) (plan_status answer) status sink sink_after ⊎ PrintsOutcome no_memory status sink sink_after
+
+-- those of a plan that didn't come to a program
+abbrev pub PrintsPlanFault : PlanFault → ℕ → SinkView → SinkView → Type 0
+PrintsPlanFault (plan_fault.TooManyNodes nodes) status sink sink_after = PrintsPlan (too_many_nodes nodes) status sink sink_after
+PrintsPlanFault plan_fault.TooManyMoves status sink sink_after = PrintsPlan too_many_moves status sink sink_after
+PrintsPlanFault (plan_fault.Uncut row col top) status sink sink_after = PrintsPlan (uncut row col top) status sink sink_after
+PrintsPlanFault plan_fault.WantOfMemory status sink sink_after = PrintsOutcome no_memory status sink sink_after
 
 -- ---- the work of a command on what was read
 
@@ -112,3 +118,16 @@ pub record ShowsPlan (s : Setup) (name : List ℕ) (call : Call) : Type 0 where
 -- so it is, or it is shown that memory was short
 abbrev pub ShowsPlanOr : Setup → List ℕ → Call → Type 0
 ShowsPlanOr s name call = ShowsPlan s name call ⊎ Shows call no_memory
+
+-- the beginning of a sample's line: its size, and how many triangles it has
+abbrev pub sample_start : ℕ → List ℕ
+sample_start n = codes "sample " ++ decimal n ++ codes " triangles " ++ decimal (2 * n * n)
+
+-- the planner's answer to the sample part of a size is printed, or that memory was short
+pub record PrintsSample (n status : ℕ) (sink sink_after : SinkView) : Type 0 where
+  pub answer : PlanAnswer
+  pub is : Samples n answer
+  pub printed : PrintsOr (answered (sampled n answer)) status sink sink_after
+
+abbrev pub TriesSample : ℕ → ℕ → SinkView → SinkView → Type 0
+TriesSample n status sink sink_after = PrintsSample n status sink sink_after ⊎ PrintsOutcome no_memory status sink sink_after

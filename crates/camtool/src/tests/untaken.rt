@@ -9,7 +9,7 @@ use std::test::Fail;
 #[test]
 fn answers_untaken_words(rt: HostRuntime) -> Result<(), Fail> {
     let alloc = rt.alloc();
-    let table: [(&[&str], Status, &str); 30] = [
+    let table: [(&[&str], Status, &str); 34] = [
         (&["--help"], Status::Done, "Usage: camtool <COMMAND>"),
         (&["-h"], Status::Done, "Usage: camtool <COMMAND>"),
         (&["help", "drop"], Status::Done, "--x <X>"),
@@ -107,6 +107,10 @@ fn answers_untaken_words(rt: HostRuntime) -> Result<(), Fail> {
             Status::Words,
             "multiple times",
         ),
+        (&["sample", "--help"], Status::Done, "<N>"),
+        (&["sample"], Status::Words, "<N>"),
+        (&["sample", "0"], Status::Words, "0 is not in 1..=100"),
+        (&["sample", "101"], Status::Words, "101 is not in 1..=100"),
     ];
     for (list, status, piece) in table {
         // Every read would fail: no file is read.

@@ -2,7 +2,7 @@ use Rattle.std.proofs.Common.{◌∙◌, List, sym, ap, map, string_bytes, true�
 use Rattle.std.specs.Prelude.{option_and_then, option_map}
 use Rattle.clap.specs.Words.{Row, Text}
 use Rattle.mill_command.specs.Requests.{faults, request_in, request_of}
-use Rattle.mill_command.proofs.Taken.{refused, taken, taken_asks, whole, workers_bounded}
+use Rattle.mill_command.proofs.Taken.{refused, taken, taken_asks, whole, bounded}
 use Rattle.mill_command.proofs.words.read_words.Goals as goal
 
 pub unreachable-requires : goal.unreachable-requires
@@ -23,6 +23,6 @@ returns-clause-reads c = taken (map string_bytes c.args.words.now) c.in-Ok.ensur
 pub returns-clause-whole : goal.returns-clause-whole
 returns-clause-whole c = whole (map string_bytes c.args.words.now)
 
-pub returns-clause-workers : goal.returns-clause-workers
-returns-clause-workers c = workers_bounded (map string_bytes c.args.words.now) c.in-Ok.ensures.kinds (request_of c.in-Some.command)
+pub returns-clause-bounded : goal.returns-clause-bounded
+returns-clause-bounded c = bounded (map string_bytes c.args.words.now) c.in-Ok.ensures.kinds (request_of c.in-Some.command)
     (sym (ap (option_and_then (λ (m : Text × List Row). request_in m.0 m.1)) c.in-Ok.ensures.matches) ∙ sym c.command_of.ensures ∙ ap (option_map request_of) c.in-Some.is)

@@ -1,8 +1,9 @@
--- Rows in which clap finds no fault give a number of workers.
+-- Rows in which clap finds no fault give the numbers that arguments take.
 use Rattle.std.proofs.Common.{◌≡◌, ◌≤◌, ◌<◌, ◌^◌, ◌∙◌, ◌&&◌, ◌||◌, ◌∷◌, [], ℕ, Bool, true, false, not, cond, refl, sym, ap, arith, true≢false, List, Option, Some, None}
 use Rattle.std.specs.Prelude.{codes, find, option_and_then, option_map, slice_get, Result, Ok, Err}
 use Rattle.std.specs.List.{list_all}
 use Rattle.std.specs.Str.{bytes_eq}
+use Rattle.std.proofs.lemmas.Slice.Eq.{bytes_eq-Decides}
 use Rattle.std.specs.Str.Parse.{ParsesUnsigned, digits_value, without_leading_plus}
 use Rattle.clap.specs.Lexer.{without_minus}
 use Rattle.clap.specs.Matches.{ReadsOne}
@@ -15,9 +16,9 @@ use Rattle.clap.specs.declared.builder.value_parser.ValueParser.TheVariants.{Uns
 use Rattle.clap.proofs.CallerReads.{signed_reads}
 use Rattle.clap.proofs.ValueTestLemmas.{accepts-Accepts, Accepts-accepts}
 use Rattle.clap.proofs.WalkLemmas.{both}
-use Rattle.mill_command.specs.Set.{count_parser}
-use Rattle.mill_command.specs.Requests.{number_of, workers_in}
-use Rattle.mill_command.proofs.Faultless.{all_right, are_counts, is_full, is_right, is_unsigned, suits}
+use Rattle.mill_command.specs.Set.{up_to}
+use Rattle.mill_command.specs.Requests.{number_of, number_in}
+use Rattle.mill_command.proofs.Faultless.{all_right, are_numbers, are_numbers_if, is_full, is_right, is_unsigned, most_of, suits}
 
 -- ---- the number of a text
 
@@ -62,31 +63,37 @@ reads_number text = go (is_number text) refl
           absurd (true≢false (sym (tested_number text (h.0, omega arith, omega arith, omega arith)) ∙ e)),
     )
 
--- a text that clap takes as a number of workers is one
-counted : (text : Text) → accepts false count_parser text ≡ true → (n : ℕ) × (number_of (without_minus text) ≡ Some n) × (1 ≤ n) × (n ≤ 64)
-counted text e = signed_reads (Unit {0}) (λ t x. ParsesUnsigned 32 10 t x) 32 1 64 text (number_of (without_minus text)) (reads_number (without_minus text)) (λ u x g. g) (omega arith)
-    (accepts-Accepts false count_parser text e)
+-- there is a number, and it is from 1 to this one
+abbrev pub HasNumber : ℕ → Option ℕ → Type 0
+HasNumber most o = (n : ℕ) × (o ≡ Some n) × (1 ≤ n) × (n ≤ most)
 
--- ---- the row of the workers
+-- a text that clap takes as a number up to this one is one
+counted : (most : ℕ) (text : Text) → most < 2 ^ 32 → accepts false (up_to most) text ≡ true → HasNumber most (number_of (without_minus text))
+counted most text small e = signed_reads (Unit {0}) (λ t x. ParsesUnsigned 32 10 t x) 32 1 most text (number_of (without_minus text)) (reads_number (without_minus text)) (λ u x g. g) small
+    (accepts-Accepts false (up_to most) text e)
 
-counts_of : (how : Reading) (values : List Text) → is_full values ≡ true → are_counts how values ≡ true
-    → (n : ℕ) × (option_and_then number_of (option_map (read_as how) (slice_get values 0)) ≡ Some n) × (1 ≤ n) × (n ≤ 64)
-counts_of how [] full e = absurd (true≢false (sym full))
-counts_of WithoutMinus (v ∷ vs) full e = counted v (both (accepts false count_parser v) (list_all (accepts false count_parser) vs) e).0
-counts_of AsWritten (v ∷ vs) full e = absurd (true≢false (sym e))
-counts_of Boolish (v ∷ vs) full e = absurd (true≢false (sym e))
-counts_of Falsey (v ∷ vs) full e = absurd (true≢false (sym e))
+-- ---- the row of an id that takes numbers
 
--- rows in which clap finds no fault, one of them for the workers, give their number
-pub workers_found : (rows : List Row) → all_right rows ≡ true → has_row (codes "workers") rows ≡ true → (n : ℕ) × (workers_in rows ≡ Some n) × (1 ≤ n) × (n ≤ 64)
-workers_found [] right has = absurd (true≢false (sym has))
-workers_found (r ∷ rs) right has =
+numbers_of : (most : ℕ) (how : Reading) (values : List Text) → most < 2 ^ 32 → is_full values ≡ true → are_numbers most how values ≡ true
+    → HasNumber most (option_and_then number_of (option_map (read_as how) (slice_get values 0)))
+numbers_of most how [] small full e = absurd (true≢false (sym full))
+numbers_of most WithoutMinus (v ∷ vs) small full e = counted most v small (both (accepts false (up_to most) v) (list_all (accepts false (up_to most)) vs) e).0
+numbers_of most AsWritten (v ∷ vs) small full e = absurd (true≢false (sym e))
+numbers_of most Boolish (v ∷ vs) small full e = absurd (true≢false (sym e))
+numbers_of most Falsey (v ∷ vs) small full e = absurd (true≢false (sym e))
+
+-- rows in which clap finds no fault, one of them under an id that takes numbers, give its number
+pub number_found : (id : Text) (most : ℕ) (rows : List Row) → most_of id ≡ Some most → most < 2 ^ 32 → all_right rows ≡ true → has_row id rows ≡ true → HasNumber most (number_in id rows)
+number_found id most [] takes small right has = absurd (true≢false (sym has))
+number_found id most (r ∷ rs) takes small right has =
     let here = both (is_right r) (all_right rs) right in
     let this = both (is_full r.values) (suits r.id r.reading r.values) here.0 in
-    go (bytes_eq r.id (codes "workers")) this.0 this.1 has (λ there. workers_found rs here.1 there)
+    go (bytes_eq r.id id) refl this.0 this.1 has (λ there. number_found id most rs takes small here.1 there)
   where
-    go : (b : Bool) → is_full r.values ≡ true → (not b || are_counts r.reading r.values) ≡ true → (b || has_row (codes "workers") rs) ≡ true
-        → (has_row (codes "workers") rs ≡ true → (n : ℕ) × (workers_in rs ≡ Some n) × (1 ≤ n) × (n ≤ 64))
-        → (n : ℕ) × (option_and_then number_of (option_and_then row_text (cond b (Some r) (find (λ (x : Row). bytes_eq x.id (codes "workers")) rs))) ≡ Some n) × (1 ≤ n) × (n ≤ 64)
-    go true full counts there below = counts_of r.reading r.values full counts
-    go false full counts there below = below there
+    go : (b : Bool) → bytes_eq r.id id ≡ b → is_full r.values ≡ true → suits r.id r.reading r.values ≡ true → (b || has_row id rs) ≡ true
+        → (has_row id rs ≡ true → HasNumber most (number_in id rs))
+        → HasNumber most (option_and_then number_of (option_and_then row_text (cond b (Some r) (find (λ (x : Row). bytes_eq x.id id) rs))))
+    go true same full suit there below =
+        let under : most_of r.id ≡ Some most = ap most_of ((bytes_eq-Decides r.id id).0 same) ∙ takes in
+        numbers_of most r.reading r.values small full (sym (ap (λ o. are_numbers_if o r.reading r.values) under) ∙ suit)
+    go false same full suit there below = below there

@@ -1,0 +1,71 @@
+-- The command `sample`: the sample part of a size, the job that it is planned with, and how the planner's answer to them is shown.
+use Rattle.std.specs.Prelude.{ℕ, ◌+◌, ◌*◌, ◌%◌, ℤ, pos, codes, decimal, List, [], ◌∷◌}
+use Rattle.std.specs.List.{flat_map, range_with_len}
+use Rattle.mill_base.specs.declared.cutter.Cutter.TheVariants.{Ball}
+use Rattle.mill_base.specs.declared.points.Pt3.{Pt3}
+use Rattle.mill_base.specs.declared.points.Tri.{Tri}
+use Rattle.mill_decimal.specs.Decimals.{canonical}
+use Rattle.mill_decimal.specs.declared.snap.Snap.TheVariants.{Nearest}
+use Rattle.mill_job.specs.declared.job.Job.{Job}
+use Rattle.mill_plan.specs.Plans.{PlanAnswer, IsPlanAnswer, done}
+use Rattle.camtool.specs.Plan.{plan_line, plan_status}
+use Rattle.camtool.specs.Printed.{line}
+
+-- ---- the part
+
+-- the node (i, j): nodes stand 100 units apart in x and in y, at heights from 100 to 139
+abbrev pub sample_node : ℕ → ℕ → Pt3
+sample_node i j = record { x = pos (100 * i); y = pos (100 * j); z = pos (100 + (7 * i * i + 13 * j * j + 5 * i * j) % 40) }
+
+-- the two triangles between the nodes (i, j) and (i + 1, j + 1)
+abbrev pub sample_square : ℕ → ℕ → List Tri
+sample_square j i =
+    record { a = sample_node i j; b = sample_node (i + 1) j; c = sample_node (i + 1) (j + 1) }
+    ∷ record { a = sample_node i j; b = sample_node (i + 1) (j + 1); c = sample_node i (j + 1) }
+    ∷ []
+
+-- those of a row of n squares, for i from 0 on
+abbrev pub sample_row : ℕ → ℕ → List Tri
+sample_row n j = flat_map (sample_square j) (range_with_len 0 n)
+
+-- the sample part of size n: those of n rows, for j from 0 on
+abbrev pub sample_part : ℕ → List Tri
+sample_part n = flat_map (sample_row n) (range_with_len 0 n)
+
+-- ---- the job
+
+-- the job over that part: a ball of 1.00 mm, over all of the part, with columns 0.50 mm apart, of which 0.40 mm may be left
+abbrev pub sample_job : ℕ → Job
+sample_job n = record {
+  cutter = Ball (pos 100);
+  floor = pos 0;
+  top = pos 200;
+  clear = pos 300;
+  area = record { x0 = pos 0; y0 = pos 0; x1 = pos (100 * n); y1 = pos (100 * n) };
+  home = record { x = pos 0; y = pos 0 };
+  pitch = pos 50;
+  sample = pos 50;
+  allowance = pos 40;
+  band = pos 0;
+  lift = pos 0;
+  raster = pos 50;
+  rough_raster = pos 100;
+  layer = pos 50;
+  rough_stock = pos 0;
+  snap = Nearest;
+}
+
+-- ---- the answers
+
+-- this is the planner's answer to the sample part of size n and its job
+abbrev pub Samples : ℕ → PlanAnswer → Type 0
+Samples n answer = IsPlanAnswer (sample_job n) (sample_part n) answer
+
+-- the exit status of an answer, which is that of `plan`
+abbrev pub sample_status : PlanAnswer → ℕ
+sample_status answer = plan_status answer
+
+-- the line of an answer: of a program the size, and how many triangles, columns and moves there are and how much is left at most; of another, the line of `plan`
+abbrev pub sample_line : ℕ → PlanAnswer → List ℕ
+sample_line n (done text moves columns left) = line (codes "sample" ∷ decimal n ∷ codes "triangles" ∷ decimal (2 * n * n) ∷ codes "columns" ∷ decimal columns ∷ codes "moves" ∷ decimal moves ∷ codes "left" ∷ canonical left ∷ [])
+sample_line n answer = plan_line answer
