@@ -21,7 +21,7 @@ use Rattle.mill_job.specs.declared.job.Job.{Job}
 use Rattle.mill_ngc.specs.Programs.{program_of}
 use Rattle.mill_command.specs.Requests.{sample}
 use Rattle.mill_io.specs.Views.{StoreView, SinkView, ReadsOnly}
-use Rattle.mill_plan.specs.Plans.{PlanAnswer, too_many_nodes, done, too_many_moves, uncut, answer_of, IsDone, IsPlanAnswer, IsPlanFault}
+use Rattle.mill_plan.specs.Plans.{too_many_nodes, done, too_many_moves, uncut, answer_of, IsDone, IsPlanAnswer, IsPlanFault}
 use Rattle.mill_plan.specs.declared.planned.Planned.{Planned}
 use Rattle.mill_plan.specs.declared.fault.PlanFault.{PlanFault}
 use Rattle.mill_plan.specs.declared.fault.PlanFault.TheVariants as plan_fault

@@ -22,7 +22,7 @@ use crate::tell::{tell, tell_made};
 use mill_base::{Box2, Cutter, Move, Pt3, Tri, WantOfMemory};
 use mill_decimal::Snap;
 use mill_io::Sink;
-use mill_job::{Job, Place};
+use mill_job::{Job, Levels, Place};
 use mill_ngc::{NgcFault, read_program};
 use mill_part::Part;
 use mill_plan::{Planned, plan};
@@ -217,6 +217,7 @@ fn sample_job(size: u32) -> Job
         rough_raster: 100,
         layer: 50,
         rough_stock: 0,
+        levels: Levels::NONE,
         snap: Snap::Nearest,
     }
 }

@@ -1,8 +1,7 @@
 -- Meetings at the positions along an axis, and what the cylinder's side says where the sphere meets nothing.
-use Rattle.std.proofs.Common.{◌≡◌, inl, inr, refl, arith, Option, Some, None, IfSome}
-use lib.IntN.{ℤ, pos, ◌+ℤ◌, ◌-ℤ◌}
+use Rattle.std.proofs.Common.{inl, inr, refl, Option, Some, None, IfSome}
+use lib.IntN.{ℤ, pos, ◌+ℤ◌}
 use lib.Signed.{◌≤ℤ◌}
-use Rattle.std.proofs.lemmas.Int.{ints}
 use Rattle.mill_base.specs.declared.points.Pt3.{Pt3}
 use Rattle.mill_base.specs.declared.points.Tri.{Tri}
 use Rattle.mill_base.specs.declared.cutter.Cutter.TheVariants.{Ball}
@@ -14,9 +13,8 @@ use Rattle.mill_geom.specs.declared.touch.Side.{Side}
 use Rattle.mill_geom.specs.declared.touch.Touch.{Touch}
 use Rattle.mill_geom.specs.Offsets.{mean3, IsOffset}
 use Rattle.mill_geom.specs.Sides.{IsOnSide, IsTouch, TouchesSlid, along, slid_by, turned_to}
-use Rattle.mill_geom.proofs.PlaceCerts.{swap_near}
 use Rattle.mill_geom.proofs.StripCerts.{unslid}
-use Rattle.mill_geom.proofs.Along.{touch_here, along_at as flat_along_at, side_carried, touch_carried}
+use Rattle.mill_geom.proofs.Along.{touch_here, swap_touch, moved, slid_y, along_at as flat_along_at, side_carried, touch_carried}
 use Rattle.mill_contact_ball.specs.Centres.{sphere_centre}
 use Rattle.mill_contact_ball.specs.inner.Spheres.{MeetsSphere, MeetsBall, MeetsAt, flat_of}
 use Rattle.mill_contact_ball.proofs.ShadowCerts.{swap_sphere}
@@ -57,25 +55,7 @@ swap_meeting r a b c (inl v) =
       at = s;
       spot = record { u_ok = v.spot.u_ok; v_ok = v.spot.v_ok; w_ok = v.spot.w_ok; inside = record { near = swap_sphere m.x m.y m.z _ v.spot.inside.near } };
     })
-swap_meeting r a b c (inr v) = inr (record {
-  u = v.u;
-  v = v.v;
-  w = v.w;
-  u_ok = v.u_ok;
-  v_ok = v.v_ok;
-  w_ok = v.w_ok;
-  some = v.some;
-  inside = record {
-    near = swap_near (mean3 v.u v.v v.w a b c).x (mean3 v.u v.v v.w a b c).y _ v.inside.near;
-    over = v.inside.over;
-  };
-})
-
-moved : (d p m t : ℤ) → d ≡ p -ℤ m → d -ℤ t ≡ p -ℤ (m +ℤ t)
-moved d p m t e = omega (arith, ints)
-
-slid_y : ℤ → Offset → Offset
-slid_y t p = record { x = p.x; y = p.y -ℤ t; z = p.z }
+swap_meeting r a b c (inr v) = inr (swap_touch r a b c v)
 
 offset_x : (d : Offset) (r : ℤ) (p tip : Pt3) (t : ℤ) → IsOffset d p (sphere_centre r tip) → IsOffset (slid_by t d) p (sphere_centre r (along X tip t))
 offset_x d r p tip t o = record { x_is = moved d.x p.x tip.x t o.x_is; y_is = o.y_is; z_is = o.z_is }

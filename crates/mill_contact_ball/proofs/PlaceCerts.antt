@@ -6,9 +6,6 @@ use lib.Signed.{◌<ℤ◌, ◌≤ℤ◌}
 use Rattle.mill_base.proofs.Ring.{Var, Num, Add, Sub, Mul, Neg, ring}
 use Rattle.mill_base.proofs.Cert.{Le, Lt, Eq, Hyp, TimesEq, Sq, Lit, Plus, Times, prove_lt_by}
 
-pub shifted : (u v w a b c t : ℤ) → (((pos 1) *ℤ (((u *ℤ a) +ℤ (v *ℤ b)) +ℤ (w *ℤ c))) -ℤ (((u +ℤ v) +ℤ w) *ℤ t)) ≡ (((u *ℤ (a -ℤ t)) +ℤ (v *ℤ (b -ℤ t))) +ℤ (w *ℤ (c -ℤ t)))
-shifted u v w a b c t = ring (u ∷ v ∷ w ∷ a ∷ b ∷ c ∷ t ∷ []) (Sub (Mul (Num (pos 1)) (Add (Add (Mul (Var 0) (Var 3)) (Mul (Var 1) (Var 4))) (Mul (Var 2) (Var 5)))) (Mul (Add (Add (Var 0) (Var 1)) (Var 2)) (Var 6))) (Add (Add (Mul (Var 0) (Sub (Var 3) (Var 6))) (Mul (Var 1) (Sub (Var 4) (Var 6)))) (Mul (Var 2) (Sub (Var 5) (Var 6)))) refl
-
 pub raised : (p n t r : ℤ) → ((((pos 1) *ℤ p) -ℤ (n *ℤ t)) -ℤ (r *ℤ ((pos 1) *ℤ n))) ≡ (((pos 1) *ℤ p) -ℤ (n *ℤ (t +ℤ r)))
 raised p n t r = ring (p ∷ n ∷ t ∷ r ∷ []) (Sub (Sub (Mul (Num (pos 1)) (Var 0)) (Mul (Var 1) (Var 2))) (Mul (Var 3) (Mul (Num (pos 1)) (Var 1)))) (Sub (Mul (Num (pos 1)) (Var 0)) (Mul (Var 1) (Add (Var 2) (Var 3)))) refl
 

@@ -15,14 +15,10 @@ use Rattle.mill_geom.specs.declared.offset.Offset.{Offset}
 use Rattle.mill_geom.specs.Offsets.{mean3, IsOffset}
 use Rattle.mill_geom.specs.Contacts.{TouchesTriangle}
 use Rattle.mill_geom.proofs.LevelCerts.{near_same}
+use Rattle.mill_geom.proofs.Places.{spot}
 use Rattle.mill_contact_ball.specs.Centres.{sphere_centre}
 use Rattle.mill_contact_ball.specs.inner.Spheres.{InSphere, MeetsSphere, MeetsBall}
-use Rattle.mill_contact_ball.proofs.PlaceCerts.{shifted, raised, sphere_there, sphere_near, sphere_back, level_back, some_weight, over_centre as over_tip, in_sphere}
-
--- one coordinate of a weighted sum, from the corners' and from the offsets'
-spot : (p n t u v w a b c x y z : ℤ) → p ≡ (u *ℤ a +ℤ v *ℤ b) +ℤ w *ℤ c → n ≡ (u +ℤ v) +ℤ w → x ≡ a -ℤ t → y ≡ b -ℤ t → z ≡ c -ℤ t
-    → (pos 1 *ℤ p) -ℤ n *ℤ t ≡ (u *ℤ x +ℤ v *ℤ y) +ℤ w *ℤ z
-spot p n t u v w a b c x y z ep en ex ey ez = rw (ep, en, ex, ey, ez) (shifted u v w a b c t)
+use Rattle.mill_contact_ball.proofs.PlaceCerts.{raised, sphere_there, sphere_near, sphere_back, level_back, some_weight, over_centre as over_tip, in_sphere}
 
 -- the offset d over m from the tip and the offset e over n from the centre go to one point
 pub record Same (r m n : ℤ) (d e : Pt3) : Type 0 where

@@ -1,8 +1,7 @@
 -- Touches of a triangle and of its corners, seen from the tip, are the same, at each position along an axis.
-use Rattle.std.proofs.Common.{◌≡◌, refl, sym, ap, ◌∙◌, subst, arith}
-use lib.IntN.{ℤ, pos, ◌+ℤ◌, ◌-ℤ◌, ◌*ℤ◌}
+use Rattle.std.proofs.Common.{refl, sym, ap, ◌∙◌, subst}
+use lib.IntN.{ℤ, pos, ◌+ℤ◌, ◌*ℤ◌}
 use lib.Signed.{◌<ℤ◌}
-use Rattle.std.proofs.lemmas.Int.{ints}
 use Rattle.mill_base.specs.declared.points.Pt3.{Pt3}
 use Rattle.mill_base.specs.declared.points.Tri.{Tri}
 use Rattle.mill_base.specs.declared.cutter.Cutter.TheVariants.{Cone as ConeCutter}
@@ -15,9 +14,10 @@ use Rattle.mill_geom.specs.declared.touch.Side.{Side}
 use Rattle.mill_geom.specs.declared.touch.Touch.{Touch}
 use Rattle.mill_geom.specs.Offsets.{mean3, IsOffset}
 use Rattle.mill_geom.specs.Sides.{IsOnSide, IsTouch, TouchesSlid, along}
-use Rattle.mill_geom.proofs.PlaceCerts.{shifted, swap_near}
+use Rattle.mill_geom.proofs.PlaceCerts.{swap_near}
+use Rattle.mill_geom.proofs.Places.{spot}
 use Rattle.mill_geom.proofs.StripCerts.{unslid}
-use Rattle.mill_geom.proofs.Along.{side_carried, touch_carried}
+use Rattle.mill_geom.proofs.Along.{side_carried, touch_carried, moved}
 use Rattle.mill_contact_cone.specs.declared.corner.Cone.{Cone}
 use Rattle.mill_contact_cone.specs.declared.corner.Corner.{Corner}
 use Rattle.mill_contact_cone.specs.Cones.{plain, TouchesCone}
@@ -32,11 +32,6 @@ pub record Placed (tri : Tri) (tip : Pt3) (a b c : Corner) : Type 0 where
   pub b_at : IsOffset (plain b) tri.b tip
   pub c_at : IsOffset (plain c) tri.c tip
 
--- one coordinate of a weighted sum, from the corners' and from the offsets'
-coordinate : (p n t u v w a b c x y z : ℤ) → p ≡ (u *ℤ a +ℤ v *ℤ b) +ℤ w *ℤ c → n ≡ (u +ℤ v) +ℤ w → x ≡ a -ℤ t → y ≡ b -ℤ t → z ≡ c -ℤ t
-    → (pos 1 *ℤ p) -ℤ n *ℤ t ≡ (u *ℤ x +ℤ v *ℤ y) +ℤ w *ℤ z
-coordinate p n t u v w a b c x y z ep en ex ey ez = rw (ep, en, ex, ey, ez) (shifted u v w a b c t)
-
 pub cone_place : (k : Cone) (tri : Tri) (tip : Pt3) (a b c : Corner) → Placed tri tip a b c → TouchesCone k a b c → Touches (ConeCutter k.radius k.rise k.run) (pos 1) tip tri
 cone_place k tri tip a b c o t =
     let s = (t.u +ℤ t.v) +ℤ t.w in
@@ -46,9 +41,9 @@ cone_place k tri tip a b c o t =
       p = p;
       point = record { u = t.u; v = t.v; w = t.w; u_ok = t.u_ok; v_ok = t.v_ok; w_ok = t.w_ok; some = t.some; weights = refl; place = refl };
       inside = same_inside k.radius k.rise k.run s (pos 1 *ℤ s) _ _ _ _ _ _ (sym (one-mul-ℤ s))
-          (sym (coordinate p.x s tip.x t.u t.v t.w tri.a.x tri.b.x tri.c.x a.x b.x c.x refl refl o.a_at.x_is o.b_at.x_is o.c_at.x_is))
-          (sym (coordinate p.y s tip.y t.u t.v t.w tri.a.y tri.b.y tri.c.y a.y b.y c.y refl refl o.a_at.y_is o.b_at.y_is o.c_at.y_is))
-          (sym (coordinate p.z s tip.z t.u t.v t.w tri.a.z tri.b.z tri.c.z a.z b.z c.z refl refl o.a_at.z_is o.b_at.z_is o.c_at.z_is)) t.inside;
+          (sym (spot p.x s tip.x t.u t.v t.w tri.a.x tri.b.x tri.c.x a.x b.x c.x refl refl o.a_at.x_is o.b_at.x_is o.c_at.x_is))
+          (sym (spot p.y s tip.y t.u t.v t.w tri.a.y tri.b.y tri.c.y a.y b.y c.y refl refl o.a_at.y_is o.b_at.y_is o.c_at.y_is))
+          (sym (spot p.z s tip.z t.u t.v t.w tri.a.z tri.b.z tri.c.z a.z b.z c.z refl refl o.a_at.z_is o.b_at.z_is o.c_at.z_is)) t.inside;
     }
 
 pub place_cone : (k : Cone) (tri : Tri) (tip : Pt3) (a b c : Corner) → Placed tri tip a b c → Touches (ConeCutter k.radius k.rise k.run) (pos 1) tip tri → TouchesCone k a b c
@@ -63,9 +58,9 @@ place_cone k tri tip a b c o t =
       w_ok = q.w_ok;
       some = subst (λ s. (pos 0) <ℤ s) q.weights q.some;
       inside = same_inside k.radius k.rise k.run (pos 1 *ℤ t.n) ((q.u +ℤ q.v) +ℤ q.w) _ _ _ _ _ _ (one-mul-ℤ t.n ∙ q.weights)
-          (coordinate t.p.x t.n tip.x q.u q.v q.w tri.a.x tri.b.x tri.c.x a.x b.x c.x (ap (λ (p : Pt3). p.x) q.place) q.weights o.a_at.x_is o.b_at.x_is o.c_at.x_is)
-          (coordinate t.p.y t.n tip.y q.u q.v q.w tri.a.y tri.b.y tri.c.y a.y b.y c.y (ap (λ (p : Pt3). p.y) q.place) q.weights o.a_at.y_is o.b_at.y_is o.c_at.y_is)
-          (coordinate t.p.z t.n tip.z q.u q.v q.w tri.a.z tri.b.z tri.c.z a.z b.z c.z (ap (λ (p : Pt3). p.z) q.place) q.weights o.a_at.z_is o.b_at.z_is o.c_at.z_is) t.inside;
+          (spot t.p.x t.n tip.x q.u q.v q.w tri.a.x tri.b.x tri.c.x a.x b.x c.x (ap (λ (p : Pt3). p.x) q.place) q.weights o.a_at.x_is o.b_at.x_is o.c_at.x_is)
+          (spot t.p.y t.n tip.y q.u q.v q.w tri.a.y tri.b.y tri.c.y a.y b.y c.y (ap (λ (p : Pt3). p.y) q.place) q.weights o.a_at.y_is o.b_at.y_is o.c_at.y_is)
+          (spot t.p.z t.n tip.z q.u q.v q.w tri.a.z tri.b.z tri.c.z a.z b.z c.z (ap (λ (p : Pt3). p.z) q.place) q.weights o.a_at.z_is o.b_at.z_is o.c_at.z_is) t.inside;
     }
 
 -- x and y change places
@@ -88,9 +83,6 @@ cone_swapped k a b c t = record {
     steep = steep_swapped (mean3 t.u t.v t.w (plain a) (plain b) (plain c)).x (mean3 t.u t.v t.w (plain a) (plain b) (plain c)).y (mean3 t.u t.v t.w (plain a) (plain b) (plain c)).z k.rise k.run t.inside.steep;
   };
 }
-
-moved : (d p m t : ℤ) → d ≡ p -ℤ m → d -ℤ t ≡ p -ℤ (m +ℤ t)
-moved d p m t e = omega (arith, ints)
 
 along_x : (d : Corner) (p tip : Pt3) (t : ℤ) → IsAlong X d p tip → IsOffset (plain (slid t d)) p (along X tip t)
 along_x d p tip t o = record { x_is = moved d.x p.x tip.x t o.x_is; y_is = o.y_is; z_is = o.z_is }

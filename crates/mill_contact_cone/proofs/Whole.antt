@@ -12,8 +12,8 @@ use Rattle.mill_geom.specs.Contacts.{TouchesSegment, TouchesTriangle, OnLevel, E
 use Rattle.mill_geom.proofs.Descend.{V4, Weights, Hit, Boundary}
 use Rattle.mill_geom.proofs.Triangles.{Still, cross_still, opposite, interior}
 use Rattle.mill_geom.proofs.Corners.{corner, gone_first, gone_second, gone_third}
-use Rattle.mill_geom.proofs.Touching.{no_touch}
-use Rattle.mill_geom.proofs.LevelCerts.{pierced_some, turned_over, mirror_le, mirror_ge}
+use Rattle.mill_geom.proofs.Touching.{some_weight, no_touch}
+use Rattle.mill_geom.proofs.LevelCerts.{turned_over, mirror_le, mirror_ge}
 use Rattle.mill_contact_cone.specs.declared.corner.Cone.{Cone}
 use Rattle.mill_contact_cone.specs.declared.corner.Corner.{Corner}
 use Rattle.mill_contact_cone.specs.Cones.{IsCone, IsCornerOf, plain, lifted, TouchesEdge, TouchesCone, EdgesFree}
@@ -93,22 +93,6 @@ cone_turned k a b c t = record {
   inside = same_inside k.radius k.rise k.run ((t.u +ℤ t.v) +ℤ t.w) ((t.w +ℤ t.u) +ℤ t.v) _ _ _ _ _ _ (turn_sum t.u t.v t.w) (turn_sum (t.u *ℤ b.x) (t.v *ℤ c.x) (t.w *ℤ a.x))
       (turn_sum (t.u *ℤ b.y) (t.v *ℤ c.y) (t.w *ℤ a.y)) (turn_sum (t.u *ℤ b.z) (t.v *ℤ c.z) (t.w *ℤ a.z)) t.inside;
 }
-
--- weights that give a height over the tip aren't all 0
-some_weight : (i j k x y z : ℤ) → (pos 0) ≤ℤ i → (pos 0) ≤ℤ j → (pos 0) ≤ℤ k → (pos 0) <ℤ ((i *ℤ x +ℤ j *ℤ y) +ℤ k *ℤ z) → (pos 0) <ℤ ((i +ℤ j) +ℤ k)
-some_weight i j k x y z hi hj hk h = elim (split_lt (pos 0) ((i +ℤ j) +ℤ k)) [
-  | inl s ↦ s
-  | inr s ↦ absurd (pierced_some i j k x y z (pos 0) (first i j k hi hj hk s) (second i j k hi hj hk s) (third i j k hi hj hk s) h)
-]
-  where
-    first : (i j k : ℤ) → (pos 0) ≤ℤ i → (pos 0) ≤ℤ j → (pos 0) ≤ℤ k → ((i +ℤ j) +ℤ k) ≤ℤ pos 0 → i ≡ pos 0
-    first i j k hi hj hk s = omega (arith, ints)
-
-    second : (i j k : ℤ) → (pos 0) ≤ℤ i → (pos 0) ≤ℤ j → (pos 0) ≤ℤ k → ((i +ℤ j) +ℤ k) ≤ℤ pos 0 → j ≡ pos 0
-    second i j k hi hj hk s = omega (arith, ints)
-
-    third : (i j k : ℤ) → (pos 0) ≤ℤ i → (pos 0) ≤ℤ j → (pos 0) ≤ℤ k → ((i +ℤ j) +ℤ k) ≤ℤ pos 0 → k ≡ pos 0
-    third i j k hi hj hk s = omega (arith, ints)
 
 -- a point of the triangle on the axis, over the tip
 cone_axis : (k : Cone) (a b c : Corner) (i j l : ℤ) → IsCone k → Still (corner k.radius (plain a)) (corner k.radius (plain b)) (corner k.radius (plain c)) i j l → (pos 0) ≤ℤ i → (pos 0) ≤ℤ j → (pos 0) ≤ℤ l

@@ -12,7 +12,7 @@ mod Beyond
 mod LineCerts
 mod Lines
 mod UncutRows
-mod RunLaws
+pub mod RunLaws
 mod Blocks
 mod Chunks
 pub mod TopLaws

@@ -131,7 +131,7 @@ up_to_is_row job moves limit old new turned is_row = by old.failed turned
     by (Some fail) same = subst (IsRowOf job) (sym same) is_row
 
 -- the moves determine what a row comes to
-same_number : (a b : ℕ) → ¬ (a < b) → ¬ (b < a) → a ≡ b
+pub same_number : (a b : ℕ) → ¬ (a < b) → ¬ (b < a) → a ≡ b
 same_number a b h k = omega (h, k, arith)
 
 same_leaf : (a b : Leaf) → a.d ≡ b.d → a.k ≡ b.k → a ≡ b
@@ -145,7 +145,7 @@ leads_to_one cutter m tri (suc more) d k a b (inl h) (inr g) = absurd (h.0 g.0)
 leads_to_one cutter m tri (suc more) d k a b (inr h) (inl g) = absurd (g.0 h.0)
 leads_to_one cutter m tri (suc more) d k a b (inr h) (inr g) = leads_to_one cutter m tri more (d + 1) (2 * k + 1) a b h.1 g.1
 
-leaf_is_one : (cutter : Cutter) (m : Move) (tri : Tri) (a b : Leaf) → FailsAt cutter m tri a → FailsAt cutter m tri b → a ≡ b
+pub leaf_is_one : (cutter : Cutter) (m : Move) (tri : Tri) (a b : Leaf) → FailsAt cutter m tri a → FailsAt cutter m tri b → a ≡ b
 leaf_is_one cutter m tri a b h g = leads_to_one cutter m tri (depth_of m) 0 0 a b h.leads g.leads
 
 same_fail : (a b : RowFail) → a.at ≡ b.at → a.col ≡ b.col → a.leaf ≡ b.leaf → a ≡ b

@@ -9,7 +9,7 @@ ghost use Rattle.mill_job.specs.Jobs.{IsJob};
 use crate::row::Row;
 use mill_base::{Box2, Cutter, Kind, Move, Pt3, WantOfMemory};
 use mill_decimal::Snap;
-use mill_job::{Job, Place};
+use mill_job::{Job, Levels, Place};
 use mill_sweep::Leaf;
 
 /// One row of three columns at x = 0, 100 and 200, from 0 to 300.
@@ -38,6 +38,7 @@ fn three_columns() -> Job
         rough_raster: 100,
         layer: 0,
         rough_stock: 0,
+        levels: Levels::NONE,
         snap: Snap::Nearest,
     }
 }
@@ -114,6 +115,7 @@ fn long_row(cutter: Cutter) -> Job
         rough_raster: 5,
         layer: 0,
         rough_stock: 0,
+        levels: Levels::NONE,
         snap: Snap::Nearest,
     }
 }

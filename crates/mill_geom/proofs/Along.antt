@@ -38,7 +38,7 @@ touch_here r a b c v = record {
 }
 
 -- x and y change places
-swap_touch : (r : ℤ) (a b c : Offset) → TouchesTriangle r a b c → TouchesTriangle r (turned_to Y a) (turned_to Y b) (turned_to Y c)
+pub swap_touch : (r : ℤ) (a b c : Offset) → TouchesTriangle r a b c → TouchesTriangle r (turned_to Y a) (turned_to Y b) (turned_to Y c)
 swap_touch r a b c v = record {
   u = v.u;
   v = v.v;
@@ -63,10 +63,10 @@ pub touch_carried : (s : Touch) (T S : ℤ → Type 0) → (T (pos 0) → S (pos
 touch_carried Inside T S there back h = there h
 touch_carried (Apart s) T S there back h = side_carried s T S back h
 
-moved : (d p m t : ℤ) → d ≡ p -ℤ m → d -ℤ t ≡ p -ℤ (m +ℤ t)
+pub moved : (d p m t : ℤ) → d ≡ p -ℤ m → d -ℤ t ≡ p -ℤ (m +ℤ t)
 moved d p m t e = omega (arith, ints)
 
-slid_y : ℤ → Offset → Offset
+unfoldable pub slid_y : ℤ → Offset → Offset
 slid_y t p = record { x = p.x; y = p.y -ℤ t; z = p.z }
 
 offset_x : (d : Offset) (p tip : Pt3) (t : ℤ) → IsOffset d p tip → IsOffset (slid_by t d) p (along X tip t)

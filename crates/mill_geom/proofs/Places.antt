@@ -16,7 +16,7 @@ use Rattle.mill_geom.proofs.LevelCerts.{near_same}
 use Rattle.mill_geom.proofs.PlaceCerts.{shifted, high_x, low_x, far_high, far_low, swap_near}
 
 -- one coordinate of a weighted sum, from the corners' and from the offsets'
-spot : (p n t u v w a b c x y z : ℤ) → p ≡ (u *ℤ a +ℤ v *ℤ b) +ℤ w *ℤ c → n ≡ (u +ℤ v) +ℤ w → x ≡ a -ℤ t → y ≡ b -ℤ t → z ≡ c -ℤ t
+pub spot : (p n t u v w a b c x y z : ℤ) → p ≡ (u *ℤ a +ℤ v *ℤ b) +ℤ w *ℤ c → n ≡ (u +ℤ v) +ℤ w → x ≡ a -ℤ t → y ≡ b -ℤ t → z ≡ c -ℤ t
     → (pos 1 *ℤ p) -ℤ n *ℤ t ≡ (u *ℤ x +ℤ v *ℤ y) +ℤ w *ℤ z
 spot p n t u v w a b c x y z ep en ex ey ez = rw (ep, en, ex, ey, ez) (shifted u v w a b c t)
 

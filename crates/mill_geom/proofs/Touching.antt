@@ -13,7 +13,7 @@ use Rattle.mill_geom.proofs.Corners.{corner, touch_hit, hit_touch, clear_of}
 use Rattle.mill_geom.proofs.LevelCerts.{pierced_time, pierced_some, turned_over, turned_back, low_sum}
 
 -- weights that give a height over the level aren't all 0
-some_weight : (i j k x y z : ℤ) → (pos 0) ≤ℤ i → (pos 0) ≤ℤ j → (pos 0) ≤ℤ k → (pos 0) <ℤ ((i *ℤ x +ℤ j *ℤ y) +ℤ k *ℤ z) → (pos 0) <ℤ ((i +ℤ j) +ℤ k)
+pub some_weight : (i j k x y z : ℤ) → (pos 0) ≤ℤ i → (pos 0) ≤ℤ j → (pos 0) ≤ℤ k → (pos 0) <ℤ ((i *ℤ x +ℤ j *ℤ y) +ℤ k *ℤ z) → (pos 0) <ℤ ((i +ℤ j) +ℤ k)
 some_weight i j k x y z hi hj hk h = elim (split_lt (pos 0) ((i +ℤ j) +ℤ k)) [
   | inl s ↦ s
   | inr s ↦ absurd (pierced_some i j k x y z (pos 0) (first i j k hi hj hk s) (second i j k hi hj hk s) (third i j k hi hj hk s) h)

@@ -1,6 +1,9 @@
+mod Falling
 mod Faults
+mod InOrder
 mod Meaning
 mod Numbers
 pub mod OneAnswer
 mod Stored
 mod UnknownKeys
+mod Zeros

@@ -1,5 +1,6 @@
 -- The whole numbers of an array.
-use Rattle.std.proofs.Common.{◌≡◌, ◌≢◌, ℕ, suc, List, [], ◌∷◌, length, get_or, Bool, false, Option, Some, None, Err, refl, sym, ap, ◌∙◌, arith}
+use Rattle.std.proofs.Common.{◌≡◌, ◌≢◌, ℕ, suc, ◌+◌, ◌<◌, ◌≤◌, drop, List, [], ◌∷◌, length, get_or, Bool, false, Option, Some, None, Err, refl, sym, ap, ◌∙◌, arith}
+use Rattle.std.proofs.lemmas.List.{at_drop_more, at_drop_all}
 use Rattle.std.proofs.lemmas.Option.{same_Some}
 use Rattle.std.specs.Prelude.{ℤ}
 use Rattle.toml.specs.declared.value.Value.{Value}
@@ -58,3 +59,13 @@ are_two [] a b h ea eb = absurd (omega arith)
 are_two (v ∷ []) a b h ea eb = absurd (omega arith)
 are_two (v ∷ w ∷ []) a b h ea eb = cc
 are_two (v ∷ w ∷ x ∷ vs) a b h ea eb = absurd (omega arith)
+
+-- the numbers from a value on are its own and those after it
+pub next_number : (vs : List Value) (i : ℕ) (v : Value) → i < length vs → v ≡ get_or vs i v
+    → integers (items_view (drop i vs)) ≡ with_rest (as_integer (view v)) (integers (items_view (drop (i + 1) vs)))
+next_number vs i v there here =
+    at_drop_more (λ (ws : List Value). integers (items_view ws)) vs i v there
+    ∙ ap (λ (w : Value). with_rest (as_integer (view w)) (integers (items_view (drop (i + 1) vs)))) (sym here)
+
+pub no_more_numbers : (vs : List Value) (i : ℕ) → length vs ≤ i → integers (items_view (drop i vs)) ≡ Some []
+no_more_numbers vs i there = at_drop_all (λ (ws : List Value). integers (items_view ws)) vs i there

@@ -1,5 +1,6 @@
 -- What a job's text means: the document, then the keys, then the relations between them.
-use Rattle.std.specs.Prelude.{◌≡◌, ◌⊎◌, IsUtf8, ℕ, ◌*◌, nat_lt, codes, bytes_eq, Bool, ◌&&◌, if◌then◌else◌, ℤ, pos, ◌-ℤ◌, ◌*ℤ◌, int_lt, List, [], ◌∷◌, ◌++◌, Option, Some, None, option_and_then, option_map, Result, Err}
+use Rattle.std.specs.Prelude.{◌≡◌, ◌⊎◌, IsUtf8, ℕ, ◌*◌, nat_lt, codes, bytes_eq, Bool, ◌&&◌, if◌then◌else◌, ℤ, pos, ◌-ℤ◌, ◌*ℤ◌, int_le, int_lt, not, List, [], ◌∷◌, ◌++◌, Option, Some, None, option_and_then, option_map, Result, Err}
+use Rattle.std.specs.List.{list_all}
 use Rattle.toml.specs.Data.{Members, get_member, as_str}
 use Rattle.toml.specs.Parse.{parse_document}
 use Rattle.mill_base.specs.declared.limits.TheConstants.{MAX_COLUMNS, MAX_RADIUS, MAX_TEXT_COORDINATE}
@@ -9,7 +10,7 @@ use Rattle.mill_decimal.specs.declared.snap.Snap.TheVariants.{Nearest, Exact}
 use Rattle.mill_job.specs.Columns.{row_count, column_count}
 use Rattle.mill_job.specs.Cutters.{shape_of, shape_fault, slope_fault, slope_faults, cutter_with}
 use Rattle.mill_job.specs.Keys.{name_of, unknown_in}
-use Rattle.mill_job.specs.Tables.{text_fault_if_there, number_fault, number_fault_if_there, coordinate_fault, array_fault, is_area, is_place, number_given, number_at, number_or, numbers_at, area_of, place_of, fault_if, first, checked}
+use Rattle.mill_job.specs.Tables.{text_fault_if_there, number_fault, number_fault_if_there, coordinate_fault, array_fault, array_fault_if_there, is_area, is_place, are_levels, number_given, number_at, number_or, numbers_at, area_of, place_of, levels_of, fault_if, first, checked}
 use Rattle.mill_job.specs.declared.job.Job.{Job}
 use Rattle.mill_job.specs.declared.limits.TheConstants.{MAX_DISTANCE, MAX_LAYERS}
 use Rattle.mill_job.specs.declared.key.Key.TheVariants as key
@@ -37,6 +38,7 @@ key_faults ms =
     ∷ number_fault_if_there key.RoughRaster (pos 1) MAX_DISTANCE ms
     ∷ number_fault_if_there key.Layer (pos 0) (pos MAX_TEXT_COORDINATE) ms
     ∷ number_fault_if_there key.RoughStock (pos 0) MAX_DISTANCE ms
+    ∷ array_fault_if_there key.Levels are_levels ms
     ∷ text_fault_if_there key.Snap (codes "nearest" ∷ codes "exact" ∷ []) ms
     ∷ []
 
@@ -74,6 +76,7 @@ job_from ms = record {
   rough_raster = rough_raster_of ms;
   layer = number_or key.Layer (pos 0) ms;
   rough_stock = number_or key.RoughStock (pos 0) ms;
+  levels = levels_of (numbers_at key.Levels ms);
   snap = snap_of ms;
 }
 
@@ -85,6 +88,10 @@ cutter_faults ms = slope_faults (shape_of ms) (number_given key.Rise ms) (number
 abbrev pub has_many_layers : Job → Bool
 has_many_layers job = int_lt (pos 0) job.layer && int_lt (MAX_LAYERS *ℤ job.layer) (job.top -ℤ job.floor)
 
+-- z is from the floor on, and under the top
+abbrev pub is_level : ℤ → ℤ → ℤ → Bool
+is_level floor top z = int_le floor z && int_lt z top
+
 -- what is wrong between a job's numbers, in order
 abbrev pub relation_faults : Job → List (Option JobFault)
 relation_faults job =
@@ -93,6 +100,7 @@ relation_faults job =
     ∷ fault_if (nat_lt MAX_COLUMNS (row_count job * column_count job)) (Relation key.Area key.Pitch)
     ∷ fault_if (int_lt (radius_of job.cutter) job.band) (Relation key.Band key.Radius)
     ∷ fault_if (has_many_layers job) (Relation key.Layer key.Top)
+    ∷ fault_if (not (list_all (is_level job.floor job.top) job.levels)) (Relation key.Levels key.Top)
     ∷ []
 
 -- the document's first fault: an unknown key, a key's own fault, one between the cutter's keys, one between the others

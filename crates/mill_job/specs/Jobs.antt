@@ -1,12 +1,12 @@
 -- The ranges and relations that a job keeps.
-use Rattle.std.specs.Prelude.{◌*◌, ◌≤◌, ℤ, pos, ◌-ℤ◌, ◌*ℤ◌, ◌<ℤ◌, ◌≤ℤ◌}
+use Rattle.std.specs.Prelude.{◌*◌, ◌≤◌, List, length, All, AllPairs, ℤ, pos, ◌-ℤ◌, ◌*ℤ◌, ◌<ℤ◌, ◌≤ℤ◌}
 use Rattle.mill_base.specs.Numbers.{Within}
 use Rattle.mill_base.specs.declared.limits.TheConstants.{MAX_COLUMNS, MAX_TEXT_COORDINATE}
 use Rattle.mill_base.specs.Sizes.{IsCutter, radius_of}
 use Rattle.mill_job.specs.Columns.{row_count, column_count}
 use Rattle.mill_job.specs.Tables.{IsPlace}
 use Rattle.mill_job.specs.declared.job.Job.{Job}
-use Rattle.mill_job.specs.declared.limits.TheConstants.{MAX_DISTANCE, MAX_LAYERS}
+use Rattle.mill_job.specs.declared.limits.TheConstants.{MAX_DISTANCE, MAX_LAYERS, MAX_LEVELS}
 
 -- z is from lo to hi
 pub record IsFrom (lo hi z : ℤ) : Type 0 where
@@ -16,6 +16,17 @@ pub record IsFrom (lo hi z : ℤ) : Type 0 where
 -- roughing takes off at most 1,000 layers, if any
 abbrev pub HasFewLayers : Job → Type 0
 HasFewLayers job = (pos 0) <ℤ job.layer → (job.top -ℤ job.floor) ≤ℤ (MAX_LAYERS *ℤ job.layer)
+
+-- z is from the floor on, and under the top
+pub record IsLevel (floor top z : ℤ) : Type 0 where
+  pub over_floor : floor ≤ℤ z
+  pub under_top : z <ℤ top
+
+-- at most 64 levels from the floor on and under the top, each under all before it
+pub record AreLevels (floor top : ℤ) (levels : List ℤ) : Type 0 where
+  pub few : length levels ≤ MAX_LEVELS
+  pub falling : AllPairs (λ before after. after <ℤ before) levels
+  pub within : All (IsLevel floor top) levels
 
 -- every number of the job is in its range, and the relations between them hold
 pub record IsJob (job : Job) : Type 0 where
@@ -44,3 +55,4 @@ pub record IsJob (job : Job) : Type 0 where
   pub layer_ok : IsFrom (pos 0) (pos MAX_TEXT_COORDINATE) job.layer
   pub rough_stock_ok : IsFrom (pos 0) MAX_DISTANCE job.rough_stock
   pub layers : HasFewLayers job
+  pub levels_ok : AreLevels job.floor job.top job.levels

@@ -25,11 +25,12 @@ name_of key.Raster = codes "raster"
 name_of key.RoughRaster = codes "rough_raster"
 name_of key.Layer = codes "layer"
 name_of key.RoughStock = codes "rough_stock"
+name_of key.Levels = codes "levels"
 name_of key.Snap = codes "snap"
 
 -- every key, in the format's order
 abbrev pub every_key : List Key
-every_key = key.Cutter ∷ key.Radius ∷ key.Rise ∷ key.Run ∷ key.Floor ∷ key.Top ∷ key.Clear ∷ key.Area ∷ key.Home ∷ key.Pitch ∷ key.Sample ∷ key.Allowance ∷ key.Band ∷ key.Lift ∷ key.Raster ∷ key.RoughRaster ∷ key.Layer ∷ key.RoughStock ∷ key.Snap ∷ []
+every_key = key.Cutter ∷ key.Radius ∷ key.Rise ∷ key.Run ∷ key.Floor ∷ key.Top ∷ key.Clear ∷ key.Area ∷ key.Home ∷ key.Pitch ∷ key.Sample ∷ key.Allowance ∷ key.Band ∷ key.Lift ∷ key.Raster ∷ key.RoughRaster ∷ key.Layer ∷ key.RoughStock ∷ key.Levels ∷ key.Snap ∷ []
 
 -- the text is one of these
 abbrev pub is_one_of : List (List ℕ) → List ℕ → Bool

@@ -4,3 +4,4 @@ pub mod Keys
 pub mod Tables
 pub mod Cutters
 pub mod Documents
+pub mod inner

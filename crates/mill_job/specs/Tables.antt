@@ -1,5 +1,5 @@
 -- What a document gives at a key, and what is wrong with it.
-use Rattle.std.specs.Prelude.{ℕ, Bool, true, false, ◌&&◌, if◌then◌else◌, ℤ, pos, neg_ℤ, ◌≤ℤ◌, int_le, List, [], ◌∷◌, Option, Some, None, option_and_then, option_map, unwrap_or, slice_index_or, Result, Ok, Err}
+use Rattle.std.specs.Prelude.{ℕ, Bool, true, false, ◌&&◌, if◌then◌else◌, ℤ, pos, neg_ℤ, ◌≤ℤ◌, int_le, int_lt, nat_le, List, [], ◌∷◌, length, Option, Some, None, option_and_then, option_map, unwrap_or, slice_index_or, Result, Ok, Err}
 use Rattle.mill_base.specs.Numbers.{Within}
 use Rattle.mill_base.specs.declared.limits.TheConstants.{MAX_TEXT_COORDINATE}
 use Rattle.mill_base.specs.declared.points.Box2.{Box2}
@@ -7,6 +7,7 @@ use Rattle.toml.specs.Data.{Data, Members, Items, no_items, item, get_member, as
 use Rattle.mill_job.specs.Keys.{name_of, is_one_of}
 use Rattle.mill_job.specs.declared.key.Key.{Key}
 use Rattle.mill_job.specs.declared.job.Place.{Place}
+use Rattle.mill_job.specs.declared.limits.TheConstants.{MAX_LEVELS}
 use Rattle.mill_job.specs.declared.fault.JobFault.{JobFault}
 use Rattle.mill_job.specs.declared.fault.JobFault.TheVariants.{Missing, WrongKind, Range}
 
@@ -72,6 +73,20 @@ abbrev pub is_place : List ℤ → Bool
 is_place (x ∷ y ∷ []) = all_coordinates (x ∷ y ∷ [])
 is_place _ = false
 
+-- each number is less than the one before it, and the first less than a bound
+abbrev pub falls_from : ℤ → List ℤ → Bool
+falls_from bound [] = true
+falls_from bound (z ∷ zs) = int_lt z bound && falls_from z zs
+
+-- each number is less than the one before it
+abbrev pub is_falling : List ℤ → Bool
+is_falling [] = true
+is_falling (z ∷ zs) = falls_from z zs
+
+-- at most 64 coordinates, each less than the one before it
+abbrev pub are_levels : List ℤ → Bool
+are_levels zs = nat_le (length zs) MAX_LEVELS && (all_coordinates zs && is_falling zs)
+
 -- what is wrong with the text at a key, which must be one of these
 unfoldable pub text_fault : Key → List (List ℕ) → Members → Option JobFault
 text_fault key texts ms = must_be key as_str (is_one_of texts) (get_member (name_of key) ms)
@@ -95,6 +110,10 @@ coordinate_fault key ms = number_fault key (neg_ℤ (pos MAX_TEXT_COORDINATE)) (
 -- what is wrong with the array at a key, whose whole numbers must pass a test
 unfoldable pub array_fault : Key → (List ℤ → Bool) → Members → Option JobFault
 array_fault key test ms = must_be key as_integers test (get_member (name_of key) ms)
+
+-- the same of an array that may be left out
+unfoldable pub array_fault_if_there : Key → (List ℤ → Bool) → Members → Option JobFault
+array_fault_if_there key test ms = may_be key as_integers test (get_member (name_of key) ms)
 
 -- the whole number at a key, if there is one
 unfoldable pub number_given : Key → Members → Option ℤ
@@ -122,6 +141,10 @@ area_of zs = record { x0 = entry zs 0; y0 = entry zs 1; x1 = entry zs 2; y1 = en
 
 abbrev pub place_of : Option (List ℤ) → Place
 place_of zs = record { x = entry zs 0; y = entry zs 1 }
+
+-- the levels that an array's numbers are, none where there is no array
+abbrev pub levels_of : Option (List ℤ) → List ℤ
+levels_of zs = unwrap_or zs []
 
 -- the corners of an area are coordinates in their order
 pub record IsArea (area : Box2) : Type 0 where

@@ -1,13 +1,17 @@
-ghost use Rattle.std.specs.Prelude.{◌≡◌, ◌&&◌, ◌≤ℤ◌, IsTrue, int_le, [], ◌∷◌, IfOk, IfErr, Some, None, is_some, option_map};
+ghost use Rattle.std.specs.Prelude.{◌≡◌, ◌&&◌, ◌≤ℤ◌, ◌≤◌, true, length, IsTrue, int_le, [], ◌∷◌, IfOk, IfErr, Some, None, is_some, option_map};
 ghost use Rattle.mill_base.specs.Numbers.{Within};
 ghost use Rattle.mill_base.specs.declared.limits.TheConstants.{MAX_TEXT_COORDINATE};
 ghost use Rattle.toml.specs.View.{table_view, view, items_view};
-ghost use Rattle.mill_job.specs.Tables.{IsArea, IsPlace, area_of, array_fault, checked, integers, is_area, is_place, kind_fault, misfit_of, numbers_at, place_of};
+ghost use Rattle.mill_job.specs.Tables.{IsArea, IsPlace, are_levels, area_of, array_fault, array_fault_if_there, checked, integers, is_area, is_place, kind_fault, levels_of, misfit_of, numbers_at, place_of};
+ghost use Rattle.mill_job.specs.declared.limits.TheConstants.{MAX_LEVELS};
+ghost use Rattle.mill_job.specs.inner.Ranged.{AreInOrder};
 
 use crate::fault::JobFault;
 use crate::job::Place;
 use crate::key::Key;
-use crate::values::{as_coordinate, find};
+use crate::levels::Levels;
+use crate::limits::MAX_LEVELS;
+use crate::values::{GREATEST, as_coordinate, find};
 use mill_base::Box2;
 use toml::{Table, Value};
 
@@ -100,6 +104,58 @@ pub fn area(table: &Table) -> Result<Box2, JobFault>
         return Err(JobFault::WrongKind(Key::Area));
     };
     area_in(values)
+}
+
+/// The heights that the values are, each a coordinate under the one before it.
+fn falling(values: &[Value]) -> Result<Levels, JobFault>
+    requires few { length values.now ≤ MAX_LEVELS }
+    requires whole { is_some (integers (items_view values.now)) ≡ true }
+    ensures { result ≡ checked (kind_fault Key.Levels are_levels (integers (items_view values.now))) (levels_of (integers (items_view values.now))) }
+{
+    let mut levels = Levels::NONE;
+    let mut bound = GREATEST + 1;
+    for value in values {
+        let Some(number) = value.as_integer() else {
+            return Err(JobFault::WrongKind(Key::Levels));
+        };
+        let height = as_coordinate(number, Key::Levels)?;
+        if bound <= height {
+            return Err(JobFault::Range(Key::Levels));
+        }
+        levels.push(height);
+        bound = height;
+    }
+    Ok(levels)
+}
+
+/// The levels that the values are, of which there are at most 64.
+fn levels_in(values: &[Value]) -> Result<Levels, JobFault>
+    ensures value { result ≡ checked (kind_fault Key.Levels are_levels (integers (items_view values.now))) (levels_of (integers (items_view values.now))) }
+    ensures in_order { IfOk result AreInOrder }
+{
+    if !are_integers(values) {
+        return Err(JobFault::WrongKind(Key::Levels));
+    }
+    if MAX_LEVELS < values.len() {
+        return Err(JobFault::Range(Key::Levels));
+    }
+    falling(values)
+}
+
+/// The levels at `levels`, none where the document lacks the key.
+#[tactic(auto, unfolding(crate::specs::Tables::array_fault_if_there, crate::specs::Tables::numbers_at))]
+pub fn levels(table: &Table) -> Result<Levels, JobFault>
+    ensures ok { IfOk result (λ levels. (array_fault_if_there Key.Levels are_levels (table_view table.now) ≡ None) × (levels ≡ levels_of (numbers_at Key.Levels (table_view table.now)))) }
+    ensures err { IfErr result (λ fault. array_fault_if_there Key.Levels are_levels (table_view table.now) ≡ Some fault) }
+    ensures in_order { IfOk result AreInOrder }
+{
+    let Some(value) = find(table, Key::Levels) else {
+        return Ok(Levels::NONE);
+    };
+    let Some(values) = value.as_array() else {
+        return Err(JobFault::WrongKind(Key::Levels));
+    };
+    levels_in(values)
 }
 
 /// The place with these coordinates.

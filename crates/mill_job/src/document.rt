@@ -54,6 +54,7 @@ fn is_known(name: &str) -> bool
             | "rough_raster"
             | "layer"
             | "rough_stock"
+            | "levels"
             | "snap"
     )
 }

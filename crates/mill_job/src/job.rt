@@ -3,6 +3,7 @@ ghost use Rattle.mill_base.specs.Numbers.{Within};
 ghost use Rattle.mill_base.specs.declared.limits.TheConstants.{MAX_COLUMNS, MAX_TEXT_COORDINATE};
 ghost use Rattle.mill_base.specs.Ranges.{IsInTextRange};
 
+use crate::levels::Levels;
 use crate::positions::{count, position};
 use mill_base::{Box2, Cutter, Pt3};
 use mill_decimal::Snap;
@@ -46,6 +47,9 @@ pub struct Job {
     pub layer: i32,
     /// How much a plan's roughing leaves over the part, from 0 to 10,000.
     pub rough_stock: i32,
+    /// The heights of the waterlines that a plan follows, from the highest to the lowest, each from
+    /// the floor on and under the top, at most 64.
+    pub levels: Levels,
     /// How coordinates of the part that are finer than a unit are taken.
     pub snap: Snap,
 }

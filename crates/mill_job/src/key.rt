@@ -24,6 +24,7 @@ pub enum Key {
     RoughRaster,
     Layer,
     RoughStock,
+    Levels,
     Snap,
 }
 
@@ -51,6 +52,7 @@ impl Key {
             Key::RoughRaster => "rough_raster",
             Key::Layer => "layer",
             Key::RoughStock => "rough_stock",
+            Key::Levels => "levels",
             Key::Snap => "snap",
         }
     }

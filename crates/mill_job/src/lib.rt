@@ -5,6 +5,7 @@
 //! and that every job that was read is in range.
 //! Definitions: `specs/Columns` says where the columns of a job stand, `specs/Jobs` which jobs are
 //! in range, `specs/Keys`, `specs/Tables`, `specs/Cutters` and `specs/Documents` what a text means.
+//! `specs/inner` has what private functions and proofs cite alone.
 #![tactic(auto)]
 
 mod arrays;
@@ -13,6 +14,7 @@ mod document;
 mod fault;
 mod job;
 mod key;
+mod levels;
 mod limits;
 mod name;
 mod positions;
@@ -24,5 +26,6 @@ mod values;
 pub use fault::JobFault;
 pub use job::{Job, Place};
 pub use key::Key;
+pub use levels::Levels;
 pub use name::Name;
 pub use reading::read_job;

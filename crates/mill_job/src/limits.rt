@@ -5,3 +5,6 @@ pub const MAX_DISTANCE: i32 = 10_000;
 
 /// The most layers that roughing may take off.
 pub const MAX_LAYERS: i32 = 1_000;
+
+/// The most waterlines that a job may have.
+pub const MAX_LEVELS: usize = 64;

@@ -1,14 +1,16 @@
-ghost use Rattle.std.specs.Prelude.{◌≡◌, ◌≤◌, ◌*◌, ◌≤ℤ◌, ◌++◌, pos, false, IfOk, None};
+ghost use Rattle.std.specs.Prelude.{◌≡◌, ◌≤◌, ◌*◌, ◌≤ℤ◌, ◌++◌, pos, false, All, IfOk, IsTrue, None};
+ghost use Rattle.std.specs.List.{list_all};
 ghost use Rattle.mill_base.specs.Numbers.{Within};
 ghost use Rattle.mill_base.specs.declared.limits.TheConstants.{MAX_TEXT_COORDINATE};
 ghost use Rattle.mill_base.specs.Sizes.{radius_of};
 ghost use Rattle.toml.specs.View.{table_view};
 ghost use Rattle.mill_job.specs.Columns.{row_count, column_count};
-ghost use Rattle.mill_job.specs.Documents.{GivesJob, cutter_faults, has_many_layers as many_layers_in, job_from, key_faults, relation_faults};
-ghost use Rattle.mill_job.specs.Jobs.{HasFewLayers, IsFrom, IsJob};
-ghost use Rattle.mill_job.specs.Tables.{IsArea, checked, first};
+ghost use Rattle.mill_job.specs.Documents.{GivesJob, cutter_faults, has_many_layers as many_layers_in, is_level, job_from, key_faults, relation_faults};
+ghost use Rattle.mill_job.specs.Jobs.{HasFewLayers, IsFrom, IsJob, IsLevel};
+ghost use Rattle.mill_job.specs.Tables.{checked, first};
+ghost use Rattle.mill_job.specs.inner.Ranged.{IsRanged};
 
-use crate::arrays::{area, home};
+use crate::arrays::{area, home, levels};
 use crate::cutter::{cutter, named_shape, slope};
 use crate::document::{document, first_unknown, unknown};
 use crate::fault::JobFault;
@@ -32,19 +34,27 @@ fn has_many_layers(job: &Job) -> bool
     0 < job.layer && MAX_LAYERS * job.layer < job.top - job.floor
 }
 
+/// Whether each level is from the floor on and under the top.
+fn has_levels_in_stock(job: &Job) -> bool
+    ensures value { result ≡ list_all (is_level job.now.floor job.now.top) job.now.levels }
+    ensures yes { IsTrue result → All (IsLevel job.now.floor job.now.top) job.now.levels }
+{
+    job.levels
+        .as_slice()
+        .iter()
+        .all(|level| job.floor <= *level && *level < job.top)
+}
+
 /// The first relation between the values of a job that fails.
 fn relation_fault(job: &Job) -> Option<JobFault>
-    requires floor_ok { Within MAX_TEXT_COORDINATE job.now.floor }
-    requires top_ok { Within MAX_TEXT_COORDINATE job.now.top }
-    requires layer_ok { IsFrom (pos 0) (pos MAX_TEXT_COORDINATE) job.now.layer }
-    requires area_ok { IsArea job.now.area }
-    requires pitch_ok { IsFrom (pos 1) MAX_DISTANCE job.now.pitch }
+    requires ranged { IsRanged job.now }
     ensures value { result ≡ first (relation_faults job.now) }
     ensures stock { result ≡ None → job.now.floor ≤ℤ job.now.top }
     ensures over_stock { result ≡ None → job.now.top ≤ℤ job.now.clear }
     ensures few { result ≡ None → row_count job.now * column_count job.now ≤ MAX_COLUMNS }
     ensures narrow { result ≡ None → job.now.band ≤ℤ radius_of job.now.cutter }
     ensures layers { result ≡ None → HasFewLayers job.now }
+    ensures levels { result ≡ None → All (IsLevel job.now.floor job.now.top) job.now.levels }
 {
     if job.top < job.floor {
         return Some(JobFault::Relation(Key::Floor, Key::Top));
@@ -60,6 +70,9 @@ fn relation_fault(job: &Job) -> Option<JobFault>
     }
     if has_many_layers(job) {
         return Some(JobFault::Relation(Key::Layer, Key::Top));
+    }
+    if !has_levels_in_stock(job) {
+        return Some(JobFault::Relation(Key::Levels, Key::Top));
     }
     None
 }
@@ -97,6 +110,7 @@ fn job(table: &Table) -> Result<Job, JobFault>
     let rough_raster = number_or(table, Key::RoughRaster, 1, MAX_DISTANCE, raster)?;
     let layer = number_or(table, Key::Layer, 0, GREATEST, 0)?;
     let rough_stock = number_or(table, Key::RoughStock, 0, MAX_DISTANCE, 0)?;
+    let levels = levels(table)?;
     let snap = snap(table)?;
     let cutter = cutter(shape, radius, rise, run)?;
     let job = Job {
@@ -115,28 +129,31 @@ fn job(table: &Table) -> Result<Job, JobFault>
         rough_raster,
         layer,
         rough_stock,
+        levels,
         snap,
     };
     unless(relation_fault(&job), job)
 }
 
 /// Reads a job: a TOML 1.0 document with each key of [`Key`] and no other; `snap`, `lift`,
-/// `raster`, `rough_raster`, `layer` and `rough_stock` may be left out, and `rise` and `run` where
-/// the cutter is no cone.
+/// `raster`, `rough_raster`, `layer`, `rough_stock` and `levels` may be left out, and `rise` and
+/// `run` where the cutter is no cone.
 ///
 /// Numbers are whole, in units of 0.01 mm. `cutter` is a text, `flat`, `ball` or `cone`. `radius`,
 /// `pitch`, `sample`, `raster` and `rough_raster` are from 1 to 10,000, `rise` and `run` from 1 to
 /// 100, `allowance`, `band`, `lift` and `rough_stock` from 0 to 10,000, `layer` from 0 to 131,071.
-/// `floor`, `top`, `clear` and the members of `area` and `home` are coordinates, of a magnitude of
-/// at most 131,071. `area` has x0, y0, x1, y1, with x0 at most x1 and y0 at most y1; `home` has x,
-/// y. `snap` is a text, `nearest` or `exact`.
+/// `floor`, `top`, `clear` and the members of `area`, `home` and `levels` are coordinates, of a
+/// magnitude of at most 131,071. `area` has x0, y0, x1, y1, with x0 at most x1 and y0 at most y1;
+/// `home` has x, y; `levels` has at most 64 members, each less than the one before it. `snap` is a
+/// text, `nearest` or `exact`.
 ///
 /// In a document without them `lift`, `layer` and `rough_stock` are 0, `raster` is the pitch,
-/// `rough_raster` the raster, and `snap` is `nearest`.
+/// `rough_raster` the raster, `levels` has no member, and `snap` is `nearest`.
 ///
 /// The relations are: only a cone has a rise, only a cone has a run, rise is at most 16 times run,
 /// floor at most top, top at most clear, there are at most 4,000,000 columns, band is at most
-/// radius, and where layer isn't 0, top is at most 1,000 layers over floor.
+/// radius, where layer isn't 0, top is at most 1,000 layers over floor, and each of the levels is at
+/// least floor and less than top.
 ///
 /// A fault is the first in this order: the document's syntax; an unknown key, the first by its
 /// bytes; for each key in the order of [`Key`], that it is missing, of a wrong kind or out of

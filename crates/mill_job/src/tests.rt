@@ -1,4 +1,4 @@
-use crate::{Job, Key, Name, Place, read_job};
+use crate::{Job, Key, Levels, Name, Place, read_job};
 use mill_base::{Box2, Cutter, Pt3};
 use mill_decimal::Snap;
 use std::alloc::Global;
@@ -32,8 +32,15 @@ band = -1
 lift = 2.5
 layer = 1
 rough_stock = 10001
+levels = [300, 300]
 snap = \"near\"
 ";
+
+/// 64 heights, from the highest to the lowest.
+const LADDER: &str =
+    "63, 62, 61, 60, 59, 58, 57, 56, 55, 54, 53, 52, 51, 50, 49, 48, 47, 46, 45, 44, 43, 42, 41, \
+    40, 39, 38, 37, 36, 35, 34, 33, 32, 31, 30, 29, 28, 27, 26, 25, 24, 23, 22, 21, 20, 19, 18, \
+    17, 16, 15, 14, 13, 12, 11, 10, 9, 8, 7, 6, 5, 4, 3, 2, 1, 0";
 
 const JOB: Job = Job {
     cutter: Cutter::Flat { radius: 150 },
@@ -56,6 +63,7 @@ const JOB: Job = Job {
     rough_raster: 100,
     layer: 0,
     rough_stock: 0,
+    levels: Levels::NONE,
     snap: Snap::Nearest,
 };
 
@@ -186,12 +194,64 @@ fn refuses_other_numbers_of_a_plan(rt: HostRuntime) -> Result<(), Fail> {
         ("rough_stock = {}", "wrong kind of rough_stock"),
         ("rough_stock = -1", "rough_stock out of range"),
         ("rough_stock = 10001", "rough_stock out of range"),
-        ("levels = []", "unknown levels"),
+        ("level = [1]", "unknown level"),
     ];
     for (added, want) in rows {
         let text = format!(in alloc; "{EXAMPLE}{added}\n")?;
         assert_eq!(rt; fault_text(alloc, text.as_str())?.as_str(), want);
     }
+    Ok(())
+}
+
+#[test]
+fn reads_levels(rt: HostRuntime) -> Result<(), Fail> {
+    let alloc = rt.alloc();
+    let rows = [
+        ("", [].as_slice()),
+        ("levels = []", [].as_slice()),
+        ("levels = [0]", [0].as_slice()),
+        ("levels = [299]", [299].as_slice()),
+        ("levels = [299, 298, 1, 0]", [299, 298, 1, 0].as_slice()),
+    ];
+    for (added, want) in rows {
+        let text = format!(in alloc; "{EXAMPLE}{added}\n")?;
+        let job = read_job(alloc, text.as_bytes())?;
+        assert_eq!(rt; job.levels.as_slice(), want, "{added}");
+    }
+    let most = format!(in alloc; "{EXAMPLE}levels = [{LADDER}]\n")?;
+    let job = read_job(alloc, most.as_bytes())?;
+    let heights = job.levels.as_slice();
+    assert_eq!(rt; heights.len(), 64);
+    assert_eq!(rt; (heights.first(), heights.last()), (Some(&63), Some(&0)));
+    Ok(())
+}
+
+#[test]
+fn refuses_other_levels(rt: HostRuntime) -> Result<(), Fail> {
+    let alloc = rt.alloc();
+    let rows = [
+        ("5", "wrong kind of levels"),
+        ("[5, 4.0]", "wrong kind of levels"),
+        ("[5, \"4\"]", "wrong kind of levels"),
+        ("[5, 5, [4]]", "wrong kind of levels"),
+        ("[5, 5]", "levels out of range"),
+        ("[5, 3, 4]", "levels out of range"),
+        ("[131072]", "levels out of range"),
+        ("[5, -131072]", "levels out of range"),
+        ("[131071]", "levels doesn't fit top"),
+        ("[301, 299]", "levels doesn't fit top"),
+        ("[300, 299]", "levels doesn't fit top"),
+        ("[299, -1]", "levels doesn't fit top"),
+    ];
+    for (given, want) in rows {
+        let text = format!(in alloc; "{EXAMPLE}levels = {given}\n")?;
+        assert_eq!(rt; fault_text(alloc, text.as_str())?.as_str(), want, "{given}");
+    }
+    let too_many = format!(in alloc; "{EXAMPLE}levels = [64, {LADDER}]\n")?;
+    assert_eq!(rt;
+        fault_text(alloc, too_many.as_str())?.as_str(),
+        "levels out of range"
+    );
     Ok(())
 }
 
@@ -231,6 +291,7 @@ fn first_fault_decides(rt: HostRuntime) -> Result<(), Fail> {
         ("band out of range", "band = -1", "band = 151"),
         ("wrong kind of lift", "2.5", "10000"),
         ("rough_stock out of range", "10001", "10000"),
+        ("levels out of range", "[300, 300]", "[300, 1]"),
         ("snap out of range", "\"near\"", "\"nearest\""),
         ("rise doesn't fit run", "rise = 17", "rise = 16"),
         ("floor doesn't fit top", "floor = 301", "floor = -701"),
@@ -238,6 +299,7 @@ fn first_fault_decides(rt: HostRuntime) -> Result<(), Fail> {
         ("area doesn't fit pitch", "131071, 131071", "200, 200"),
         ("band doesn't fit radius", "band = 151", "band = 0"),
         ("layer doesn't fit top", "floor = -701", "floor = -700"),
+        ("levels doesn't fit top", "[300, 1]", "[299, 1]"),
     ];
     let mut text = FAULTY.to_string(alloc)?;
     for (want, old, new) in repairs {
@@ -249,6 +311,9 @@ fn first_fault_decides(rt: HostRuntime) -> Result<(), Fail> {
         rise: 16,
         run: 1,
     };
+    let mut levels = Levels::NONE;
+    levels.push(299);
+    levels.push(1);
     assert_eq!(rt;
         read_job(alloc, text.as_bytes())?,
         Job {
@@ -260,6 +325,7 @@ fn first_fault_decides(rt: HostRuntime) -> Result<(), Fail> {
             rough_raster: 50,
             layer: 1,
             rough_stock: 10000,
+            levels,
             ..JOB
         }
     );

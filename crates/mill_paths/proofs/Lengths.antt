@@ -1,11 +1,11 @@
 -- How many moves a plan has at least.
-use Rattle.std.specs.Prelude.{◌≡◌, ℕ, ◌+◌, ◌<◌, ◌≤◌, Bool, true, false, ◌&&◌, if◌then◌else◌, ℤ, pos, ◌+ℤ◌, int_lt, int_le, List, [], ◌∷◌, ◌++◌, length, get_or, All}
+use Rattle.std.specs.Prelude.{◌≡◌, ℕ, ◌+◌, ◌<◌, ◌≤◌, Bool, true, false, ◌&&◌, if◌then◌else◌, ℤ, pos, ◌+ℤ◌, int_lt, int_le, List, [], ◌∷◌, ◌++◌, length, map, take, get_or, All}
 use Rattle.std.specs.Ordering.{int_eq}
 use Rattle.std.specs.List.{flat_map}
-use Rattle.std.proofs.Common.{inl, inr, refl, sym, ◌∙◌, subst, arith}
+use Rattle.std.proofs.Common.{inl, inr, refl, sym, ap, ◌∙◌, subst, arith}
 use Rattle.std.proofs.lemmas.Bool.{and_from}
 use Rattle.std.proofs.lemmas.Bool.Decides.{Decides-int_eq}
-use Rattle.std.proofs.lemmas.List.{append-nil, length-append, length_push}
+use Rattle.std.proofs.lemmas.List.{append_assoc, append-nil, length-append, length_push}
 use Rattle.std.proofs.lemmas.List.Elements.{All-nil, All-cons, All-head, All-tail}
 use Rattle.mill_base.specs.declared.lattice.Lattice.{Lattice}
 use Rattle.mill_base.specs.declared.motion.Move.{Move}
@@ -13,14 +13,16 @@ use Rattle.mill_base.specs.declared.points.Pt3.{Pt3}
 use Rattle.mill_base.specs.declared.points.Tri.{Tri}
 use Rattle.mill_job.specs.Columns.{home}
 use Rattle.mill_job.specs.declared.job.Job.{Job}
+use Rattle.mill_level.specs.Waterlines.{Outline}
 use Rattle.mill_paths.specs.Lattices.{finish_lattice, rough_lattice, zigzag_of}
 use Rattle.mill_paths.specs.Limits.{change_count, changes_after, is_same_point, is_same_visit, most_changes}
 use Rattle.mill_paths.specs.Links.{IsLink, climb, cross, descend, plunge, way_home}
 use Rattle.mill_paths.specs.Tours.{AreLinks, IsPlan, IsTour, last_place}
-use Rattle.mill_paths.specs.Unique.{ManyFinishVisitsMakeMoves, ManyRoughVisitsMakeMoves, PlanIsLonger}
-use Rattle.mill_paths.specs.Visits.{finish_visit, finish_visits_of, height_at, rough_levels, rough_visit, rough_visits_of, rough_visits_on, visit_at, visit_if}
+use Rattle.mill_paths.specs.Unique.{ManyFinishVisitsMakeMoves, ManyLevelVisitsMakeMoves, ManyRoughVisitsMakeMoves, PlanIsLonger}
+use Rattle.mill_paths.specs.Visits.{finish_visit, finish_visits_of, height_at, level_visits_of, outline_visits, rough_levels, rough_visit, rough_visits_of, rough_visits_on, visit_at, visit_if}
 use Rattle.mill_paths.specs.declared.visit.Visit.{Visit}
-use Rattle.mill_paths.proofs.Uniqueness.{one_finish, one_link, one_rough, same_visits}
+use Rattle.mill_paths.proofs.Uniqueness.{one_finish, one_level, one_link, one_rough, one_visits}
+use Rattle.mill_paths.proofs.OutlineLemmas.{all_given}
 use Rattle.mill_paths.proofs.VisitLemmas.{All-flat_map}
 
 -- the moves of links, one after the other
@@ -63,13 +65,12 @@ module _ (job : Job) (part : List Tri) where
   tour_within : (moves : List Move) (plan : IsPlan job part moves) → length plan.toured ≤ length moves
   tour_within moves plan =
       subst (λ (ms : List Move). length plan.toured ≤ length ms) (sym plan.joined)
-      (longer plan.toured (way_home job (last_place (home job) (plan.rough ++ plan.finish))))
+      (longer plan.toured (way_home job (last_place (home job) plan.visits)))
 
 pub plan_is_longer : PlanIsLonger
-plan_is_longer job part rough finish begun moves are_rough are_finish begins plan =
-    let visits : plan.rough ++ plan.finish ≡ begins.first ++ begins.rest =
-    same_visits job part plan.rough plan.finish rough finish plan.are_rough plan.are_finish are_rough are_finish ∙ begins.all in
-    let tour : IsTour job part (home job) (begins.first ++ begins.rest) plan.toured = subst (λ (vs : List Visit). IsTour job part (home job) vs plan.toured) visits plan.tour in
+plan_is_longer job part visits begun moves are begins plan =
+    let same : plan.visits ≡ begins.first ++ begins.rest = one_visits job part plan.visits visits plan.are are ∙ begins.all in
+    let tour : IsTour job part (home job) (begins.first ++ begins.rest) plan.toured = subst (λ (vs : List Visit). IsTour job part (home job) vs plan.toured) same plan.tour in
     through (length begun) (length plan.toured) (length moves)
     (tour_begins job part (home job) begins.first begins.rest begun plan.toured begins.tour tour) (tour_within job part moves plan)
   where
@@ -120,6 +121,20 @@ finish_steps job heights =
     All-flat_map (λ (v : Visit). v.step ≡ job.raster) (finish_visit job heights) (zigzag_of (finish_lattice job)) 0 (λ place within.
     finish_step job heights (get_or (zigzag_of (finish_lattice job)) place 0))
 
+outline_step : (step : ℤ) (outline : Outline) → HaveStep step (outline_visits step outline)
+outline_step step outline = at_each (outline.points ++ (if outline.closed then take 1 outline.points else []))
+  where
+    at_each : (points : List Pt3) → HaveStep step (map (λ (p : Pt3). record { at = p; step = step }) points)
+    at_each [] = All-nil (λ (v : Visit). v.step ≡ step)
+    at_each (p ∷ ps) =
+        All-cons (λ (v : Visit). v.step ≡ step) (record { at = p; step = step }) (map (λ (q : Pt3). record { at = q; step = step }) ps) refl (at_each ps)
+
+level_steps : (job : Job) (waterlines : List (List Outline)) → HaveStep job.raster (level_visits_of job waterlines)
+level_steps job waterlines =
+    all_given (λ (v : Visit). v.step ≡ job.raster) (flat_map (outline_visits job.raster)) waterlines (λ k d inside.
+    all_given (λ (v : Visit). v.step ≡ job.raster) (outline_visits job.raster) (get_or waterlines k d) (λ i e within.
+    outline_step job.raster (get_or (get_or waterlines k d) i e)))
+
 module _ (job : Job) (part : List Tri) where
   -- the link from a visit to another of its path has a move, where they differ
   link_counts : (v w : Visit) (link : List Move) → w.step ≡ v.step → IsLink job part v.at w link → (if is_same_visit v w then 0 else 1) ≤ length link
@@ -163,22 +178,38 @@ module _ (job : Job) (part : List Tri) where
 over : (a b c d : ℕ) → a < b → b ≤ c → c ≤ d → a < d
 over a b c d h g k = omega (h, g, k, arith)
 
+-- a plan comes through the visits of each of its parts, so that it has a move for each that differs from the one before it
+plan_counts : (job : Job) (part : List Tri) (step : ℤ) (before visits more : List Visit) (moves : List Move) (plan : IsPlan job part moves) → HaveStep step visits
+    → plan.visits ≡ before ++ (visits ++ more) → most_changes < change_count visits → most_changes < length moves
+plan_counts job part step before visits more moves plan steps all many =
+    let tour : IsTour job part (home job) (before ++ (visits ++ more)) plan.toured = subst (λ (vs : List Visit). IsTour job part (home job) vs plan.toured) all plan.tour in
+    over most_changes (change_count visits) (length plan.toured) (length moves) many
+    (tour_counts job part step (home job) before visits more plan.toured steps tour) (tour_within job part moves plan)
+
 pub many_rough : ManyRoughVisitsMakeMoves
 many_rough job part moves layer many plan =
-    let same : plan.rough ≡ rough_visits_of job many.heights =
-    one_rough job part plan.rough (rough_visits_of job many.heights) plan.are_rough (record { heights = many.heights; are = λ some. many.are; visits = refl }) in
-    let count : most_changes < change_count plan.rough = subst (λ (vs : List Visit). most_changes < change_count vs) (sym same) many.many in
-    let steps : HaveStep job.rough_raster plan.rough = subst (λ (vs : List Visit). HaveStep job.rough_raster vs) (sym same) (rough_steps job many.heights) in
-    over most_changes (change_count plan.rough) (length plan.toured) (length moves) count
-    (tour_counts job part job.rough_raster (home job) [] plan.rough plan.finish plan.toured steps plan.tour) (tour_within job part moves plan)
+    let are = plan.are in
+    let same : are.rough ≡ rough_visits_of job many.heights =
+    one_rough job part are.rough (rough_visits_of job many.heights) are.are_rough (record { heights = many.heights; are = λ some. many.are; visits = refl }) in
+    let count : most_changes < change_count are.rough = subst (λ (vs : List Visit). most_changes < change_count vs) (sym same) many.many in
+    let steps : HaveStep job.rough_raster are.rough = subst (λ (vs : List Visit). HaveStep job.rough_raster vs) (sym same) (rough_steps job many.heights) in
+    plan_counts job part job.rough_raster [] are.rough (are.level ++ are.finish) moves plan steps (are.all ∙ append_assoc are.rough are.level are.finish) count
+
+pub many_level : ManyLevelVisitsMakeMoves
+many_level job part moves many plan =
+    let are = plan.are in
+    let same : are.level ≡ level_visits_of job many.waterlines =
+    one_level job part are.level (level_visits_of job many.waterlines) are.are_level (record { waterlines = many.waterlines; are = many.are; visits = refl }) in
+    let count : most_changes < change_count are.level = subst (λ (vs : List Visit). most_changes < change_count vs) (sym same) many.many in
+    let steps : HaveStep job.raster are.level = subst (λ (vs : List Visit). HaveStep job.raster vs) (sym same) (level_steps job many.waterlines) in
+    plan_counts job part job.raster are.rough are.level are.finish moves plan steps (are.all ∙ append_assoc are.rough are.level are.finish) count
 
 pub many_finish : ManyFinishVisitsMakeMoves
 many_finish job part moves many plan =
-    let same : plan.finish ≡ finish_visits_of job many.heights =
-    one_finish job part plan.finish (finish_visits_of job many.heights) plan.are_finish (record { heights = many.heights; are = many.are; visits = refl }) in
-    let count : most_changes < change_count plan.finish = subst (λ (vs : List Visit). most_changes < change_count vs) (sym same) many.many in
-    let steps : HaveStep job.raster plan.finish = subst (λ (vs : List Visit). HaveStep job.raster vs) (sym same) (finish_steps job many.heights) in
-    let tour : IsTour job part (home job) (plan.rough ++ (plan.finish ++ [])) plan.toured =
-    subst (λ (vs : List Visit). IsTour job part (home job) (plan.rough ++ vs) plan.toured) (sym (append-nil plan.finish)) plan.tour in
-    over most_changes (change_count plan.finish) (length plan.toured) (length moves) count
-    (tour_counts job part job.raster (home job) plan.rough plan.finish [] plan.toured steps tour) (tour_within job part moves plan)
+    let are = plan.are in
+    let same : are.finish ≡ finish_visits_of job many.heights =
+    one_finish job part are.finish (finish_visits_of job many.heights) are.are_finish (record { heights = many.heights; are = many.are; visits = refl }) in
+    let count : most_changes < change_count are.finish = subst (λ (vs : List Visit). most_changes < change_count vs) (sym same) many.many in
+    let steps : HaveStep job.raster are.finish = subst (λ (vs : List Visit). HaveStep job.raster vs) (sym same) (finish_steps job many.heights) in
+    plan_counts job part job.raster (are.rough ++ are.level) are.finish [] moves plan steps
+    (are.all ∙ ap (λ (vs : List Visit). are.rough ++ are.level ++ vs) (sym (append-nil are.finish))) count

@@ -2,12 +2,15 @@ mod Rows
 pub mod Going
 mod Joining
 mod Points
+mod Straight
 pub mod Changes
 pub mod Adding
 pub mod PathLemmas
 pub mod ZigzagLemmas
 pub mod LevelLemmas
 pub mod VisitLemmas
+pub mod OutlineLemmas
+mod SampleLevels
 pub mod FaultLemmas
 pub mod Steps
 pub mod Uniqueness
@@ -15,3 +18,5 @@ pub mod Lengths
 pub mod Rounds
 mod Many
 mod Kept
+mod Gathered
+mod Along

@@ -1,16 +1,20 @@
--- A list of visits that was made isn't one of which too many differ from the one before them: the drop heights are unique, and so is the list.
-use Rattle.std.proofs.Common.{◌≡◌, ℕ, ◌<◌, ◌≤◌, List, sym, subst, arith}
-use Rattle.std.specs.Prelude.{ℤ, pos}
-use Rattle.std.specs.List.{flat_map}
+-- A list of visits that was made isn't one of which too many differ from the one before them: the drop heights and the waterlines are unique, and so is the list.
+use Rattle.std.proofs.Common.{◌≡◌, ℕ, ◌<◌, ◌≤◌, Bool, true, List, [], length, refl, sym, ◌∙◌, subst, arith}
+use Rattle.std.specs.Prelude.{◌==◌, ℤ, pos}
+use Rattle.std.specs.List.{AllZip, flat_map}
+use Rattle.std.proofs.lemmas.Bool.{eqb-true}
+use Rattle.std.proofs.lemmas.List.{nil_from_length}
 use Rattle.mill_base.specs.declared.points.Tri.{Tri}
 use Rattle.mill_drop.specs.Maps.{AreDropHeights}
 use Rattle.mill_drop.proofs.Uniqueness.{one_map}
 use Rattle.mill_job.specs.declared.job.Job.{Job}
+use Rattle.mill_level.specs.Waterlines.{IsWaterline, Outline}
 use Rattle.mill_paths.specs.Lattices.{finish_lattice, rough_lattice}
 use Rattle.mill_paths.specs.Limits.{change_count, most_changes}
-use Rattle.mill_paths.specs.Visits.{HaveManyFinishVisits, HaveManyRoughVisits, finish_visits_of, rough_visits_of, rough_visits_on}
+use Rattle.mill_paths.specs.Visits.{AreWaterlines, HaveManyFinishVisits, HaveManyLevelVisits, HaveManyRoughVisits, finish_visits_of, level_visits_of, rough_visits_of, rough_visits_on}
 use Rattle.mill_paths.specs.declared.visit.Visit.{Visit}
 use Rattle.mill_paths.proofs.LevelLemmas.{no_levels}
+use Rattle.mill_paths.proofs.Uniqueness.{one_waterlines}
 
 over : (n : ℕ) → n ≤ most_changes → most_changes < n → ⊥
 over n few many = omega arith
@@ -34,3 +38,20 @@ few_rough job part heights list are is few many =
 pub none_rough : (job : Job) (part : List Tri) → job.layer ≡ pos 0 → ¬ HaveManyRoughVisits job part
 none_rough job part none many =
     none_over (subst (λ (levels : List ℤ). most_changes < change_count (flat_map (rough_visits_on job many.heights) levels)) (no_levels job none) many.many)
+
+pub few_level : (job : Job) (part : List Tri) (waterlines : List (List Outline)) (list : List Visit) → AreWaterlines job part waterlines
+    → list ≡ level_visits_of job waterlines → change_count list ≤ most_changes → ¬ HaveManyLevelVisits job part
+few_level job part waterlines list are is few many =
+    over (change_count list) few (subst (λ (visits : List Visit). most_changes < change_count visits) (sym is)
+    (subst (λ (lines : List (List Outline)). most_changes < change_count (level_visits_of job lines)) (one_waterlines job part many.waterlines waterlines many.are are) many.many))
+
+-- levels that are as many as none
+pub no_level : (levels slice : List ℤ) (empty : Bool) → slice ≡ levels → empty ≡ (length slice == 0) → empty ≡ true → levels ≡ []
+no_level levels slice empty same test holds = sym same ∙ nil_from_length slice (eqb-true (length slice) 0 (sym test ∙ holds))
+
+-- without levels there are none
+pub no_waterlines : (job : Job) (part : List Tri) → job.levels ≡ [] → AreWaterlines job part []
+no_waterlines job part none = subst (λ (zs : List ℤ). AllZip (λ z outlines. IsWaterline job.cutter part z (finish_lattice job) outlines) zs []) (sym none) tt
+
+pub none_level : (job : Job) (part : List Tri) → job.levels ≡ [] → ¬ HaveManyLevelVisits job part
+none_level job part none = few_level job part [] [] (no_waterlines job part none) refl (omega arith)

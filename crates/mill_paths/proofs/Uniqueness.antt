@@ -1,6 +1,6 @@
 -- A job and a part settle the heights, the visits, the links and so the moves of their plan.
 use Rattle.std.specs.Prelude.{◌≡◌, Bool, true, false, if◌then◌else◌, ℤ, pos, ◌-ℤ◌, ◌*ℤ◌, ◌<ℤ◌, int_lt, List, [], ◌∷◌, ◌++◌, map}
-use Rattle.std.specs.List.{flat_map, range_with_len}
+use Rattle.std.specs.List.{AllZip, flat_map, range_with_len}
 use Rattle.std.proofs.Common.{inl, inr, refl, sym, ap, ◌∙◌, subst, arith}
 use Rattle.std.proofs.lemmas.Int.{ints}
 use Rattle.mill_base.specs.declared.motion.Move.{Move}
@@ -9,11 +9,14 @@ use Rattle.mill_base.specs.declared.points.Tri.{Tri}
 use Rattle.mill_drop.proofs.Uniqueness.{one_map}
 use Rattle.mill_job.specs.Columns.{home}
 use Rattle.mill_job.specs.declared.job.Job.{Job}
+use Rattle.mill_level.specs.Waterlines.{IsWaterline, Outline}
+use Rattle.mill_level.proofs.Apart.{joins_are_apart}
+use Rattle.mill_level.proofs.OneWaterline.{one_waterline}
 use Rattle.mill_paths.specs.Lattices.{finish_lattice, rough_lattice}
 use Rattle.mill_paths.specs.Links.{IsLink, way_home}
-use Rattle.mill_paths.specs.Tours.{AreLinks, IsTour, last_place}
+use Rattle.mill_paths.specs.Tours.{AreLinks, ArePlanVisits, IsTour, last_place}
 use Rattle.mill_paths.specs.Unique.{OnePlan}
-use Rattle.mill_paths.specs.Visits.{AreFinishVisits, AreRoughVisits, finish_visits_of, level_count, rough_visits_of, rough_visits_on}
+use Rattle.mill_paths.specs.Visits.{AreFinishVisits, AreLevelVisits, AreRoughVisits, AreWaterlines, finish_visits_of, level_count, level_visits_of, rough_visits_of, rough_visits_on}
 use Rattle.mill_paths.specs.declared.visit.Visit.{Visit}
 
 -- without a layer there is no level, and no roughing visit
@@ -38,6 +41,25 @@ one_finish job part a b h g =
     h.visits
     ∙ ap (λ (heights : List ℤ). finish_visits_of job heights) (one_map job.cutter part job.floor (finish_lattice job) h.heights g.heights h.are g.are)
     ∙ sym g.visits
+
+-- lists that each item of another settles place by place
+one_list : {A B : Type 0} (R : A → B → Type 0) → ((x : A) (y z : B) → R x y → R x z → y ≡ z) → (xs : List A) (ys zs : List B)
+    → AllZip R xs ys → AllZip R xs zs → ys ≡ zs
+one_list R one [] [] [] h g = refl
+one_list R one [] [] (z ∷ zs) h g = absurd g
+one_list R one [] (y ∷ ys) zs h g = absurd h
+one_list R one (x ∷ xs) [] zs h g = absurd h
+one_list R one (x ∷ xs) (y ∷ ys) [] h g = absurd g
+one_list R one (x ∷ xs) (y ∷ ys) (z ∷ zs) h g = ap (λ w. w ∷ ys) (one x y z h.0 g.0) ∙ ap (λ ws. z ∷ ws) (one_list R one xs ys zs h.1 g.1)
+
+pub one_waterlines : (job : Job) (part : List Tri) (a b : List (List Outline)) → AreWaterlines job part a → AreWaterlines job part b → a ≡ b
+one_waterlines job part a b h g =
+    one_list (λ z outlines. IsWaterline job.cutter part z (finish_lattice job) outlines)
+    (λ z ours theirs p q. one_waterline joins_are_apart job.cutter part z (finish_lattice job) ours theirs p q) job.levels a b h g
+
+pub one_level : (job : Job) (part : List Tri) (a b : List Visit) → AreLevelVisits job part a → AreLevelVisits job part b → a ≡ b
+one_level job part a b h g =
+    h.visits ∙ ap (λ (lines : List (List Outline)). level_visits_of job lines) (one_waterlines job part h.waterlines g.waterlines h.are g.are) ∙ sym g.visits
 
 -- the link to a visit: the three kinds exclude each other
 pub one_link : (job : Job) (part : List Tri) (from : Pt3) (visit : Visit) (a b : List Move) → IsLink job part from visit a → IsLink job part from visit b → a ≡ b
@@ -66,18 +88,21 @@ pub one_tour : (job : Job) (part : List Tri) (from : Pt3) (visits : List Visit) 
 one_tour job part from visits a b h g =
     h.joined ∙ ap (λ (links : List (List Move)). flat_map (λ (link : List Move). link) links) (one_links job part from visits h.links g.links h.are g.are) ∙ sym g.joined
 
--- the visits of a plan are those of each other list of its roughing and finishing visits
-pub same_visits : (job : Job) (part : List Tri) (r f s g : List Visit) → AreRoughVisits job part r → AreFinishVisits job part f
-    → AreRoughVisits job part s → AreFinishVisits job part g → r ++ f ≡ s ++ g
-same_visits job part r f s g are_r are_f are_s are_g =
-    ap (λ (vs : List Visit). vs ++ f) (one_rough job part r s are_r are_s) ∙ ap (λ (vs : List Visit). s ++ vs) (one_finish job part f g are_f are_g)
+-- a job and a part have one list of visits at most
+pub one_visits : (job : Job) (part : List Tri) (a b : List Visit) → ArePlanVisits job part a → ArePlanVisits job part b → a ≡ b
+one_visits job part a b h g =
+    h.all
+    ∙ ap (λ (vs : List Visit). vs ++ h.level ++ h.finish) (one_rough job part h.rough g.rough h.are_rough g.are_rough)
+    ∙ ap (λ (vs : List Visit). g.rough ++ vs ++ h.finish) (one_level job part h.level g.level h.are_level g.are_level)
+    ∙ ap (λ (vs : List Visit). g.rough ++ g.level ++ vs) (one_finish job part h.finish g.finish h.are_finish g.are_finish)
+    ∙ sym g.all
 
 pub one_plan : OnePlan
 one_plan job part a b h g =
-    let visits : h.rough ++ h.finish ≡ g.rough ++ g.finish = same_visits job part h.rough h.finish g.rough g.finish h.are_rough h.are_finish g.are_rough g.are_finish in
-    let tour : IsTour job part (home job) (h.rough ++ h.finish) g.toured = subst (λ (vs : List Visit). IsTour job part (home job) vs g.toured) (sym visits) g.tour in
-    let moves : h.toured ≡ g.toured = one_tour job part (home job) (h.rough ++ h.finish) h.toured g.toured h.tour tour in
+    let visits : h.visits ≡ g.visits = one_visits job part h.visits g.visits h.are g.are in
+    let tour : IsTour job part (home job) h.visits g.toured = subst (λ (vs : List Visit). IsTour job part (home job) vs g.toured) (sym visits) g.tour in
+    let moves : h.toured ≡ g.toured = one_tour job part (home job) h.visits h.toured g.toured h.tour tour in
     h.joined
-    ∙ ap (λ (ms : List Move). ms ++ way_home job (last_place (home job) (h.rough ++ h.finish))) moves
+    ∙ ap (λ (ms : List Move). ms ++ way_home job (last_place (home job) h.visits)) moves
     ∙ ap (λ (vs : List Visit). g.toured ++ way_home job (last_place (home job) vs)) visits
     ∙ sym g.joined

@@ -51,7 +51,7 @@ between_ends lo hi n l h order =
     let b = h.within in
     record { within = omega (arith, ints) }
 
-positions_within : (lo hi step : ℤ) (k : ℕ) → Within MAX_TEXT_COORDINATE lo → Within MAX_TEXT_COORDINATE hi → lo ≤ℤ hi → (pos 1) ≤ℤ step → k < length (lattice_positions lo hi step)
+pub positions_within : (lo hi step : ℤ) (k : ℕ) → Within MAX_TEXT_COORDINATE lo → Within MAX_TEXT_COORDINATE hi → lo ≤ℤ hi → (pos 1) ≤ℤ step → k < length (lattice_positions lo hi step)
     → Within MAX_TEXT_COORDINATE (get_or (lattice_positions lo hi step) k (pos 0))
 positions_within lo hi step k low high order some inside =
     subst (λ z. Within MAX_TEXT_COORDINATE z) (sym (get_or-positions lo hi step k order some inside)) (between_ends lo hi (k * nat_abs step) low high order)
@@ -62,11 +62,11 @@ record IsPlace (node : ℤ × ℤ) : Type 0 where
   pub y_ok : Within MAX_TEXT_COORDINATE node.1
 
 -- a lattice over a job's area
-record IsJobLattice (lattice : Lattice) : Type 0 where
+pub record IsJobLattice (lattice : Lattice) : Type 0 where
   pub area_ok : IsArea lattice.area
   pub step_ok : IsFrom (pos 1) (pos 10000) lattice.step
 
-area_in_range : (job : Job) → IsJob job → IsArea job.area
+pub area_in_range : (job : Job) → IsJob job → IsArea job.area
 area_in_range job ok = record { x0_ok = ok.x0_ok; y0_ok = ok.y0_ok; x1_ok = ok.x1_ok; y1_ok = ok.y1_ok; x_order = ok.x_order; y_order = ok.y_order }
 
 node_within : (lattice : Lattice) (number : ℕ) → IsJobLattice lattice → number < length (nodes_of lattice) → IsPlace (node_at lattice number)

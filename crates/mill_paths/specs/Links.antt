@@ -1,5 +1,5 @@
 -- The moves that link the place where the cutter is to the next visit.
-use Rattle.std.specs.Prelude.{◌≡◌, ◌≢◌, ◌⊎◌, Bool, ◌&&◌, if◌then◌else◌, ℤ, pos, nat_abs, ◌-ℤ◌, ◌*ℤ◌, ◌≤ℤ◌, int_lt, List, [], ◌∷◌, ◌++◌}
+use Rattle.std.specs.Prelude.{◌≡◌, ◌≢◌, ◌⊎◌, ◌↔◌, Bool, IsTrue, ◌&&◌, if◌then◌else◌, ℤ, pos, nat_abs, ◌-ℤ◌, ◌*ℤ◌, ◌≤ℤ◌, int_lt, List, [], ◌∷◌, ◌++◌}
 use Rattle.std.specs.Ordering.{int_eq}
 use Rattle.mill_base.specs.Points.{point_at}
 use Rattle.mill_base.specs.declared.points.Pt3.{Pt3}
@@ -60,6 +60,14 @@ detour job from at = climb job from ++ cross job from at ++ descend job at ++ pl
 pub record MayFeed (job : Job) (part : List Tri) (from : Pt3) (visit : Visit) : Type 0 where
   pub near : IsNearBy from visit
   pub passes : PassesPart job.cutter (feed_to from visit.at) part
+
+-- the link needs no way round: the cutter is at the visit already, or the straight feed to it may be made
+abbrev pub GoesStraight : Job → List Tri → Pt3 → Visit → Type 0
+GoesStraight job part from visit = (visit.at ≡ from) ⊎ MayFeed job part from visit
+
+-- the answer says whether the link needs none
+abbrev pub SaysStraight : Job → List Tri → Pt3 → Visit → Bool → Type 0
+SaysStraight job part from visit answer = IsTrue answer ↔ GoesStraight job part from visit
 
 -- the cutter is at the visit already, and no move is made
 pub record IsStay (from : Pt3) (visit : Visit) (moves : List Move) : Type 0 where

@@ -7,7 +7,7 @@ use Rattle.mill_base.specs.declared.motion.Move.{Move}
 use Rattle.mill_job.specs.Columns.{home}
 use Rattle.mill_job.specs.declared.job.Job.{Job}
 use Rattle.mill_paths.specs.Links.{IsLink, way_home}
-use Rattle.mill_paths.specs.Visits.{AreRoughVisits, AreFinishVisits}
+use Rattle.mill_paths.specs.Visits.{AreRoughVisits, AreLevelVisits, AreFinishVisits}
 use Rattle.mill_paths.specs.declared.visit.Visit.{Visit}
 
 -- these are the links to the visits, one list of moves each: the first from this place, and each other from the visit before it
@@ -28,12 +28,20 @@ abbrev pub last_place : Pt3 → List Visit → Pt3
 last_place from [] = from
 last_place from (v ∷ vs) = last_place v.at vs
 
--- the moves of a plan: from home through the roughing and then the finishing visits, and home again
-pub record IsPlan (job : Job) (part : List Tri) (moves : List Move) : Type 0 where
+-- the visits of a plan: of its roughing, of its levels, and of its finishing path
+pub record ArePlanVisits (job : Job) (part : List Tri) (visits : List Visit) : Type 0 where
   pub rough : List Visit
+  pub level : List Visit
   pub finish : List Visit
   pub are_rough : AreRoughVisits job part rough
+  pub are_level : AreLevelVisits job part level
   pub are_finish : AreFinishVisits job part finish
+  pub all : visits ≡ rough ++ level ++ finish
+
+-- the moves of a plan: from home through its visits, and home again
+pub record IsPlan (job : Job) (part : List Tri) (moves : List Move) : Type 0 where
+  pub visits : List Visit
+  pub are : ArePlanVisits job part visits
   pub toured : List Move
-  pub tour : IsTour job part (home job) (rough ++ finish) toured
-  pub joined : moves ≡ toured ++ way_home job (last_place (home job) (rough ++ finish))
+  pub tour : IsTour job part (home job) visits toured
+  pub joined : moves ≡ toured ++ way_home job (last_place (home job) visits)

@@ -10,8 +10,8 @@ use Rattle.mill_job.specs.declared.job.Job.{Job}
 use Rattle.mill_paths.specs.Limits.{most_changes}
 use Rattle.mill_paths.specs.Links.{way_home}
 use Rattle.mill_paths.specs.Safety.{GoSafely}
-use Rattle.mill_paths.specs.Tours.{IsTour, IsPlan, last_place}
-use Rattle.mill_paths.specs.Visits.{AreRoughVisits, AreFinishVisits, HaveManyRoughVisits, HaveManyFinishVisits, IsVisit}
+use Rattle.mill_paths.specs.Tours.{ArePlanVisits, IsTour, IsPlan, last_place}
+use Rattle.mill_paths.specs.Visits.{HaveManyRoughVisits, HaveManyLevelVisits, HaveManyFinishVisits, IsVisit}
 use Rattle.mill_paths.specs.declared.visit.Visit.{Visit}
 
 -- a job and a part have at most one plan
@@ -27,15 +27,19 @@ pub record BeginsTour (job : Job) (part : List Tri) (from : Pt3) (visits : List 
 
 -- a plan has at least as many moves as the links to the first of its visits
 abbrev pub PlanIsLonger : Type 0
-PlanIsLonger = (job : Job) (part : List Tri) (rough finish : List Visit) (begun moves : List Move) → AreRoughVisits job part rough → AreFinishVisits job part finish
-    → BeginsTour job part (home job) (rough ++ finish) begun → IsPlan job part moves → length begun ≤ length moves
+PlanIsLonger = (job : Job) (part : List Tri) (visits : List Visit) (begun moves : List Move) → ArePlanVisits job part visits
+    → BeginsTour job part (home job) visits begun → IsPlan job part moves → length begun ≤ length moves
 
 -- where too many roughing visits differ from the one before them, a plan has too many moves
 abbrev pub ManyRoughVisitsMakeMoves : Type 0
 ManyRoughVisitsMakeMoves = (job : Job) (part : List Tri) (moves : List Move) → (pos 0) <ℤ job.layer → HaveManyRoughVisits job part → IsPlan job part moves
     → most_changes < length moves
 
--- so it has where too many finishing visits do
+-- so it has where too many level visits do
+abbrev pub ManyLevelVisitsMakeMoves : Type 0
+ManyLevelVisitsMakeMoves = (job : Job) (part : List Tri) (moves : List Move) → HaveManyLevelVisits job part → IsPlan job part moves → most_changes < length moves
+
+-- and where too many finishing visits do
 abbrev pub ManyFinishVisitsMakeMoves : Type 0
 ManyFinishVisitsMakeMoves = (job : Job) (part : List Tri) (moves : List Move) → HaveManyFinishVisits job part → IsPlan job part moves → most_changes < length moves
 

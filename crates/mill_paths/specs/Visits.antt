@@ -1,15 +1,17 @@
 -- The places that a plan comes to, in their order, from the drop heights over its lattices.
-use Rattle.std.specs.Prelude.{◌≡◌, ℕ, ◌-◌, ◌/◌, ◌<◌, nat_abs, Bool, if◌then◌else◌, ℤ, pos, ◌+ℤ◌, ◌-ℤ◌, ◌*ℤ◌, ◌<ℤ◌, ◌≤ℤ◌, int_lt, int_le, List, [], ◌∷◌, map, slice_index_or, All}
-use Rattle.std.specs.List.{flat_map, range_with_len}
+use Rattle.std.specs.Prelude.{◌≡◌, ℕ, ◌-◌, ◌/◌, ◌<◌, nat_abs, Bool, if◌then◌else◌, ℤ, pos, ◌+ℤ◌, ◌-ℤ◌, ◌*ℤ◌, ◌<ℤ◌, ◌≤ℤ◌, int_lt, int_le, List, [], ◌∷◌, ◌++◌, take, map, slice_index_or, All}
+use Rattle.std.specs.List.{AllZip, flat_map, range_with_len}
 use Rattle.mill_base.specs.Points.{point_at}
 use Rattle.mill_base.specs.Ranges.{IsInTextRange}
 use Rattle.mill_base.specs.declared.lattice.Lattice.{Lattice}
+use Rattle.mill_base.specs.declared.points.Pt3.{Pt3}
 use Rattle.mill_base.specs.declared.points.Tri.{Tri}
 use Rattle.mill_drop.specs.Drops.{GougesAt}
 use Rattle.mill_base.specs.Lattices.{node_at}
 use Rattle.mill_drop.specs.Maps.{AreDropHeights}
 use Rattle.mill_job.specs.Jobs.{IsFrom, IsJob}
 use Rattle.mill_job.specs.declared.job.Job.{Job}
+use Rattle.mill_level.specs.Waterlines.{IsWaterline, Outline}
 use Rattle.mill_paths.specs.Lattices.{finish_lattice, rough_lattice, zigzag_of}
 use Rattle.mill_paths.specs.Limits.{change_count, most_changes}
 use Rattle.mill_paths.specs.declared.visit.Visit.{Visit}
@@ -54,11 +56,29 @@ finish_visit job heights number = visit_if (int_lt (height_at heights number +�
 abbrev pub finish_visits_of : Job → List ℤ → List Visit
 finish_visits_of job heights = flat_map (finish_visit job heights) (zigzag_of (finish_lattice job))
 
+-- the visits along a chain of a waterline: its points in their order, and of a closed one its first point again
+abbrev pub outline_visits : ℤ → Outline → List Visit
+outline_visits step outline = map (λ (p : Pt3). record { at = p; step = step }) (outline.points ++ (if outline.closed then take 1 outline.points else []))
+
+-- the level visits: level by level from the highest, and on each chain by chain
+abbrev pub level_visits_of : Job → List (List Outline) → List Visit
+level_visits_of job waterlines = flat_map (flat_map (outline_visits job.raster)) waterlines
+
+-- these are the waterlines at the job's levels, over the finishing lattice
+abbrev pub AreWaterlines : Job → List Tri → List (List Outline) → Type 0
+AreWaterlines job part waterlines = AllZip (λ z outlines. IsWaterline job.cutter part z (finish_lattice job) outlines) job.levels waterlines
+
 -- these are the roughing visits; without a layer there are none, whatever the heights
 pub record AreRoughVisits (job : Job) (part : List Tri) (list : List Visit) : Type 0 where
   pub heights : List ℤ
   pub are : (pos 0) <ℤ job.layer → AreDropHeights job.cutter part job.floor (rough_lattice job) heights
   pub visits : list ≡ rough_visits_of job heights
+
+-- these are the level visits; without levels there are none
+pub record AreLevelVisits (job : Job) (part : List Tri) (list : List Visit) : Type 0 where
+  pub waterlines : List (List Outline)
+  pub are : AreWaterlines job part waterlines
+  pub visits : list ≡ level_visits_of job waterlines
 
 -- these are the finishing visits
 pub record AreFinishVisits (job : Job) (part : List Tri) (list : List Visit) : Type 0 where
@@ -71,6 +91,12 @@ pub record HaveManyRoughVisits (job : Job) (part : List Tri) : Type 0 where
   pub heights : List ℤ
   pub are : AreDropHeights job.cutter part job.floor (rough_lattice job) heights
   pub many : most_changes < change_count (rough_visits_of job heights)
+
+-- with the waterlines at the job's levels, too many level visits differ from the one before them
+pub record HaveManyLevelVisits (job : Job) (part : List Tri) : Type 0 where
+  pub waterlines : List (List Outline)
+  pub are : AreWaterlines job part waterlines
+  pub many : most_changes < change_count (level_visits_of job waterlines)
 
 -- with the drop heights over the lattice, the finishing path has too many of them
 pub record HaveManyFinishVisits (job : Job) (part : List Tri) : Type 0 where
@@ -93,3 +119,7 @@ FinishVisitsAreFree = (job : Job) (part : List Tri) (visits : List Visit) → Is
 -- so are the roughing visits
 abbrev pub RoughVisitsAreFree : Type 0
 RoughVisitsAreFree = (job : Job) (part : List Tri) (visits : List Visit) → IsJob job → AreRoughVisits job part visits → All (IsVisit job part) visits
+
+-- and so are the level visits
+abbrev pub LevelVisitsAreFree : Type 0
+LevelVisitsAreFree = (job : Job) (part : List Tri) (visits : List Visit) → IsJob job → AreLevelVisits job part visits → All (IsVisit job part) visits

@@ -1,7 +1,8 @@
 //! The paths of a plan: the places that the cutter comes to, in their order, and the moves between.
 //!
-//! It stands on the job (mill_job) and on the drop heights over a lattice (mill_drop), and the links
-//! between the places on `mill_gouge`, which tries one move against the part. `specs/Lattices` says
+//! It stands on the job (mill_job), on the drop heights over a lattice (mill_drop) and on the waterlines
+//! at heights (mill_level), and the links between the places on `mill_gouge`, which tries one move
+//! against the part. `specs/Lattices` says
 //! which lattices the paths go over and in which order, `specs/Visits` which places they come to, and
 //! how high, `specs/Limits` how many they may be, `specs/Links` which moves link one place to the
 //! next, and `specs/Tours` which moves make a plan. `specs/Safety` says what each of these moves
@@ -11,6 +12,9 @@
 
 mod fault;
 mod lattices;
+#[cfg(test)]
+mod level_tests;
+mod levels;
 mod link_laws;
 #[cfg(test)]
 mod link_tests;
@@ -28,8 +32,9 @@ mod zigzag;
 
 pub use fault::PathFault;
 pub use lattices::{finish_lattice, rough_lattice};
+pub use levels::level_visits;
 pub use link_laws::{link_is_safe, tour_is_safe, way_home_is_safe};
-pub use links::{home, link};
+pub use links::{goes_straight, home, link, link_known};
 pub use plan_laws::{
     many_visits_make_moves, one_plan, plan_is_longer, round_is_safe, visits_are_free,
 };

@@ -5,7 +5,7 @@ use crate::test_shape::{Shape, at, shape_of};
 use crate::{Visit, home, link};
 use mill_base::{Box2, Cutter, Kind, Move, Pt3, Tri};
 use mill_decimal::Snap;
-use mill_job::{Job, Place};
+use mill_job::{Job, Levels, Place};
 use std::test::Fail;
 
 /// The stock is 400 high, and the cutter starts over (-300, 0) at 500.
@@ -33,6 +33,7 @@ fn job() -> Job
         rough_raster: 200,
         layer: 0,
         rough_stock: 0,
+        levels: Levels::NONE,
         snap: Snap::Nearest,
     }
 }

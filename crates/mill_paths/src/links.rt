@@ -1,8 +1,9 @@
-ghost use Rattle.std.specs.Prelude.{◌≡◌, [], ◌∷◌, ◌++◌, ◌*ℤ◌, ◌≤ℤ◌, pos, false, OnOk, OnErr, IsTrue};
+ghost use Rattle.std.specs.Prelude.{◌≡◌, List, [], ◌∷◌, ◌++◌, ◌*ℤ◌, ◌≤ℤ◌, pos, false, OnOk, OnErr, IsTrue};
 ghost use Rattle.mill_base.specs.Ranges.{IsInRange};
+ghost use Rattle.mill_base.specs.declared.points.Tri.{Tri};
 ghost use Rattle.mill_cells.specs.Sorted.{sorted_of};
 ghost use Rattle.mill_job.specs.Jobs.{IsJob};
-ghost use Rattle.mill_paths.specs.Links.{AddsFirst, AddsLink, BeginsLink, IsNearBy, MayFeed, at_height as at_height_of, climb as climb_of, cross as cross_of, descend as descend_of, detour as detour_of, distance, feed_to as feed_of, rapid_to as rapid_of, way_home};
+ghost use Rattle.mill_paths.specs.Links.{AddsFirst, AddsLink, BeginsLink, IsNearBy, MayFeed, SaysStraight, at_height as at_height_of, climb as climb_of, cross as cross_of, descend as descend_of, detour as detour_of, distance, feed_to as feed_of, rapid_to as rapid_of, way_home};
 
 use crate::visit::Visit;
 use mill_base::{Kind, Move, Pt3, WantOfMemory};
@@ -42,10 +43,49 @@ pub fn link(
         result
         (BeginsLink job.now part.now from to out.old.items out.new.items) }
 {
+    let straight = goes_straight(job, part, cells, from, to);
+    link_known(job, from, to, straight, out)
+}
+
+/// Whether the link from the place `from`, where the cutter is, to the visit needs no way round: it is
+/// one straight feed, or no move. The cells are those of the part's triangles.
+///
+/// Coordinates are in units of 0.01 mm, of at most 524,287 in magnitude.
+pub fn goes_straight(job: &Job, part: &Part, cells: &Cells, from: Pt3, to: Visit) -> bool
+    requires job_ok { IsJob job.now }
+    requires cells_ok { cells.now ≡ sorted_of part.now }
+    requires from_ok { IsInRange from }
+    requires to_ok { IsInRange to.at }
+    ensures { SaysStraight job.now part.now from to result }
+{
+    if to.at == from {
+        return true;
+    }
+    may_feed(job, part, cells, from, to)
+}
+
+/// Adds the moves that `link` adds, where it is known what `goes_straight` says of the link: for each
+/// part of which `straight` says it, they are the link's.
+///
+/// # Errors
+///
+/// Only want of memory. The first moves of the link may have been added then, or none.
+pub fn link_known(
+    job: &Job,
+    from: Pt3,
+    to: Visit,
+    straight: bool,
+    out: &mut Vec<Move>,
+) -> Result<(), WantOfMemory>
+    ensures ok { (part : List Tri) → SaysStraight job.now part from to straight
+        → OnOk result (AddsLink job.now part from to out.old.items out.new.items) }
+    ensures err { (part : List Tri) → SaysStraight job.now part from to straight
+        → OnErr result (BeginsLink job.now part from to out.old.items out.new.items) }
+{
     if to.at == from {
         return Ok(());
     }
-    if may_feed(job, part, cells, from, to) {
+    if straight {
         return add(feed_to(from, to.at), out);
     }
     detour(job, from, to.at, out)

@@ -1,5 +1,5 @@
-ghost use Rattle.mill_paths.specs.Visits.{FinishVisitsAreFree, RoughVisitsAreFree};
-ghost use Rattle.mill_paths.specs.Unique.{ManyFinishVisitsMakeMoves, ManyRoughVisitsMakeMoves, OnePlan, PlanIsLonger, RoundIsSafe};
+ghost use Rattle.mill_paths.specs.Visits.{FinishVisitsAreFree, LevelVisitsAreFree, RoughVisitsAreFree};
+ghost use Rattle.mill_paths.specs.Unique.{ManyFinishVisitsMakeMoves, ManyLevelVisitsMakeMoves, ManyRoughVisitsMakeMoves, OnePlan, PlanIsLonger, RoundIsSafe};
 
 /// A job and a part have at most one plan.
 pub fn one_plan()
@@ -11,10 +11,11 @@ pub fn plan_is_longer()
     ensures { PlanIsLonger }
 {}
 
-/// Where more than 1,000,000 visits of a path differ from the one before them, a plan has more than
+/// Where more than 1,000,000 visits of its roughing, of its levels or of its finishing path differ from the one before them, a plan has more than
 /// 1,000,000 moves.
 pub fn many_visits_make_moves()
     ensures rough { ManyRoughVisitsMakeMoves }
+    ensures level { ManyLevelVisitsMakeMoves }
     ensures finish { ManyFinishVisitsMakeMoves }
 {}
 
@@ -27,5 +28,6 @@ pub fn round_is_safe()
 /// and the cutter doesn't gouge there nor at any greater height.
 pub fn visits_are_free()
     ensures rough { RoughVisitsAreFree }
+    ensures level { LevelVisitsAreFree }
     ensures finish { FinishVisitsAreFree }
 {}

@@ -6,7 +6,7 @@ use crate::test_shape::{Shape, at, shape_of};
 use crate::{PathFault, Visit, finish_visits, rough_visits};
 use mill_base::{Box2, Cutter, Pt3, Tri};
 use mill_decimal::Snap;
-use mill_job::{Job, Place};
+use mill_job::{Job, Levels, Place};
 use std::test::Fail;
 
 /// A block from 0 to 300 over a square of 200, and nine nodes.
@@ -38,6 +38,7 @@ fn block_job(layer: i32, lift: i32) -> Job
         rough_raster: 100,
         layer,
         rough_stock: 0,
+        levels: Levels::NONE,
         snap: Snap::Nearest,
     }
 }
@@ -67,6 +68,7 @@ fn wide_job() -> Job
         rough_raster: 100,
         layer: 0,
         rough_stock: 0,
+        levels: Levels::NONE,
         snap: Snap::Nearest,
     }
 }
@@ -102,6 +104,7 @@ fn fine_job(raster: i32, rough_raster: i32, layer: i32) -> Job
         rough_raster,
         layer,
         rough_stock: 0,
+        levels: Levels::NONE,
         snap: Snap::Nearest,
     }
 }

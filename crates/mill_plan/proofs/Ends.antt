@@ -80,18 +80,21 @@ not_home job part visit ok is there = clash visit.at.z job.top job.clear is.unde
     clash : (z top clear : ℤ) → z <ℤ top → top ≤ℤ clear → z ≡ clear → ⊥
     clash z top clear under over e = omega (under, over, e, arith, ints)
 
-pub finish_ends : (job : Job) (part : List Tri) (moves : List Move) (plan : IsPlan job part moves) → IsJob job → HasFewNodes job → All (λ (v : Visit). IsEndOf moves v.at) plan.finish
+pub finish_ends : (job : Job) (part : List Tri) (moves : List Move) (plan : IsPlan job part moves) → IsJob job → HasFewNodes job
+    → All (λ (v : Visit). IsEndOf moves v.at) plan.are.finish
 finish_ends job part moves plan ok few =
-    let visits : List Visit = plan.rough ++ plan.finish in
+    let are = plan.are in
     let links : List Move = flat_map (λ (link : List Move). link) plan.tour.links in
-    let way : All (λ (v : Visit). IsOnTheWay (home job) links v.at) plan.finish =
-    behind (λ (v : Visit). IsOnTheWay (home job) links v.at) plan.rough plan.finish (links_end job part (home job) visits plan.tour.links plan.tour.are) in
-    let each : All (IsVisit job part) plan.finish = finish_ok job part plan.finish ok few plan.are_finish in
-    λ k d inside. ends (slice_index_or plan.finish k d) (each k d inside) (way k d inside)
+    let all : All (λ (v : Visit). IsOnTheWay (home job) links v.at) (are.rough ++ are.level ++ are.finish) =
+    subst (λ (vs : List Visit). All (λ (v : Visit). IsOnTheWay (home job) links v.at) vs) are.all (links_end job part (home job) plan.visits plan.tour.links plan.tour.are) in
+    let way : All (λ (v : Visit). IsOnTheWay (home job) links v.at) are.finish =
+    behind (λ (v : Visit). IsOnTheWay (home job) links v.at) (are.rough ++ are.level) are.finish all in
+    let each : All (IsVisit job part) are.finish = finish_ok job part are.finish ok few are.are_finish in
+    λ k d inside. ends (slice_index_or are.finish k d) (each k d inside) (way k d inside)
   where
     ends : (v : Visit) → IsVisit job part v → IsOnTheWay (home job) (flat_map (λ (link : List Move). link) plan.tour.links) v.at → IsEndOf moves v.at
     ends v is (inl there) = absurd (not_home job part v ok is there)
     ends v is (inr end) =
         subst (λ (ms : List Move). IsEndOf ms v.at) (sym plan.joined)
-        (ends_left plan.toured (way_home job (last_place (home job) (plan.rough ++ plan.finish))) v.at
+        (ends_left plan.toured (way_home job (last_place (home job) plan.visits)) v.at
         (subst (λ (ms : List Move). IsEndOf ms v.at) (sym plan.tour.joined) end))

@@ -1,4 +1,5 @@
 mod NodeLimits
+mod Feeding
 mod Touring
 mod Planning
 mod Good
@@ -7,3 +8,4 @@ mod Reach
 mod Telling
 mod Answering
 mod Never
+mod SampleLevels

@@ -4,6 +4,7 @@ ghost use Rattle.mill_plan.specs.Faults.{plan_fault_of};
 ghost use Rattle.mill_plan.specs.declared.fault.PlanFault.TheVariants.{WantOfMemory};
 
 use mill_paths::PathFault;
+use std::alloc::AllocError;
 use thiserror::Error;
 
 /// Why there is no program. Rows and columns are counted from 0.
@@ -39,6 +40,14 @@ impl From<PathFault> for PlanFault {
             PathFault::TooManyVisits => PlanFault::TooManyMoves,
             PathFault::WantOfMemory => PlanFault::WantOfMemory,
         }
+    }
+}
+
+impl From<AllocError> for PlanFault {
+    ghost from_gives = { λ _ e. e ≡ WantOfMemory };
+
+    fn from(_: AllocError) -> Self {
+        PlanFault::WantOfMemory
     }
 }
 

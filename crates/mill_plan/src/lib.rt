@@ -4,10 +4,11 @@
 //! writes the program's text. It promises that the answer is the planner's, for any number of workers,
 //! and that there is at most one; that a program that it planned reads back as the plan's moves and is
 //! accepted; and that no plan is rejected but for stock that it leaves. Definitions: `specs/Plans` are
-//! the answers; `specs/Faults` and `specs/Steps` serve the functions within.
+//! the answers; `specs/Faults`, `specs/inner/Feeds` and `specs/inner/Steps` serve the functions within.
 #![tactic(auto)]
 
 mod fault;
+mod feeds;
 mod laws;
 mod moves;
 mod planned;

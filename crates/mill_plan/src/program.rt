@@ -22,12 +22,13 @@ use std::thread::Threads;
 
 /// Plans a program that cuts the job's part, and verifies it.
 ///
-/// The cutter starts at the job's home, comes to the roughing and then to the finishing visits
-/// (mill_paths), each by its link, and goes home. The text is that of `mill_post`; it reads back as
-/// these moves, which the verifier accepts, with the numbers that are told.
+/// The cutter starts at the job's home, comes to the visits of its roughing, then to those along the
+/// waterlines at its levels, each closed one round to its first point again, and then to those of its
+/// finishing path (mill_paths), each by its link, and goes home. The text is that of `mill_post`; it
+/// reads back as these moves, which the verifier accepts, with the numbers that are told.
 ///
-/// The verifying is handed to `workers` threads, from 1 to 64, and the drop heights to as many as the
-/// machine has; the answer doesn't depend on their number. The part is nowhere higher than the uncut
+/// The verifying is handed to `workers` threads, from 1 to 64; the drop heights, the waterlines and the
+/// straight feeds to as many as the machine has; the answer doesn't depend on their number. The part is nowhere higher than the uncut
 /// stock. Lengths are in units of 0.01 mm.
 ///
 /// # Errors

@@ -1,14 +1,14 @@
-ghost use Rattle.std.specs.Prelude.{◌≡◌, ◌≤ℤ◌, pos, IfOk};
+ghost use Rattle.std.specs.Prelude.{◌≡◌, ◌≤ℤ◌, ◌<ℤ◌, pos, IfOk};
 ghost use Rattle.mill_base.specs.Covers.{IsUnder};
 ghost use Rattle.mill_base.specs.Numbers.{Within};
 ghost use Rattle.mill_base.specs.declared.limits.TheConstants.{MAX_TEXT_COORDINATE};
 ghost use Rattle.mill_base.specs.Points.{point_at};
-ghost use Rattle.mill_job.specs.Jobs.{IsJob};
+ghost use Rattle.mill_job.specs.Jobs.{AreLevels, IsJob};
 
 use crate::{PlanFault, plan};
 use mill_base::{Box2, Cutter, Pt3, Tri, WantOfMemory};
 use mill_decimal::Snap;
-use mill_job::{Job, Place};
+use mill_job::{Job, Levels, Place};
 use mill_part::Part;
 use std::alloc::Global;
 use std::test::Fail;
@@ -43,6 +43,7 @@ fn block_job(layer: i32, lift: i32) -> Job
         rough_raster: 100,
         layer,
         rough_stock: 0,
+        levels: Levels::NONE,
         snap: Snap::Nearest,
     }
 }
@@ -79,8 +80,70 @@ fn fine_job(raster: i32, rough_raster: i32, layer: i32) -> Job
         rough_raster,
         layer,
         rough_stock: 0,
+        levels: Levels::NONE,
         snap: Snap::Nearest,
     }
+}
+
+/// A block from 0 to 400 over a square of 1,000, and 121 columns and finishing nodes in it.
+fn wide_job(levels: Levels) -> Job
+    requires levels_ok { AreLevels (pos 0) (pos 400) levels }
+    ensures job { IsJob result }
+    ensures top { result.top ≡ pos 400 }
+{
+    Job {
+        cutter: Cutter::Flat { radius: 100 },
+        floor: 0,
+        top: 400,
+        clear: 400,
+        area: Box2 {
+            x0: 0,
+            y0: 0,
+            x1: 1000,
+            y1: 1000,
+        },
+        home: Place { x: 0, y: 0 },
+        pitch: 100,
+        sample: 50,
+        allowance: 50,
+        band: 0,
+        lift: 0,
+        raster: 100,
+        rough_raster: 100,
+        layer: 0,
+        rough_stock: 0,
+        levels,
+        snap: Snap::Nearest,
+    }
+}
+
+/// One level.
+fn level(z: i32) -> Levels
+    requires least { pos 0 ≤ℤ z }
+    requires most { z <ℤ pos 400 }
+    ensures { AreLevels (pos 0) (pos 400) result }
+{
+    let mut levels = Levels::NONE;
+    levels.push(z);
+    levels
+}
+
+/// The part of one point, at the height 300.
+fn peak(alloc: Global) -> Result<Part, WantOfMemory>
+    ensures { IfOk result (λ part. IsUnder part (pos 400)) }
+{
+    let place = Pt3 {
+        x: 500,
+        y: 500,
+        z: 300,
+    };
+    let mut tris = Vec::new(alloc);
+    tris.push(Tri {
+        a: place,
+        b: place,
+        c: place,
+    })?;
+    Ok(Part::new(tris))
 }
 
 fn corner(x: i32, y: i32) -> Pt3
@@ -127,6 +190,25 @@ fn plans_a_plate(rt: HostRuntime) -> Result<(), Fail> {
         assert!(rt; planned.program.ends_with(end));
         assert_eq!(rt; planned.moves, moves);
         assert_eq!(rt; planned.columns, 16);
+        assert_eq!(rt; planned.most_left, 0);
+    }
+    Ok(())
+}
+
+// At the level of the floor four places lie round the point, and no straight feed leads from one to the
+// next: two moves to the first, three to each other and to the first again, and three on to the
+// finishing path, whose own first move is one down from home where there is no level.
+#[test]
+fn follows_the_waterline_round_a_point(rt: HostRuntime) -> Result<(), Fail> {
+    let alloc = rt.alloc();
+    let part = peak(alloc)?;
+    let around: &[u8] = b"%\nG17 G21 G90\nG0 X4.00 Y5.00 Z4.00\nG1 X4.00 Y5.00 Z0.00\n";
+    let finishing: &[u8] = b"%\nG17 G21 G90\nG1 X0.00 Y0.00 Z0.00\nG1 X1.00 Y0.00 Z0.00\n";
+    for (levels, start, moves) in [(level(0), around, 151), (Levels::NONE, finishing, 135)] {
+        let planned = plan(&rt, alloc, &wide_job(levels), &part, 2)?;
+        assert!(rt; planned.program.starts_with(start));
+        assert_eq!(rt; planned.moves, moves);
+        assert_eq!(rt; planned.columns, 121);
         assert_eq!(rt; planned.most_left, 0);
     }
     Ok(())

@@ -75,8 +75,8 @@ impl Core {
     }
 
     /// The least value: the number of turns, or the least turn to which a worker has lowered it. It is
-    /// never under the least turn at which a piece fails, and once nothing is left to be done it is
-    /// that turn.
+    /// never under the least turn at which a piece fails. Where the spans fit, it is that turn once
+    /// nothing is left to be done.
     pub fn least(&self) -> u64
         ensures value { result ≡ self.now.least }
         ensures caused { IsCaused self.now }
@@ -110,10 +110,10 @@ impl Core {
 
     /// Does what these events say, one after the other. No memory is taken.
     ///
-    /// Each number under the claim that is a piece's was drawn once, and no other. Pieces are home or
-    /// held by one worker, and where the spans fit, on their turns. The least value doesn't rise, and
-    /// is never under the least turn at which a piece fails; once nothing is left to be done it is that
-    /// turn.
+    /// Each number from the claim on, as it was, that is under it as it is then and is a piece's, is
+    /// drawn once, and no other. Pieces are home or held by one worker. The least value doesn't rise,
+    /// and is never under the least turn at which a piece fails. Where the spans fit, pieces are on
+    /// their turns, and once nothing is left to be done the least value is that turn.
     pub fn run(&mut self, events: &[Event])
         ensures state { self.new ≡ state_after self.old events.now }
         ensures same { SameGiven self.old self.new }

@@ -1,5 +1,5 @@
 -- A leaf that a rejection names is one of the last of its move, and blocked.
-use Rattle.std.specs.Prelude.{◌≡◌, ℕ, ◌<◌, List, length, take, refl}
+use Rattle.std.specs.Prelude.{◌≡◌, ℕ, ◌<◌, List, length, take}
 use Rattle.std.proofs.Common.{subst}
 use Rattle.mill_base.specs.Points.{point_tri, tri_at}
 use Rattle.mill_base.specs.Ranges.{MoveInRange, MovesInRange}

@@ -13,7 +13,7 @@ use Rattle.mill_dexel.specs.Tops.{top_after}
 use Rattle.mill_part.proofs.Below.{covered_below}
 use Rattle.mill_verify.specs.Tests.{IsCut}
 use Rattle.mill_verify.specs.Verdicts.{IsLeftOver}
-use Rattle.mill_verify.specs.inner.Firsts.{IsCutTo, IsMostWith, IsRowLeft, IsRowUncut, IsMostOf, LeftInRow, AreRowsLeft, IsFirstUncutOf, IsBoth, IsStockLeft, IsFirstUncut}
+use Rattle.mill_verify.specs.inner.Firsts.{IsCutTo, IsMostWith, IsRowLeft, IsRowUncut, IsMostOf, LeftInRow, AreRowsLeft, IsFirstUncutOf, AreRowsTold, IsBoth, IsStockLeft, IsFirstUncut}
 use Rattle.mill_verify.specs.declared.left.Uncut.{Uncut}
 use Rattle.mill_verify.proofs.Most.{most_none, most_more, most_stays, most_both, below_suc}
 
@@ -204,20 +204,16 @@ first_uncut_all {job} {part} {moves} {j} e h = record {
   shown = h.row.shown;
 }
 
--- what the test of a range of rows says
-abbrev pub AreTold : Job → List Tri → List Move → ℕ → ℕ → Result ℤ Uncut → Type 0
-AreTold job part moves s e told = MatchResult told (AreRowsLeft job part moves s e) (λ uncut. IsFirstUncutOf job part moves s e uncut.row uncut.col uncut.top)
-
 -- what two ranges that meet say together is what their rows say
-pub both_told : (job : Job) (part : List Tri) (moves : List Move) (s m e : ℕ) (left right told : Result ℤ Uncut) → s ≤ m → m ≤ e → AreTold job part moves s m left → AreTold job part moves m e right
-    → IsBoth left right told → AreTold job part moves s e told
+pub both_told : (job : Job) (part : List Tri) (moves : List Move) (s m e : ℕ) (left right told : Result ℤ Uncut) → s ≤ m → m ≤ e → AreRowsTold job part moves s m left → AreRowsTold job part moves m e right
+    → IsBoth left right told → AreRowsTold job part moves s e told
 both_told job part moves s m e (Err uncut) right told first second l r is =
-    subst (AreTold job part moves s e) (sym is) (record { start = l.start; there = within l.there; before = l.before; row = l.row })
+    subst (AreRowsTold job part moves s e) (sym is) (record { start = l.start; there = within l.there; before = l.before; row = l.row })
   where
     within : uncut.row < m → uncut.row < e
     within h = omega (h, second, arith)
 both_told job part moves s m e (Ok most) (Err uncut) told first second l r is =
-    subst (AreTold job part moves s e) (sym is) (record {
+    subst (AreRowsTold job part moves s e) (sym is) (record {
       start = after r.start;
       there = r.there;
       before = λ a b low less c. elim (cases_lt a m) [ inl in_left ↦ l.cut a b low in_left c | inr in_right ↦ r.before a b in_right less c ];
@@ -226,10 +222,10 @@ both_told job part moves s m e (Ok most) (Err uncut) told first second l r is =
   where
     after : m ≤ uncut.row → s ≤ uncut.row
     after h = omega (h, first, arith)
-both_told job part moves s m e (Ok most) (Ok other) told first second l r is = subst (AreTold job part moves s e) (sym is) (rows_left_both s m e most other first second l r)
+both_told job part moves s m e (Ok most) (Ok other) told first second l r is = subst (AreRowsTold job part moves s e) (sym is) (rows_left_both s m e most other first second l r)
 
 -- what is said of all rows is said of the stock
-pub stock_told : (job : Job) (part : List Tri) (moves : List Move) (n : ℕ) (told : Result ℤ Uncut) → n ≡ row_count job → 0 < row_count job → AreTold job part moves 0 n told
+pub stock_told : (job : Job) (part : List Tri) (moves : List Move) (n : ℕ) (told : Result ℤ Uncut) → n ≡ row_count job → 0 < row_count job → AreRowsTold job part moves 0 n told
     → MatchResult told (IsStockLeft job part moves) (λ uncut. IsFirstUncut job part moves uncut.row uncut.col uncut.top)
 stock_told job part moves n (Ok left) all some h = stock_left_all all some h
 stock_told job part moves n (Err uncut) all some h = first_uncut_all all h

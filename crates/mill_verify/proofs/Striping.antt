@@ -7,7 +7,7 @@ use Rattle.mill_base.specs.declared.points.Tri.{Tri}
 use Rattle.mill_base.specs.declared.motion.Move.{Move}
 use Rattle.mill_job.specs.declared.job.Job.{Job}
 use Rattle.mill_verify.specs.Tests.{ClearsPart}
-use Rattle.mill_verify.specs.inner.Firsts.{ClearsBetween, IsFirstPartFail, stripe_of, IsInStripes, AreStripes, ClearsStripesTo, ClearsStripes, IsFirstStripesFail, IsEarlierFail}
+use Rattle.mill_verify.specs.inner.Firsts.{ClearsBetween, IsFirstPartFail, stripe_of, IsInStripes, AreStripes, ClearsStripesTo, ClearsStripes, IsFirstStripesFail, AreStripesTold, IsEarlierFail}
 use Rattle.mill_verify.specs.declared.gouge.PartFail.{PartFail}
 use Rattle.mill_verify.specs.declared.gouge.Stripes.{Stripes}
 
@@ -128,15 +128,11 @@ module _ (job : Job) (part : List Tri) (moves : List Move) where
       some : stripes.first < stripes.last
       some = ok.some
 
-  -- what the test of some stripes says
-  abbrev pub IsFirstAmong : Stripes → Option PartFail → Type 0
-  IsFirstAmong stripes fail = MatchOption fail (ClearsStripes job part moves stripes) (IsFirstStripesFail job part moves stripes)
-
   -- all stripes are all moves
   all_in : (s e w k : ℕ) → 1 ≤ w → s ≤ k → IsInStripes (record { start = s; «end» = e; count = w; first = 0; last = w }) k
   all_in s e w k some h = record { start = h; first = omega arith; last = mod-lt ((k - s) / 64) (omega (some, arith)) }
 
-  pub stripes_all : (s e w : ℕ) (fail : Option PartFail) → 1 ≤ w → IsFirstAmong (record { start = s; «end» = e; count = w; first = 0; last = w }) fail
+  pub stripes_all : (s e w : ℕ) (fail : Option PartFail) → 1 ≤ w → AreStripesTold job part moves (record { start = s; «end» = e; count = w; first = 0; last = w }) fail
       → MatchOption fail (ClearsBetween job part moves s e) (IsFirstPartFail job part moves s e)
   stripes_all s e w None some h = λ k low high. h k high (all_in s e w k some low)
   stripes_all s e w (Some fail) some h = record {
@@ -186,18 +182,18 @@ module _ (job : Job) (part : List Tri) (moves : List Move) where
         up x y z h k = omega (h, k, arith)
 
     -- the earlier answer of two halves is that of the whole
-    pub halves_first : (left right told : Option PartFail) → IsFirstAmong left_half left → IsFirstAmong right_half right → IsEarlierFail left right told → IsFirstAmong whole told
-    halves_first None None told l r is = subst (IsFirstAmong whole) (sym is) (halves_clear e l r)
-    halves_first None (Some other) told l r is = subst (IsFirstAmong whole) (sym is) (right_whole other (clear_before left_half e other.at (at_most r.there) l) r)
+    pub halves_first : (left right told : Option PartFail) → AreStripesTold job part moves left_half left → AreStripesTold job part moves right_half right → IsEarlierFail left right told → AreStripesTold job part moves whole told
+    halves_first None None told l r is = subst (AreStripesTold job part moves whole) (sym is) (halves_clear e l r)
+    halves_first None (Some other) told l r is = subst (AreStripesTold job part moves whole) (sym is) (right_whole other (clear_before left_half e other.at (at_most r.there) l) r)
       where
         at_most : other.at < e → other.at ≤ e
         at_most h = omega (h, arith)
-    halves_first (Some fail) None told l r is = subst (IsFirstAmong whole) (sym is) (left_whole fail l (clear_before right_half e fail.at (at_most l.there) r))
+    halves_first (Some fail) None told l r is = subst (AreStripesTold job part moves whole) (sym is) (left_whole fail l (clear_before right_half e fail.at (at_most l.there) r))
       where
         at_most : fail.at < e → fail.at ≤ e
         at_most h = omega (h, arith)
-    halves_first (Some fail) (Some other) told l r (inl is) = subst (IsFirstAmong whole) (sym is.0) (left_whole fail l (clear_before right_half other.at fail.at is.1 r.before))
-    halves_first (Some fail) (Some other) told l r (inr is) = subst (IsFirstAmong whole) (sym is.0) (right_whole other (clear_before left_half fail.at other.at (at_most is.1) l.before) r)
+    halves_first (Some fail) (Some other) told l r (inl is) = subst (AreStripesTold job part moves whole) (sym is.0) (left_whole fail l (clear_before right_half other.at fail.at is.1 r.before))
+    halves_first (Some fail) (Some other) told l r (inr is) = subst (AreStripesTold job part moves whole) (sym is.0) (right_whole other (clear_before left_half fail.at other.at (at_most is.1) l.before) r)
       where
         at_most : other.at < fail.at → other.at ≤ fail.at
         at_most h = omega (h, arith)

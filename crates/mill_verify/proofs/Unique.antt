@@ -1,41 +1,22 @@
 -- There is at most one verdict.
-use Rattle.std.specs.Prelude.{◌≡◌, ℕ, zero, suc, ◌+◌, ◌*◌, ◌<◌, ℤ, ◌≤ℤ◌, List, length, take}
+use Rattle.std.specs.Prelude.{◌≡◌, ℕ, ◌<◌, ℤ, ◌≤ℤ◌, List, length, take}
 use Rattle.std.proofs.Common.{sym, ◌∙◌, ap, subst, inl, inr, arith}
 use Rattle.std.proofs.lemmas.Int.{ints}
 use Rattle.mill_base.specs.declared.points.Tri.{Tri}
 use Rattle.mill_base.specs.declared.motion.Move.{Move}
-use Rattle.mill_base.specs.declared.cutter.Cutter.{Cutter}
 use Rattle.mill_base.specs.Points.{point_tri, tri_at}
 use Rattle.mill_sweep.specs.declared.leaf.Leaf.{Leaf}
-use Rattle.mill_sweep.specs.Halving.{FailsAt, LeadsTo}
-use Rattle.mill_sweep.specs.Leaves.{depth_of}
 use Rattle.mill_job.specs.declared.job.Job.{Job}
 use Rattle.mill_job.specs.Columns.{IsBefore}
 use Rattle.mill_dexel.specs.Tops.{top_point}
 use Rattle.mill_verify.specs.Tests.{IsOverFloor, ClearsPart, IsGood, GoodBefore}
 use Rattle.mill_dexel.specs.Turns.{move_at}
+use Rattle.mill_dexel.proofs.RunLaws.{same_number, leaf_is_one}
 use Rattle.mill_verify.specs.Verdicts.{FailsFloor, FailsPart, FailsStock, FailsCut, Accepts, IsRejection, IsVerdict}
 use Rattle.mill_verify.specs.declared.verdict.Verdict.{Verdict}
 use Rattle.mill_verify.specs.declared.verdict.Verdict.TheVariants.{Accept, Reject}
 use Rattle.mill_verify.specs.declared.verdict.Reason.{Reason}
 use Rattle.mill_verify.specs.declared.verdict.Reason.TheVariants.{Floor, Gouge, Rapid as RapidCut, Left}
-
-same_number : (a b : ℕ) → ¬ (a < b) → ¬ (b < a) → a ≡ b
-same_number a b h k = omega (h, k, arith)
-
-same_leaf : (a b : Leaf) → a.d ≡ b.d → a.k ≡ b.k → a ≡ b
-same_leaf a b p q = ap (λ d. record { d = d; k = a.k }) p ∙ ap (λ k. record { d = b.d; k = k }) q
-
--- the failing leaf is one, the end of the one way from the whole move: where the left half fails, it doesn't also pass
-leads_same : (cutter : Cutter) (m : Move) (tri : Tri) (more d k : ℕ) (a b : Leaf) → LeadsTo cutter m tri more d k a → LeadsTo cutter m tri more d k b → a ≡ b
-leads_same cutter m tri zero d k a b h g = same_leaf a b (h.0 ∙ sym g.0) (h.1 ∙ sym g.1)
-leads_same cutter m tri (suc more) d k a b (inl h) (inl g) = leads_same cutter m tri more (d + 1) (2 * k) a b h.1 g.1
-leads_same cutter m tri (suc more) d k a b (inl h) (inr g) = absurd (h.0 g.0)
-leads_same cutter m tri (suc more) d k a b (inr h) (inl g) = absurd (g.0 h.0)
-leads_same cutter m tri (suc more) d k a b (inr h) (inr g) = leads_same cutter m tri more (d + 1) (2 * k + 1) a b h.1 g.1
-
-fails_same : (cutter : Cutter) (m : Move) (tri : Tri) (a b : Leaf) → FailsAt cutter m tri a → FailsAt cutter m tri b → a ≡ b
-fails_same cutter m tri a b h g = leads_same cutter m tri (depth_of m) 0 0 a b h.leads g.leads
 
 not_before : (j i a b : ℕ) → ¬ IsBefore j i a b → ¬ IsBefore a b j i → (j ≡ a) × (i ≡ b)
 not_before j i a b h g =
@@ -78,7 +59,7 @@ module _ (job : Job) (part : List Tri) (moves : List Move) where
       let g2 : FailsPart job part moves k u b = subst (λ (n : ℕ). FailsPart job part moves n u b) (sym e) g in
       let f : t ≡ u = one_gouge k t u a b h g2 in
       let g3 : FailsPart job part moves k t b = subst (λ (n : ℕ). FailsPart job part moves k n b) (sym f) g2 in
-      let q : a ≡ b = fails_same job.cutter (move_at moves k) (tri_at part t) a b h.fails g3.fails in
+      let q : a ≡ b = leaf_is_one job.cutter (move_at moves k) (tri_at part t) a b h.fails g3.fails in
       ap (λ (n : ℕ). Gouge n t a) e ∙ ap (λ (n : ℕ). Gouge l n a) f ∙ ap (λ (x : Leaf). Gouge l u x) q
 
   same_rapid : (k l j i c d : ℕ) (a b : Leaf) → k ≡ l → FailsStock job part moves k j i a → FailsStock job part moves l c d b → RapidCut k j i a ≡ RapidCut l c d b
@@ -87,7 +68,7 @@ module _ (job : Job) (part : List Tri) (moves : List Move) where
       let f = one_column k j i c d a b h g2 in
       let g3 : FailsStock job part moves k j d b = subst (λ (n : ℕ). FailsStock job part moves k n d b) (sym f.0) g2 in
       let g4 : FailsStock job part moves k j i b = subst (λ (n : ℕ). FailsStock job part moves k j n b) (sym f.1) g3 in
-      let q : a ≡ b = fails_same job.cutter (move_at moves k) (point_tri (top_point job (take k moves) j i)) a b h.fails g4.fails in
+      let q : a ≡ b = leaf_is_one job.cutter (move_at moves k) (point_tri (top_point job (take k moves) j i)) a b h.fails g4.fails in
       ap (λ (n : ℕ). RapidCut n j i a) e ∙ ap (λ (n : ℕ). RapidCut l n i a) f.0 ∙ ap (λ (n : ℕ). RapidCut l c n a) f.1 ∙ ap (λ (x : Leaf). RapidCut l c d x) q
 
   same_left : (j i c d : ℕ) (s t : ℤ) → FailsCut job part moves j i s → FailsCut job part moves c d t → Left j i s ≡ Left c d t

@@ -3,7 +3,8 @@ ghost use Rattle.mill_base.specs.declared.limits.TheConstants.{MAX_MOVES, MAX_WO
 ghost use Rattle.mill_base.specs.Ranges.{MovesInRange};
 ghost use Rattle.mill_cells.specs.Sorted.{sorted_of};
 ghost use Rattle.mill_job.specs.Jobs.{IsJob};
-ghost use Rattle.mill_verify.specs.inner.Firsts.{AreStripes, ClearsBetween, ClearsStripes, IsEarlierFail, IsFirstPartFail, IsFirstStripesFail};
+ghost use Rattle.mill_verify.specs.inner.Firsts.{AreStripesTold, ClearsBetween, IsEarlierFail, IsFirstPartFail};
+ghost use Rattle.mill_verify.specs.inner.Readiness.{AreStripesReady};
 ghost use denote.Param.Send.{IsSync};
 
 use mill_base::Move;
@@ -93,15 +94,8 @@ fn first_in_stripes<R: Threads + Sync>(
     moves: &[Move],
     stripes: Stripes,
 ) -> Option<PartFail>
-    requires job_ok { IsJob job.now }
-    requires cells_ok { cells.now ≡ sorted_of part.now }
-    requires moves_ok { MovesInRange moves.now }
-    requires few { length moves.now ≤ MAX_MOVES }
-    requires stripes_ok { AreStripes moves.now stripes }
-    ensures { MatchOption
-        result
-        (ClearsStripes job.now part.now moves.now stripes)
-        (IsFirstStripesFail job.now part.now moves.now stripes) }
+    requires ready { AreStripesReady job.now part.now cells.now moves.now stripes }
+    ensures { AreStripesTold job.now part.now moves.now stripes result }
 {
     let some = stripes.last - stripes.first;
     if some <= 1 {
@@ -120,27 +114,13 @@ fn first_in_stripes<R: Threads + Sync>(
         rt,
         || -> Option<PartFail>
             requires sync { IsSync R.row }
-            requires job_ok { IsJob job.now }
-            requires cells_ok { cells.now ≡ sorted_of part.now }
-            requires moves_ok { MovesInRange moves.now }
-            requires few { length moves.now ≤ MAX_MOVES }
-            requires stripes_ok { AreStripes moves.now left }
-            ensures { MatchOption
-                result
-                (ClearsStripes job.entry.now part.entry.now moves.entry.now left)
-                (IsFirstStripesFail job.entry.now part.entry.now moves.entry.now left) }
+            requires ready { AreStripesReady job.now part.now cells.now moves.now left }
+            ensures { AreStripesTold job.entry.now part.entry.now moves.entry.now left result }
         { first_in_stripes(rt, job, part, cells, moves, left) },
         || -> Option<PartFail>
             requires sync { IsSync R.row }
-            requires job_ok { IsJob job.now }
-            requires cells_ok { cells.now ≡ sorted_of part.now }
-            requires moves_ok { MovesInRange moves.now }
-            requires few { length moves.now ≤ MAX_MOVES }
-            requires stripes_ok { AreStripes moves.now right }
-            ensures { MatchOption
-                result
-                (ClearsStripes job.entry.now part.entry.now moves.entry.now right)
-                (IsFirstStripesFail job.entry.now part.entry.now moves.entry.now right) }
+            requires ready { AreStripesReady job.now part.now cells.now moves.now right }
+            ensures { AreStripesTold job.entry.now part.entry.now moves.entry.now right result }
         { first_in_stripes(rt, job, part, cells, moves, right) },
     );
     earlier(left_fail, right_fail)
@@ -170,16 +150,9 @@ fn scan_stripe(
     moves: &[Move],
     stripe: Stripes,
 ) -> Option<PartFail>
-    requires job_ok { IsJob job.now }
-    requires cells_ok { cells.now ≡ sorted_of part.now }
-    requires moves_ok { MovesInRange moves.now }
-    requires few { length moves.now ≤ MAX_MOVES }
-    requires stripe_ok { AreStripes moves.now stripe }
+    requires ready { AreStripesReady job.now part.now cells.now moves.now stripe }
     requires one { stripe.last ≤ stripe.first + 1 }
-    ensures { MatchOption
-        result
-        (ClearsStripes job.now part.now moves.now stripe)
-        (IsFirstStripesFail job.now part.now moves.now stripe) }
+    ensures { AreStripesTold job.now part.now moves.now stripe result }
 {
     let turn = stripe.count * BLOCK;
     let mut block = stripe.start + stripe.first * BLOCK;

@@ -6,7 +6,8 @@ ghost use Rattle.mill_cells.specs.Sorted.{sorted_of};
 ghost use Rattle.mill_job.specs.Jobs.{IsJob, IsFrom};
 ghost use Rattle.mill_job.specs.Columns.{row_count};
 ghost use Rattle.mill_verify.specs.inner.Stock.{IsRow, IsStock};
-ghost use Rattle.mill_verify.specs.inner.Firsts.{AreRowsLeft, IsBoth, IsCutTo, IsFirstUncut, IsFirstUncutOf, IsMostWith, IsRowLeft, IsRowUncut, IsStockLeft};
+ghost use Rattle.mill_verify.specs.inner.Firsts.{AreRowsTold, IsBoth, IsCutTo, IsFirstUncut, IsMostWith, IsRowLeft, IsRowUncut, IsStockLeft};
+ghost use Rattle.mill_verify.specs.inner.Readiness.{AreRowsReady};
 ghost use denote.Param.Send.{IsSync};
 
 use mill_base::Move;
@@ -63,24 +64,8 @@ fn rows_left<R: Threads + Sync>(
     end: usize,
     workers: u32,
 ) -> Result<i32, Uncut>
-    requires job_ok { IsJob job.now }
-    requires cells_ok { cells.now ≡ sorted_of part.now }
-    requires rows_ok { IsStock job.now moves.now rows.now }
-    requires order { start ≤ end }
-    requires there { end ≤ length rows.now }
-    requires few_workers { workers ≤ MAX_WORKERS }
-    ensures { MatchResult
-        result
-        (AreRowsLeft job.now part.now moves.now start end)
-        (λ uncut. IsFirstUncutOf
-        job.now
-        part.now
-        moves.now
-        start
-        end
-        uncut.row
-        uncut.col
-        uncut.top) }
+    requires ready { AreRowsReady job.now part.now cells.now moves.now rows.now start end workers }
+    ensures { AreRowsTold job.now part.now moves.now start end result }
 {
     if workers <= 1 || end - start <= 1 {
         return scan_rows(job, part, cells, moves, rows, start, end);
@@ -92,24 +77,8 @@ fn rows_left<R: Threads + Sync>(
         rt,
         || -> Result<i32, Uncut>
             requires sync { IsSync R.row }
-            requires job_ok { IsJob job.now }
-            requires cells_ok { cells.now ≡ sorted_of part.now }
-            requires rows_ok { IsStock job.now moves.now rows.now }
-            requires order { start ≤ middle }
-            requires there { middle ≤ length rows.now }
-            requires few_workers { left_workers ≤ MAX_WORKERS }
-            ensures { MatchResult
-                result
-                (AreRowsLeft job.entry.now part.entry.now moves.entry.now start middle)
-                (λ uncut. IsFirstUncutOf
-                job.entry.now
-                part.entry.now
-                moves.entry.now
-                start
-                middle
-                uncut.row
-                uncut.col
-                uncut.top) }
+            requires ready { AreRowsReady job.now part.now cells.now moves.now rows.now start middle left_workers }
+            ensures { AreRowsTold job.entry.now part.entry.now moves.entry.now start middle result }
         {
             rows_left(
                 rt,
@@ -125,24 +94,8 @@ fn rows_left<R: Threads + Sync>(
         },
         || -> Result<i32, Uncut>
             requires sync { IsSync R.row }
-            requires job_ok { IsJob job.now }
-            requires cells_ok { cells.now ≡ sorted_of part.now }
-            requires rows_ok { IsStock job.now moves.now rows.now }
-            requires order { middle ≤ end }
-            requires there { end ≤ length rows.now }
-            requires few_workers { right_workers ≤ MAX_WORKERS }
-            ensures { MatchResult
-                result
-                (AreRowsLeft job.entry.now part.entry.now moves.entry.now middle end)
-                (λ uncut. IsFirstUncutOf
-                job.entry.now
-                part.entry.now
-                moves.entry.now
-                middle
-                end
-                uncut.row
-                uncut.col
-                uncut.top) }
+            requires ready { AreRowsReady job.now part.now cells.now moves.now rows.now middle end right_workers }
+            ensures { AreRowsTold job.entry.now part.entry.now moves.entry.now middle end result }
         {
             rows_left(
                 rt,
@@ -184,18 +137,7 @@ fn scan_rows(
     requires rows_ok { IsStock job.now moves.now rows.now }
     requires order { start ≤ end }
     requires there { end ≤ length rows.now }
-    ensures { MatchResult
-        result
-        (AreRowsLeft job.now part.now moves.now start end)
-        (λ uncut. IsFirstUncutOf
-        job.now
-        part.now
-        moves.now
-        start
-        end
-        uncut.row
-        uncut.col
-        uncut.top) }
+    ensures { AreRowsTold job.now part.now moves.now start end result }
 {
     let mut most = 0;
     for index in start..end {

@@ -11,7 +11,7 @@ use super::*;
 use crate::fail::RowFail;
 use mill_base::{Box2, Cutter, Kind, Pt3, WantOfMemory};
 use mill_decimal::Snap;
-use mill_job::Place;
+use mill_job::{Levels, Place};
 use mill_sweep::Leaf;
 use std::alloc::Global;
 
@@ -41,6 +41,7 @@ fn five_rows() -> Job
         rough_raster: 100,
         layer: 0,
         rough_stock: 0,
+        levels: Levels::NONE,
         snap: Snap::Nearest,
     }
 }

@@ -1,6 +1,5 @@
 -- What the planner's steps come to. It serves the functions within.
-use Rattle.std.specs.Prelude.{◌≡◌, ◌⊎◌, ◌<◌, List, [], ◌++◌, length, ⊤}
-use Rattle.mill_base.specs.declared.points.Pt3.{Pt3}
+use Rattle.std.specs.Prelude.{◌≡◌, ◌⊎◌, ◌<◌, List, ◌++◌, length, ⊤}
 use Rattle.mill_base.specs.declared.points.Tri.{Tri}
 use Rattle.mill_base.specs.declared.motion.Move.{Move}
 use Rattle.mill_job.specs.Columns.{home}
@@ -21,24 +20,11 @@ IsNodesFault job TooManyMoves = ⊥
 IsNodesFault job (Uncut row col top) = ⊥
 IsNodesFault job WantOfMemory = ⊥
 
--- the list gets the moves of a tour
-pub record AddsTour (job : Job) (part : List Tri) (from : Pt3) (visits : List Visit) (old new : List Move) : Type 0 where
-  pub added : List Move
-  pub tour : IsTour job part from visits added
-  pub joined : new ≡ old ++ added
-
--- with the links to the first of the visits the list has too many moves
-pub record IsTourOver (job : Job) (part : List Tri) (from : Pt3) (visits : List Visit) (old : List Move) : Type 0 where
+-- the links to the first of the visits, from home, are too many moves
+pub record IsTourOver (job : Job) (part : List Tri) (visits : List Visit) : Type 0 where
   pub begun : List Move
-  pub begins : BeginsTour job part from visits begun
-  pub many : MAX_MOVES < length (old ++ begun)
-
--- a fault of a tour tells that there are too many moves, or nothing
-abbrev pub IsTourFault : Job → List Tri → Pt3 → List Visit → List Move → PlanFault → Type 0
-IsTourFault job part from visits old (TooManyNodes nodes) = ⊥
-IsTourFault job part from visits old TooManyMoves = IsTourOver job part from visits old
-IsTourFault job part from visits old (Uncut row col top) = ⊥
-IsTourFault job part from visits old WantOfMemory = ⊤
+  pub begins : BeginsTour job part (home job) visits begun
+  pub many : MAX_MOVES < length begun
 
 -- the moves go from home through the visits, and home again
 pub record IsRound (job : Job) (part : List Tri) (visits : List Visit) (moves : List Move) : Type 0 where
@@ -55,6 +41,6 @@ pub record IsLongRound (job : Job) (part : List Tri) (visits : List Visit) : Typ
 -- a fault of a round tells that there are too many moves, on the way or with the way home, or nothing
 abbrev pub IsRoundFault : Job → List Tri → List Visit → PlanFault → Type 0
 IsRoundFault job part visits (TooManyNodes nodes) = ⊥
-IsRoundFault job part visits TooManyMoves = IsTourOver job part (home job) visits [] ⊎ IsLongRound job part visits
+IsRoundFault job part visits TooManyMoves = IsTourOver job part visits ⊎ IsLongRound job part visits
 IsRoundFault job part visits (Uncut row col top) = ⊥
 IsRoundFault job part visits WantOfMemory = ⊤

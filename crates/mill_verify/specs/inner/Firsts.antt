@@ -1,5 +1,5 @@
 -- Where each test fails first, apart from the tests before it.
-use Rattle.std.specs.Prelude.{◌≡◌, ◌⊎◌, ℕ, ◌<◌, ◌≤◌, ◌-◌, ◌/◌, ◌%◌, ℤ, pos, ◌-ℤ◌, ◌<ℤ◌, ◌≤ℤ◌, List, length, take, Option, Some, None, IfSome, IfNone, Result, Ok, Err}
+use Rattle.std.specs.Prelude.{◌≡◌, ◌⊎◌, ℕ, ◌<◌, ◌≤◌, ◌-◌, ◌/◌, ◌%◌, ℤ, pos, ◌-ℤ◌, ◌<ℤ◌, ◌≤ℤ◌, List, length, take, Option, Some, None, IfSome, IfNone, MatchOption, Result, Ok, Err, MatchResult}
 use Rattle.std.specs.Int.{int_max}
 use Rattle.mill_base.specs.declared.points.Tri.{Tri}
 use Rattle.mill_base.specs.declared.motion.Move.{Move}
@@ -85,6 +85,10 @@ pub record IsFirstStripesFail (job : Job) (part : List Tri) (moves : List Move) 
   pub stripe : IsInStripes stripes fail.at
   pub before : ClearsStripesTo job part moves stripes fail.at
   pub first : IsFirstGouge job.cutter (move_at moves fail.at) part fail.gouge
+
+-- what the test of some stripes says
+abbrev pub AreStripesTold : Job → List Tri → List Move → Stripes → Option PartFail → Type 0
+AreStripesTold job part moves stripes fail = MatchOption fail (ClearsStripes job part moves stripes) (IsFirstStripesFail job part moves stripes)
 
 -- of two answers this is the one whose move comes before that of the other
 abbrev pub IsEarlierFail : Option PartFail → Option PartFail → Option PartFail → Type 0
@@ -186,6 +190,10 @@ pub record IsFirstUncutOf (job : Job) (part : List Tri) (moves : List Move) (s e
   pub there : j < e
   pub before : (a b : ℕ) → s ≤ a → a < j → b < column_count job → IsCut job part moves a b
   pub row : IsRowUncut job part moves j i top
+
+-- what the test of a range of rows says
+abbrev pub AreRowsTold : Job → List Tri → List Move → ℕ → ℕ → Result ℤ Uncut → Type 0
+AreRowsTold job part moves s e told = MatchResult told (AreRowsLeft job part moves s e) (λ uncut. IsFirstUncutOf job part moves s e uncut.row uncut.col uncut.top)
 
 -- what two ranges of rows say together: the first column that isn't cut, of the left one first, else the greater of what is left
 abbrev pub IsBoth : Result ℤ Uncut → Result ℤ Uncut → Result ℤ Uncut → Type 0

@@ -5,25 +5,29 @@ ghost use Rattle.mill_base.specs.Points.{point_at};
 ghost use Rattle.mill_base.specs.Covers.{IsUnder};
 ghost use Rattle.mill_base.specs.Motion.{Follow};
 ghost use Rattle.mill_base.specs.Ranges.{IsInRange, MovesInRange};
+ghost use Rattle.mill_base.specs.Sizes.{IsCutter, radius_of};
 ghost use Rattle.mill_job.specs.Columns.{home};
 ghost use Rattle.mill_job.specs.Jobs.{IsJob};
 
 use super::*;
 use mill_base::{Box2, Cutter, Kind, Pt3, Tri};
 use mill_decimal::Snap;
-use mill_job::Place;
+use mill_job::{Levels, Place};
 use mill_sweep::Leaf;
 
 /// A block from 0 to 300 over a square of 200, and nine columns in it.
-fn block_job(band: i32) -> Job
+fn block_job(cutter: Cutter, band: i32, allowance: u8) -> Job
+    requires cutter_ok { IsCutter cutter }
     requires least { pos 0 ≤ℤ band }
     requires most { band ≤ℤ pos 150 }
+    requires narrow { band ≤ℤ radius_of cutter }
     ensures job { IsJob result }
     ensures top { result.top ≡ pos 300 }
     ensures start { home result ≡ point_at (pos 100) (pos 100) (pos 400) }
+    ensures band { result.band ≡ band }
 {
     Job {
-        cutter: Cutter::Flat { radius: 150 },
+        cutter,
         floor: 0,
         top: 300,
         clear: 400,
@@ -36,44 +40,14 @@ fn block_job(band: i32) -> Job
         home: Place { x: 100, y: 100 },
         pitch: 100,
         sample: 50,
-        allowance: 0,
+        allowance: i32::from(allowance),
         band,
         lift: 0,
         raster: 100,
         rough_raster: 100,
         layer: 0,
         rough_stock: 0,
-        snap: Snap::Nearest,
-    }
-}
-
-/// The same block and columns for a ball, with an allowance of 100.
-fn ball_job() -> Job
-    ensures job { IsJob result }
-    ensures top { result.top ≡ pos 300 }
-    ensures start { home result ≡ point_at (pos 100) (pos 100) (pos 400) }
-{
-    Job {
-        cutter: Cutter::Ball { radius: 150 },
-        floor: 0,
-        top: 300,
-        clear: 400,
-        area: Box2 {
-            x0: 0,
-            y0: 0,
-            x1: 200,
-            y1: 200,
-        },
-        home: Place { x: 100, y: 100 },
-        pitch: 100,
-        sample: 50,
-        allowance: 100,
-        band: 0,
-        lift: 0,
-        raster: 100,
-        rough_raster: 100,
-        layer: 0,
-        rough_stock: 0,
+        levels: Levels::NONE,
         snap: Snap::Nearest,
     }
 }
@@ -168,7 +142,7 @@ fn out_and_back(height: i32) -> [Move; 2]
 #[test]
 fn names_the_first_failing_test_or_accepts(rt: HostRuntime) {
     let alloc = rt.alloc();
-    let job = block_job(0);
+    let job = block_job(Cutter::Flat { radius: 150 }, 0, 0);
     let part = plate(alloc, 200).unwrap_or_else(|_| panic!(rt; "want of memory"));
     let accept = Verdict::Accept {
         moves: 2,
@@ -220,7 +194,7 @@ fn names_the_first_failing_test_or_accepts(rt: HostRuntime) {
 #[test]
 fn leaves_a_column_at_the_band(rt: HostRuntime) {
     let alloc = rt.alloc();
-    let job = block_job(50);
+    let job = block_job(Cutter::Flat { radius: 150 }, 50, 0);
     let part = plate(alloc, 150).unwrap_or_else(|_| panic!(rt; "want of memory"));
     let moves = down_and_up(Kind::Feed, 200);
     let left = Verdict::Reject(Reason::Left {
@@ -235,7 +209,7 @@ fn leaves_a_column_at_the_band(rt: HostRuntime) {
 #[test]
 fn covers_a_column_within_the_band(rt: HostRuntime) {
     let alloc = rt.alloc();
-    let job = block_job(51);
+    let job = block_job(Cutter::Flat { radius: 150 }, 51, 0);
     let part = plate(alloc, 150).unwrap_or_else(|_| panic!(rt; "want of memory"));
     let moves = down_and_up(Kind::Feed, 200);
     let accept = Verdict::Accept {
@@ -251,7 +225,7 @@ fn covers_a_column_within_the_band(rt: HostRuntime) {
 #[test]
 fn halves_a_slanted_move(rt: HostRuntime) {
     let alloc = rt.alloc();
-    let job = block_job(0);
+    let job = block_job(Cutter::Flat { radius: 150 }, 0, 0);
     let part = plate(alloc, 200).unwrap_or_else(|_| panic!(rt; "want of memory"));
     let uncut = Verdict::Reject(Reason::Left {
         row: 0,
@@ -295,7 +269,7 @@ fn east_and_west(alloc: Global) -> Result<Part, WantOfMemory>
 #[test]
 fn names_the_first_of_the_triangles_near(rt: HostRuntime) {
     let alloc = rt.alloc();
-    let job = block_job(0);
+    let job = block_job(Cutter::Flat { radius: 150 }, 0, 0);
     let part = east_and_west(alloc).unwrap_or_else(|_| panic!(rt; "want of memory"));
     let moves = down_and_up(Kind::Feed, 199);
     let gouge = Verdict::Reject(Reason::Gouge {
@@ -310,7 +284,7 @@ fn names_the_first_of_the_triangles_near(rt: HostRuntime) {
 #[test]
 fn accepts_a_rapid_out_of_a_cut(rt: HostRuntime) {
     let alloc = rt.alloc();
-    let job = ball_job();
+    let job = block_job(Cutter::Ball { radius: 150 }, 0, 100);
     let part = plate(alloc, 200).unwrap_or_else(|_| panic!(rt; "want of memory"));
     let moves = down_and_up(Kind::Feed, 200);
     let accept = Verdict::Accept {
@@ -331,7 +305,7 @@ fn accepts_a_rapid_out_of_a_cut(rt: HostRuntime) {
 #[test]
 fn names_the_leaf_of_a_rapid(rt: HostRuntime) {
     let alloc = rt.alloc();
-    let job = block_job(0);
+    let job = block_job(Cutter::Flat { radius: 150 }, 0, 0);
     let part = plate(alloc, 200).unwrap_or_else(|_| panic!(rt; "want of memory"));
     let rapid = Verdict::Reject(Reason::Rapid {
         at: 0,
@@ -405,7 +379,7 @@ fn downs_and_ups(alloc: Global, first: u32, second: u32) -> Result<Vec<Move>, Wa
 #[test]
 fn names_the_first_move_of_all_stripes(rt: HostRuntime) {
     let alloc = rt.alloc();
-    let job = block_job(0);
+    let job = block_job(Cutter::Flat { radius: 150 }, 0, 0);
     let part = plate(alloc, 200).unwrap_or_else(|_| panic!(rt; "want of memory"));
     let gouge = Verdict::Reject(Reason::Gouge {
         at: 124,

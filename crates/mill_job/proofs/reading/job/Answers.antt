@@ -1,5 +1,5 @@
 use Rattle.std.proofs.Common.{◌≡◌, ◌∙◌, ◌++◌, ap, sym, Option, None, arith, rules}
-use Rattle.std.specs.Prelude.{ℤ, pos}
+use Rattle.std.specs.Prelude.{pos}
 use mir.Syntax.{w32}
 use mir.Val.{to_z, of_z}
 use Rattle.std.proofs.lemmas.Int.{ints}
@@ -10,7 +10,7 @@ use Rattle.mill_job.specs.declared.fault.JobFault.{JobFault}
 use Rattle.mill_job.specs.declared.key.Key.TheVariants as key
 use Rattle.mill_job.specs.Documents.{job_from, key_faults, cutter_faults, relation_faults, snap_of, raster_of, rough_raster_of}
 use Rattle.mill_job.specs.Cutters.{shape_of, cutter_with}
-use Rattle.mill_job.specs.Tables.{first, checked, number_given, number_at, number_or, numbers_at, area_of, place_of}
+use Rattle.mill_job.specs.Tables.{first, checked, number_given, number_at, number_or, numbers_at, area_of, place_of, levels_of}
 use Rattle.mill_job.proofs.Faults.{first-append, first-found, if_ok}
 use Rattle.mill_job.proofs.Stored.{stored_number, stored_coordinate}
 use Rattle.mill_job.proofs.reading.job.Goals as goal
@@ -54,11 +54,12 @@ returns-clause-value c =
     let rough_raster : to_z w32 (of_z w32 c.in_ok-rough_raster.rough_raster) ≡ rough_raster_of ms = stored_number c.in_ok-rough_raster.ensures.in_range (record { le = tt }) (record { le = tt }) ∙ rough_raster_given in
     let layer : to_z w32 (of_z w32 c.in_ok-layer.layer) ≡ number_or key.Layer (pos 0) ms = stored_number c.in_ok-layer.ensures.in_range (record { le = tt }) (record { le = tt }) ∙ c.in_ok-layer.ensures.ok.1 in
     let rough_stock : to_z w32 (of_z w32 c.in_ok-rough_stock.rough_stock) ≡ number_or key.RoughStock (pos 0) ms = stored_number c.in_ok-rough_stock.ensures.in_range (record { le = tt }) (record { le = tt }) ∙ c.in_ok-rough_stock.ensures.ok.1 in
+    let levels : c.in_ok-levels.levels ≡ levels_of (numbers_at key.Levels ms) = c.in_ok-levels.ensures.ok.1 in
     let snap : c.in_ok-snap.snap ≡ snap_of ms = c.in_ok-snap.ensures.ok.1 in
     let keys : first (key_faults ms) ≡ None = search rules in
     let rest : first (key_faults ms ++ cutter_faults ms ++ relation_faults (job_from ms)) ≡ first (relation_faults (job_from ms)) = first-append (key_faults ms) (cutter_faults ms ++ relation_faults (job_from ms)) keys ∙ first-append (cutter_faults ms) (relation_faults (job_from ms)) slope in
     let same = ap (λ (fault : Option JobFault). checked fault (job_from ms)) (sym rest) in
-    c.unless.ensures ∙ rw (c.relation_fault.ensures.value, cutter, floor, top, clear, area, home, pitch, sample, allowance, band, lift, raster, rough_raster, layer, rough_stock, snap) same
+    c.unless.ensures ∙ rw (c.relation_fault.ensures.value, cutter, floor, top, clear, area, home, pitch, sample, allowance, band, lift, raster, rough_raster, layer, rough_stock, levels, snap) same
 
 pub returns-clause-in_range : goal.returns-clause-in_range
 returns-clause-in_range c = rw c.unless.ensures (if_ok c.relation_fault.result _ IsJob (λ none. record {
@@ -87,4 +88,9 @@ returns-clause-in_range c = rw c.unless.ensures (if_ok c.relation_fault.result _
   layer_ok = record { low = omega (arith, ints, c.in_ok-layer.ensures.in_range); high = omega (arith, ints, c.in_ok-layer.ensures.in_range) };
   rough_stock_ok = record { low = omega (arith, ints, c.in_ok-rough_stock.ensures.in_range); high = omega (arith, ints, c.in_ok-rough_stock.ensures.in_range) };
   layers = c.relation_fault.ensures.layers none;
+  levels_ok = record {
+    few = c.in_ok-levels.ensures.in_order.few;
+    falling = c.in_ok-levels.ensures.in_order.falling;
+    within = c.relation_fault.ensures.levels none;
+  };
 }))

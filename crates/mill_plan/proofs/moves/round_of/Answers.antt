@@ -1,43 +1,57 @@
-use Rattle.std.proofs.Common.{◌≡◌, ◌<◌, ◌++◌, [], inr, length}
+use Rattle.std.proofs.Common.{◌≡◌, ◌+◌, ◌<◌, List, [], inl, inr, length, take, refl}
 use Rattle.std.proofs.lemmas.Result.{err_from_is_err_and}
-use Rattle.mill_job.specs.Columns.{home}
-use Rattle.mill_paths.specs.Tours.{last_place}
+use Rattle.mill_base.specs.declared.motion.Move.{Move}
+use Rattle.mill_base.specs.declared.points.Tri.{Tri}
 use Rattle.mill_base.specs.declared.limits.TheConstants.{MAX_MOVES}
-use Rattle.mill_plan.specs.inner.Steps.{AddsTour, IsRound}
-use Rattle.mill_plan.proofs.Touring.{long_round, round_made, second_told}
+use Rattle.mill_job.specs.Columns.{home}
+use Rattle.mill_paths.specs.Tours.{IsTour}
+use Rattle.mill_paths.proofs.Steps.{tour_nil}
+use Rattle.mill_plan.specs.inner.Feeds.{SayStraight}
+use Rattle.mill_plan.specs.inner.Steps.{IsRound}
+use Rattle.mill_plan.proofs.Feeding.{says_at}
+use Rattle.mill_plan.proofs.Touring.{long_round, over_at, place_after, round_made, tour_more}
 use Rattle.mill_plan.proofs.moves.round_of.Goals as goal
 
-pub returns-in_err-place-2-clause-fault : goal.returns-in_err-place-2-clause-fault
-returns-in_err-place-2-clause-fault c =
-    let p = err_from_is_err_and c.from_residual-in_err-place-2.result c.from_residual-in_err-place-2.ensures.1 in
-    let first : AddsTour c.args.job.now c.args.part.now (home c.args.job.now) c.args.rough.now [] c.add_tour.new.moves.items =
-    rw (c.home.ensures.value, c.new-moves.ensures.items) at c.in_ok-place.ensures.tour in
-    let there : c.in_ok-place.place ≡ last_place (home c.args.job.now) c.args.rough.now = rw c.home.ensures.value at c.in_ok-place.ensures.place in
-    rw (p.1, p.2)
-    (second_told c.args.job.now c.args.part.now c.args.rough.now c.args.finish.now c.in_ok-place.place c.add_tour.new.moves.items c.in_err-place-2.field-0.0 first there c.in_err-place-2.ensures.fault)
+pub loop-number-init : goal.loop-number-init
+loop-number-init c = record {
+  place = c.home-place.ensures.value;
+  tour = λ part say. rw c.new-moves.ensures.items (tour_nil c.args.job.now part (home c.args.job.now));
+}
+
+pub loop-number-preserved : goal.loop-number-preserved
+loop-number-preserved c =
+    let so_far = c.loop-number.invariant in
+    record {
+      place = place_after c.args.job.now c.args.visits.now c.loop-number.number _ c.loop-number-test.true;
+      tour = λ part say. tour_more c.args.job.now part c.args.visits.now c.loop-number.number _ c.loop-number.place c.loop-number.moves.items c.link_known.new.out.items
+          c.loop-number-test.true so_far.place (so_far.tour part say)
+          (c.in_ok-link_known.ensures.ok part (says_at c.args.job.now part c.args.visits.now c.args.straight.now c.loop-number.number _ _ c.loop-number.place say c.loop-number-test.true so_far.place));
+    }
 
 pub returns-in_err-check_moves-clause-fault : goal.returns-in_err-check_moves-clause-fault
-returns-in_err-check_moves-clause-fault c =
+returns-in_err-check_moves-clause-fault c = λ part say.
     let p = err_from_is_err_and c.from_residual-in_err-check_moves.result c.from_residual-in_err-check_moves.ensures.1 in
-    let first : AddsTour c.args.job.now c.args.part.now (home c.args.job.now) c.args.rough.now [] c.add_tour.new.moves.items =
-    rw (c.home.ensures.value, c.new-moves.ensures.items) at c.in_ok-place.ensures.tour in
-    let there : c.in_ok-place.place ≡ last_place (home c.args.job.now) c.args.rough.now = rw c.home.ensures.value at c.in_ok-place.ensures.place in
-    let second : AddsTour c.args.job.now c.args.part.now (last_place (home c.args.job.now) c.args.rough.now) c.args.finish.now c.add_tour.new.moves.items c.add_tour-2.new.moves.items =
-    rw there at c.in_ok-place-2.ensures.tour in
-    let over : c.in_ok-place-2.place ≡ last_place (last_place (home c.args.job.now) c.args.rough.now) c.args.finish.now = rw there at c.in_ok-place-2.ensures.place in
-    let round : IsRound c.args.job.now c.args.part.now (c.args.rough.now ++ c.args.finish.now) c.home-2.new.out.items =
-    round_made c.args.job.now c.args.part.now c.args.rough.now c.args.finish.now c.in_ok-place-2.place c.add_tour.new.moves.items c.add_tour-2.new.moves.items c.home-2.new.out.items
-    first second over c.in_ok-home.ensures.ok in
-    let many : MAX_MOVES < length c.home-2.new.out.items = rw c.deref.ensures.value at c.in_err-check_moves.ensures.many in
-    rw (p.1, p.2, c.in_err-check_moves.ensures.fault) (inr (long_round c.args.job.now c.args.part.now (c.args.rough.now ++ c.args.finish.now) c.home-2.new.out.items round many))
+    let so_far = c.loop-number.invariant in
+    let tour : IsTour c.args.job.now part (home c.args.job.now) (take (c.loop-number.number + 1) c.args.visits.now) c.link_known.new.out.items =
+    tour_more c.args.job.now part c.args.visits.now c.loop-number.number _ c.loop-number.place c.loop-number.moves.items c.link_known.new.out.items
+    c.loop-number-test.true so_far.place (so_far.tour part say)
+    (c.in_ok-link_known.ensures.ok part (says_at c.args.job.now part c.args.visits.now c.args.straight.now c.loop-number.number _ _ c.loop-number.place say c.loop-number-test.true so_far.place)) in
+    let many : MAX_MOVES < length c.link_known.new.out.items = rw c.deref.ensures.value at c.in_err-check_moves.ensures.many in
+    rw (p.1, p.2, c.in_err-check_moves.ensures.fault)
+    (inl (over_at c.args.job.now part c.args.visits.now c.loop-number.number c.link_known.new.out.items tour many))
+
+pub returns-in_err-check_moves-2-clause-fault : goal.returns-in_err-check_moves-2-clause-fault
+returns-in_err-check_moves-2-clause-fault c = λ part say.
+    let p = err_from_is_err_and c.from_residual-in_err-check_moves-2.result c.from_residual-in_err-check_moves-2.ensures.1 in
+    let so_far = c.loop-number.invariant in
+    let round : IsRound c.args.job.now part c.args.visits.now c.home.new.out.items =
+    round_made c.args.job.now part c.args.visits.now c.loop-number.number c.loop-number.place c.loop-number.moves.items c.home.new.out.items c.loop-number-test.false
+    so_far.place (so_far.tour part say) c.in_ok-home.ensures.ok in
+    let many : MAX_MOVES < length c.home.new.out.items = rw c.deref-2.ensures.value at c.in_err-check_moves-2.ensures.many in
+    rw (p.1, p.2, c.in_err-check_moves-2.ensures.fault) (inr (long_round c.args.job.now part c.args.visits.now c.home.new.out.items round many))
 
 pub returns-clause-round : goal.returns-clause-round
-returns-clause-round c =
-    let first : AddsTour c.args.job.now c.args.part.now (home c.args.job.now) c.args.rough.now [] c.add_tour.new.moves.items =
-    rw (c.home.ensures.value, c.new-moves.ensures.items) at c.in_ok-place.ensures.tour in
-    let there : c.in_ok-place.place ≡ last_place (home c.args.job.now) c.args.rough.now = rw c.home.ensures.value at c.in_ok-place.ensures.place in
-    let second : AddsTour c.args.job.now c.args.part.now (last_place (home c.args.job.now) c.args.rough.now) c.args.finish.now c.add_tour.new.moves.items c.add_tour-2.new.moves.items =
-    rw there at c.in_ok-place-2.ensures.tour in
-    let over : c.in_ok-place-2.place ≡ last_place (last_place (home c.args.job.now) c.args.rough.now) c.args.finish.now = rw there at c.in_ok-place-2.ensures.place in
-    round_made c.args.job.now c.args.part.now c.args.rough.now c.args.finish.now c.in_ok-place-2.place c.add_tour.new.moves.items c.add_tour-2.new.moves.items c.home-2.new.out.items
-    first second over c.in_ok-home.ensures.ok
+returns-clause-round c = λ part say.
+    let so_far = c.loop-number.invariant in
+    round_made c.args.job.now part c.args.visits.now c.loop-number.number c.loop-number.place c.loop-number.moves.items c.home.new.out.items c.loop-number-test.false
+    so_far.place (so_far.tour part say) c.in_ok-home.ensures.ok

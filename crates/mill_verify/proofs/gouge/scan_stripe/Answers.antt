@@ -3,11 +3,11 @@ use Rattle.mill_verify.proofs.Striping.{under_both, scanned_none, scanned_more, 
 use Rattle.mill_verify.proofs.gouge.scan_stripe.Goals as goal
 
 pub loop-block-init : goal.loop-block-init
-loop-block-init c = scanned_none c.args.job.now c.args.part.now c.args.moves.now c.args.stripe _ c.requires.stripe_ok c.requires.one (omega arith)
+loop-block-init c = scanned_none c.args.job.now c.args.part.now c.args.moves.now c.args.stripe _ c.requires.ready.stripes_ok c.requires.one (omega arith)
 
 pub returns-in-Some : goal.returns-in-Some
 returns-in-Some c =
-    scanned_fail c.args.job.now c.args.part.now c.args.moves.now c.args.stripe c.loop-block.block c.min-block_end.result c.in-Some.fail c.requires.stripe_ok c.requires.one (omega (arith, c.min-block_end.ensures))
+    scanned_fail c.args.job.now c.args.part.now c.args.moves.now c.args.stripe c.loop-block.block c.min-block_end.result c.in-Some.fail c.requires.ready.stripes_ok c.requires.one (omega (arith, c.min-block_end.ensures))
     (omega (arith, c.min-block_end.ensures)) c.loop-block.invariant c.in-Some.ensures
 
 pub loop-block-preserved : goal.loop-block-preserved

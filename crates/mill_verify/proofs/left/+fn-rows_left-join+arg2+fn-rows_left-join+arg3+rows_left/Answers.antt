@@ -4,7 +4,7 @@ use Rattle.mill_verify.proofs.Remaining.{both_told}
 use Rattle.mill_verify.proofs.left.+fn-rows_left-join+arg2+fn-rows_left-join+arg3+rows_left.Goals as goal
 
 pub share-requires-clause-count_ok : goal.share-requires-clause-count_ok
-share-requires-clause-count_ok g t c = omega (arith, rows_few c.requires.job_ok, c.requires.rows_ok.count)
+share-requires-clause-count_ok g t c = omega (arith, rows_few c.requires.ready.job_ok, c.requires.ready.rows_ok.count)
 
 pub returns : goal.returns
 returns g t c =

@@ -1,0 +1,193 @@
+ghost use Rattle.std.specs.Prelude.{◌≡◌, ◌↔◌, ℕ, ◌<◌, ◌≤◌, ◌++◌, [], ◌∷◌, length, map as map_list, All, IfErr, IfOk, IsErrOf, OnOk};
+ghost use Rattle.std.specs.List.{flat_map};
+ghost use Rattle.mill_base.specs.Lattices.{node_count};
+ghost use Rattle.mill_base.specs.declared.limits.TheConstants.{MAX_NODES};
+ghost use Rattle.mill_cells.specs.Sorted.{sorted_of};
+ghost use Rattle.mill_job.specs.Jobs.{IsJob};
+ghost use Rattle.mill_level.specs.Waterlines.{IsWaterline, seen};
+ghost use Rattle.mill_paths.specs.Lattices.{finish_lattice as finish_lattice_of};
+ghost use Rattle.mill_paths.specs.Limits.{change_count, most_changes, HasManyNodes, IsHeightsFault, IsListFault};
+ghost use Rattle.mill_paths.specs.Visits.{AreLevelVisits, AreWaterlines, HaveManyLevelVisits, IsVisit, level_visits_of, outline_visits};
+ghost use Rattle.mill_paths.specs.declared.fault.PathFault.TheVariants.{TooManyNodes, TooManyVisits, WantOfMemory};
+ghost use Rattle.mill_paths.specs.inner.Levels.{IsLevelTask, level_at, point_visit};
+
+use crate::fault::PathFault;
+use crate::lattices::finish_lattice;
+use crate::visit::Visit;
+use crate::visit_list::VisitList;
+use mill_base::{MAX_NODES, Pt3};
+use mill_cells::Cells;
+use mill_job::Job;
+use mill_level::{Chain, waterline};
+use mill_part::Part;
+use rayon::prelude::*;
+use std::alloc::Global;
+use std::thread::Threads;
+
+/// The visits of a plan's levels, from the first level on: along each chain of the waterline there,
+/// over the finishing lattice, and along a closed one up to its first point again. Without levels there
+/// are none, and the lattice isn't gone over.
+///
+/// `cells` are those of the part's triangles. The visits are the same whatever the number of threads.
+///
+/// # Errors
+///
+/// `TooManyNodes` exactly where there are levels and the lattice has more than 4,000,000 nodes;
+/// `TooManyVisits` exactly where it hasn't, and more than 1,000,000 visits differ from the one before
+/// them. Want of memory may come in the place of the latter.
+pub fn level_visits<R: Threads + Sync>(
+    rt: &R,
+    alloc: Global,
+    job: &Job,
+    part: &Part,
+    cells: &Cells,
+) -> Result<Vec<Visit>, PathFault>
+    requires job_ok { IsJob job.now }
+    requires cells_ok { cells.now ≡ sorted_of part.now }
+    ensures list { IfOk result (λ visits. AreLevelVisits job.now part.now visits.items) }
+    ensures each { IfOk result (λ visits. All (IsVisit job.now part.now) visits.items) }
+    ensures few { IfOk result (λ visits. change_count visits.items ≤ most_changes) }
+    ensures nodes { (nodes : ℕ) → IsErrOf result (TooManyNodes nodes)
+        ↔ ((0 < length job.now.levels) × HasManyNodes (finish_lattice_of job.now) nodes) }
+    ensures visits { IsErrOf result TooManyVisits → HaveManyLevelVisits job.now part.now }
+    ensures many { OnOk result (¬ HaveManyLevelVisits job.now part.now) }
+{
+    if job.levels.as_slice().is_empty() {
+        return Ok(Vec::new(alloc));
+    }
+    let waterlines = waterlines_of(rt, alloc, job, part, cells)?;
+    let mut list = VisitList::new(alloc);
+    add_waterlines(job, &waterlines, &mut list)?;
+    Ok(list.into_visits())
+}
+
+/// The waterlines at the job's levels over the finishing lattice, where it has at most 4,000,000
+/// nodes. They are worked out side by side.
+fn waterlines_of<R: Threads + Sync>(
+    rt: &R,
+    alloc: Global,
+    job: &Job,
+    part: &Part,
+    cells: &Cells,
+) -> Result<Vec<Vec<Chain>>, PathFault>
+    requires job_ok { IsJob job.now }
+    requires cells_ok { cells.now ≡ sorted_of part.now }
+    ensures waterlines { IfOk result (λ waterlines. AreWaterlines job.now part.now (map_list (λ chains. map_list seen chains.items) waterlines.items)) }
+    ensures few { IfOk result (λ _. node_count (finish_lattice_of job.now) ≤ MAX_NODES) }
+    ensures fault { IfErr result (IsHeightsFault (finish_lattice_of job.now)) }
+{
+    let nodes = finish_lattice(job).nodes();
+    if nodes > MAX_NODES {
+        return Err(PathFault::TooManyNodes { nodes });
+    }
+    (0..job.levels.as_slice().len())
+        .into_par_iter()
+        .with_min_len(1)
+        .map(
+            |number: usize| -> Result<Vec<Chain>, PathFault>
+                requires { IsLevelTask job.now part.now cells.now number }
+                ensures chains { IfOk result (λ chains. IsWaterline job.entry.now.cutter part.entry.now (level_at job.entry.now number) (finish_lattice_of job.entry.now) (map_list seen chains.items)) }
+                ensures fault { IfErr result (λ fault. fault ≡ WantOfMemory) }
+            { waterline_at(alloc, job, part, cells, number) },
+        )
+        .collect::<Result<Vec<Vec<Chain>>, PathFault>>(rt, alloc)?
+}
+
+/// The waterline at the level of this number, over the finishing lattice.
+fn waterline_at(
+    alloc: Global,
+    job: &Job,
+    part: &Part,
+    cells: &Cells,
+    number: usize,
+) -> Result<Vec<Chain>, PathFault>
+    requires { IsLevelTask job.now part.now cells.now number }
+    ensures chains { IfOk result (λ chains. IsWaterline job.now.cutter part.now (level_at job.now number) (finish_lattice_of job.now) (map_list seen chains.items)) }
+    ensures fault { IfErr result (λ fault. fault ≡ WantOfMemory) }
+{
+    let z = job.levels.as_slice()[number];
+    let lattice = finish_lattice(job);
+    // The nodes were counted before, and so only memory can be wanting.
+    waterline(alloc, part, cells, job.cutter, z, &lattice).map_err(
+        |_| -> PathFault
+            ensures { result ≡ WantOfMemory }
+        { PathFault::WantOfMemory },
+    )
+}
+
+/// Adds the visits along the chains of each waterline.
+fn add_waterlines(
+    job: &Job,
+    waterlines: &[Vec<Chain>],
+    list: &mut VisitList,
+) -> Result<(), PathFault>
+    ensures ok { OnOk result
+        (list.new.visits.items ≡ list.old.visits.items
+        ++ level_visits_of job.now (map_list (λ chains. map_list seen chains.items) waterlines.now)) }
+    ensures fault { IfErr result
+        (IsListFault (list.old.visits.items
+        ++ level_visits_of job.now (map_list (λ chains. map_list seen chains.items) waterlines.now))) }
+{
+    for chains in waterlines {
+        add_chains(job, chains, list)?;
+    }
+    Ok(())
+}
+
+/// Adds the visits along each chain.
+fn add_chains(job: &Job, chains: &[Chain], list: &mut VisitList) -> Result<(), PathFault>
+    ensures ok { OnOk result
+        (list.new.visits.items ≡ list.old.visits.items
+        ++ flat_map (outline_visits job.now.raster) (map_list seen chains.now)) }
+    ensures fault { IfErr result
+        (IsListFault (list.old.visits.items
+        ++ flat_map (outline_visits job.now.raster) (map_list seen chains.now))) }
+{
+    for chain in chains {
+        add_chain(job, chain, list)?;
+    }
+    Ok(())
+}
+
+/// Adds the visits along a chain: at its points, and at the first again where it is closed.
+fn add_chain(job: &Job, chain: &Chain, list: &mut VisitList) -> Result<(), PathFault>
+    ensures ok { OnOk result
+        (list.new.visits.items ≡ list.old.visits.items
+        ++ outline_visits job.now.raster (seen chain.now)) }
+    ensures fault { IfErr result
+        (IsListFault (list.old.visits.items ++ outline_visits job.now.raster (seen chain.now))) }
+{
+    add_points(job, &chain.points, list)?;
+    if !chain.closed {
+        return Ok(());
+    }
+    match chain.points.first() {
+        Some(first) => list.push(visit_at(job, *first)),
+        None => Ok(()),
+    }
+}
+
+/// Adds a visit at each point.
+fn add_points(job: &Job, points: &[Pt3], list: &mut VisitList) -> Result<(), PathFault>
+    ensures ok { OnOk result
+        (list.new.visits.items ≡ list.old.visits.items
+        ++ map_list (point_visit job.now.raster) points.now) }
+    ensures fault { IfErr result
+        (IsListFault (list.old.visits.items
+        ++ map_list (point_visit job.now.raster) points.now)) }
+{
+    for point in points {
+        list.push(visit_at(job, *point))?;
+    }
+    Ok(())
+}
+
+/// The visit at a point of a waterline.
+fn visit_at(job: &Job, at: Pt3) -> Visit
+    ensures { result ≡ point_visit job.now.raster at }
+{
+    Visit {
+        at,
+        step: job.raster,
+    }
+}
