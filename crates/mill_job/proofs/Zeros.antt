@@ -2,7 +2,7 @@
 use Rattle.std.proofs.Common.{◌≡◌, ◌∙◌, ap, sym, ℕ, ◌+◌, ◌-◌, List, drop, arith}
 use Rattle.std.proofs.lemmas.List.{drop-set-lt, drop-drop, drop-replicate}
 use Rattle.std.specs.Prelude.{ℤ, pos, replicate, slice_set}
-use Rattle.mill_job.specs.inner.Filled.{zeros}
+use Rattle.mill_job.specs.Filled.{zeros}
 
 -- behind one place more there is a zero less
 pub one_more : (count : ℕ) (places : List ℤ) (z : ℤ) → drop count places ≡ zeros count → drop (count + 1) (slice_set places count z) ≡ zeros (count + 1)

@@ -4,4 +4,5 @@ pub mod Keys
 pub mod Tables
 pub mod Cutters
 pub mod Documents
+pub mod Filled
 pub mod inner

@@ -16,7 +16,7 @@ pub struct Levels {
 impl Model for Levels {
     ghost use Rattle.std.specs.Prelude.{◌++◌, ℤ, List, take, length};
     ghost use Rattle.std.proofs.lemmas.List.{length-take-le};
-    ghost use Rattle.mill_job.specs.inner.Filled.{IsFilled, filled, zeros};
+    ghost use Rattle.mill_job.specs.Filled.{IsFilled, filled, zeros};
 
     ghost Value = { List ℤ };
 

@@ -11,7 +11,6 @@ mod fiber;
 mod known;
 mod laws;
 mod near;
-mod reach;
 mod runs;
 mod stretch;
 #[cfg(test)]
