@@ -28,8 +28,8 @@ use std::thread::Threads;
 /// reads back as these moves, which the verifier accepts, with the numbers that are told.
 ///
 /// The verifying is handed to `workers` threads, from 1 to 64; the drop heights, the waterlines and the
-/// straight feeds to as many as the machine has; the answer doesn't depend on their number. The part is nowhere higher than the uncut
-/// stock. Lengths are in units of 0.01 mm.
+/// straight feeds to as many as the machine has; the answer doesn't depend on their number. The part
+/// is nowhere higher than the uncut stock. Lengths are in units of 0.01 mm.
 ///
 /// # Errors
 ///
