@@ -54,7 +54,7 @@ crosses grid chains chain c are there on = by (is_crossing grid c.edge) (are.onc
 
 -- positions from one to another: where the first k are free and the other one is blocked, k doesn't come up to it
 sooner : (Free : ℕ → Type 0) (k d : ℕ) → ((n : ℕ) → n ≤ k → Free n) → ¬ Free d → k < d
-sooner Free k d free blocked = elim (cases_lt k d) [ | inl less ↦ less | inr past ↦ absurd (blocked (free d past)) ]
+sooner Free k d free blocked = elim (cases_lt k d) [ inl less ↦ less | inr past ↦ absurd (blocked (free d past)) ]
 
 between : (a b : ℤ) (k : ℕ) → Within MAX_TEXT_COORDINATE a → Within MAX_TEXT_COORDINATE b → a ≤ℤ b → k < nat_abs (b -ℤ a)
     → Within MAX_TEXT_COORDINATE (a +ℤ pos k) × Within MAX_TEXT_COORDINATE (b +ℤ (pos 0 -ℤ pos k))

@@ -13,7 +13,7 @@ clash e = cc
 module _ (job : Job) (part : List Tri) (from : Pt3) (visit : Visit) where
   -- where the cutter isn't at the visit, it goes straight where the feed may be made
   pub may_feed : visit.at ≢ from → GoesStraight job part from visit → MayFeed job part from visit
-  may_feed away straight = elim straight [ | inl there ↦ absurd (away there) | inr may ↦ may ]
+  may_feed away straight = elim straight [ inl there ↦ absurd (away there) | inr may ↦ may ]
 
   pub may_not_feed : (answer : Bool) → SaysStraight job part from visit answer → answer ≡ false → ¬ MayFeed job part from visit
   may_not_feed answer says fails may = clash (sym (says.1 (inr may)) ∙ fails)

@@ -109,7 +109,10 @@ fn round_a_point(rt: HostRuntime) -> Result<(), Fail> {
     let corner = point(&rt, 0, 0)?;
     let one = job(100, 100, level(0));
     let visits = level_visits(&rt, rt.alloc(), &one, &corner.part, &corner.cells)?;
-    assert_eq!(rt; visits.as_slice(), [visit(100, 0, 0), visit(0, 100, 0)].as_slice());
+    assert_eq!(rt;
+        visits.as_slice(),
+        [visit(100, 0, 0), visit(0, 100, 0)].as_slice()
+    );
     Ok(())
 }
 
@@ -141,6 +144,9 @@ fn too_many_nodes(rt: HostRuntime) -> Result<(), Fail> {
     assert!(rt; visits.is_empty());
     let one = job(100, 1, level(0));
     let visits = level_visits(&rt, rt.alloc(), &one, &shape.part, &shape.cells);
-    assert_eq!(rt; visits.err(), Some(PathFault::TooManyNodes { nodes: 4_004_001 }));
+    assert_eq!(rt;
+        visits.err(),
+        Some(PathFault::TooManyNodes { nodes: 4_004_001 })
+    );
     Ok(())
 }
