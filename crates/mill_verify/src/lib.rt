@@ -11,6 +11,7 @@
 //! one, so the last failure that is found is the first of the verdict.
 #![tactic(auto)]
 
+mod block;
 mod floor;
 mod gouge;
 mod laws;
@@ -19,8 +20,11 @@ mod limit;
 mod program;
 mod rapid;
 mod stock;
+#[cfg(test)]
+mod test_shape;
 mod verdict;
 
+pub use block::Block;
 pub use laws::one_verdict;
 pub use program::{verify, verify_with_cells};
 pub use verdict::{Reason, Verdict};

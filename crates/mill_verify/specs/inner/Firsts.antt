@@ -1,5 +1,5 @@
 -- Where each test fails first, apart from the tests before it.
-use Rattle.std.specs.Prelude.{◌≡◌, ◌⊎◌, ℕ, ◌<◌, ◌≤◌, ◌-◌, ◌/◌, ◌%◌, ℤ, pos, ◌-ℤ◌, ◌<ℤ◌, ◌≤ℤ◌, List, length, take, Option, Some, None, IfSome, IfNone, MatchOption, Result, Ok, Err, MatchResult}
+use Rattle.std.specs.Prelude.{◌≡◌, ◌⊎◌, ℕ, ◌<◌, ◌≤◌, ◌/◌, ◌%◌, ℤ, pos, ◌-ℤ◌, ◌<ℤ◌, ◌≤ℤ◌, List, length, take, Option, Some, None, IfSome, IfNone, MatchOption, Result, Ok, Err, MatchResult}
 use Rattle.std.specs.Int.{int_max}
 use Rattle.mill_base.specs.declared.points.Tri.{Tri}
 use Rattle.mill_base.specs.declared.motion.Move.{Move}
@@ -53,20 +53,18 @@ pub record IsFirstPartFail (job : Job) (part : List Tri) (moves : List Move) (s 
   pub before : ClearsBetween job part moves s fail.at
   pub first : IsFirstGouge job.cutter (move_at moves fail.at) part fail.gouge
 
--- the moves from the start on stand in blocks of 64, which go to the stripes in turn: this is the stripe of move k
+-- the moves stand in blocks of 64, which go to the stripes in turn: this is the stripe of move k
 abbrev pub stripe_of : Stripes → ℕ → ℕ
-stripe_of stripes k = (k - stripes.start) / 64 % stripes.count
+stripe_of stripes k = k / 64 % stripes.count
 
 -- move k is in one of the stripes from the first to before the last
 pub record IsInStripes (stripes : Stripes) (k : ℕ) : Type 0 where
-  pub start : stripes.start ≤ k
   pub first : stripes.first ≤ stripe_of stripes k
   pub last : stripe_of stripes k < stripes.last
 
 -- these are some of at most 64 stripes, in which stand some of the moves
 pub record AreStripes (moves : List Move) (stripes : Stripes) : Type 0 where
-  pub order : stripes.start ≤ stripes.«end»
-  pub there : stripes.«end» ≤ length moves
+  pub there : stripes.turns ≤ length moves
   pub few : stripes.count ≤ 64
   pub some : stripes.first < stripes.last
   pub within : stripes.last ≤ stripes.count
@@ -77,11 +75,11 @@ ClearsStripesTo job part moves stripes e = (k : ℕ) → k < e → IsInStripes s
 
 -- all moves that are in these stripes clear the part
 abbrev pub ClearsStripes : Job → List Tri → List Move → Stripes → Type 0
-ClearsStripes job part moves stripes = ClearsStripesTo job part moves stripes stripes.«end»
+ClearsStripes job part moves stripes = ClearsStripesTo job part moves stripes stripes.turns
 
 -- of the moves that are in these stripes, this is the first that doesn't clear the part, with its first gouge
 pub record IsFirstStripesFail (job : Job) (part : List Tri) (moves : List Move) (stripes : Stripes) (fail : PartFail) : Type 0 where
-  pub there : fail.at < stripes.«end»
+  pub there : fail.at < stripes.turns
   pub stripe : IsInStripes stripes fail.at
   pub before : ClearsStripesTo job part moves stripes fail.at
   pub first : IsFirstGouge job.cutter (move_at moves fail.at) part fail.gouge
