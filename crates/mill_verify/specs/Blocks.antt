@@ -26,10 +26,6 @@ block_of turns n = record { first = n * 64; limit = min (n * 64 + 64) turns; nex
 abbrev pub turned : BlockState → BlockState
 turned b = record b { next = b.next + 1 }
 
--- a block as move k meets it: all its moves before that have had their turn, and cleared the part
-abbrev pub block_before : BlockState → ℕ → BlockState
-block_before b k = record b { next = k }
-
 -- the block's next move doesn't clear the part: its first gouge is noted, and the rest is as it was
 pub record IsBlockStopped (job : Job) (part : List Tri) (moves : List Move) (old new : BlockState) : Type 0 where
   pub gouge : Gouge

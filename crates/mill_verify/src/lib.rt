@@ -4,9 +4,10 @@
 //! the verdict, for any number of workers, that there is at most one, that an accepted program cuts
 //! safely at every fraction of every move, and that a rejected move is blocked at the leaf that is
 //! named. Definitions: `specs/Tests` are the four tests, `specs/Verdicts` the verdict, `specs/Claims`
-//! what an accepted program does; `specs/Stock` and `specs/Firsts` serve the functions within.
+//! what an accepted program does, `specs/Blocks` what becomes of a block of moves that is tested
+//! against the part; `specs/Stock` and `specs/Firsts` serve the functions within.
 //!
-//! The four tests stand in `floor`, `gouge`, `rapid` and `left`. The work goes test by test and the
+//! The four tests stand in `floor`, `gouge` (by blocks, `block`), `rapid` and `left`. The work goes test by test and the
 //! verdict goes move by move: each test looks only at the moves before the first that fails an earlier
 //! one, so the last failure that is found is the first of the verdict.
 #![tactic(auto)]

@@ -13,6 +13,7 @@ use Rattle.mill_job.specs.declared.job.Job.{Job}
 use Rattle.mill_job.specs.Columns.{IsColumn, IsBefore, column_x, column_y, column_count}
 use Rattle.mill_dexel.specs.Tops.{top_after, top_point}
 use Rattle.mill_dexel.specs.declared.fail.RowFail.{RowFail}
+use Rattle.mill_verify.specs.Blocks.{BlockState}
 use Rattle.mill_verify.specs.Tests.{ClearsPart, PassesColumn, ClearsStock, IsOverFloor, IsCut, GoodBefore}
 use Rattle.mill_dexel.specs.Turns.{move_at}
 use Rattle.mill_gouge.specs.Gouges.{IsFirstGouge}
@@ -45,6 +46,10 @@ ShowsBlocks job part moves (Reject reason) = ShowsBlock job part moves reason
 -- the moves from number s to before e clear the part
 abbrev pub ClearsBetween : Job → List Tri → List Move → ℕ → ℕ → Type 0
 ClearsBetween job part moves s e = (k : ℕ) → s ≤ k → k < e → ClearsPart job part moves k
+
+-- a block as move k meets it: all its moves before that have had their turn, and cleared the part
+abbrev pub block_before : BlockState → ℕ → BlockState
+block_before b k = record b { next = k }
 
 -- of the moves from number s to before e, this is the first that doesn't clear the part, with its first gouge
 pub record IsFirstPartFail (job : Job) (part : List Tri) (moves : List Move) (s e : ℕ) (fail : PartFail) : Type 0 where

@@ -1,6 +1,6 @@
 use Rattle.std.specs.Prelude.{◌≡◌, ◌*◌}
-use Rattle.mill_verify.specs.Blocks.{block_before, block_of}
-use Rattle.mill_verify.specs.inner.Firsts.{ClearsBetween}
+use Rattle.mill_verify.specs.Blocks.{block_of}
+use Rattle.mill_verify.specs.inner.Firsts.{ClearsBetween, block_before}
 use Rattle.mill_verify.proofs.gouge.scan.Given as goal
 
 abbrev pub invariant-loop-t : goal.invariant-loop-t
