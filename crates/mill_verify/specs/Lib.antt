@@ -1,4 +1,5 @@
 pub mod Tests
+pub mod Blocks
 pub mod Verdicts
 pub mod Claims
 pub mod inner

@@ -1,22 +1,20 @@
-ghost use Rattle.std.specs.Prelude.{◌≡◌, ◌+◌, ◌≤◌, ◌<◌, length, MatchOption};
+ghost use Rattle.std.specs.Prelude.{◌≡◌, ◌+◌, ◌*◌, ◌≤◌, ◌<◌, length, MatchOption};
 ghost use Rattle.mill_base.specs.declared.limits.TheConstants.{MAX_MOVES, MAX_WORKERS};
 ghost use Rattle.mill_base.specs.Ranges.{MovesInRange};
 ghost use Rattle.mill_cells.specs.Sorted.{sorted_of};
 ghost use Rattle.mill_job.specs.Jobs.{IsJob};
+ghost use Rattle.mill_verify.specs.Blocks.{block_of};
 ghost use Rattle.mill_verify.specs.inner.Firsts.{AreStripesTold, ClearsBetween, IsEarlierFail, IsFirstPartFail};
 ghost use Rattle.mill_verify.specs.inner.Readiness.{AreStripesReady};
 ghost use denote.Param.Send.{IsSync};
 
+use crate::block::Block;
 use mill_base::Move;
 use mill_cells::Cells;
-use mill_gouge::{Gouge, first_gouge};
+use mill_gouge::Gouge;
 use mill_job::Job;
 use mill_part::Part;
 use std::thread::{Threads, join};
-
-/// How many moves stand in a block. Moves near each other take about the same time, so blocks in
-/// turn give each worker about as much to do.
-const BLOCK: usize = 64;
 
 /// A move that doesn't clear the part, and its first gouge.
 #[derive(Clone, Copy)]
@@ -25,47 +23,45 @@ pub struct PartFail {
     pub gouge: Gouge,
 }
 
-/// The moves from number `start` to before `end` stand in blocks of 64, and block `b` is in stripe
-/// `b % count`. These are the stripes from `first` to before `last`.
+/// The first `turns` moves stand in blocks, and block `b` is in stripe `b % count`. These are the
+/// stripes from `first` to before `last`.
 #[derive(Clone, Copy)]
 pub struct Stripes {
-    pub start: usize,
-    pub end: usize,
-    pub count: usize,
-    pub first: usize,
-    pub last: usize,
+    pub turns: u64,
+    pub count: u64,
+    pub first: u64,
+    pub last: u64,
 }
 
-/// Test (ii): of the moves from number `start` to before `end`, the first that doesn't clear the
-/// part; none where they all do.
+/// Test (ii): of the moves before number `end`, the first that doesn't clear the part; none where they
+/// all do.
 ///
-/// Blocks of 64 moves are handed in turn to `workers` threads, at most 64.
+/// Blocks of 64 moves are handed in turn to `workers` threads, at most 64. Moves near each other take
+/// about the same time, so blocks in turn give each worker about as much to do.
 pub fn first_part_fail<R: Threads + Sync>(
     rt: &R,
     job: &Job,
     part: &Part,
     cells: &Cells,
     moves: &[Move],
-    start: usize,
     end: usize,
     workers: u32,
 ) -> Option<PartFail>
     requires job_ok { IsJob job.now }
     requires cells_ok { cells.now ≡ sorted_of part.now }
     requires moves_ok { MovesInRange moves.now }
-    requires order { start ≤ end }
     requires there { end ≤ length moves.now }
     requires few { length moves.now ≤ MAX_MOVES }
     requires few_workers { workers ≤ MAX_WORKERS }
     ensures { MatchOption
         result
-        (ClearsBetween job.now part.now moves.now start end)
-        (IsFirstPartFail job.now part.now moves.now start end) }
+        (ClearsBetween job.now part.now moves.now 0 end)
+        (IsFirstPartFail job.now part.now moves.now 0 end) }
 {
-    let count = stripe_count(end - start, workers);
+    let turns = end as u64;
+    let count = stripe_count(turns, workers);
     let stripes = Stripes {
-        start,
-        end,
+        turns,
         count,
         first: 0,
         last: count,
@@ -74,13 +70,12 @@ pub fn first_part_fail<R: Threads + Sync>(
 }
 
 /// How many stripes this many moves are in: one for each worker, and no more than there are blocks.
-fn stripe_count(moves: usize, workers: u32) -> usize
+fn stripe_count(turns: u64, workers: u32) -> u64
     requires { workers ≤ MAX_WORKERS }
     ensures some { 1 ≤ result }
     ensures few { result ≤ MAX_WORKERS }
 {
-    let blocks = moves / BLOCK + 1;
-    blocks.min(workers as usize).max(1)
+    Block::count(turns).min(u64::from(workers)).max(1)
 }
 
 /// The first move in the stripes that doesn't clear the part; none where they all do.
@@ -154,41 +149,48 @@ fn scan_stripe(
     requires one { stripe.last ≤ stripe.first + 1 }
     ensures { AreStripesTold job.now part.now moves.now stripe result }
 {
-    let turn = stripe.count * BLOCK;
-    let mut block = stripe.start + stripe.first * BLOCK;
-    while block < stripe.end {
-        let block_end = stripe.end.min(block + BLOCK);
-        if let Some(fail) = scan(job, part, cells, moves, block, block_end) {
+    let blocks = Block::count(stripe.turns);
+    let mut number = stripe.first;
+    while number < blocks {
+        if let Some(fail) = scan(job, part, cells, moves, number, stripe.turns) {
             return Some(fail);
         }
-        block += turn;
+        number += stripe.count;
     }
     None
 }
 
-/// The moves of a block, one by one.
+/// The turns of a block, until they end or one fails.
 fn scan(
     job: &Job,
     part: &Part,
     cells: &Cells,
     moves: &[Move],
-    start: usize,
-    end: usize,
+    number: u64,
+    turns: u64,
 ) -> Option<PartFail>
     requires job_ok { IsJob job.now }
     requires cells_ok { cells.now ≡ sorted_of part.now }
     requires moves_ok { MovesInRange moves.now }
-    requires order { start ≤ end }
-    requires there { end ≤ length moves.now }
+    requires there { number * 64 < turns }
+    requires within { turns ≤ length moves.now }
     ensures { MatchOption
         result
-        (ClearsBetween job.now part.now moves.now start end)
-        (IsFirstPartFail job.now part.now moves.now start end) }
+        (ClearsBetween job.now part.now moves.now (block_of turns number).first (block_of turns number).limit)
+        (IsFirstPartFail job.now part.now moves.now (block_of turns number).first (block_of turns number).limit) }
 {
-    for at in start..end {
-        if let Some(gouge) = first_gouge(job.cutter, part, cells, &moves[at]) {
-            return Some(PartFail { at, gouge });
+    let mut block = Block::new(number, turns);
+    for t in block.first()..block.limit() {
+        if !block.turn(job, part, cells, moves, t) {
+            let gouge = block.failed()?;
+            return Some(PartFail {
+                at: block.next() as usize,
+                gouge,
+            });
         }
     }
     None
 }
+
+#[cfg(test)]
+mod tests;

@@ -40,7 +40,7 @@ pub fn part_limit<R: Threads + Sync>(
     ensures { IsLimit job.now part.now moves.now result }
 {
     let end = floor_end(job, moves);
-    if let Some(fail) = first_part_fail(rt, job, part, cells, moves, 0, end, workers) {
+    if let Some(fail) = first_part_fail(rt, job, part, cells, moves, end, workers) {
         return Limit {
             passed: fail.at,
             fails: Some(Reason::Gouge {

@@ -1,5 +1,5 @@
 -- Where each test fails first, apart from the tests before it.
-use Rattle.std.specs.Prelude.{◌≡◌, ◌⊎◌, ℕ, ◌<◌, ◌≤◌, ◌-◌, ◌/◌, ◌%◌, ℤ, pos, ◌-ℤ◌, ◌<ℤ◌, ◌≤ℤ◌, List, length, take, Option, Some, None, IfSome, IfNone, MatchOption, Result, Ok, Err, MatchResult}
+use Rattle.std.specs.Prelude.{◌≡◌, ◌⊎◌, ℕ, ◌<◌, ◌≤◌, ◌/◌, ◌%◌, ℤ, pos, ◌-ℤ◌, ◌<ℤ◌, ◌≤ℤ◌, List, length, take, Option, Some, None, IfSome, IfNone, MatchOption, Result, Ok, Err, MatchResult}
 use Rattle.std.specs.Int.{int_max}
 use Rattle.mill_base.specs.declared.points.Tri.{Tri}
 use Rattle.mill_base.specs.declared.motion.Move.{Move}
@@ -13,6 +13,7 @@ use Rattle.mill_job.specs.declared.job.Job.{Job}
 use Rattle.mill_job.specs.Columns.{IsColumn, IsBefore, column_x, column_y, column_count}
 use Rattle.mill_dexel.specs.Tops.{top_after, top_point}
 use Rattle.mill_dexel.specs.declared.fail.RowFail.{RowFail}
+use Rattle.mill_verify.specs.Blocks.{BlockState}
 use Rattle.mill_verify.specs.Tests.{ClearsPart, PassesColumn, ClearsStock, IsOverFloor, IsCut, GoodBefore}
 use Rattle.mill_dexel.specs.Turns.{move_at}
 use Rattle.mill_gouge.specs.Gouges.{IsFirstGouge}
@@ -46,6 +47,10 @@ ShowsBlocks job part moves (Reject reason) = ShowsBlock job part moves reason
 abbrev pub ClearsBetween : Job → List Tri → List Move → ℕ → ℕ → Type 0
 ClearsBetween job part moves s e = (k : ℕ) → s ≤ k → k < e → ClearsPart job part moves k
 
+-- a block as move k meets it: all its moves before that have had their turn, and cleared the part
+abbrev pub block_before : BlockState → ℕ → BlockState
+block_before b k = record b { next = k }
+
 -- of the moves from number s to before e, this is the first that doesn't clear the part, with its first gouge
 pub record IsFirstPartFail (job : Job) (part : List Tri) (moves : List Move) (s e : ℕ) (fail : PartFail) : Type 0 where
   pub start : s ≤ fail.at
@@ -53,20 +58,18 @@ pub record IsFirstPartFail (job : Job) (part : List Tri) (moves : List Move) (s 
   pub before : ClearsBetween job part moves s fail.at
   pub first : IsFirstGouge job.cutter (move_at moves fail.at) part fail.gouge
 
--- the moves from the start on stand in blocks of 64, which go to the stripes in turn: this is the stripe of move k
+-- the moves stand in blocks of 64, which go to the stripes in turn: this is the stripe of move k
 abbrev pub stripe_of : Stripes → ℕ → ℕ
-stripe_of stripes k = (k - stripes.start) / 64 % stripes.count
+stripe_of stripes k = k / 64 % stripes.count
 
 -- move k is in one of the stripes from the first to before the last
 pub record IsInStripes (stripes : Stripes) (k : ℕ) : Type 0 where
-  pub start : stripes.start ≤ k
   pub first : stripes.first ≤ stripe_of stripes k
   pub last : stripe_of stripes k < stripes.last
 
 -- these are some of at most 64 stripes, in which stand some of the moves
 pub record AreStripes (moves : List Move) (stripes : Stripes) : Type 0 where
-  pub order : stripes.start ≤ stripes.«end»
-  pub there : stripes.«end» ≤ length moves
+  pub there : stripes.turns ≤ length moves
   pub few : stripes.count ≤ 64
   pub some : stripes.first < stripes.last
   pub within : stripes.last ≤ stripes.count
@@ -77,11 +80,11 @@ ClearsStripesTo job part moves stripes e = (k : ℕ) → k < e → IsInStripes s
 
 -- all moves that are in these stripes clear the part
 abbrev pub ClearsStripes : Job → List Tri → List Move → Stripes → Type 0
-ClearsStripes job part moves stripes = ClearsStripesTo job part moves stripes stripes.«end»
+ClearsStripes job part moves stripes = ClearsStripesTo job part moves stripes stripes.turns
 
 -- of the moves that are in these stripes, this is the first that doesn't clear the part, with its first gouge
 pub record IsFirstStripesFail (job : Job) (part : List Tri) (moves : List Move) (stripes : Stripes) (fail : PartFail) : Type 0 where
-  pub there : fail.at < stripes.«end»
+  pub there : fail.at < stripes.turns
   pub stripe : IsInStripes stripes fail.at
   pub before : ClearsStripesTo job part moves stripes fail.at
   pub first : IsFirstGouge job.cutter (move_at moves fail.at) part fail.gouge

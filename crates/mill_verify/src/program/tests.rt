@@ -1,83 +1,15 @@
-ghost use Rattle.std.specs.Prelude.{◌≡◌, ◌≤◌, ◌≤ℤ◌, pos, length, IfOk};
+ghost use Rattle.std.specs.Prelude.{◌≡◌, ◌≤◌, pos, length, IfOk};
 ghost use Rattle.mill_base.specs.Numbers.{Within};
 ghost use Rattle.mill_base.specs.declared.limits.TheConstants.{MAX_COORDINATE};
 ghost use Rattle.mill_base.specs.Points.{point_at};
 ghost use Rattle.mill_base.specs.Covers.{IsUnder};
 ghost use Rattle.mill_base.specs.Motion.{Follow};
 ghost use Rattle.mill_base.specs.Ranges.{IsInRange, MovesInRange};
-ghost use Rattle.mill_base.specs.Sizes.{IsCutter, radius_of};
-ghost use Rattle.mill_job.specs.Columns.{home};
-ghost use Rattle.mill_job.specs.Jobs.{IsJob};
 
 use super::*;
-use mill_base::{Box2, Cutter, Kind, Pt3, Tri};
-use mill_decimal::Snap;
-use mill_job::{Levels, Place};
+use crate::test_shape::{block_job, corner, plate};
+use mill_base::{Cutter, Kind, Pt3, Tri};
 use mill_sweep::Leaf;
-
-/// A block from 0 to 300 over a square of 200, and nine columns in it.
-fn block_job(cutter: Cutter, band: i32, allowance: u8) -> Job
-    requires cutter_ok { IsCutter cutter }
-    requires least { pos 0 ≤ℤ band }
-    requires most { band ≤ℤ pos 150 }
-    requires narrow { band ≤ℤ radius_of cutter }
-    ensures job { IsJob result }
-    ensures top { result.top ≡ pos 300 }
-    ensures start { home result ≡ point_at (pos 100) (pos 100) (pos 400) }
-    ensures band { result.band ≡ band }
-{
-    Job {
-        cutter,
-        floor: 0,
-        top: 300,
-        clear: 400,
-        area: Box2 {
-            x0: 0,
-            y0: 0,
-            x1: 200,
-            y1: 200,
-        },
-        home: Place { x: 100, y: 100 },
-        pitch: 100,
-        sample: 50,
-        allowance: i32::from(allowance),
-        band,
-        lift: 0,
-        raster: 100,
-        rough_raster: 100,
-        layer: 0,
-        rough_stock: 0,
-        levels: Levels::NONE,
-        snap: Snap::Nearest,
-    }
-}
-
-fn corner(x: i32, y: i32) -> Pt3
-    requires x_ok { Within MAX_COORDINATE x }
-    requires y_ok { Within MAX_COORDINATE y }
-    ensures { result ≡ point_at x y (pos 200) }
-{
-    Pt3 { x, y, z: 200 }
-}
-
-/// A plate at the height 200 over the square, as far as this x.
-fn plate(alloc: Global, x: i32) -> Result<Part, WantOfMemory>
-    requires { Within MAX_COORDINATE x }
-    ensures { IfOk result (λ part. IsUnder part (pos 300)) }
-{
-    let mut tris = Vec::new(alloc);
-    tris.push(Tri {
-        a: corner(0, 0),
-        b: corner(x, 0),
-        c: corner(x, 200),
-    })?;
-    tris.push(Tri {
-        a: corner(0, 0),
-        b: corner(x, 200),
-        c: corner(0, 200),
-    })?;
-    Ok(Part::new(tris))
-}
 
 /// Down in the middle to this height, and up again as a rapid.
 fn down_and_up(kind: Kind, height: i32) -> [Move; 2]

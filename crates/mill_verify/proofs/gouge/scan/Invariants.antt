@@ -1,5 +1,7 @@
-use Rattle.mill_verify.specs.inner.Firsts.{ClearsBetween}
+use Rattle.std.specs.Prelude.{◌≡◌, ◌*◌}
+use Rattle.mill_verify.specs.Blocks.{block_of}
+use Rattle.mill_verify.specs.inner.Firsts.{ClearsBetween, block_before}
 use Rattle.mill_verify.proofs.gouge.scan.Given as goal
 
-abbrev pub invariant-loop-at : goal.invariant-loop-at
-invariant-loop-at l = ClearsBetween l.job l.part l.moves l.start l.at
+abbrev pub invariant-loop-t : goal.invariant-loop-t
+invariant-loop-t l = (l.block ≡ block_before (block_of l.turns l.number) l.t) × ClearsBetween l.job l.part l.moves (l.number * 64) l.t

@@ -2,8 +2,8 @@ use Rattle.std.proofs.Common.{◌-◌}
 use Rattle.mill_verify.proofs.Striping.{IsScanned}
 use Rattle.mill_verify.proofs.gouge.scan_stripe.Given as goal
 
-abbrev pub invariant-loop-block : goal.invariant-loop-block
-invariant-loop-block l = IsScanned l.job l.part l.moves l.stripe l.block
+abbrev pub invariant-loop-number : goal.invariant-loop-number
+invariant-loop-number l = IsScanned l.job l.part l.moves l.stripe l.number
 
-abbrev pub decreases-loop-block : goal.decreases-loop-block
-decreases-loop-block l = l.stripe.«end» - l.block
+abbrev pub decreases-loop-number : goal.decreases-loop-number
+decreases-loop-number l = l.blocks - l.number

@@ -1,0 +1,110 @@
+ghost use Rattle.std.specs.Prelude.{◌≡◌, ◌*◌, ◌<◌, ◌≤◌, false, length, None, IsTrue};
+ghost use Rattle.mill_base.specs.Ranges.{MovesInRange};
+ghost use Rattle.mill_cells.specs.Sorted.{sorted_of};
+ghost use Rattle.mill_job.specs.Jobs.{IsJob};
+ghost use Rattle.mill_verify.specs.Blocks.{IsBlockStopped, block_count, block_of, turned};
+ghost use Rattle.mill_verify.specs.Tests.{ClearsPart};
+
+use mill_base::Move;
+use mill_cells::Cells;
+use mill_gouge::{Gouge, first_gouge};
+use mill_job::Job;
+use mill_part::Part;
+use std::marker::Model;
+
+/// How many moves stand in a block.
+const LENGTH: u64 = 64;
+
+/// Some moves of a program, up to 64 that follow on each other, for the test against the part. It goes
+/// through them one by one, up to one that doesn't clear the part. Moves are counted from 0.
+#[derive(Drop)]
+pub struct Block {
+    first: u64,
+    limit: u64,
+    next: u64,
+    failed: Option<Gouge>,
+}
+
+impl Model for Block {
+    ghost use Rattle.mill_verify.specs.Blocks.{BlockState};
+
+    ghost Value = { BlockState };
+
+    ghost view = { λ b. record { first = b.first; limit = b.limit; next = b.next; failed = b.failed } };
+}
+
+impl Block {
+    /// In how many blocks the first `turns` moves stand.
+    pub fn count(turns: u64) -> u64
+        ensures { result ≡ block_count turns }
+    {
+        turns.div_ceil(LENGTH)
+    }
+
+    /// The block of this number, of those in which the first `turns` moves stand, before its first turn.
+    /// Blocks are counted from 0, and each but the last has 64 moves.
+    pub fn new(number: u64, turns: u64) -> Block
+        requires { number * 64 < turns }
+        ensures { result ≡ block_of turns number }
+    {
+        let first = number * LENGTH;
+        Block {
+            first,
+            limit: first + LENGTH.min(turns - first),
+            next: first,
+            failed: None,
+        }
+    }
+
+    /// The number of the block's first move.
+    pub fn first(&self) -> u64
+        ensures { result ≡ self.now.first }
+    {
+        self.first
+    }
+
+    /// The number of the move after the block's last one.
+    pub fn limit(&self) -> u64
+        ensures { result ≡ self.now.limit }
+    {
+        self.limit
+    }
+
+    /// The number of the next move that has its turn, or of the one that failed.
+    pub fn next(&self) -> u64
+        ensures { result ≡ self.now.next }
+    {
+        self.next
+    }
+
+    /// The first triangle that a move of the block didn't pass, with the leaf at which the test failed,
+    /// if one did.
+    pub fn failed(&self) -> Option<Gouge>
+        ensures { result ≡ self.now.failed }
+    {
+        self.failed
+    }
+
+    /// The turn of move `t`, the block's next one, in a block that hasn't failed: the move is tested
+    /// against the part. The answer is true where it clears the part; where it doesn't, the first
+    /// triangle that it doesn't pass is noted, and the answer is false.
+    pub fn turn(&mut self, job: &Job, part: &Part, cells: &Cells, moves: &[Move], t: u64) -> bool
+        requires job_ok { IsJob job.now }
+        requires cells_ok { cells.now ≡ sorted_of part.now }
+        requires moves_ok { MovesInRange moves.now }
+        requires unfailed { self.old.failed ≡ None }
+        requires next { t ≡ self.old.next }
+        requires there { t < self.old.limit }
+        requires within { self.old.limit ≤ length moves.now }
+        ensures clears { IsTrue result → ClearsPart job.now part.now moves.now t }
+        ensures passed { IsTrue result → self.new ≡ turned self.old }
+        ensures stopped { result ≡ false → IsBlockStopped job.now part.now moves.now self.old self.new }
+    {
+        if let Some(gouge) = first_gouge(job.cutter, part, cells, &moves[t as usize]) {
+            self.failed = Some(gouge);
+            return false;
+        }
+        self.next = t + 1;
+        true
+    }
+}
