@@ -14,7 +14,7 @@ use lib.Signed.{◌<ℤ◌, ◌≤ℤ◌}
 use Rattle.mill_base.specs.Numbers.{Within}
 use Rattle.mill_base.specs.declared.limits.TheConstants.{MAX_COORDINATE}
 use Rattle.mill_base.specs.Points.{highest, point_at, point_tri, tri_at}
-use Rattle.mill_base.specs.Sizes.{IsCutter}
+use Rattle.mill_base.specs.Sizes.{radius_of}
 use Rattle.mill_base.specs.declared.points.Tri.{Tri}
 use Rattle.mill_base.specs.declared.points.Box2.{Box2}
 use Rattle.mill_base.specs.declared.cutter.Cutter.{Cutter}
@@ -25,12 +25,16 @@ use Rattle.mill_cells.proofs.Lists.{nothing_in_nil, cons_cases, distinct-append,
 use Rattle.mill_cells.proofs.PassedLemmas.{deals_on, deals_last, top_is}
 use Rattle.mill_push.specs.declared.fiber.Fiber.{Fiber}
 use Rattle.mill_push.specs.declared.fiber.Run.{Run}
+use Rattle.mill_push.specs.declared.stretch.Pusher.{Pusher}
 use Rattle.mill_push.specs.Fibers.{IsTouched, IsBlocked}
 use Rattle.mill_push.specs.Runs.{StandsIn}
-use Rattle.mill_push.specs.Touches.{IsTried, TouchesFew, position_count, strip_of}
+use Rattle.mill_push.specs.Touches.{IsTried, TouchesFew, position_count, strip_along}
 use Rattle.mill_push.specs.inner.Known.{IsGrown, IsKnown, IsNewStretch}
+use Rattle.mill_push.specs.inner.Pushers.{IsPusher}
+use Rattle.mill_push.specs.inner.Reaches.{IsReachForPart}
 use Rattle.mill_push.specs.inner.Unions.{AreSpans, AreStretches}
-use Rattle.mill_push.proofs.Meeting.{touched_near}
+use Rattle.mill_push.proofs.Meeting.{meets_wider, touched_meets, touched_over}
+use Rattle.mill_push.proofs.Reaching.{for_member}
 
 -- a list of numbers in which no number stands twice
 head_once : (i : ℕ) (ns : List ℕ) → IsDistinct nat_eq (i ∷ ns) → Contains ns i → ⊥
@@ -49,9 +53,9 @@ once_more i ns d new = distinct-append (i ∷ []) ns (distinct-one i) d (λ j on
 pub few_below : (ns : List ℕ) (n : ℕ) → IsDistinct nat_eq ns → ((i : ℕ) → Contains ns i → i < n) → length ns ≤ n
 few_below ns n d h = length-le_from_distinct_below ns n d (λ q e. h q (Contains-from_any {eq = nat_eq} (λ x y s. eqb-true x y s) q ns e))
 
-module _ (cutter : Cutter) (part : List Tri) (fiber : Fiber) (from to : ℤ) where
+module _ (p : Pusher) (part : List Tri) (from to : ℤ) where
   abbrev strip : Box2
-  strip = strip_of cutter fiber from to
+  strip = strip_along p.fiber.axis p.fiber.at p.reach from to
 
   -- a triangle's box meets the strip
   abbrev IsBeside : ℕ → Type 0
@@ -59,7 +63,7 @@ module _ (cutter : Cutter) (part : List Tri) (fiber : Fiber) (from to : ℤ) whe
 
   -- the positions at which a triangle is touched stand in these runs
   abbrev IsDone : List Run → ℕ → Type 0
-  IsDone found i = i < length part → (v : ℤ) → from ≤ℤ v → v ≤ℤ to → IsTouched cutter (tri_at part i) fiber v → StandsIn found v
+  IsDone found i = i < length part → (v : ℤ) → from ≤ℤ v → v ≤ℤ to → IsTouched p.cutter (tri_at part i) p.fiber v → StandsIn found v
 
   -- the runs so far, the triangles that are still to come, and the touches of those that were tried
   pub record CollectedSoFar (near : Ahead) (found : List Run) (old now : ℕ) : Type 0 where
@@ -67,12 +71,12 @@ module _ (cutter : Cutter) (part : List Tri) (fiber : Fiber) (from to : ℤ) whe
     pub beside : (i : ℕ) → Contains near.numbers i → IsBeside i
     pub once : IsDistinct nat_eq near.numbers
     pub spans : AreSpans from to found
-    pub sound : (v : ℤ) → StandsIn found v → IsBlocked cutter part fiber v
+    pub sound : (v : ℤ) → StandsIn found v → IsBlocked p.cutter part p.fiber v
     pub dealt : AreDealt IsBeside (IsDone found) near.numbers
     pub numbers : List ℕ
     pub each_once : IsDistinct nat_eq numbers
     pub apart : (i : ℕ) → Contains numbers i → Contains near.numbers i → ⊥
-    pub tried : (i : ℕ) → Contains numbers i → IsTried cutter part fiber from to i
+    pub tried : (i : ℕ) → Contains numbers i → IsTried p.cutter part p.fiber from to i
     pub bound : (n : ℕ) → position_count from to < 2 ^ n → now ≤ old + 2 * n * length numbers
 
   pub collect_starts : (s : Sorted) (near : Ahead) (old : ℕ) → s ≡ sorted_of part → near.tops ≡ s.tops → ((i : ℕ) → Contains near.numbers i ↔ IsNear s.boxes strip i) → IsDistinct nat_eq near.numbers
@@ -98,31 +102,31 @@ module _ (cutter : Cutter) (part : List Tri) (fiber : Fiber) (from to : ℤ) whe
   next_within {i = i} h s = beside_within i (s.beside i h.number)
 
   -- a triangle that comes is near the fiber
-  near_it : (near later : Ahead) (i : ℕ) → near.tops ≡ map highest part → Comes fiber.z near i later → IsBeside i → IsTried cutter part fiber from to i
-  near_it near later i e h n =
+  near_it : (near later : Ahead) (i : ℕ) → IsPusher p → near.tops ≡ map highest part → Comes p.fiber.z near i later → IsBeside i → IsTried p.cutter part p.fiber from to i
+  near_it near later i ok e h n =
       let inside = beside_within i n in
       let d = point_tri (point_at (pos 0) (pos 0) (pos 0)) in
       record {
         within = inside;
         near = record {
-          meets = subst (λ (b : Box2). Meet b strip) (get_or-map box_of part i d origin_box inside) n.meets;
-          over = subst (λ z. fiber.z <ℤ z) (ap (λ (ts : List ℤ). top_at ts i) e ∙ top_is part i d inside) h.over;
+          meets = meets_wider p.fiber.axis (box_of (tri_at part i)) p.fiber.at p.reach (radius_of p.cutter) from to ok.reach_most (subst (λ (b : Box2). Meet b strip) (get_or-map box_of part i d origin_box inside) n.meets);
+          over = subst (λ z. p.fiber.z <ℤ z) (ap (λ (ts : List ℤ). top_at ts i) e ∙ top_is part i d inside) h.over;
         };
       }
 
   -- a triangle that isn't over the fiber's height isn't touched
-  low_done : (tops : List ℤ) (found : List Run) (i : ℕ) → IsCutter cutter → tops ≡ map highest part → top_at tops i ≤ℤ fiber.z → IsDone found i
+  low_done : (tops : List ℤ) (found : List Run) (i : ℕ) → IsPusher p → tops ≡ map highest part → top_at tops i ≤ℤ p.fiber.z → IsDone found i
   low_done tops found i ok e low inside v a b t =
-      let near = touched_near cutter (tri_at part i) fiber from to v ok a b t in
+      let over = touched_over p.cutter (tri_at part i) p.fiber v ok.cutter_ok t in
       let top = ap (λ (ts : List ℤ). top_at ts i) e ∙ top_is part i (point_tri (point_at (pos 0) (pos 0) (pos 0))) inside in
-      absurd (against near.over (subst (λ z. z ≤ℤ fiber.z) top low))
+      absurd (against over (subst (λ z. z ≤ℤ p.fiber.z) top low))
     where
       against : {z h : ℤ} → z <ℤ h → h ≤ℤ z → ⊥
       against a b = omega (arith, ints)
 
   -- what the next triangle leaves: its own positions stand in the runs now, and it was tried
-  goes_on : {near later : Ahead} {i : ℕ} {found more : List Run} {old now then : ℕ} → IsCutter cutter → Comes fiber.z near i later → CollectedSoFar near found old now
-      → AreSpans from to more → ((v : ℤ) → StandsIn more v → IsBlocked cutter part fiber v) → ((v : ℤ) → StandsIn found v → StandsIn more v) → IsDone more i
+  goes_on : {near later : Ahead} {i : ℕ} {found more : List Run} {old now then : ℕ} → IsPusher p → Comes p.fiber.z near i later → CollectedSoFar near found old now
+      → AreSpans from to more → ((v : ℤ) → StandsIn more v → IsBlocked p.cutter part p.fiber v) → ((v : ℤ) → StandsIn found v → StandsIn more v) → IsDone more i
       → ((n : ℕ) → position_count from to < 2 ^ n → then ≤ now + 2 * n) → CollectedSoFar later more old then
   goes_on {near} {later} {i} {found} {more} {old} {now} {then} ok h s spans sound kept done cost = record {
     tops = h.tops ∙ s.tops;
@@ -130,7 +134,7 @@ module _ (cutter : Cutter) (part : List Tri) (fiber : Fiber) (from to : ℤ) whe
     once = IsDistinct-tail nat_eq i later.numbers (h.once s.once);
     spans = spans;
     sound = sound;
-    dealt = deals_on IsBeside (IsDone found) (IsDone more) fiber.z near later i h
+    dealt = deals_on IsBeside (IsDone found) (IsDone more) p.fiber.z near later i h
         (λ j before inside v a b t. kept v (before inside v a b t))
         done
         (λ j low. low_done near.tops more j ok s.tops low)
@@ -142,28 +146,28 @@ module _ (cutter : Cutter) (part : List Tri) (fiber : Fiber) (from to : ℤ) whe
       | inr before ↦ s.apart j before (h.rest j d)
     ];
     tried = λ j c. elim (cons_cases i s.numbers j c) [
-      | inl same ↦ subst (IsTried cutter part fiber from to) same (near_it near later i s.tops h (s.beside i h.number))
+      | inl same ↦ subst (IsTried p.cutter part p.fiber from to) same (near_it near later i ok s.tops h (s.beside i h.number))
       | inr before ↦ s.tried j before
     ];
-    bound = λ n p. more_steps n (length s.numbers) (cost n p) (s.bound n p);
+    bound = λ n u. more_steps n (length s.numbers) (cost n u) (s.bound n u);
   }
     where
       more_steps : (n m : ℕ) → then ≤ now + 2 * n → now ≤ old + 2 * n * m → then ≤ old + 2 * n * suc m
       more_steps n m a b = omega arith
 
   -- the positions at which it is touched are known
-  pub goes_on_without : {near later : Ahead} {i : ℕ} {found : List Run} {old now then : ℕ} → IsCutter cutter → Comes fiber.z near i later → CollectedSoFar near found old now
-      → IsKnown cutter (tri_at part i) fiber found from to → ((n : ℕ) → position_count from to < 2 ^ n → then ≤ now + 2 * n) → CollectedSoFar later found old then
+  pub goes_on_without : {near later : Ahead} {i : ℕ} {found : List Run} {old now then : ℕ} → IsPusher p → Comes p.fiber.z near i later → CollectedSoFar near found old now
+      → IsKnown p.cutter (tri_at part i) p.fiber found from to → ((n : ℕ) → position_count from to < 2 ^ n → then ≤ now + 2 * n) → CollectedSoFar later found old then
   goes_on_without ok h s known cost =
       goes_on ok h s s.spans s.sound (λ v c. c) (λ inside v a b t. known v a b t) cost
 
   -- those of one run are new
-  pub goes_on_with : {near later : Ahead} {i : ℕ} {found more : List Run} {r : Run} {old now then : ℕ} → IsCutter cutter → Comes fiber.z near i later → CollectedSoFar near found old now
-      → IsNewStretch cutter (tri_at part i) fiber from to found r → IsGrown found r more → ((n : ℕ) → position_count from to < 2 ^ n → then ≤ now + 2 * n) → CollectedSoFar later more old then
+  pub goes_on_with : {near later : Ahead} {i : ℕ} {found more : List Run} {r : Run} {old now then : ℕ} → IsPusher p → Comes p.fiber.z near i later → CollectedSoFar near found old now
+      → IsNewStretch p.cutter (tri_at part i) p.fiber from to found r → IsGrown found r more → ((n : ℕ) → position_count from to < 2 ^ n → then ≤ now + 2 * n) → CollectedSoFar later more old then
   goes_on_with {i = i} {found} {more} {r} ok h s stretch grown cost =
       goes_on ok h s (grown.spans from to s.spans stretch.span) sound grown.kept done cost
     where
-      sound : (v : ℤ) → StandsIn more v → IsBlocked cutter part fiber v
+      sound : (v : ℤ) → StandsIn more v → IsBlocked p.cutter part p.fiber v
       sound v c = elim (grown.only v c) [
         | inl before ↦ s.sound v before
         | inr new ↦ record {
@@ -181,25 +185,25 @@ module _ (cutter : Cutter) (part : List Tri) (fiber : Fiber) (from to : ℤ) whe
           (λ to_it. grown.added v (record { first = from_it; last = to_it })))
 
   -- after the last one
-  pub collect_ends : {near later : Ahead} {found : List Run} {old now : ℕ} → IsCutter cutter → NoneComes fiber.z near later → CollectedSoFar near found old now → AreStretches cutter part fiber from to found
-  collect_ends {near} {later} {found} ok none s = record { spans = s.spans; blocked = λ v a b. (stands v a b, s.sound v) }
+  pub collect_ends : {near later : Ahead} {found : List Run} {old now : ℕ} → IsPusher p → IsReachForPart p.cutter p.fiber.z p.reach part → NoneComes p.fiber.z near later → CollectedSoFar near found old now → AreStretches p.cutter part p.fiber from to found
+  collect_ends {near} {later} {found} ok reach none s = record { spans = s.spans; blocked = λ v a b. (stands v a b, s.sound v) }
     where
       d : Tri
       d = point_tri (point_at (pos 0) (pos 0) (pos 0))
 
-      stands : (v : ℤ) → from ≤ℤ v → v ≤ℤ to → IsBlocked cutter part fiber v → StandsIn found v
+      stands : (v : ℤ) → from ≤ℤ v → v ≤ℤ to → IsBlocked p.cutter part p.fiber v → StandsIn found v
       stands v a b g =
           let m = g.member in
           let place : tri_at part m.0 ≡ g.tri = get_or_default part m.0 d g.tri m.1 ∙ m.2 in
-          let near_one = touched_near cutter g.tri fiber from to v ok a b g.touches in
+          let meets = touched_meets p.cutter g.tri p.fiber p.reach from to v (for_member p.cutter p.fiber.z p.reach part g.tri reach m) a b g.touches in
           let beside_it : IsBeside m.0 = record {
             within = subst (λ n. m.0 < n) (sym (length-map part box_of)) m.1;
-            meets = subst (λ (x : Box2). Meet x strip) (sym (get_or-map box_of part m.0 d origin_box m.1)) (subst (λ (u : Tri). Meet (box_of u) strip) (sym place) near_one.meets);
+            meets = subst (λ (x : Box2). Meet x strip) (sym (get_or-map box_of part m.0 d origin_box m.1)) (subst (λ (u : Tri). Meet (box_of u) strip) (sym place) meets);
           } in
-          deals_last IsBeside (IsDone found) fiber.z near later none (λ j low. low_done near.tops found j ok s.tops low) s.dealt m.0 beside_it m.1 v a b
-          (subst (λ (u : Tri). IsTouched cutter u fiber v) (sym place) g.touches)
+          deals_last IsBeside (IsDone found) p.fiber.z near later none (λ j low. low_done near.tops found j ok s.tops low) s.dealt m.0 beside_it m.1 v a b
+          (subst (λ (u : Tri). IsTouched p.cutter u p.fiber v) (sym place) g.touches)
 
-  pub collect_cost : {near : Ahead} {found : List Run} {old now : ℕ} → CollectedSoFar near found old now → TouchesFew cutter part fiber from to old now
+  pub collect_cost : {near : Ahead} {found : List Run} {old now : ℕ} → CollectedSoFar near found old now → TouchesFew p.cutter part p.fiber from to old now
   collect_cost s = record { numbers = s.numbers; once = s.each_once; tried = s.tried; bound = s.bound }
 
 -- at most 40 touches for each triangle of the part

@@ -7,6 +7,8 @@ pub mod Searching
 pub mod Stored
 pub mod Pushing
 pub mod NearCerts
+pub mod ReachCerts
+pub mod Reaching
 pub mod Meeting
 pub mod Joining
 pub mod Sorting

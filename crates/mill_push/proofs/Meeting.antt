@@ -1,26 +1,28 @@
--- A triangle that is touched on a fiber is near it: its box meets the fiber's strip, and some corner is over the fiber's height.
-use Rattle.std.proofs.Common.{◌≡◌, refl, ap, subst, subst₂, arith}
+-- A triangle that is touched on a fiber: its box meets the fiber's strip, and some corner is over the fiber's height.
+use Rattle.std.proofs.Common.{◌≡◌, refl, ap, sym, subst, subst₂, arith}
 use Rattle.std.proofs.lemmas.Int.{ints, by_lt_z}
 use lib.IntN.{ℤ, pos, ◌+ℤ◌, ◌-ℤ◌, ◌*ℤ◌}
 use lib.Signed.{◌<ℤ◌, ◌≤ℤ◌}
 use Rattle.mill_base.specs.Numbers.{lesser, greater}
-use Rattle.mill_base.specs.Points.{highest}
-use Rattle.mill_base.specs.Contact.{Touches}
+use Rattle.mill_base.specs.Points.{highest, minus, times}
+use Rattle.mill_base.specs.Contact.{Holds, Touches}
 use Rattle.mill_base.specs.Sizes.{IsCutter, radius_of}
 use Rattle.mill_base.specs.declared.points.Pt3.{Pt3}
 use Rattle.mill_base.specs.declared.points.Tri.{Tri}
 use Rattle.mill_base.specs.declared.points.Box2.{Box2}
 use Rattle.mill_base.specs.declared.cutter.Cutter.{Cutter}
-use Rattle.mill_base.proofs.Integers.{one-mul-ℤ}
-use Rattle.mill_shape.proofs.Holding.{holds_around, holds_over_tip}
+use Rattle.mill_base.proofs.Integers.{mul_pos-ℤ, one-mul-ℤ}
+use Rattle.mill_shape.proofs.Holding.{IsAround, holds_over_tip, near_around}
 use Rattle.mill_part.proofs.TopLemmas.{corners_under}
 use Rattle.mill_cells.specs.Boxes.{Meet, box_of}
 use Rattle.mill_geom.specs.declared.touch.Axis.{Axis}
 use Rattle.mill_geom.specs.declared.touch.Axis.TheVariants.{X, Y}
 use Rattle.mill_push.specs.declared.fiber.Fiber.{Fiber}
 use Rattle.mill_push.specs.Fibers.{IsTouched, place_on, tip_on}
-use Rattle.mill_push.specs.Touches.{IsNearFiber, strip_along, strip_of}
+use Rattle.mill_push.specs.Touches.{strip_along}
+use Rattle.mill_push.specs.inner.Reaches.{IsReach, IsReachForTri}
 use Rattle.mill_push.proofs.NearCerts.{mean_high, mean_low, reaches_up, reaches_down}
+use Rattle.mill_push.proofs.ReachCerts.{under_rise}
 use Rattle.mill_push.proofs.Pushing.{has_radius}
 
 -- a number that lies in both of two stretches
@@ -76,18 +78,34 @@ side_down p q n x m r e f h = turned (n *ℤ x) p (r *ℤ n) (subst₂ (λ a b. 
     turned : (a b c : ℤ) → ((pos 0) -ℤ (b -ℤ a)) <ℤ c → (a -ℤ b) <ℤ c
     turned a b c h = omega (arith, ints)
 
--- the area holds the square about a tip that is two radii wide
+-- the area holds the square about a tip that is r wide on each side
 record HoldsSquare (area : Box2) (tip : Pt3) (r : ℤ) : Type 0 where
   west : area.x0 ≤ℤ (tip.x -ℤ r)
   east : (tip.x +ℤ r) ≤ℤ area.x1
   south : area.y0 ≤ℤ (tip.y -ℤ r)
   north : (tip.y +ℤ r) ≤ℤ area.y1
 
-touching_meets : (cutter : Cutter) (tri : Tri) (tip : Pt3) (area : Box2) → (pos 1) ≤ℤ radius_of cutter → HoldsSquare area tip (radius_of cutter) → Touches cutter (pos 1) tip tri → Meet (box_of tri) area
-touching_meets cutter tri tip area least s t =
+-- a mean of three heights isn't over the greatest of them
+mean_under : (u v w n a b c p top : ℤ) → (pos 0) ≤ℤ u → (pos 0) ≤ℤ v → (pos 0) ≤ℤ w → n ≡ (u +ℤ v) +ℤ w → p ≡ (u *ℤ a +ℤ v *ℤ b) +ℤ w *ℤ c → (a ≤ℤ top) × (b ≤ℤ top) × (c ≤ℤ top) → p ≤ℤ (n *ℤ top)
+mean_under u v w n a b c p top hu hv hw weights place under = rw (weights, place) (mean_low u v w a b c top hu hv hw under.0 under.1 under.2)
+
+-- in x and in y, a point that the cutter holds is nearer to the tip than a reach for its height
+held_around : (cutter : Cutter) (tip : Pt3) (n : ℤ) (p : Pt3) (top r : ℤ) → (pos 0) <ℤ n → IsReach cutter (top -ℤ tip.z) r → p.z ≤ℤ (n *ℤ top) → Holds cutter (pos 1) tip n p
+    → IsAround (r *ℤ (pos 1 *ℤ n)) (pos 1 *ℤ p.x -ℤ n *ℤ tip.x) (pos 1 *ℤ p.y -ℤ n *ℤ tip.y)
+held_around cutter tip n p top r some is low h =
+    let whole = mul_pos-ℤ (pos 1) n (omega (arith, ints)) some in
+    let near = is.near (pos 1 *ℤ n) (minus (times (pos 1) p) (times n tip)) whole (under_rise p.z n top tip.z low) h in
+    near_around (pos 1 *ℤ p.x -ℤ n *ℤ tip.x) (pos 1 *ℤ p.y -ℤ n *ℤ tip.y) r (pos 1 *ℤ n) (positive r is.least) whole near
+  where
+    positive : (r : ℤ) → (pos 1) ≤ℤ r → (pos 0) <ℤ r
+    positive r h = omega (arith, ints)
+
+touching_meets : (cutter : Cutter) (tri : Tri) (tip : Pt3) (area : Box2) (r : ℤ) → IsReachForTri cutter tip.z r tri → HoldsSquare area tip r → Touches cutter (pos 1) tip tri → Meet (box_of tri) area
+touching_meets cutter tri tip area r reach s t =
     let k = t.point in
-    let r = radius_of cutter in
-    let around = holds_around cutter (pos 1) tip t.n t.p least (omega (arith, ints)) k.some t.inside in
+    let least = reach.holds.least in
+    let low = mean_under k.u k.v k.w t.n tri.a.z tri.b.z tri.c.z t.p.z reach.top k.u_ok k.v_ok k.w_ok k.weights (ap (λ (q : Pt3). q.z) k.place) reach.under in
+    let around = held_around cutter tip t.n t.p reach.top r k.some reach.holds low t.inside in
     let one = one-mul-ℤ t.n in
     let px = one-mul-ℤ t.p.x in
     let py = one-mul-ℤ t.p.y in
@@ -128,9 +146,41 @@ height_on : (axis : Axis) (at z v : ℤ) → (place_on axis at z v).z ≡ z
 height_on X at z v = refl
 height_on Y at z v = refl
 
--- a triangle that is touched at a position is near the fiber
-pub touched_near : (cutter : Cutter) (tri : Tri) (fiber : Fiber) (from to v : ℤ) → IsCutter cutter → from ≤ℤ v → v ≤ℤ to → IsTouched cutter tri fiber v → IsNearFiber cutter fiber from to tri
-touched_near cutter tri fiber from to v ok a b t = record {
-  meets = touching_meets cutter tri (tip_on fiber v) (strip_of cutter fiber from to) (has_radius cutter ok) (in_strip fiber.axis fiber.at fiber.z (radius_of cutter) from to v a b) t;
-  over = subst (λ (z : ℤ). z <ℤ highest tri) (height_on fiber.axis fiber.at fiber.z v) (touching_over cutter tri (tip_on fiber v) (has_radius cutter ok) t);
+-- a triangle that is touched at a position comes into the strip, and over the fiber's height
+pub touched_meets : (cutter : Cutter) (tri : Tri) (fiber : Fiber) (r from to v : ℤ) → IsReachForTri cutter fiber.z r tri → from ≤ℤ v → v ≤ℤ to → IsTouched cutter tri fiber v
+    → Meet (box_of tri) (strip_along fiber.axis fiber.at r from to)
+touched_meets cutter tri fiber r from to v reach a b t =
+    let height = height_on fiber.axis fiber.at fiber.z v in
+    touching_meets cutter tri (tip_on fiber v) (strip_along fiber.axis fiber.at r from to) r (subst (λ (z : ℤ). IsReachForTri cutter z r tri) (sym height) reach)
+    (in_strip fiber.axis fiber.at fiber.z r from to v a b) t
+
+pub touched_over : (cutter : Cutter) (tri : Tri) (fiber : Fiber) (v : ℤ) → IsCutter cutter → IsTouched cutter tri fiber v → fiber.z <ℤ highest tri
+touched_over cutter tri fiber v ok t =
+    subst (λ (z : ℤ). z <ℤ highest tri) (height_on fiber.axis fiber.at fiber.z v) (touching_over cutter tri (tip_on fiber v) (has_radius cutter ok) t)
+
+-- what meets a strip meets a wider one
+pub meets_wider : (axis : Axis) (box : Box2) (at r s from to : ℤ) → r ≤ℤ s → Meet box (strip_along axis at r from to) → Meet box (strip_along axis at s from to)
+meets_wider X box at r s from to h m = let n = m.in_second in record {
+  x = m.x;
+  y = m.y;
+  in_first = m.in_first;
+  in_second = record { right = from_less from r s m.x h n.right; left = to_more to r s m.x h n.left; over = from_less at r s m.y h n.over; under = to_more at r s m.y h n.under };
 }
+  where
+    from_less : (f r s x : ℤ) → r ≤ℤ s → (f -ℤ r) ≤ℤ x → (f -ℤ s) ≤ℤ x
+    from_less f r s x h k = omega (arith, ints)
+
+    to_more : (t r s x : ℤ) → r ≤ℤ s → x ≤ℤ (t +ℤ r) → x ≤ℤ (t +ℤ s)
+    to_more t r s x h k = omega (arith, ints)
+meets_wider Y box at r s from to h m = let n = m.in_second in record {
+  x = m.x;
+  y = m.y;
+  in_first = m.in_first;
+  in_second = record { right = from_less at r s m.x h n.right; left = to_more at r s m.x h n.left; over = from_less from r s m.y h n.over; under = to_more to r s m.y h n.under };
+}
+  where
+    from_less : (f r s x : ℤ) → r ≤ℤ s → (f -ℤ r) ≤ℤ x → (f -ℤ s) ≤ℤ x
+    from_less f r s x h k = omega (arith, ints)
+
+    to_more : (t r s x : ℤ) → r ≤ℤ s → x ≤ℤ (t +ℤ r) → x ≤ℤ (t +ℤ s)
+    to_more t r s x h k = omega (arith, ints)

@@ -20,7 +20,9 @@ use Rattle.mill_geom.proofs.Along.{touch_carried}
 use Rattle.mill_push.specs.declared.fiber.Fiber.{Fiber}
 use Rattle.mill_push.specs.Fibers.{IsTouched, place_on, tip_on}
 use Rattle.mill_push.specs.Touches.{IsFiber}
-use Rattle.mill_push.proofs.Stored.{through, stored, stored_radius, less_radius, and_radius}
+use Rattle.mill_push.specs.declared.stretch.Pusher.{Pusher}
+use Rattle.mill_push.specs.inner.Pushers.{IsPusher}
+use Rattle.mill_push.proofs.Stored.{through, stored, stored_reach, less_reach, and_reach}
 
 -- a job's cutter is one of a contact test's
 pub is_wide : (cutter : Cutter) → IsCutter cutter → IsWideCutter cutter
@@ -39,13 +41,17 @@ most_radius (Flat r) h = h.within
 most_radius (Ball r) h = h.within
 most_radius (Cone r a b) h = h.0.within
 
--- a radius less and more than a position, as the machine stores them
-pub about : (cutter : Cutter) (x r : ℤ) → IsCutter cutter → Within MAX_COORDINATE x → r ≡ radius_of cutter
-    → (to_z w32 (of_z w32 (to_z w32 (of_z w32 x) -ℤ to_z w32 (of_z w32 r))) ≡ x -ℤ radius_of cutter) × (to_z w32 (of_z w32 (to_z w32 (of_z w32 x) +ℤ to_z w32 (of_z w32 r))) ≡ x +ℤ radius_of cutter)
-about cutter x r ok h e =
-    let some = has_radius cutter ok in
-    let most = most_radius cutter ok in
-    rw (e, stored x h, stored_radius (radius_of cutter) some most) (less_radius x (radius_of cutter) h some most, and_radius x (radius_of cutter) h some most)
+-- a reach is no more than the greatest radius
+pub most_reach : (p : Pusher) → IsPusher p → p.reach ≤ℤ pos 10000
+most_reach p ok = through p.reach (radius_of p.cutter) (pos 10000) ok.reach_most (most_radius p.cutter ok.cutter_ok)
+
+-- a reach less and more than a position, as the machine stores them
+pub about : (p : Pusher) (x : ℤ) → IsPusher p → Within MAX_COORDINATE x
+    → (to_z w32 (of_z w32 (to_z w32 (of_z w32 x) -ℤ to_z w32 (of_z w32 p.reach))) ≡ x -ℤ p.reach) × (to_z w32 (of_z w32 (to_z w32 (of_z w32 x) +ℤ to_z w32 (of_z w32 p.reach))) ≡ x +ℤ p.reach)
+about p x ok h =
+    let some = ok.reach_least in
+    let most = most_reach p ok in
+    rw (stored x h, stored_reach p.reach some most) (less_reach x p.reach h some most, and_reach x p.reach h some most)
 
 -- the tips of a fiber are in range
 over_lowest : (z : ℤ) → Within MAX_COORDINATE z → LOWEST_TIP ≤ℤ z

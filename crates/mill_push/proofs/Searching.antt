@@ -148,6 +148,17 @@ module _ (cutter : Cutter) (tri : Tri) (fiber : Fiber) where
     pub beyond : IsClear cutter tri fiber (high +ℤ pos 1) to
     pub cost : (n : ℕ) → (nat_abs (to -ℤ from) + 1) < 2 ^ n → IsPaid 2 (nat_abs ((high +ℤ pos 1) -ℤ low)) old now n
 
+  -- before the first touch, all positions are left
+  pub window_starts : (from to : ℤ) {old : ℕ} → from ≤ℤ to → WindowSoFar from to from to old old
+  window_starts from to {old} order = record {
+    after = omega (arith, ints);
+    order = omega (arith, ints);
+    within = omega (arith, ints);
+    before = λ v a b. absurd (omega (arith, ints));
+    beyond = λ v a b. absurd (omega (arith, ints));
+    cost = λ n p. paid_first 2 (nat_abs ((to +ℤ pos 1) -ℤ from)) old n (let same : nat_abs ((to +ℤ pos 1) -ℤ from) ≤ nat_abs (to -ℤ from) + 1 = omega (arith, ints) in omega arith);
+  }
+
   -- some position is left
   some_left : (low high : ℤ) → low ≤ℤ high → 0 < nat_abs ((high +ℤ pos 1) -ℤ low)
   some_left low high l = omega (arith, ints)

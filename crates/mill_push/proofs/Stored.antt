@@ -32,15 +32,18 @@ through a b c h k = omega (arith, ints)
 pub stored : (v : ℤ) → Within MAX_COORDINATE v → to_z w32 (of_z w32 v) ≡ v
 stored v h = let w = h.within in small v (omega (arith, ints))
 
--- a radius, and a radius more or less than a position
-pub stored_radius : (r : ℤ) → (pos 1) ≤ℤ r → r ≤ℤ pos 10000 → to_z w32 (of_z w32 r) ≡ r
-stored_radius r a b = small r (omega (arith, ints))
+-- a reach, and a reach more or less than a position
+pub stored_reach : (r : ℤ) → (pos 1) ≤ℤ r → r ≤ℤ pos 10000 → to_z w32 (of_z w32 r) ≡ r
+stored_reach r a b = small r (omega (arith, ints))
 
-pub less_radius : (x r : ℤ) → Within MAX_COORDINATE x → (pos 1) ≤ℤ r → r ≤ℤ pos 10000 → to_z w32 (of_z w32 (x -ℤ r)) ≡ x -ℤ r
-less_radius x r h a b = let w = h.within in small (x -ℤ r) (omega (arith, ints))
+pub stored_slope : (a : ℤ) → (pos 1) ≤ℤ a → a ≤ℤ pos 100 → to_z w32 (of_z w32 a) ≡ a
+stored_slope a h k = small a (omega (arith, ints))
 
-pub and_radius : (x r : ℤ) → Within MAX_COORDINATE x → (pos 1) ≤ℤ r → r ≤ℤ pos 10000 → to_z w32 (of_z w32 (x +ℤ r)) ≡ x +ℤ r
-and_radius x r h a b = let w = h.within in small (x +ℤ r) (omega (arith, ints))
+pub less_reach : (x r : ℤ) → Within MAX_COORDINATE x → (pos 1) ≤ℤ r → r ≤ℤ pos 10000 → to_z w32 (of_z w32 (x -ℤ r)) ≡ x -ℤ r
+less_reach x r h a b = let w = h.within in small (x -ℤ r) (omega (arith, ints))
+
+pub and_reach : (x r : ℤ) → Within MAX_COORDINATE x → (pos 1) ≤ℤ r → r ≤ℤ pos 10000 → to_z w32 (of_z w32 (x +ℤ r)) ≡ x +ℤ r
+and_reach x r h a b = let w = h.within in small (x +ℤ r) (omega (arith, ints))
 
 -- the lesser and the greater of two stored numbers
 pub least_stored : (m a b : ℤ) → FitsSigned w32 m → FitsSigned w32 a → FitsSigned w32 b → m ≡ int_min (to_z w32 (of_z w32 a)) (to_z w32 (of_z w32 b)) → to_z w32 (of_z w32 m) ≡ int_min a b

@@ -11,6 +11,7 @@ mod fiber;
 mod known;
 mod laws;
 mod near;
+mod reach;
 mod runs;
 mod stretch;
 #[cfg(test)]

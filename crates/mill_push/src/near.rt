@@ -5,7 +5,8 @@ ghost use Rattle.mill_base.specs.Ranges.{TriInRange};
 ghost use Rattle.mill_cells.specs.Sorted.{sorted_of};
 ghost use Rattle.mill_push.specs.inner.Known.{IsNewAnswer};
 ghost use Rattle.mill_push.specs.inner.Pushers.{IsPusher};
-ghost use Rattle.mill_push.specs.Touches.{TouchesFew, position_count, strip_of};
+ghost use Rattle.mill_push.specs.inner.Reaches.{IsReachForPart, IsReachForTri};
+ghost use Rattle.mill_push.specs.Touches.{TouchesFew, position_count, strip_along};
 ghost use Rattle.mill_push.specs.inner.Unions.{AreSpans, AreStretches};
 
 use crate::fiber::Run;
@@ -20,27 +21,27 @@ use std::alloc::Global;
 use std::sync::ledger::Ledger;
 
 impl Pusher {
-    /// The rectangle that the cutter may come over from `from` to `to`.
+    /// The rectangle over which the cutter may hold a point of the part from `from` to `to`.
     fn strip(self, from: i32, to: i32) -> Box2
         requires self_ok { IsPusher self }
         requires from_ok { Within MAX_COORDINATE from }
         requires to_ok { Within MAX_COORDINATE to }
-        ensures { result ≡ strip_of self.cutter self.fiber from to }
+        ensures { result ≡ strip_along self.fiber.axis self.fiber.at self.reach from to }
     {
-        let radius = self.cutter.radius();
+        let reach = self.reach;
         let at = self.fiber.at;
         match self.fiber.axis {
             Axis::X => Box2 {
-                x0: from - radius,
-                y0: at - radius,
-                x1: to + radius,
-                y1: at + radius,
+                x0: from - reach,
+                y0: at - reach,
+                x1: to + reach,
+                y1: at + reach,
             },
             Axis::Y => Box2 {
-                x0: at - radius,
-                y0: from - radius,
-                x1: at + radius,
-                y1: to + radius,
+                x0: at - reach,
+                y0: from - reach,
+                x1: at + reach,
+                y1: to + reach,
             },
         }
     }
@@ -59,6 +60,7 @@ impl Pusher {
     ) -> Option<Run>
         requires self_ok { IsPusher self }
         requires tri_ok { TriInRange tri.now }
+        requires reach_ok { IsReachForTri self.cutter self.fiber.z self.reach tri.now }
         requires from_ok { Within MAX_COORDINATE from }
         requires to_ok { Within MAX_COORDINATE to }
         requires order { from ≤ℤ to }
@@ -90,6 +92,7 @@ impl Pusher {
         steps: &mut Steps<L>,
     ) -> Result<Vec<Run>, WantOfMemory>
         requires self_ok { IsPusher self }
+        requires reach_ok { IsReachForPart self.cutter self.fiber.z self.reach part.now }
         requires cells_ok { cells.now ≡ sorted_of part.now }
         requires from_ok { Within MAX_COORDINATE from }
         requires to_ok { Within MAX_COORDINATE to }

@@ -7,6 +7,7 @@ ghost use Rattle.mill_push.specs.Runs.{AreRuns};
 ghost use Rattle.mill_push.specs.Touches.{IsFiber, TouchesFew};
 
 use crate::fiber::{Fiber, Run};
+use crate::reach::reach_over;
 use crate::stretch::Pusher;
 use crate::union::union;
 use mill_base::{Cutter, Steps, WantOfMemory};
@@ -42,7 +43,12 @@ pub fn push<L: Ledger>(
     ensures cost { steps.new ≤ steps.old + 40 * length part.now }
     ensures near { TouchesFew cutter part.now fiber from to steps.old steps.new }
 {
-    let pusher = Pusher { cutter, fiber };
+    let reach = reach_over(part, cutter, fiber.z);
+    let pusher = Pusher {
+        cutter,
+        fiber,
+        reach,
+    };
     let mut stretches = pusher.stretches(alloc, part, cells, from, to, steps)?;
     stretches.sort_by_key(|stretch| stretch.first)?;
     union(alloc, &stretches)

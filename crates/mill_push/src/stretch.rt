@@ -15,10 +15,13 @@ use mill_geom::{Axis, Side, Touch};
 use std::sync::ledger::Ledger;
 
 /// A cutter that is pushed along a fiber.
+///
+/// Every point of the part that it holds is nearer to its axis than the reach.
 #[derive(Clone, Copy)]
 pub struct Pusher {
     pub cutter: Cutter,
     pub fiber: Fiber,
+    pub reach: i32,
 }
 
 impl Fiber {

@@ -278,6 +278,79 @@ fn ball_and_cone_on_an_edge(rt: HostRuntime) -> Result<(), Fail> {
     Ok(())
 }
 
+/// Looks at the runs along X over the point at 500, of which there is one or none: how far beside the
+/// point the fiber is, its height, and the run.
+fn look_at_point<R: Abort + AllocGlobal>(
+    rt: &R,
+    cutter: Cutter,
+    table: &[(i16, i16, Option<Run>)],
+) -> Result<(), Fail>
+    requires { IsCutter cutter }
+{
+    let part = part_of(rt, point(500))?;
+    for (across, z, want) in table {
+        let found = runs(rt, &part, cutter, fiber(Axis::X, *across, *z), (0, 1000))?;
+        assert_eq!(rt; found.first().copied(), *want, "{across} beside it at {z}");
+        assert_eq!(rt; found.len(), usize::from(want.is_some()));
+    }
+    Ok(())
+}
+
+// The point is at the height 300. A ball of radius 100 whose tip is h under it, for h up to 100, holds
+// it where the square of its distance to the axis is less than h * (200 - h): that is 199 for 1, and
+// 60² for 20, where 36² + 48² = 60² and 59² + 10² is less. From 100 on it holds all that is nearer
+// than 100.
+#[test]
+fn ball_near_the_top(rt: HostRuntime) -> Result<(), Fail> {
+    look_at_point(
+        &rt,
+        Cutter::Ball { radius: 100 },
+        &[
+            (0, 300, None),
+            (0, 299, Some(run(486, 514))),
+            (14, 299, Some(run(499, 501))),
+            (15, 299, None),
+            (0, 280, Some(run(441, 559))),
+            (36, 280, Some(run(453, 547))),
+            (59, 280, Some(run(490, 510))),
+            (60, 280, None),
+            (0, 200, Some(run(401, 599))),
+            (60, 200, Some(run(421, 579))),
+            (99, 150, Some(run(486, 514))),
+            (100, 150, None),
+        ],
+    )
+}
+
+// A cone that rises by 3 over each 2 holds the point where its distance to the axis is less than two
+// thirds of the height: that is 40/3 for 20, and 100 for 150, where the shank begins; 13² is 169, and
+// 13² + 3² = 178 is more than 1600/9.
+#[test]
+fn cone_near_the_top(rt: HostRuntime) -> Result<(), Fail> {
+    let cone = Cutter::Cone {
+        radius: 100,
+        rise: 3,
+        run: 2,
+    };
+    look_at_point(
+        &rt,
+        cone,
+        &[
+            (0, 300, None),
+            (0, 299, Some(run(500, 500))),
+            (1, 299, None),
+            (0, 280, Some(run(487, 513))),
+            (13, 280, Some(run(498, 502))),
+            (14, 280, None),
+            (0, 200, Some(run(434, 566))),
+            (0, 150, Some(run(401, 599))),
+            (99, 150, Some(run(486, 514))),
+            (60, 0, Some(run(421, 579))),
+            (100, 0, None),
+        ],
+    )
+}
+
 // Without the window's ends the run is from 401 to 599.
 #[test]
 fn narrow_windows(rt: HostRuntime) -> Result<(), Fail> {

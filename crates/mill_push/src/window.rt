@@ -4,7 +4,8 @@ ghost use Rattle.mill_base.specs.declared.limits.TheConstants.{MAX_COORDINATE};
 ghost use Rattle.mill_base.specs.Ranges.{TriInRange};
 ghost use Rattle.mill_push.specs.inner.Known.{IsRunInRange, IsStart, IsWindow};
 ghost use Rattle.mill_push.specs.inner.Pushers.{IsPusher};
-ghost use Rattle.mill_push.specs.inner.Windows.{reach_along, reach_of};
+ghost use Rattle.mill_push.specs.inner.Reaches.{IsReachForTri};
+ghost use Rattle.mill_push.specs.inner.Windows.{extent_along, extent_of};
 
 use crate::fiber::Run;
 use crate::stretch::Pusher;
@@ -12,43 +13,43 @@ use mill_base::Tri;
 use mill_geom::Axis;
 
 impl Pusher {
-    /// The positions from `from` to `to` at which the cutter can come over the triangle's box: at no
-    /// other is the triangle touched.
+    /// The positions from `from` to `to` at which the triangle's box is within the cutter's reach: at
+    /// no other is the triangle touched.
     pub fn window(self, tri: &Tri, from: i32, to: i32) -> Run
         requires self_ok { IsPusher self }
         requires tri_ok { TriInRange tri.now }
+        requires reach_ok { IsReachForTri self.cutter self.fiber.z self.reach tri.now }
         requires from_ok { Within MAX_COORDINATE from }
         requires to_ok { Within MAX_COORDINATE to }
         ensures in_range { IsRunInRange result }
         ensures window { IsWindow self.cutter tri.now self.fiber from to result }
     {
-        let radius = self.cutter.radius();
-        let reach = reach(tri, self.fiber.axis);
+        let extent = extent(tri, self.fiber.axis);
         Run {
-            first: from.max(reach.first - radius),
-            last: to.min(reach.last + radius),
+            first: from.max(extent.first - self.reach),
+            last: to.min(extent.last + self.reach),
         }
     }
 }
 
 /// From the least to the greatest coordinate of the triangle's corners along the axis.
-fn reach(tri: &Tri, axis: Axis) -> Run
+fn extent(tri: &Tri, axis: Axis) -> Run
     requires { TriInRange tri.now }
-    ensures value { result ≡ reach_along axis tri.now }
+    ensures value { result ≡ extent_along axis tri.now }
     ensures in_range { IsRunInRange result }
 {
     match axis {
-        Axis::X => reach_of_three(tri.a.x, tri.b.x, tri.c.x),
-        Axis::Y => reach_of_three(tri.a.y, tri.b.y, tri.c.y),
+        Axis::X => extent_of_three(tri.a.x, tri.b.x, tri.c.x),
+        Axis::Y => extent_of_three(tri.a.y, tri.b.y, tri.c.y),
     }
 }
 
 /// From the least to the greatest of three coordinates.
-fn reach_of_three(a: i32, b: i32, c: i32) -> Run
+fn extent_of_three(a: i32, b: i32, c: i32) -> Run
     requires a_ok { Within MAX_COORDINATE a }
     requires b_ok { Within MAX_COORDINATE b }
     requires c_ok { Within MAX_COORDINATE c }
-    ensures value { result ≡ reach_of a b c }
+    ensures value { result ≡ extent_of a b c }
     ensures in_range { IsRunInRange result }
 {
     Run {

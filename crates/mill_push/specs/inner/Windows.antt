@@ -1,4 +1,4 @@
--- How far a triangle reaches along an axis.
+-- How far a triangle extends along an axis.
 use Rattle.std.specs.Prelude.{ℤ}
 use Rattle.mill_base.specs.Numbers.{lesser, greater}
 use Rattle.mill_base.specs.declared.points.Tri.{Tri}
@@ -7,10 +7,10 @@ use Rattle.mill_geom.specs.declared.touch.Axis.TheVariants.{X, Y}
 use Rattle.mill_push.specs.declared.fiber.Run.{Run}
 
 -- from the least to the greatest of three coordinates
-abbrev pub reach_of : ℤ → ℤ → ℤ → Run
-reach_of a b c = record { first = lesser a (lesser b c); last = greater a (greater b c) }
+abbrev pub extent_of : ℤ → ℤ → ℤ → Run
+extent_of a b c = record { first = lesser a (lesser b c); last = greater a (greater b c) }
 
 -- from the least to the greatest coordinate of a triangle's corners
-abbrev pub reach_along : Axis → Tri → Run
-reach_along X tri = reach_of tri.a.x tri.b.x tri.c.x
-reach_along Y tri = reach_of tri.a.y tri.b.y tri.c.y
+abbrev pub extent_along : Axis → Tri → Run
+extent_along X tri = extent_of tri.a.x tri.b.x tri.c.x
+extent_along Y tri = extent_of tri.a.y tri.b.y tri.c.y

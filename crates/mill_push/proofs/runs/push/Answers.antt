@@ -11,6 +11,12 @@ returns-in_err-stretches-clause-cost g c = few_touches c.args.cutter c.args.part
 pub returns-in_err-sort_by_key-clause-cost : goal.returns-in_err-sort_by_key-clause-cost
 returns-in_err-sort_by_key-clause-cost g c = few_touches c.args.cutter c.args.part.now c.args.fiber c.args.from c.args.to c.args.steps.now c.stretches.new.steps c.requires.from_ok c.requires.to_ok (rw (stored c.args.from c.requires.from_ok, stored c.args.to c.requires.to_ok) at c.stretches.ensures.cost)
 
+pub returns-in_err-sort_by_key-clause-near : goal.returns-in_err-sort_by_key-clause-near
+returns-in_err-sort_by_key-clause-near g c = rw (stored c.args.from c.requires.from_ok, stored c.args.to c.requires.to_ok) at c.stretches.ensures.cost
+
+pub returns-clause-near : goal.returns-clause-near
+returns-clause-near g c = rw (stored c.args.from c.requires.from_ok, stored c.args.to c.requires.to_ok) at c.stretches.ensures.cost
+
 pub returns-clause-cost : goal.returns-clause-cost
 returns-clause-cost g c = few_touches c.args.cutter c.args.part.now c.args.fiber c.args.from c.args.to c.args.steps.now c.stretches.new.steps c.requires.from_ok c.requires.to_ok (rw (stored c.args.from c.requires.from_ok, stored c.args.to c.requires.to_ok) at c.stretches.ensures.cost)
 

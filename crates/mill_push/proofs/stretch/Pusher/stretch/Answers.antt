@@ -4,9 +4,12 @@ use lib.IntN.{pos, ◌+ℤ◌, ◌-ℤ◌}
 use lib.Signed.{◌<ℤ◌, ◌≤ℤ◌}
 use Rattle.std.proofs.lemmas.Int.{ints, to_z-of_z}
 use Rattle.mill_push.specs.Fibers.{IsTouched}
-use Rattle.mill_push.proofs.Searching.{touched_here, window_less, window_more, window_never, never_cost, window_ends, found_stretch, found_cost, fewer_low, fewer_high}
+use Rattle.mill_push.proofs.Searching.{touched_here, window_starts, window_less, window_more, window_never, never_cost, window_ends, found_stretch, found_cost, fewer_low, fewer_high}
 use Rattle.mill_push.proofs.Stored.{stored}
 use Rattle.mill_push.proofs.stretch.Pusher.stretch.Goals as goal
+
+pub loop-low-init : goal.loop-low-init
+loop-low-init g c = rw (stored c.args.from c.requires.from_ok, stored c.args.to c.requires.to_ok) (window_starts c.args.self.cutter c.args.tri.now c.args.self.fiber c.args.from c.args.to c.requires.order)
 
 pub first_touched-first-requires-clause-held : goal.first_touched-first-requires-clause-held
 first_touched-first-requires-clause-held g c =

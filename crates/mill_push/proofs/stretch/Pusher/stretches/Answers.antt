@@ -2,6 +2,7 @@ use Rattle.std.proofs.lemmas.List.Elements.{Contains-get_or}
 use Rattle.mill_push.proofs.Collecting.{collect_starts, next_within, goes_on_without, goes_on_with, collect_ends, collect_cost}
 use Rattle.mill_push.proofs.Cutting.{span_in_range, spans_in_range}
 use Rattle.mill_push.proofs.Growing.{grown_by_one}
+use Rattle.mill_push.proofs.Reaching.{for_member}
 use Rattle.mill_push.proofs.Stored.{stored}
 use Rattle.mill_push.proofs.stretch.Pusher.stretches.Goals as goal
 
@@ -11,22 +12,30 @@ loop-number-init g c =
     let to = stored c.args.to c.requires.to_ok in
     let strip = rw (from, to) at c.strip.ensures in
     let each = rw strip at c.near_over-near.ensures.each in
-    rw (from, to, c.new-runs.ensures.items) (collect_starts c.args.self.cutter c.args.part.now c.args.self.fiber c.args.from c.args.to c.args.cells.now c.near_over-near.result c.args.steps.now c.requires.cells_ok c.near_over-near.ensures.tops each c.near_over-near.ensures.once)
+    rw (from, to, c.new-runs.ensures.items) (collect_starts c.args.self c.args.part.now c.args.from c.args.to c.args.cells.now c.near_over-near.result c.args.steps.now c.requires.cells_ok c.near_over-near.ensures.tops each c.near_over-near.ensures.once)
 
 pub bounds-tris-number : goal.bounds-tris-number
 bounds-tris-number g c =
     let from = stored c.args.from c.requires.from_ok in
     let to = stored c.args.to c.requires.to_ok in
     let i = rw (from, to) at c.loop-number.invariant in
-    rw c.tris-tris.ensures.list (next_within c.args.self.cutter c.args.part.now c.args.self.fiber c.args.from c.args.to c.in-Some.ensures i)
+    rw c.tris-tris.ensures.list (next_within c.args.self c.args.part.now c.args.from c.args.to c.in-Some.ensures i)
 
 pub new_stretch-requires-clause-tri_ok : goal.new_stretch-requires-clause-tri_ok
 new_stretch-requires-clause-tri_ok g c =
     let from = stored c.args.from c.requires.from_ok in
     let to = stored c.args.to c.requires.to_ok in
     let i = rw (from, to) at c.loop-number.invariant in
-    let inside = next_within c.args.self.cutter c.args.part.now c.args.self.fiber c.args.from c.args.to c.in-Some.ensures i in
+    let inside = next_within c.args.self c.args.part.now c.args.from c.args.to c.in-Some.ensures i in
     c.tris-tris.ensures.in_range _ (rw c.tris-tris.ensures.list (Contains-get_or c.args.part.now c.in-Some.number _ inside))
+
+pub new_stretch-requires-clause-reach_ok : goal.new_stretch-requires-clause-reach_ok
+new_stretch-requires-clause-reach_ok g c =
+    let from = stored c.args.from c.requires.from_ok in
+    let to = stored c.args.to c.requires.to_ok in
+    let i = rw (from, to) at c.loop-number.invariant in
+    let inside = next_within c.args.self c.args.part.now c.args.from c.args.to c.in-Some.ensures i in
+    rw c.tris-tris.ensures.list (for_member c.args.self.cutter c.args.self.fiber.z c.args.self.reach c.args.part.now _ c.requires.reach_ok (Contains-get_or c.args.part.now c.in-Some.number _ inside))
 
 pub new_stretch-requires-clause-known : goal.new_stretch-requires-clause-known
 new_stretch-requires-clause-known g c =
@@ -43,7 +52,7 @@ loop-number-preserved-in_default-new_stretch g c =
     let comes = rw (stored c.args.self.fiber.z c.requires.self_ok.fiber_ok.z_ok) at c.in-Some.ensures in
     let known = rw (from, to, c.tris-tris.ensures.list, c.deref.ensures.value) at c.in_default-new_stretch.ensures.stretch in
     let cost = rw (from, to) at c.in_default-new_stretch.ensures.cost in
-    rw (from, to) (goes_on_without c.args.self.cutter c.args.part.now c.args.self.fiber c.args.from c.args.to c.requires.self_ok.cutter_ok comes i known cost)
+    rw (from, to) (goes_on_without c.args.self c.args.part.now c.args.from c.args.to c.requires.self_ok comes i known cost)
 
 pub add-requires-clause-runs_ok : goal.add-requires-clause-runs_ok
 add-requires-clause-runs_ok g c =
@@ -67,7 +76,7 @@ loop-number-preserved g c =
     let comes = rw (stored c.args.self.fiber.z c.requires.self_ok.fiber_ok.z_ok) at c.in-Some.ensures in
     let stretch = rw (from, to, c.tris-tris.ensures.list, c.deref.ensures.value) at c.in-Some-new_stretch.ensures.stretch in
     let cost = rw (from, to) at c.in-Some-new_stretch.ensures.cost in
-    rw (from, to) (goes_on_with c.args.self.cutter c.args.part.now c.args.self.fiber c.args.from c.args.to c.requires.self_ok.cutter_ok comes i stretch c.in_ok-add.ensures cost)
+    rw (from, to) (goes_on_with c.args.self c.args.part.now c.args.from c.args.to c.requires.self_ok comes i stretch c.in_ok-add.ensures cost)
 
 pub returns-in_err-add-clause-cost : goal.returns-in_err-add-clause-cost
 returns-in_err-add-clause-cost g c =
@@ -77,7 +86,7 @@ returns-in_err-add-clause-cost g c =
     let comes = rw (stored c.args.self.fiber.z c.requires.self_ok.fiber_ok.z_ok) at c.in-Some.ensures in
     let stretch = rw (from, to, c.tris-tris.ensures.list, c.deref.ensures.value) at c.in-Some-new_stretch.ensures.stretch in
     let cost = rw (from, to) at c.in-Some-new_stretch.ensures.cost in
-    collect_cost c.args.self.cutter c.args.part.now c.args.self.fiber c.args.from c.args.to (goes_on_with c.args.self.cutter c.args.part.now c.args.self.fiber c.args.from c.args.to c.requires.self_ok.cutter_ok comes i stretch (grown_by_one c.loop-number.runs.items _) cost)
+    collect_cost c.args.self c.args.part.now c.args.from c.args.to (goes_on_with c.args.self c.args.part.now c.args.from c.args.to c.requires.self_ok comes i stretch (grown_by_one c.loop-number.runs.items _) cost)
 
 pub returns-clause-stretches : goal.returns-clause-stretches
 returns-clause-stretches g c =
@@ -85,11 +94,11 @@ returns-clause-stretches g c =
     let to = stored c.args.to c.requires.to_ok in
     let i = rw (from, to) at c.loop-number.invariant in
     let none = rw (stored c.args.self.fiber.z c.requires.self_ok.fiber_ok.z_ok) at c.in_default.ensures in
-    collect_ends c.args.self.cutter c.args.part.now c.args.self.fiber c.args.from c.args.to c.requires.self_ok.cutter_ok none i
+    collect_ends c.args.self c.args.part.now c.args.from c.args.to c.requires.self_ok c.requires.reach_ok none i
 
 pub returns-clause-cost : goal.returns-clause-cost
 returns-clause-cost g c =
     let from = stored c.args.from c.requires.from_ok in
     let to = stored c.args.to c.requires.to_ok in
     let i = rw (from, to) at c.loop-number.invariant in
-    collect_cost c.args.self.cutter c.args.part.now c.args.self.fiber c.args.from c.args.to i
+    collect_cost c.args.self c.args.part.now c.args.from c.args.to i
