@@ -29,6 +29,11 @@ turns_none e = subst (AreTurns 0) (sym e) (record { count = refl; range = λ m m
 in_range_push : (moves : List Move) (m : Move) → MovesInRange moves → MoveInRange m → MovesInRange (moves ++ m ∷ [])
 in_range_push moves m before here x member = elim (Contains-push_cases moves m x member) [ inl old ↦ before x old | inr new ↦ subst MoveInRange new here ]
 
+-- so many moves in range, and one more
+pub range_more : {n : ℕ} {after : List Move} (moves : List Move) (m : Move) → MoveInRange m → after ≡ moves ++ m ∷ [] → (length moves ≡ n) × MovesInRange moves → (length after ≡ n + 1) × MovesInRange after
+range_more {n} {after} moves m m_ok is before =
+    subst (λ (ms : List Move). (length ms ≡ n + 1) × MovesInRange ms) (sym is) (omega (length_push moves m, before.0, arith), in_range_push moves m before.1 m_ok)
+
 start_ok : IsInRange start
 start_ok = record { x_ok = record { within = omega (arith, ints) }; y_ok = record { within = omega (arith, ints) }; z_ok = record { within = omega (arith, ints) } }
 

@@ -1,4 +1,4 @@
-use Rattle.std.proofs.Common.{◌+◌, refl, arith}
+use Rattle.std.proofs.Common.{arith}
 use Rattle.mill_verify.proofs.Striping.{scanned_none, scanned_more, scanned_all, scanned_fail}
 use Rattle.mill_verify.proofs.gouge.scan_stripe.Goals as goal
 
