@@ -1,0 +1,6 @@
+mod Sums
+mod Views
+mod Opening
+mod Drawing
+mod Drew
+mod Putting

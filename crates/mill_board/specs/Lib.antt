@@ -1,0 +1,4 @@
+pub mod Works
+pub mod Seats
+pub mod Kept
+pub mod inner

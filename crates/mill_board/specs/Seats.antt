@@ -1,0 +1,36 @@
+-- What a board and a seat show.
+use Rattle.std.specs.Prelude.{◌≡◌, ◌-◌, ◌/◌, [], None, false}
+use Rattle.atomic_table.specs.Seated.{TableId}
+use Rattle.mill_board.specs.declared.work.Terms.{Terms}
+use Rattle.mill_board.specs.declared.view.View.{View}
+
+-- a board: which table it is, and the work with its number of turns
+pub record BoardShown (W : Type 0) : Type 0 where
+  pub table : TableId
+  pub terms : Terms W
+
+-- a seat: of which table it is, and its view
+pub record SeatShown (W : Type 0) : Type 0 where
+  pub table : TableId
+  pub view : View W
+
+-- the seat is one of the board's
+pub record IsSeatOf {W : Type 0} (board : BoardShown W) (seat : SeatShown W) : Type 0 where
+  pub table : seat.table ≡ board.table
+  pub terms : seat.view.terms ≡ board.terms
+
+-- the seat is one of the board's, and holds no piece
+pub record IsFree {W : Type 0} (board : BoardShown W) (seat : SeatShown W) : Type 0 where
+  pub owner : IsSeatOf board seat
+  pub free : seat.view.out ≡ None
+
+-- the view of the first seat: nothing is drawn, and the least turn that it has seen is the number of turns
+abbrev pub first_view : {W : Type 0} → Terms W → View W
+first_view terms = record { drawn = []; seen = terms.turns; ended = false; spare = 4611686018427387904; out = None; terms = terms }
+
+-- what is left of a view that is split, and what the new seat has
+abbrev pub kept_half : {W : Type 0} → View W → View W
+kept_half v = record v { spare = v.spare - v.spare / 2 }
+
+abbrev pub given_half : {W : Type 0} → View W → View W
+given_half v = record v { drawn = []; spare = v.spare / 2; out = None }

@@ -1,0 +1,109 @@
+ghost use Rattle.std.specs.Prelude.{◌≡◌, ◌+◌, ◌^◌, ◌<◌, ◌++◌, [], ◌∷◌, false, true, IfOk, IfSome, IfNone, IsNone, Some, None};
+ghost use Rattle.mill_board.specs.Works.{HasSpans, IsTrueHeld};
+ghost use Rattle.mill_board.specs.Seats.{IsSeatOf, IsFree, first_view};
+ghost use Rattle.mill_board.specs.Kept.{times};
+ghost use Rattle.mill_board.specs.inner.Starts.{starts};
+
+use crate::rule::{Drawing, Putting, Slot};
+use crate::seat::{Board, Seat};
+use crate::work::{Held, Terms, Work};
+use atomic_table::{Refused, Table};
+use mill_base::WantOfMemory;
+use std::alloc::Global;
+
+impl<W: Work> Board<W> {
+    /// A board with all pieces of the work in their slots, and its first seat. There are fewer than
+    /// 2^32 pieces, and the turns of each lie under `turns`.
+    pub fn new(
+        alloc: Global,
+        work: W,
+        pieces: u64,
+        turns: u64,
+    ) -> Result<(Board<W>, Seat<W>), WantOfMemory>
+        requires count { pieces ≡ W.means.pieces work }
+        requires few { pieces < 2 ^ 32 }
+        requires spans { HasSpans W.means work turns }
+        ensures board { IfOk result (λ made. made.0.terms ≡ record { work = work; turns = turns }) }
+        ensures table { IfOk result (λ made. made.1.table ≡ made.0.table) }
+        ensures seat { IfOk result (λ made. made.1.view ≡ first_view made.0.terms) }
+    {
+        let slots = fresh_slots(alloc, &work, pieces)?;
+        let terms = Terms { work, turns };
+        let (table, pass) = match Table::new(alloc, &[0, turns, 0], slots, &terms) {
+            Ok(made) => made,
+            Err(Refused { slots: _ }) => return Err(WantOfMemory),
+        };
+        let board = Board {
+            pieces,
+            terms,
+            table,
+        };
+        Ok((board, Seat { pass, ended: false }))
+    }
+
+    /// Draws the next number and takes the piece out of its slot. The seat has no piece out. `None`
+    /// where no piece is left, and from then on. No other seat has drawn that number or will. No memory
+    /// is taken.
+    pub fn draw(&self, seat: &mut Seat<W>) -> Option<Held<W::Piece>>
+        requires { IsFree self.now seat.old }
+        ensures table { seat.new.table ≡ seat.old.table }
+        ensures held { IfSome result (IsTrueHeld W.means self.now.terms.work) }
+        ensures untried { IfSome result (λ held. held.failed ≡ false) }
+        ensures number { IfSome result (λ held. times held.number seat.old.view.drawn ≡ 0) }
+        ensures drawn { IfSome result (λ held. seat.new.view ≡ record seat.old.view { drawn = seat.old.view.drawn ++ held.number ∷ []; out = Some held.number }) }
+        ensures none { IfNone result (seat.new.view ≡ record seat.old.view { ended = true }) }
+        ensures ended { seat.old.view.ended ≡ true → IsNone result }
+    {
+        if seat.ended {
+            return None;
+        }
+        let found = self
+            .table
+            .shared
+            .fetch_add::<Drawing<W>>(&mut seat.pass, 0, 1);
+        if found >= self.pieces {
+            seat.ended = true;
+            return None;
+        }
+        self.table
+            .shared
+            .exchange(&mut seat.pass, found as usize, None)
+    }
+
+    /// Puts the piece that the seat has out back into its slot, as its turns have left it. No memory is
+    /// taken.
+    pub fn put(&self, seat: &mut Seat<W>, held: Held<W::Piece>)
+        requires seat { IsSeatOf self.now seat.old }
+        requires out { seat.old.view.out ≡ Some held.number }
+        requires held { IsTrueHeld W.means self.now.terms.work held }
+        ensures table { seat.new.table ≡ seat.old.table }
+        ensures view { seat.new.view ≡ record seat.old.view { out = None } }
+    {
+        let slot = held.number as usize;
+        self.table.shared.exchange(&mut seat.pass, slot, Some(held));
+        self.table
+            .shared
+            .fetch_add::<Putting<W>>(&mut seat.pass, 2, 1);
+    }
+}
+
+/// Each piece with no turn done, in the order of numbers.
+fn fresh_slots<W: Work>(alloc: Global, work: &W, pieces: u64) -> Result<Vec<Slot<W>>, WantOfMemory>
+    requires count { pieces ≡ W.means.pieces work.now }
+    requires few { pieces < 2 ^ 32 }
+    ensures { IfOk result (λ slots. slots.items ≡ starts W.means work.now 0 pieces) }
+{
+    let mut slots = Vec::new(alloc);
+    for number in 0..pieces {
+        let (next, _) = work.span(number);
+        let piece = work.fresh(alloc, number)?;
+        let held = Held {
+            number,
+            piece,
+            next,
+            failed: false,
+        };
+        slots.push(Some(held))?;
+    }
+    Ok(slots)
+}

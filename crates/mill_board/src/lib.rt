@@ -1,0 +1,12 @@
+//! A board from which workers share numbered pieces of work, each on its own thread.
+#![tactic(auto)]
+
+mod board;
+mod rule;
+mod seat;
+mod view;
+mod work;
+
+pub use seat::{Board, Seat};
+pub use view::View;
+pub use work::{Held, Terms, Work};
