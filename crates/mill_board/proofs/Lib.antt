@@ -4,3 +4,5 @@ mod Opening
 mod Drawing
 mod Drew
 mod Putting
+mod Lowering
+mod Splitting

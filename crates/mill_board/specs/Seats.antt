@@ -1,5 +1,5 @@
 -- What a board and a seat show.
-use Rattle.std.specs.Prelude.{◌≡◌, ◌-◌, ◌/◌, [], None, false}
+use Rattle.std.specs.Prelude.{◌≤◌, ◌≡◌, ◌-◌, ◌/◌, [], None, false}
 use Rattle.atomic_table.specs.Seated.{TableId}
 use Rattle.mill_board.specs.declared.work.Terms.{Terms}
 use Rattle.mill_board.specs.declared.view.View.{View}
@@ -34,3 +34,9 @@ kept_half v = record v { spare = v.spare - v.spare / 2 }
 
 abbrev pub given_half : {W : Type 0} → View W → View W
 given_half v = record v { drawn = []; spare = v.spare / 2; out = None }
+
+-- a seat is as before, but for the least turn that it has seen, which has not risen
+pub record OnlySees {W : Type 0} (old new : SeatShown W) : Type 0 where
+  pub table : new.table ≡ old.table
+  pub view : new.view ≡ record old.view { seen = new.view.seen }
+  pub falls : new.view.seen ≤ old.view.seen

@@ -1,10 +1,10 @@
-ghost use Rattle.std.specs.Prelude.{◌≡◌, ◌+◌, ◌^◌, ◌<◌, ◌++◌, [], ◌∷◌, false, true, IfOk, IfSome, IfNone, IsNone, Some, None};
-ghost use Rattle.mill_board.specs.Works.{HasSpans, IsTrueHeld};
-ghost use Rattle.mill_board.specs.Seats.{IsSeatOf, IsFree, first_view};
+ghost use Rattle.std.specs.Prelude.{◌≡◌, ◌+◌, ◌^◌, ◌<◌, ◌≤◌, ◌++◌, [], ◌∷◌, false, true, IfOk, IfSome, IfNone, IsNone, Some, None};
+ghost use Rattle.mill_board.specs.Works.{HasSpans, IsFailure, IsTrueHeld};
+ghost use Rattle.mill_board.specs.Seats.{IsFree, IsSeatOf, OnlySees, first_view, given_half, kept_half};
 ghost use Rattle.mill_board.specs.Kept.{times};
 ghost use Rattle.mill_board.specs.inner.Starts.{starts};
 
-use crate::rule::{Drawing, Putting, Slot};
+use crate::rule::{Drawing, Halving, Looking, Lowering, Putting, Slot};
 use crate::seat::{Board, Seat};
 use crate::work::{Held, Terms, Work};
 use atomic_table::{Refused, Table};
@@ -84,6 +84,48 @@ impl<W: Work> Board<W> {
         self.table
             .shared
             .fetch_add::<Putting<W>>(&mut seat.pass, 2, 1);
+    }
+
+    /// The least turn at which a piece is known to fail, or the number of turns where none is. It isn't
+    /// over what the seat has seen, and never under the least turn at which any piece fails. No memory
+    /// is taken.
+    pub fn least(&self, seat: &mut Seat<W>) -> u64
+        requires { IsSeatOf self.now seat.old }
+        ensures seat { OnlySees seat.old seat.new }
+        ensures seen { seat.new.view.seen ≡ result }
+        ensures failure { IsFailure W.means self.now.terms result }
+    {
+        self.table.shared.load::<Looking<W>>(&mut seat.pass, 1)
+    }
+
+    /// Lowers the least turn to the one at which a held piece has failed, where it isn't lower already.
+    /// From then on no seat of the board sees a greater one. No memory is taken.
+    pub fn lower(&self, seat: &mut Seat<W>, held: &Held<W::Piece>)
+        requires seat { IsSeatOf self.now seat.old }
+        requires failed { held.now.failed ≡ true }
+        requires held { IsTrueHeld W.means self.now.terms.work held.now }
+        ensures seat { OnlySees seat.old seat.new }
+        ensures seen { seat.new.view.seen ≤ held.now.next }
+        ensures failure { IsFailure W.means self.now.terms seat.new.view.seen }
+    {
+        self.table
+            .shared
+            .fetch_min::<Lowering<W>>(&mut seat.pass, 1, held.next);
+    }
+
+    /// A seat for one worker more, with half of what this one has to spare. It has ended where this one
+    /// has. No memory is taken.
+    pub fn split(&self, seat: &mut Seat<W>) -> Seat<W>
+        requires seat { IsSeatOf self.now seat.old }
+        requires spare { 2 ≤ seat.old.view.spare }
+        ensures kept { seat.new ≡ record seat.old { view = kept_half seat.old.view } }
+        ensures given { result ≡ record seat.old { view = given_half seat.old.view } }
+    {
+        let pass = self.table.shared.split_seat::<Halving<W>>(&mut seat.pass);
+        Seat {
+            pass,
+            ended: seat.ended,
+        }
     }
 }
 

@@ -4,8 +4,10 @@
 mod board;
 mod rule;
 mod seat;
+mod turns;
 mod view;
 mod work;
+mod workers;
 
 pub use seat::{Board, Seat};
 pub use view::View;

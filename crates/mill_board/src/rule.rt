@@ -1,6 +1,6 @@
 use crate::view::View;
 use crate::work::{Held, Terms, Work};
-use atomic_table::{Play, Seat, TableRule};
+use atomic_table::{Play, Seat, Split, TableRule};
 use std::marker::PhantomData;
 
 /// A slot of the table: the piece of its number, or nothing where a seat has it out.
@@ -43,4 +43,39 @@ impl<W: Work> Play<Slot<W>, View<W>> for Putting<W> {
     ghost use Rattle.mill_board.specs.inner.Plays.{Puts};
 
     ghost then = { Puts W.means };
+}
+
+/// The step that looks at the least turn.
+pub struct Looking<W> {
+    of: PhantomData<W>,
+}
+
+impl<W: Work> Play<Slot<W>, View<W>> for Looking<W> {
+    ghost use Rattle.mill_board.specs.inner.Plays.{Looks};
+
+    ghost then = { Looks W.means };
+}
+
+/// The step that lowers the least turn.
+pub struct Lowering<W> {
+    of: PhantomData<W>,
+}
+
+impl<W: Work> Play<Slot<W>, View<W>> for Lowering<W> {
+    ghost use Rattle.mill_board.specs.inner.Plays.{Lowers};
+
+    ghost then = { Lowers W.means };
+}
+
+/// How a view is split.
+pub struct Halving<W> {
+    of: PhantomData<W>,
+}
+
+impl<W: Work> Split<View<W>> for Halving<W> {
+    ghost use Rattle.mill_board.specs.Seats.{given_half, kept_half};
+
+    ghost left = { kept_half };
+
+    ghost right = { given_half };
 }

@@ -1,9 +1,9 @@
 -- What each step of a seat tells it.
-use Rattle.std.specs.Prelude.{◌≡◌, ℕ, ◌<◌, ◌≤◌, ◌⊎◌, true, [], ◌∷◌, ◌++◌, Option, Some, None}
+use Rattle.std.specs.Prelude.{◌≡◌, ℕ, min, ◌<◌, ◌≤◌, ◌⊎◌, true, [], ◌∷◌, ◌++◌, Option, Some, None}
 use Rattle.atomic_table.specs.Table.{Me, Step}
 use Rattle.mill_board.specs.declared.work.Held.{Held}
 use Rattle.mill_board.specs.declared.view.View.{View}
-use Rattle.mill_board.specs.Works.{Means, IsTrueHeld, started}
+use Rattle.mill_board.specs.Works.{Means, IsFailure, IsTrueHeld, started}
 use Rattle.mill_board.specs.Kept.{times}
 
 -- what a seat knows and carries
@@ -32,3 +32,23 @@ module _ {W P : Type 0} (M : Means W P) where
   -- what putting tells
   abbrev pub Puts : Step (Option (Held P)) → Mine W P → ℕ → Mine W P → Type 0
   Puts step me found after = (after.0 ≡ record me.0 { out = None }) × (after.1 ≡ [])
+
+  -- what looking tells: a turn that no worker has lowered under what the seat had seen, and that is the number of turns or one at which a piece fails
+  pub record Looked (me : Mine W P) (found : ℕ) (after : Mine W P) : Type 0 where
+    pub falls : found ≤ me.0.seen
+    pub failure : IsFailure M me.0.terms found
+    pub view : after.0 ≡ record me.0 { seen = found }
+    pub carried : after.1 ≡ me.1
+
+  abbrev pub Looks : Step (Option (Held P)) → Mine W P → ℕ → Mine W P → Type 0
+  Looks step me found after = Looked me found after
+
+  -- what lowering tells: the seat has seen the lesser of what it found and the turn to which it lowers
+  pub record Lowered (me : Mine W P) (turn found : ℕ) (after : Mine W P) : Type 0 where
+    pub falls : min found turn ≤ me.0.seen
+    pub failure : IsFailure M me.0.terms (min found turn)
+    pub view : after.0 ≡ record me.0 { seen = min found turn }
+    pub carried : after.1 ≡ me.1
+
+  abbrev pub Lowers : Step (Option (Held P)) → Mine W P → ℕ → Mine W P → Type 0
+  Lowers step me found after = Lowered me step.first found after
