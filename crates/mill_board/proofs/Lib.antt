@@ -6,3 +6,4 @@ mod Drew
 mod Putting
 mod Lowering
 mod Splitting
+mod Closing

@@ -5,7 +5,7 @@ use lib.ListN.{get_elem?}
 use Rattle.atomic_table.specs.Table.{opening}
 use Rattle.mill_board.specs.declared.work.Held.{Held}
 use Rattle.mill_board.specs.declared.view.View.{View}
-use Rattle.mill_board.specs.Works.{Means, HasSpans, after_turns, started}
+use Rattle.mill_board.specs.Works.{Means, HasSpans, IsTrueHeld, after_turns, started}
 use Rattle.mill_board.specs.Seats.{first_view}
 use Rattle.mill_board.specs.Kept.{Kept}
 use Rattle.mill_board.specs.inner.Starts.{starts}
@@ -18,6 +18,14 @@ one_view {v = v} Q q (suc j) u e = absurd (some-ne-none u (sym e))
 length-map_some : {A : Type 0} → (xs : List A) → length (map some xs) ≡ length xs
 length-map_some [] = refl
 length-map_some (x ∷ xs) = let t = length-map_some xs in omega (arith, t)
+
+-- a piece with no turn done is as its turns leave it
+pub started_true : {W P : Type 0} (M : Means W P) (work : W) (n : ℕ) → n < M.pieces work → M.first work n ≤ M.limit work n → IsTrueHeld M work (started M work n)
+started_true M work n under span = record {
+  number = under;
+  going = λ e. (omega arith, span, (λ u lo hi. absurd (omega arith)), let z : M.first work n - M.first work n ≡ 0 = omega arith in ap (after_turns M work n) (sym z));
+  failed = λ e. absurd (cc);
+}
 
 module _ {W P : Type 0} (M : Means W P) (work : W) where
   pub starts_len : (n k : ℕ) → length (starts M work n k) ≡ k
@@ -65,13 +73,8 @@ module _ {W P : Type 0} (M : Means W P) (work : W) where
         numbers = λ n. let t = once_least n (M.pieces work) in omega (arith, t);
         seen = one_view (λ u. turns ≤ u.seen) (omega arith);
         least = inl refl;
-        home = λ n x e. let t = starts_at 0 p n x e in let q : 0 + n ≡ n = omega arith in (
-          started M work n,
-          t.0 ∙ ap (λ m. Some (started M work m)) q,
-          refl,
-          let lt = t.1 in let b = spans n (omega (arith, lt, count)) in
-              record { number = omega (arith, lt, count); going = λ f. (omega arith, b.0, (λ u lo hi. absurd (omega arith)), let z : M.first work n - M.first work n ≡ 0 = omega arith in ap (after_turns M work n) (sym z)); failed = λ f. absurd (cc) },
-        );
+        home = λ n x e. let t = starts_at 0 p n x e in let q : 0 + n ≡ n = omega arith in let lt = t.1 in let under : n < M.pieces work = omega (arith, lt, count) in
+            (started M work n, t.0 ∙ ap (λ m. Some (started M work m)) q, refl, started_true M work n under (spans n under).0);
         untouched = λ n le lt. let q : 0 + n ≡ n = omega arith in starts_there 0 p n (omega (arith, lt, count)) ∙ ap (λ m. some (some (Some (started M work m)))) q;
         back = refl;
         outs = λ j u n e o. absurd (let z = one_view (λ (k : View W). k.out ≡ None) refl j u e in cc);

@@ -1,5 +1,5 @@
 -- What the pieces of a work are, what their turns do, and when a piece is as its turns leave it.
-use Rattle.std.specs.Prelude.{◌≡◌, ℕ, zero, suc, ◌+◌, ◌-◌, ◌<◌, ◌≤◌, ◌⊎◌, Bool, true, false}
+use Rattle.std.specs.Prelude.{◌≡◌, ℕ, zero, suc, ◌+◌, ◌-◌, ◌<◌, ◌≤◌, ◌⊎◌, Bool, true, false, List, length, slice_get, Some}
 use Rattle.mill_board.specs.declared.work.Held.{Held}
 use Rattle.mill_board.specs.declared.work.Terms.{Terms}
 
@@ -58,3 +58,16 @@ module _ {W P : Type 0} (M : Means W P) where
   -- nothing is left to be done for a piece: it has failed, or its turns are through, or its next one is over the least turn
   abbrev pub IsThrough : W → ℕ → Held P → Type 0
   IsThrough work least h = (h.failed ≡ true) ⊎ (M.limit work h.number ≤ h.next) ⊎ (least < h.next)
+
+  -- the piece of a number, as its turns leave it, with nothing left to be done
+  pub record IsDone (work : W) (least n : ℕ) (h : Held P) : Type 0 where
+    pub number : h.number ≡ n
+    pub is_true : IsTrueHeld work h
+    pub through : IsThrough work least h
+
+  -- what a work comes to: the least turn at which a piece fails, or the number of turns; and the pieces in the order of their numbers, each done up to that turn
+  pub record IsClosed (terms : Terms W) (least : ℕ) (pieces : List (Held P)) : Type 0 where
+    pub count : length pieces ≡ M.pieces terms.work
+    pub each : (n : ℕ) (h : Held P) → slice_get pieces n ≡ Some h → IsDone terms.work least n h
+    pub failure : IsFailure terms least
+    pub under : (n t : ℕ) → n < M.pieces terms.work → FailsAt terms.work n t → least ≤ t

@@ -2,3 +2,4 @@
 pub mod Starts
 pub mod Plays
 pub mod Turns
+pub mod Closings

@@ -6,6 +6,7 @@ ghost use Rattle.mill_board.specs.inner.Starts.{starts};
 
 use crate::rule::{Drawing, Halving, Looking, Lowering, Putting, Slot};
 use crate::seat::{Board, Seat};
+use crate::turns::start;
 use crate::work::{Held, Terms, Work};
 use atomic_table::{Refused, Table};
 use mill_base::WantOfMemory;
@@ -37,6 +38,7 @@ impl<W: Work> Board<W> {
             pieces,
             terms,
             table,
+            alloc,
         };
         Ok((board, Seat { pass, ended: false }))
     }
@@ -137,14 +139,7 @@ fn fresh_slots<W: Work>(alloc: Global, work: &W, pieces: u64) -> Result<Vec<Slot
 {
     let mut slots = Vec::new(alloc);
     for number in 0..pieces {
-        let (next, _) = work.span(number);
-        let piece = work.fresh(alloc, number)?;
-        let held = Held {
-            number,
-            piece,
-            next,
-            failed: false,
-        };
+        let held = start(alloc, work, number)?;
         slots.push(Some(held))?;
     }
     Ok(slots)

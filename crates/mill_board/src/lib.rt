@@ -2,6 +2,7 @@
 #![tactic(auto)]
 
 mod board;
+mod close;
 mod rule;
 mod seat;
 mod turns;
@@ -9,6 +10,7 @@ mod view;
 mod work;
 mod workers;
 
+pub use close::Closed;
 pub use seat::{Board, Seat};
 pub use view::View;
 pub use work::{Held, Terms, Work};

@@ -31,6 +31,7 @@ pub struct Board<W: Work> {
     pub(crate) pieces: u64,
     pub(crate) terms: Terms<W>,
     pub(crate) table: Table<Slot<W>, View<W>, Terms<W>, Shares<W>, Global>,
+    pub(crate) alloc: Global,
 }
 
 impl<W: Work> Model for Board<W> {

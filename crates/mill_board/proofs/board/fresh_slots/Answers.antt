@@ -1,6 +1,5 @@
-use Rattle.std.proofs.Common.{◌≡◌, ◌++◌, ◌+◌, ◌-◌, List, false, arith, ap, ◌∙◌, Option, Some}
+use Rattle.std.proofs.Common.{◌++◌, ◌+◌, ◌-◌, List, arith, ap, ◌∙◌, Option, Some}
 use Rattle.mill_board.specs.declared.work.Held.{Held}
-use Rattle.mill_board.specs.Works.{started}
 use Rattle.mill_board.specs.inner.Starts.{starts}
 use Rattle.mill_board.proofs.Opening.{starts_more, starts_end}
 use Rattle.mill_board.proofs.board.fresh_slots.Goals as goal
@@ -10,11 +9,8 @@ loop-number-preserved g c =
     let M = g.W.Work.means in
     let H : Type 0 = Held g.row.W-Piece.Denot in
     let work = c.args.work.now in let number = c.loop-number.number in
-    let z = c.in_ok-piece.ensures in let w = c.span-next.ensures.first in
-    let made : H = record { number = number; piece = c.in_ok-piece.piece; next = c.span-next.result.0; failed = false } in
-    let is : Some made ≡ Some (started M work number) = λ i. Some (record { number = number; piece = z i; next = w i; failed = false }) in
     ap (λ (l : List (Option H)). l ++ starts M work (number + 1) (c.args.pieces - (number + 1))) c.in_ok-push.ensures.items
-    ∙ starts_more M work c.loop-number.slots.items (Some made) number c.args.pieces (starts M work 0 c.args.pieces) (omega arith) is c.loop-number.invariant
+    ∙ starts_more M work c.loop-number.slots.items (Some c.in_ok-held.held) number c.args.pieces (starts M work 0 c.args.pieces) (omega arith) (ap Some c.in_ok-held.ensures) c.loop-number.invariant
 
 pub returns : goal.returns
 returns g c = starts_end g.W.Work.means c.args.work.now c.loop-number.slots.items c.loop-number.number c.args.pieces (starts g.W.Work.means c.args.work.now 0 c.args.pieces) c.loop-number-test.false c.loop-number.invariant
