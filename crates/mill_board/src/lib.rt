@@ -14,3 +14,4 @@ pub use close::Closed;
 pub use seat::{Board, Seat};
 pub use view::View;
 pub use work::{Held, Terms, Work};
+pub use workers::run_all;

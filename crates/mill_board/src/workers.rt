@@ -1,11 +1,14 @@
-ghost use Rattle.std.specs.Prelude.{◌≡◌, ◌<◌, ◌≤◌, false};
+ghost use Rattle.std.specs.Prelude.{◌≡◌, ◌^◌, ◌<◌, ◌≤◌, false, IfOk};
 ghost use denote.Param.Send.{IsSync};
-ghost use Rattle.mill_board.specs.Works.{IsTrueHeld};
+ghost use Rattle.mill_board.specs.Works.{HasSpans, IsClosed, IsTrueHeld};
 ghost use Rattle.mill_board.specs.Seats.{IsFree, IsSeatOf, OnlySees};
 
+use crate::close::Closed;
 use crate::seat::{Board, Seat};
 use crate::turns::turn_once;
 use crate::work::{Held, Work};
+use mill_base::WantOfMemory;
+use std::alloc::Global;
 use std::thread::{Threads, join};
 
 impl<W: Work> Board<W> {
@@ -48,7 +51,7 @@ impl<W: Work> Board<W> {
 
 /// So many workers serve, each on a thread of its own, by halves of halves. Where there is none, or one,
 /// this thread serves.
-pub fn share<W: Work, R: Threads + Sync>(
+fn share<W: Work, R: Threads + Sync>(
     rt: &R,
     board: &Board<W>,
     mut seat: Seat<W>,
@@ -81,4 +84,25 @@ pub fn share<W: Work, R: Threads + Sync>(
         { share(rt, board, other, few) },
     );
     seat
+}
+
+/// What the work comes to, by so many workers, each on a thread of its own; by this thread alone where
+/// there is none or one. There are fewer than 2^32 pieces, and the turns of each lie under `turns`. No
+/// word of the answer depends on the workers: it is what one of them alone would give.
+pub fn run_all<W: Work, R: Threads + Sync>(
+    rt: &R,
+    alloc: Global,
+    work: W,
+    pieces: u64,
+    turns: u64,
+    workers: u32,
+) -> Result<Closed<W::Piece>, WantOfMemory>
+    requires count { pieces ≡ W.means.pieces work }
+    requires few { pieces < 2 ^ 32 }
+    requires spans { HasSpans W.means work turns }
+    ensures { IfOk result (λ closed. IsClosed W.means (record { work = work; turns = turns }) closed.least closed.pieces.items) }
+{
+    let (board, seat) = Board::new(alloc, work, pieces, turns)?;
+    let seat = share(rt, &board, seat, workers);
+    board.close(seat)
 }
