@@ -79,7 +79,7 @@ module _ {W P : Type 0} (M : Means W P) (terms : Terms W) where
 
 module _ {W P : Type 0} (M : Means W P) (work : W) where
   -- a turn that fails is not among those that pass
-  past : (n m t : ℕ) → PassesBefore M work n m → FailsAt M work n t → m ≤ t
+  pub past : (n m t : ℕ) → PassesBefore M work n m → FailsAt M work n t → m ≤ t
   past n m t p f = dite (dec_le m t) (λ le. le) (λ gt. let lt = lt_of_not-le gt in let good = p t f.from lt in let bad = f.fails in absurd (cc))
 
   -- a piece has one failing turn

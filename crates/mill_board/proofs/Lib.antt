@@ -7,3 +7,4 @@ mod Putting
 mod Lowering
 mod Splitting
 mod Closing
+mod Outcomes

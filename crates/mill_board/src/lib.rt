@@ -3,6 +3,7 @@
 
 mod board;
 mod close;
+mod laws;
 mod rule;
 mod seat;
 mod turns;
@@ -11,6 +12,7 @@ mod work;
 mod workers;
 
 pub use close::Closed;
+pub use laws::{one_outcome, shows_core};
 pub use seat::{Board, Seat};
 pub use view::View;
 pub use work::{Held, Terms, Work};
