@@ -8,3 +8,5 @@ mod Lowering
 mod Splitting
 mod Closing
 mod Outcomes
+mod Failing
+mod Showing

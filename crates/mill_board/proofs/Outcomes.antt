@@ -1,9 +1,8 @@
 -- What a work comes to is one thing.
-use Rattle.std.proofs.Common.{◌≡◌, ◌≢◌, ◌∙◌, ℕ, ◌<◌, ◌≤◌, ◌⊎◌, Bool, true, false, List, refl, sym, ap, arith, ⊎_elim, Some, subst}
-use Rattle.std.specs.Prelude.{slice_get}
+use Rattle.std.proofs.Common.{◌≡◌, ◌∙◌, ℕ, ◌<◌, ◌≤◌, Bool, true, false, List, refl, sym, ap, arith, ⊎_elim, subst}
 use Rattle.mill_board.specs.declared.work.Held.{Held}
 use Rattle.mill_board.specs.declared.work.Terms.{Terms}
-use Rattle.mill_board.specs.Works.{Means, FailsAt, HasSpans, IsClosed, IsDone, IsFailure, IsTrueHeld, state_at}
+use Rattle.mill_board.specs.Works.{Means, FailsAt, HasSpans, IsClosed, IsDone, state_at}
 use Rattle.mill_board.specs.Laws.{OneOutcome}
 use Rattle.mill_board.proofs.Closing.{one_fail, past}
 
@@ -25,6 +24,7 @@ module _ {W P : Type 0} (M : Means W P) where
     where
       at : FailsAt M work h.number least
       at = subst (λ k. FailsAt M work k least) (sym d.number) f
+
       by_cases : (b : Bool) → h.failed ≡ b → h ≡ failed_at work n least
       by_cases true e =
           let g = d.is_true.failed e in
@@ -41,8 +41,10 @@ module _ {W P : Type 0} (M : Means W P) where
     where
       work : W
       work = terms.work
+
       span : M.limit work h.number ≤ terms.turns
       span = (spans h.number d.is_true.number).1
+
       by_cases : (b : Bool) → h.failed ≡ b → h ≡ passed terms.work n
       by_cases true e = let g = d.is_true.failed e in let x = under h.number h.next d.is_true.number g.0 in let to = g.0.to in let s = span in absurd (omega (arith, x, to, s, none))
       by_cases false e =

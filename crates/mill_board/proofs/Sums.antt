@@ -46,6 +46,9 @@ once_none c k = grind (arith, nat_tests)
 pub once_some : (n c k : ℕ) → 0 < once_under n (min c k) → n < c
 once_some n c k lt = grind (arith, nat_tests)
 
+pub once_in : (n c k : ℕ) → 0 < once_under n (min c k) → (n < c) × (n < k)
+once_in n c k lt = let a : n < c = grind (arith, nat_tests) in let b : n < k = grind (arith, nat_tests) in (a, b)
+
 pub once_at_most : (n k : ℕ) → once_under n k ≤ 1
 once_at_most n k = grind (arith, nat_tests)
 

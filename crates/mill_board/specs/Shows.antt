@@ -1,5 +1,5 @@
 -- A board's table as a state of the machine of events (mill_sched).
-use Rattle.std.specs.Prelude.{◌≡◌, ◌↔◌, ℕ, ◌<◌, length, All, Option, Some, None}
+use Rattle.std.specs.Prelude.{◌≡◌, ◌↔◌, ℕ, ◌<◌, length, All, Some, None}
 use Rattle.mill_sched.specs.declared.piece.Task.{Task}
 use Rattle.mill_sched.specs.declared.piece.Piece.{Piece}
 use Rattle.mill_sched.specs.States.{State as Core, piece_at, worker_at}
