@@ -6,6 +6,8 @@ mod close;
 mod laws;
 mod rule;
 mod seat;
+#[cfg(test)]
+mod tests;
 mod turns;
 mod view;
 mod work;
