@@ -1,6 +1,7 @@
--- What a board and a seat show.
-use Rattle.std.specs.Prelude.{◌≤◌, ◌≡◌, ◌-◌, ◌/◌, [], None, false}
+-- What a board and a seat show, and what each of them keeps.
+use Rattle.std.specs.Prelude.{◌≡◌, ◌≤◌, ◌-◌, ◌/◌, ℕ, Bool, false, List, [], ◌∷◌, Option, Some, None}
 use Rattle.atomic_table.specs.Seated.{TableId}
+use Rattle.mill_board.specs.declared.work.Held.{Held}
 use Rattle.mill_board.specs.declared.work.Terms.{Terms}
 use Rattle.mill_board.specs.declared.view.View.{View}
 
@@ -40,3 +41,19 @@ pub record OnlySees {W : Type 0} (old new : SeatShown W) : Type 0 where
   pub table : new.table ≡ old.table
   pub view : new.view ≡ record old.view { seen = new.view.seen }
   pub falls : new.view.seen ≤ old.view.seen
+
+-- the slots that a seat carries between two calls: the one whose piece it has out, emptied
+abbrev pub carried_of : {P : Type 0} → Option ℕ → List (ℕ × Option (Held P))
+carried_of None = []
+carried_of (Some n) = (n, None) ∷ []
+
+-- a seat's flag is as its view has it, and it carries what it has out
+pub record IsSeat {W P : Type 0} (ended : Bool) (view : View W) (carried : List (ℕ × Option (Held P))) : Type 0 where
+  pub ended_is : view.ended ≡ ended
+  pub carries : carried ≡ carried_of view.out
+
+-- a board's table has three words and a slot for each piece, and is told the board's terms
+pub record IsBoard {W : Type 0} (table : TableId) (key : Terms W) (pieces : ℕ) (terms : Terms W) : Type 0 where
+  pub words : table.words ≡ 3
+  pub slots : table.slots ≡ pieces
+  pub told : key ≡ terms

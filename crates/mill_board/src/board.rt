@@ -4,13 +4,35 @@ ghost use Rattle.mill_board.specs.Seats.{IsFree, IsSeatOf, OnlySees, first_view,
 ghost use Rattle.mill_board.specs.Kept.{times};
 ghost use Rattle.mill_board.specs.inner.Starts.{starts};
 
-use crate::rule::{Drawing, Halving, Looking, Lowering, Putting, Slot};
-use crate::seat::{Board, Seat};
+use crate::rule::{Drawing, Halving, Looking, Lowering, Putting, Shares, Slot};
+use crate::seat::Seat;
 use crate::turns::start;
+use crate::view::View;
 use crate::work::{Held, Terms, Work};
 use atomic_table::{Refused, Table};
 use mill_base::WantOfMemory;
 use std::alloc::Global;
+use std::marker::Model;
+
+/// A table that workers share: a slot for each piece of the work, the number that is drawn next, the
+/// least turn at which a piece is known to fail, and how many pieces came back.
+#[derive(Drop)]
+pub struct Board<W: Work> {
+    pub(crate) pieces: u64,
+    pub(crate) terms: Terms<W>,
+    pub(crate) table: Table<Slot<W>, View<W>, Terms<W>, Shares<W>, Global>,
+    pub(crate) alloc: Global,
+}
+
+impl<W: Work> Model for Board<W> {
+    ghost use Rattle.mill_board.specs.Seats.{BoardShown, IsBoard};
+
+    ghost Value = { BoardShown W };
+
+    ghost view = { λ b. record { table = b.table.shared.table_id; terms = b.terms } };
+
+    ghost invariant = { λ b. IsBoard b.table.shared.table_id b.table.shared.key b.pieces b.terms };
+}
 
 impl<W: Work> Board<W> {
     /// A board with all pieces of the work in their slots, and its first seat. There are fewer than

@@ -4,8 +4,9 @@ ghost use Rattle.mill_board.specs.Works.{HasSpans, IsClosed, IsDone, IsFailure, 
 ghost use Rattle.mill_board.specs.Seats.{IsSeatOf};
 ghost use Rattle.mill_board.specs.inner.Closings.{HasTrue, HasTrueFrom, IsSound};
 
+use crate::board::Board;
 use crate::rule::Slot;
-use crate::seat::{Board, Seat};
+use crate::seat::Seat;
 use crate::turns::{start, turn_once};
 use crate::work::{Held, Terms, Work};
 use mill_base::WantOfMemory;

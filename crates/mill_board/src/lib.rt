@@ -13,9 +13,10 @@ mod view;
 mod work;
 mod workers;
 
+pub use board::Board;
 pub use close::Closed;
 pub use laws::{one_outcome, shows_core};
-pub use seat::{Board, Seat};
+pub use seat::Seat;
 pub use view::View;
 pub use work::{Held, Terms, Work};
 pub use workers::run_all;

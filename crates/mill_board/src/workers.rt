@@ -3,8 +3,9 @@ ghost use denote.Param.Send.{IsSync};
 ghost use Rattle.mill_board.specs.Works.{HasSpans, IsClosed, IsTrueHeld};
 ghost use Rattle.mill_board.specs.Seats.{IsFree, IsSeatOf, OnlySees};
 
+use crate::board::Board;
 use crate::close::Closed;
-use crate::seat::{Board, Seat};
+use crate::seat::Seat;
 use crate::turns::turn_once;
 use crate::work::{Held, Work};
 use mill_base::WantOfMemory;

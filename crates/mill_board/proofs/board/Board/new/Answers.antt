@@ -1,7 +1,7 @@
 use Rattle.std.proofs.Common.{◌∙◌, ap, length, List, Option}
 use Rattle.mill_board.specs.declared.work.Held.{Held}
 use Rattle.mill_board.proofs.Opening.{opens, starts_len}
-use Rattle.mill_board.proofs.seat.Board.new.Goals as goal
+use Rattle.mill_board.proofs.board.Board.new.Goals as goal
 
 pub new-requires : goal.new-requires
 new-requires g c = opens g.W.Work.means c.args.work c.args.turns c.args.pieces c.in_ok-slots.slots.items c.requires.count c.requires.few c.requires.spans c.in_ok-slots.ensures

@@ -1,7 +1,7 @@
 use Rattle.std.proofs.Common.{◌∙◌, ap, arith, sym}
 use Rattle.mill_board.specs.Seats.{SeatShown, BoardShown}
 use Rattle.mill_board.proofs.Lowering.{looks}
-use Rattle.mill_board.proofs.seat.Board.least.Goals as goal
+use Rattle.mill_board.proofs.board.Board.least.Goals as goal
 
 pub load-requires : goal.load-requires
 load-requires g c =

@@ -1,7 +1,7 @@
 use Rattle.std.proofs.Common.{◌≡◌, ◌-◌, false}
 use Rattle.mill_board.specs.Seats.{OnlySees}
 use Rattle.mill_board.specs.Works.{IsTrueHeld}
-use Rattle.mill_board.proofs.seat.Board.advance.Given as goal
+use Rattle.mill_board.proofs.board.Board.advance.Given as goal
 
 abbrev pub invariant-loop-held : goal.invariant-loop-held
 invariant-loop-held g l = record {

@@ -2,7 +2,7 @@ use Rattle.std.proofs.Common.{◌∙◌, ap, arith, sym}
 use Rattle.mill_board.specs.Seats.{SeatShown, BoardShown}
 use Rattle.mill_board.proofs.Drawing.{draws}
 use Rattle.mill_board.proofs.Drew.{drew_piece, drew_slot}
-use Rattle.mill_board.proofs.seat.Board.draw.Goals as goal
+use Rattle.mill_board.proofs.board.Board.draw.Goals as goal
 
 pub fetch_add-found-requires : goal.fetch_add-found-requires
 fetch_add-found-requires g c =

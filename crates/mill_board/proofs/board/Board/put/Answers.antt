@@ -5,9 +5,9 @@ use Rattle.mill_board.specs.declared.work.Terms.{Terms}
 use Rattle.mill_board.specs.Works.{IsTrueHeld}
 use Rattle.mill_board.specs.Seats.{SeatShown, BoardShown}
 use Rattle.mill_board.specs.inner.Plays.{Mine}
-use Rattle.mill_board.specs.inner.Starts.{carried_of}
+use Rattle.mill_board.specs.Seats.{carried_of}
 use Rattle.mill_board.proofs.Putting.{puts}
-use Rattle.mill_board.proofs.seat.Board.put.Goals as goal
+use Rattle.mill_board.proofs.board.Board.put.Goals as goal
 
 pub fetch_add-requires : goal.fetch_add-requires
 fetch_add-requires g c =

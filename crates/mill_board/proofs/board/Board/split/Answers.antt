@@ -1,7 +1,7 @@
 use Rattle.std.proofs.Common.{◌∙◌, ap, arith, sym}
 use Rattle.mill_board.specs.Seats.{SeatShown, BoardShown}
 use Rattle.mill_board.proofs.Splitting.{splits}
-use Rattle.mill_board.proofs.seat.Board.split.Goals as goal
+use Rattle.mill_board.proofs.board.Board.split.Goals as goal
 
 pub split_seat-pass-requires : goal.split_seat-pass-requires
 split_seat-pass-requires g c =

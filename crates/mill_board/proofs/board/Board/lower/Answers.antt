@@ -3,7 +3,7 @@ use Rattle.mill_board.specs.declared.work.Terms.{Terms}
 use Rattle.mill_board.specs.Works.{IsFailure}
 use Rattle.mill_board.specs.Seats.{SeatShown, BoardShown}
 use Rattle.mill_board.proofs.Lowering.{lowers}
-use Rattle.mill_board.proofs.seat.Board.lower.Goals as goal
+use Rattle.mill_board.proofs.board.Board.lower.Goals as goal
 
 pub fetch_min-requires : goal.fetch_min-requires
 fetch_min-requires g c =

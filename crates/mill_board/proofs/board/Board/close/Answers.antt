@@ -5,7 +5,7 @@ use Rattle.mill_board.specs.declared.work.Terms.{Terms}
 use Rattle.mill_board.specs.Works.{HasSpans}
 use Rattle.mill_board.specs.inner.Closings.{HasTrueFrom, IsSound}
 use Rattle.mill_board.proofs.Closing.{left}
-use Rattle.mill_board.proofs.seat.Board.close.Goals as goal
+use Rattle.mill_board.proofs.board.Board.close.Goals as goal
 
 pub settle-requires-clause-spans : goal.settle-requires-clause-spans
 settle-requires-clause-spans g c κs within =
