@@ -29,45 +29,51 @@ spare_ended v = cond v.ended v.spare 0
 abbrev pub BoardState : Type 0 → Type 0 → Type 0
 BoardState W P = State (Option (Held P)) (View W)
 
-module _ {W P : Type 0} where
-  -- the number that is drawn next, the least turn to which a worker has lowered, and how many pieces came back
-  abbrev pub claim_of : BoardState W P → ℕ
-  claim_of s = slice_index s.words 0
+-- the number that is drawn next
+abbrev pub claim_of : {W P : Type 0} → BoardState W P → ℕ
+claim_of s = slice_index s.words 0
 
-  abbrev pub least_of : BoardState W P → ℕ
-  least_of s = slice_index s.words 1
+-- the least turn to which a worker has lowered, or the number of turns
+abbrev pub least_of : {W P : Type 0} → BoardState W P → ℕ
+least_of s = slice_index s.words 1
 
-  abbrev pub back_of : BoardState W P → ℕ
-  back_of s = slice_index s.words 2
+-- how many of the pieces that were drawn came back
+abbrev pub back_of : {W P : Type 0} → BoardState W P → ℕ
+back_of s = slice_index s.words 2
 
-  -- a seat has this view
-  abbrev pub HasView : BoardState W P → ℕ → View W → Type 0
-  HasView s seat v = get_elem? s.views seat ≡ some v
+-- a seat has this view
+abbrev pub HasView : {W P : Type 0} → BoardState W P → ℕ → View W → Type 0
+HasView s seat v = get_elem? s.views seat ≡ some v
 
-  -- the slot of a number has its value, or is out with a seat
-  abbrev pub HasHome : BoardState W P → ℕ → Option (Held P) → Type 0
-  HasHome s n x = get_elem? s.homes n ≡ some (some x)
+-- the slot of a number has its value
+abbrev pub HasHome : {W P : Type 0} → BoardState W P → ℕ → Option (Held P) → Type 0
+HasHome s n x = get_elem? s.homes n ≡ some (some x)
 
-  abbrev pub IsOut : BoardState W P → ℕ → Type 0
-  IsOut s n = get_elem? s.homes n ≡ some none
+-- the slot of a number is out with a seat
+abbrev pub IsOut : {W P : Type 0} → BoardState W P → ℕ → Type 0
+IsOut s n = get_elem? s.homes n ≡ some none
 
-module _ {W P : Type 0} (M : Means W P) where
-  -- The rule. The numbers in the views' lists differ, and are exactly those under the claim and the count of pieces. The least word is at most what each view has seen, and is the number of turns or a turn at which a piece fails. A slot that is at home has the true piece of its number, and from the claim on the piece with no turn done; the back word counts the slots under the claim that are at home. A view's number that is out is one of its own, and a slot that is out is the one of some view. The claim is at most the pieces and what the ended views have to spare, so that it doesn't wrap, and at least the pieces where a view has ended; each view has something to spare, and all of them together 2^62
-  pub record Kept (terms : Terms W) (s : BoardState W P) : Type 0 where
-    pub words : length s.words ≡ 3
-    pub slots : length s.homes ≡ M.pieces terms.work
-    pub few : M.pieces terms.work < 2 ^ 32
-    pub spans : HasSpans M terms.work terms.turns
-    pub terms_are : (seat : ℕ) (v : View W) → HasView s seat v → v.terms ≡ terms
-    pub numbers : (n : ℕ) → sum_by (λ v. times n v.drawn) s.views ≡ once_under n (min (claim_of s) (M.pieces terms.work))
-    pub seen : (seat : ℕ) (v : View W) → HasView s seat v → least_of s ≤ v.seen
-    pub least : IsFailure M terms (least_of s)
-    pub home : (n : ℕ) (x : Option (Held P)) → HasHome s n x → (h : Held P) × (x ≡ Some h) × (h.number ≡ n) × IsTrueHeld M terms.work h
-    pub untouched : (n : ℕ) → claim_of s ≤ n → n < M.pieces terms.work → HasHome s n (Some (started M terms.work n))
-    pub back : back_of s ≡ sum_by is_home (take (claim_of s) s.homes)
-    pub outs : (seat : ℕ) (v : View W) (n : ℕ) → HasView s seat v → v.out ≡ Some n → (0 < times n v.drawn) × IsOut s n
-    pub owned : (n : ℕ) → IsOut s n → (seat : ℕ) × (v : View W) × HasView s seat v × (v.out ≡ Some n)
-    pub claim_most : claim_of s ≤ M.pieces terms.work + sum_by spare_ended s.views
-    pub all_out : (seat : ℕ) (v : View W) → HasView s seat v → v.ended ≡ true → M.pieces terms.work ≤ claim_of s
-    pub spares : (seat : ℕ) (v : View W) → HasView s seat v → 1 ≤ v.spare
-    pub spare : sum_by (λ v. v.spare) s.views ≡ 2 ^ 62
+-- the rule: the numbers that were drawn, the least turn, the slots, and what the seats have to spare
+pub record Kept {W P : Type 0} (M : Means W P) (terms : Terms W) (s : BoardState W P) : Type 0 where
+  -- a word for the claim, one for the least turn, one for what came back; a slot for each piece; every view has the board's work
+  pub words : length s.words ≡ 3
+  pub slots : length s.homes ≡ M.pieces terms.work
+  pub few : M.pieces terms.work < 2 ^ 32
+  pub spans : HasSpans M terms.work terms.turns
+  pub terms_are : (seat : ℕ) (v : View W) → HasView s seat v → v.terms ≡ terms
+  -- the numbers in the views' lists differ, and are exactly those under the claim and the count of pieces
+  pub numbers : (n : ℕ) → sum_by (λ v. times n v.drawn) s.views ≡ once_under n (min (claim_of s) (M.pieces terms.work))
+  -- the least turn is at most what each seat has seen, and is the number of turns or a turn at which a piece fails
+  pub seen : (seat : ℕ) (v : View W) → HasView s seat v → least_of s ≤ v.seen
+  pub least : IsFailure M terms (least_of s)
+  -- a slot at home has the true piece of its number, and from the claim on the one with no turn done; a slot that is out is the one that some seat has out
+  pub home : (n : ℕ) (x : Option (Held P)) → HasHome s n x → (h : Held P) × (x ≡ Some h) × (h.number ≡ n) × IsTrueHeld M terms.work h
+  pub untouched : (n : ℕ) → claim_of s ≤ n → n < M.pieces terms.work → HasHome s n (Some (started M terms.work n))
+  pub back : back_of s ≡ sum_by is_home (take (claim_of s) s.homes)
+  pub outs : (seat : ℕ) (v : View W) (n : ℕ) → HasView s seat v → v.out ≡ Some n → (0 < times n v.drawn) × IsOut s n
+  pub owned : (n : ℕ) → IsOut s n → (seat : ℕ) × (v : View W) × HasView s seat v × (v.out ≡ Some n)
+  -- the claim is at most the pieces and what the ended seats have to spare, so that it doesn't wrap, and at least the pieces where a seat has ended
+  pub claim_most : claim_of s ≤ M.pieces terms.work + sum_by spare_ended s.views
+  pub all_out : (seat : ℕ) (v : View W) → HasView s seat v → v.ended ≡ true → M.pieces terms.work ≤ claim_of s
+  pub spares : (seat : ℕ) (v : View W) → HasView s seat v → 1 ≤ v.spare
+  pub spare : sum_by (λ v. v.spare) s.views ≡ 2 ^ 62

@@ -29,10 +29,11 @@ pub record IsFree {W : Type 0} (board : BoardShown W) (seat : SeatShown W) : Typ
 abbrev pub first_view : {W : Type 0} → Terms W → View W
 first_view terms = record { drawn = []; seen = terms.turns; ended = false; spare = 4611686018427387904; out = None; terms = terms }
 
--- what is left of a view that is split, and what the new seat has
+-- what is left of a view that is split
 abbrev pub kept_half : {W : Type 0} → View W → View W
 kept_half v = record v { spare = v.spare - v.spare / 2 }
 
+-- what the new seat of a split has: no number, and half of what there is to spare, rounded down
 abbrev pub given_half : {W : Type 0} → View W → View W
 given_half v = record v { drawn = []; spare = v.spare / 2; out = None }
 
