@@ -14,6 +14,7 @@
 
 mod board;
 mod close;
+mod gate;
 mod laws;
 mod rule;
 mod seat;
@@ -26,6 +27,7 @@ mod workers;
 
 pub use board::Board;
 pub use close::Closed;
+pub use gate::{Gate, NoGate};
 pub use laws::{one_outcome, shows_core};
 pub use seat::Seat;
 pub use view::View;

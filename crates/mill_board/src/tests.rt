@@ -1,42 +1,47 @@
 //! A small work, shared by several workers, and by seats on one thread.
 ghost use Rattle.std.specs.Prelude.{◌≡◌};
 
-use crate::{Board, Work, run_all};
+mod gated;
+
+use crate::{Board, Gate, NoGate, Work, run_all};
 use mill_base::WantOfMemory;
 use std::alloc::Global;
 use std::sync::atomic::AtomicU64;
 use std::sync::atomic::Ordering::SeqCst;
 use std::test::Fail;
 
-/// Pieces that fail at given turns, of ten each. A piece that is to fail at turn 10 fails at none.
+/// Pieces that fail at given turns, of ten each, behind a gate. A piece that is to fail at turn 10 fails
+/// at none.
 #[derive(Drop)]
-struct Runs<'a> {
+struct Runs<'a, G> {
     fails: &'a [u64],
     /// How many pieces were made.
     made: &'a AtomicU64,
+    gate: G,
 }
 
-fn work_of<'a>(fails: &'a [u64], made: &'a AtomicU64) -> Runs<'a>
+fn work_of<'a, G: Gate>(fails: &'a [u64], made: &'a AtomicU64, gate: G) -> Runs<'a, G>
     ensures { result.fails.now ≡ fails.now }
 {
-    Runs { fails, made }
+    Runs { fails, made, gate }
 }
 
 /// How many turns have passed, and the turn that won't.
 #[derive(Clone, Copy, Debug, PartialEq, Eq)]
 struct Run {
+    number: u64,
     fails: u64,
     done: u64,
 }
 
 const TURNS: u64 = 10;
 
-impl<'a> Work for Runs<'a> {
+impl<'a, G: Gate> Work for Runs<'a, G> {
     type Piece = Run;
 
     ghost use Rattle.std.specs.Prelude.{◌+◌, ◌==◌, cond, length, not, slice_index};
 
-    ghost means = { record { pieces = λ w. length w.fails.now; first = λ w n. 0; limit = λ w n. 10; start = λ w n. record { fails = slice_index w.fails.now n; done = 0 }; succeeds = λ w p t. not (p.fails == t); turned = λ w p t. record p { done = cond (p.fails == t) p.done (t + 1) } } };
+    ghost means = { record { pieces = λ w. length w.fails.now; first = λ w n. 0; limit = λ w n. 10; start = λ w n. record { number = n; fails = slice_index w.fails.now n; done = 0 }; succeeds = λ w p t. not (p.fails == t); turned = λ w p t. record p { done = cond (p.fails == t) p.done (t + 1) } } };
 
     fn span(&self, _number: u64) -> (u64, u64) {
         (0, TURNS)
@@ -45,12 +50,14 @@ impl<'a> Work for Runs<'a> {
     fn fresh(&self, _alloc: Global, number: u64) -> Result<Run, WantOfMemory> {
         self.made.fetch_add(1, SeqCst);
         Ok(Run {
+            number,
             fails: self.fails[number as usize],
             done: 0,
         })
     }
 
     fn turn(&self, piece: &mut Run, turn: u64) -> bool {
+        self.gate.pass(piece.number, turn);
         if piece.fails == turn {
             return false;
         }
@@ -65,7 +72,14 @@ fn one_answer_for_all_workers(rt: HostRuntime) -> Result<(), Fail> {
     for workers in [0, 1, 2, 4, 8] {
         let fails = [5, 9, 5];
         let made = AtomicU64::new(0);
-        let closed = run_all(&rt, rt.alloc(), work_of(&fails, &made), 3, TURNS, workers)?;
+        let closed = run_all(
+            &rt,
+            rt.alloc(),
+            work_of(&fails, &made, NoGate),
+            3,
+            TURNS,
+            workers,
+        )?;
         assert_eq!(rt; closed.least, 5);
         assert_eq!(rt; closed.pieces.len(), 3);
         for number in [0usize, 2] {
@@ -86,7 +100,7 @@ fn one_answer_for_all_workers(rt: HostRuntime) -> Result<(), Fail> {
 fn a_seat_sees_what_another_lowered(rt: HostRuntime) -> Result<(), Fail> {
     let fails = [5, 9, 5];
     let made = AtomicU64::new(0);
-    let (board, mut one) = Board::new(rt.alloc(), work_of(&fails, &made), 3, TURNS)?;
+    let (board, mut one) = Board::new(rt.alloc(), work_of(&fails, &made, NoGate), 3, TURNS)?;
     let mut two = board.split(&mut one);
     assert_eq!(rt; board.least(&mut two), TURNS);
     let first = board.draw(&mut one).expect(&rt, "a piece");
@@ -110,7 +124,7 @@ fn a_seat_sees_what_another_lowered(rt: HostRuntime) -> Result<(), Fail> {
 fn a_lost_piece_is_made_anew(rt: HostRuntime) -> Result<(), Fail> {
     let fails = [5, 9, 5];
     let made = AtomicU64::new(0);
-    let (board, mut one) = Board::new(rt.alloc(), work_of(&fails, &made), 3, TURNS)?;
+    let (board, mut one) = Board::new(rt.alloc(), work_of(&fails, &made, NoGate), 3, TURNS)?;
     let mut two = board.split(&mut one);
     let kept = board.draw(&mut one).expect(&rt, "a piece");
     let kept = board.advance(&mut one, kept);
@@ -131,7 +145,7 @@ fn a_lost_piece_is_made_anew(rt: HostRuntime) -> Result<(), Fail> {
 fn an_ended_seat_draws_no_more(rt: HostRuntime) -> Result<(), Fail> {
     let fails = [TURNS];
     let made = AtomicU64::new(0);
-    let (board, mut one) = Board::new(rt.alloc(), work_of(&fails, &made), 1, TURNS)?;
+    let (board, mut one) = Board::new(rt.alloc(), work_of(&fails, &made, NoGate), 1, TURNS)?;
     let held = board.draw(&mut one).expect(&rt, "a piece");
     assert_eq!(rt; held.number, 0);
     board.put(&mut one, held);
@@ -152,7 +166,7 @@ fn an_ended_seat_draws_no_more(rt: HostRuntime) -> Result<(), Fail> {
 #[test]
 fn no_piece(rt: HostRuntime) -> Result<(), Fail> {
     let made = AtomicU64::new(0);
-    let closed = run_all(&rt, rt.alloc(), work_of(&[], &made), 0, TURNS, 3)?;
+    let closed = run_all(&rt, rt.alloc(), work_of(&[], &made, NoGate), 0, TURNS, 3)?;
     assert_eq!(rt; closed.least, TURNS);
     assert!(rt; closed.pieces.is_empty());
     Ok(())
