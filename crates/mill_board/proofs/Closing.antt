@@ -9,9 +9,10 @@ use Rattle.atomic_table.specs.Table.{Final, Seen}
 use Rattle.mill_board.specs.declared.work.Held.{Held}
 use Rattle.mill_board.specs.declared.work.Terms.{Terms}
 use Rattle.mill_board.specs.declared.view.View.{View}
-use Rattle.mill_board.specs.Works.{Means, FailsAt, HasSpans, IsClosed, IsDone, IsFailure, IsThrough, IsTrueHeld, PassesBefore, started}
+use Rattle.mill_board.specs.Works.{Means, FailsAt, HasSpans, IsClosed, IsDone, IsFailure, IsThrough, IsTrueHeld, started}
 use Rattle.mill_board.specs.Kept.{BoardState, Kept, claim_of}
 use Rattle.mill_board.specs.inner.Closings.{HasTrue, HasTrueFrom, IsSettled, IsSound}
+use Rattle.mill_board.proofs.Failing.{one_fail, past}
 use Rattle.mill_board.proofs.Sums.{all_home}
 
 word_is : (ws : List ℕ) (i n : ℕ) → get_elem? ws i ≡ some n → slice_index ws i ≡ n
@@ -78,21 +79,13 @@ module _ {W P : Type 0} (M : Means W P) (terms : Terms W) where
       }
 
 module _ {W P : Type 0} (M : Means W P) (work : W) where
-  -- a turn that fails is not among those that pass
-  pub past : (n m t : ℕ) → PassesBefore M work n m → FailsAt M work n t → m ≤ t
-  past n m t p f = dite (dec_le m t) (λ le. le) (λ gt. let lt = lt_of_not-le gt in let good = p t f.from lt in let bad = f.fails in absurd (cc))
-
-  -- a piece has one failing turn
-  pub one_fail : (n a b : ℕ) → FailsAt M work n a → FailsAt M work n b → a ≡ b
-  one_fail n a b f g = let x = past n a b f.passes g in let y = past n b a g.passes f in omega (arith, x, y)
-
   -- a piece that is through fails at no turn under the lesser of its own failing turn and the least one
   pub through_least : (h : Held P) (least low t : ℕ) → IsTrueHeld M work h → IsThrough M work least h → low ≤ least → (h.failed ≡ true → low ≤ h.next) → FailsAt M work h.number t → low ≤ t
   through_least h least low t is by le fell f = by_cases h.failed refl
     where
       by_cases : (b : Bool) → h.failed ≡ b → low ≤ t
-      by_cases true e = let g = is.failed e in let x = one_fail h.number h.next t g.0 f in let y = fell e in omega (arith, x, y)
-      by_cases false e = let g = is.going e in let x = past h.number h.next t g.2 f in let y = f.to in
+      by_cases true e = let g = is.failed e in let x = one_fail M work h.number h.next t g.0 f in let y = fell e in omega (arith, x, y)
+      by_cases false e = let g = is.going e in let x = past M work h.number h.next t g.2 f in let y = f.to in
           ⊎_elim (λ (z : h.failed ≡ true). absurd (cc)) (λ k. ⊎_elim (λ (z : M.limit work h.number ≤ h.next). absurd (omega (arith, x, y, z))) (λ (z : least < h.next). omega (arith, x, z, le)) k) by
 
 snoc_get : {A : Type 0} → (l : List A) (a b : A) (j : ℕ) → slice_get (l ++ a ∷ []) j ≡ Some b → (slice_get l j ≡ Some b) ⊎ ((j ≡ length l) × (a ≡ b))

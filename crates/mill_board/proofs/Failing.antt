@@ -1,7 +1,7 @@
--- The turn at which a piece fails is found by trying its turns.
-use Rattle.std.proofs.Common.{◌≡◌, ℕ, zero, suc, ◌+◌, ◌-◌, ◌<◌, ◌≤◌, Bool, true, false, cond, refl, sym, ap, subst, ◌∙◌, arith, Option, Some, None}
+-- A piece has one failing turn at most, which is found by trying its turns.
+use Rattle.std.proofs.Common.{◌≡◌, ℕ, zero, suc, ◌+◌, ◌-◌, ◌<◌, ◌≤◌, Bool, true, false, cond, refl, sym, ap, subst, ◌∙◌, arith, Option, Some, None, lt_of_not-le}
 use mathlib.Core.Logic.{dite}
-use native.Mathlib.Decide.{ℕ_discrete}
+use native.Mathlib.Decide.{dec_le, ℕ_discrete}
 use Rattle.mill_board.specs.Works.{Means, FailsAt, PassesBefore, succeeds_at}
 use Rattle.mill_board.proofs.Views.{same_some}
 
@@ -38,3 +38,12 @@ module _ {W P : Type 0} (M : Means W P) (work : W) (n : ℕ) where
 
   pub failing_turn_is : (u : ℕ) → FailsAt M work n u → failing_turn ≡ Some u
   failing_turn_is u f = let from = f.from in let to = f.to in finds (M.limit work n - M.first work n) (M.first work n) u from (omega (arith, from, to)) (omega arith) f
+
+module _ {W P : Type 0} (M : Means W P) (work : W) where
+  -- a turn that fails is not among those that pass
+  pub past : (n m t : ℕ) → PassesBefore M work n m → FailsAt M work n t → m ≤ t
+  past n m t p f = dite (dec_le m t) (λ le. le) (λ gt. let lt = lt_of_not-le gt in let good = p t f.from lt in let bad = f.fails in absurd (cc))
+
+  -- a piece has one failing turn
+  pub one_fail : (n a b : ℕ) → FailsAt M work n a → FailsAt M work n b → a ≡ b
+  one_fail n a b f g = let x = past n a b f.passes g in let y = past n b a g.passes f in omega (arith, x, y)

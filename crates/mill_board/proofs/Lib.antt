@@ -1,5 +1,6 @@
 mod Sums
 mod Views
+pub mod Failing
 mod Opening
 mod Drawing
 mod Drew
@@ -7,6 +8,5 @@ mod Putting
 mod Lowering
 mod Splitting
 mod Closing
-mod Outcomes
-mod Failing
+pub mod Outcomes
 mod Showing

@@ -4,22 +4,22 @@ use Rattle.mill_board.specs.declared.work.Held.{Held}
 use Rattle.mill_board.specs.declared.work.Terms.{Terms}
 use Rattle.mill_board.specs.Works.{Means, FailsAt, HasSpans, IsClosed, IsDone, state_at}
 use Rattle.mill_board.specs.Laws.{OneOutcome}
-use Rattle.mill_board.proofs.Closing.{one_fail, past}
+use Rattle.mill_board.proofs.Failing.{one_fail, past}
 
 module _ {W P : Type 0} (M : Means W P) where
   -- a piece that has failed at this turn
-  abbrev failed_at : W → ℕ → ℕ → Held P
+  abbrev pub failed_at : W → ℕ → ℕ → Held P
   failed_at work n t = record { number = n; piece = M.turned work (state_at M work n t) t; next = t; failed = true }
 
   -- a piece that is through its last turn
-  abbrev passed : W → ℕ → Held P
+  abbrev pub passed : W → ℕ → Held P
   passed work n = record { number = n; piece = state_at M work n (M.limit work n); next = M.limit work n; failed = false }
 
   held_is : (a b : Held P) → a.number ≡ b.number → a.piece ≡ b.piece → a.next ≡ b.next → a.failed ≡ b.failed → a ≡ b
   held_is a b e f g h = λ i. record { number = e i; piece = f i; next = g i; failed = h i }
 
   -- a piece that fails at the least turn has failed there
-  fails_least : (work : W) (least n : ℕ) (h : Held P) → IsDone M work least n h → FailsAt M work n least → h ≡ failed_at work n least
+  pub fails_least : (work : W) (least n : ℕ) (h : Held P) → IsDone M work least n h → FailsAt M work n least → h ≡ failed_at work n least
   fails_least work least n h d f = by_cases h.failed refl
     where
       at : FailsAt M work h.number least
@@ -35,7 +35,7 @@ module _ {W P : Type 0} (M : Means W P) where
           absurd (⊎_elim (λ (z : h.failed ≡ true). cc) (λ k. ⊎_elim (λ (z : M.limit work h.number ≤ h.next). omega (arith, x, to, z)) (λ (z : least < h.next). omega (arith, x, z)) k) d.through)
 
   -- where no piece fails, each is through its last turn
-  passes_all : (terms : Terms W) (least n : ℕ) (h : Held P) → HasSpans M terms.work terms.turns → least ≡ terms.turns → ((n t : ℕ) → n < M.pieces terms.work → FailsAt M terms.work n t → least ≤ t)
+  pub passes_all : (terms : Terms W) (least n : ℕ) (h : Held P) → HasSpans M terms.work terms.turns → least ≡ terms.turns → ((n t : ℕ) → n < M.pieces terms.work → FailsAt M terms.work n t → least ≤ t)
       → IsDone M terms.work least n h → h ≡ passed terms.work n
   passes_all terms least n h spans none under d = by_cases h.failed refl
     where

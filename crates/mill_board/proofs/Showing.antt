@@ -17,8 +17,7 @@ use Rattle.mill_board.specs.declared.view.View.{View}
 use Rattle.mill_board.specs.Works.{Means, FailsAt, IsTrueHeld, started}
 use Rattle.mill_board.specs.Kept.{BoardState, HasView, Kept, claim_of, least_of, times}
 use Rattle.mill_board.specs.Shows.{IsHomeAs, Shows, ShowsCore}
-use Rattle.mill_board.proofs.Closing.{past}
-use Rattle.mill_board.proofs.Failing.{failing_turn, failing_turn_is, is_failing_turn}
+use Rattle.mill_board.proofs.Failing.{failing_turn, failing_turn_is, is_failing_turn, past}
 use Rattle.mill_board.proofs.Sums.{once_at_most, once_in, sum_has, sum_has_two}
 use Rattle.mill_board.proofs.Views.{same_some}
 

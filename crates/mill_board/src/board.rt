@@ -1,10 +1,10 @@
 ghost use Rattle.std.specs.Prelude.{◌≡◌, ◌+◌, ◌^◌, ◌<◌, ◌≤◌, ◌++◌, [], ◌∷◌, false, true, IfOk, IfSome, IfNone, IsNone, Some, None};
-ghost use Rattle.mill_board.specs.Works.{HasSpans, IsFailure, IsTrueHeld};
+ghost use Rattle.mill_board.specs.Works.{HasSpans, IsFailure, IsTrueHeld, started};
 ghost use Rattle.mill_board.specs.Seats.{IsFree, IsSeatOf, OnlySees, first_view, given_half, kept_half};
 ghost use Rattle.mill_board.specs.Kept.{times};
 ghost use Rattle.mill_board.specs.inner.Starts.{starts};
 
-use crate::rule::{Drawing, Halving, Looking, Lowering, Putting, Shares, Slot};
+use crate::rule::{BACK, CLAIM, Drawing, Halving, LEAST, Looking, Lowering, Putting, Shares, Slot};
 use crate::seat::Seat;
 use crate::turns::start;
 use crate::view::View;
@@ -65,14 +65,14 @@ impl<W: Work> Board<W> {
         Ok((board, Seat { pass, ended: false }))
     }
 
-    /// Draws the next number and takes the piece out of its slot. The seat has no piece out. `None`
-    /// where no piece is left, and from then on. No other seat has drawn that number or will. No memory
-    /// is taken.
+    /// Draws the next number and takes the piece out of its slot, with no turn done; the seat has no
+    /// piece out before. `None` where no piece is left, and from then on. No other seat has drawn that
+    /// number or will. No memory is taken.
     pub fn draw(&self, seat: &mut Seat<W>) -> Option<Held<W::Piece>>
         requires { IsFree self.now seat.old }
         ensures table { seat.new.table ≡ seat.old.table }
         ensures held { IfSome result (IsTrueHeld W.means self.now.terms.work) }
-        ensures untried { IfSome result (λ held. held.failed ≡ false) }
+        ensures untouched { IfSome result (λ held. held ≡ started W.means self.now.terms.work held.number) }
         ensures number { IfSome result (λ held. times held.number seat.old.view.drawn ≡ 0) }
         ensures drawn { IfSome result (λ held. seat.new.view ≡ record seat.old.view { drawn = seat.old.view.drawn ++ held.number ∷ []; out = Some held.number }) }
         ensures none { IfNone result (seat.new.view ≡ record seat.old.view { ended = true }) }
@@ -84,7 +84,7 @@ impl<W: Work> Board<W> {
         let found = self
             .table
             .shared
-            .fetch_add::<Drawing<W>>(&mut seat.pass, 0, 1);
+            .fetch_add::<Drawing<W>>(&mut seat.pass, CLAIM, 1);
         if found >= self.pieces {
             seat.ended = true;
             return None;
@@ -107,7 +107,7 @@ impl<W: Work> Board<W> {
         self.table.shared.exchange(&mut seat.pass, slot, Some(held));
         self.table
             .shared
-            .fetch_add::<Putting<W>>(&mut seat.pass, 2, 1);
+            .fetch_add::<Putting<W>>(&mut seat.pass, BACK, 1);
     }
 
     /// The least turn at which a piece is known to fail, or the number of turns where none is. It isn't
@@ -119,11 +119,11 @@ impl<W: Work> Board<W> {
         ensures seen { seat.new.view.seen ≡ result }
         ensures failure { IsFailure W.means self.now.terms result }
     {
-        self.table.shared.load::<Looking<W>>(&mut seat.pass, 1)
+        self.table.shared.load::<Looking<W>>(&mut seat.pass, LEAST)
     }
 
-    /// Lowers the least turn to the one at which a held piece has failed, where it isn't lower already.
-    /// From then on no seat of the board sees a greater one. No memory is taken.
+    /// Lowers the least turn to the one at which a held piece has failed, where it isn't lower already,
+    /// for all seats of the board to see. No memory is taken.
     pub fn lower(&self, seat: &mut Seat<W>, held: &Held<W::Piece>)
         requires seat { IsSeatOf self.now seat.old }
         requires failed { held.now.failed ≡ true }
@@ -134,7 +134,7 @@ impl<W: Work> Board<W> {
     {
         self.table
             .shared
-            .fetch_min::<Lowering<W>>(&mut seat.pass, 1, held.next);
+            .fetch_min::<Lowering<W>>(&mut seat.pass, LEAST, held.next);
     }
 
     /// A seat for one worker more, with half of what this one has to spare. It has ended where this one

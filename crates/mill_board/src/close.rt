@@ -5,7 +5,7 @@ ghost use Rattle.mill_board.specs.Seats.{IsSeatOf};
 ghost use Rattle.mill_board.specs.inner.Closings.{HasTrue, HasTrueFrom, IsSound};
 
 use crate::board::Board;
-use crate::rule::Slot;
+use crate::rule::{BACK, CLAIM, LEAST, Slot};
 use crate::seat::Seat;
 use crate::turns::{start, turn_once};
 use crate::work::{Held, Terms, Work};
@@ -40,7 +40,7 @@ impl<W: Work> Board<W> {
         let room = Vec::with_capacity(alloc, pieces as usize)?;
         let Seat { pass, ended: _ } = seat;
         let closed = table.close_with(pass);
-        let (claim, least, back) = (closed.word(0), closed.word(1), closed.word(2));
+        let (claim, least, back) = (closed.word(CLAIM), closed.word(LEAST), closed.word(BACK));
         let slots = take_slots(closed, room);
         settle(
             alloc,

@@ -3,6 +3,15 @@ use crate::work::{Held, Terms, Work};
 use atomic_table::{Play, Seat, Split, TableRule};
 use std::marker::PhantomData;
 
+/// The word of the number that is drawn next.
+pub const CLAIM: usize = 0;
+
+/// The word of the least turn at which a piece is known to fail.
+pub const LEAST: usize = 1;
+
+/// The word that counts the pieces that came back.
+pub const BACK: usize = 2;
+
 /// A slot of the table: the piece of its number, or nothing where a seat has it out.
 pub type Slot<W> = Option<Held<<W as Work>::Piece>>;
 
