@@ -1,0 +1,12 @@
+mod Sums
+mod Views
+pub mod Failing
+mod Opening
+mod Drawing
+mod Drew
+mod Putting
+mod Lowering
+mod Splitting
+mod Closing
+pub mod Outcomes
+mod Showing

@@ -1,0 +1,16 @@
+use Rattle.std.proofs.Common.{◌++◌, ◌+◌, ◌-◌, List, arith, ap, ◌∙◌, Option, Some}
+use Rattle.mill_board.specs.declared.work.Held.{Held}
+use Rattle.mill_board.specs.inner.Starts.{starts}
+use Rattle.mill_board.proofs.Opening.{starts_more, starts_end}
+use Rattle.mill_board.proofs.board.fresh_slots.Goals as goal
+
+pub loop-number-preserved : goal.loop-number-preserved
+loop-number-preserved g c =
+    let M = g.W.Work.means in
+    let H : Type 0 = Held g.row.W-Piece.Denot in
+    let work = c.args.work.now in let number = c.loop-number.number in
+    ap (λ (l : List (Option H)). l ++ starts M work (number + 1) (c.args.pieces - (number + 1))) c.in_ok-push.ensures.items
+    ∙ starts_more M work c.loop-number.slots.items (Some c.in_ok-held.held) number c.args.pieces (starts M work 0 c.args.pieces) (omega arith) (ap Some c.in_ok-held.ensures) c.loop-number.invariant
+
+pub returns : goal.returns
+returns g c = starts_end g.W.Work.means c.args.work.now c.loop-number.slots.items c.loop-number.number c.args.pieces (starts g.W.Work.means c.args.work.now 0 c.args.pieces) c.loop-number-test.false c.loop-number.invariant
