@@ -16,7 +16,7 @@ use Rattle.mill_base.specs.declared.points.Tri.{Tri}
 use Rattle.mill_base.specs.declared.limits.TheConstants.{MAX_COORDINATE, MAX_TEXT_COORDINATE}
 use Rattle.mill_decimal.specs.Decimals.{canonical}
 use Rattle.mill_job.specs.Columns.{home, positions}
-use Rattle.mill_job.specs.Jobs.{IsJob}
+use Rattle.mill_job.specs.Jobs.{AreLevels, IsJob, IsLevel}
 use Rattle.mill_job.specs.declared.job.Job.{Job}
 use Rattle.mill_ngc.specs.Programs.{program_of}
 use Rattle.mill_command.specs.Requests.{sample}
@@ -126,6 +126,9 @@ few_positions n few =
 side_in_text : (n : ℕ) → n ≤ 100 → Within MAX_TEXT_COORDINATE (pos (100 * n))
 side_in_text n few = record { within = omega arith }
 
+no_levels : (floor top : ℤ) → AreLevels floor top []
+no_levels floor top = record { few = omega arith; falling = λ i j d before there. absurd (omega arith); within = All-nil (IsLevel floor top) }
+
 pub job_ok : (n : ℕ) → n ≤ 100 → IsJob (sample_job n)
 job_ok n few = record {
   cutter_ok = record { least = omega (arith, ints); within = omega (arith, ints) };
@@ -155,6 +158,7 @@ job_ok n few = record {
   layer_ok = record { low = omega (arith, ints); high = omega (arith, ints) };
   rough_stock_ok = record { low = omega (arith, ints); high = omega (arith, ints) };
   layers = λ some. omega (arith, ints);
+  levels_ok = no_levels (pos 0) (pos 200);
 }
 
 -- the job and the part of a size are such that a plan can be made
