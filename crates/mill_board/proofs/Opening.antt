@@ -5,10 +5,10 @@ use lib.ListN.{get_elem?}
 use Rattle.atomic_table.specs.Table.{opening}
 use Rattle.mill_board.specs.declared.work.Held.{Held}
 use Rattle.mill_board.specs.declared.view.View.{View}
-use Rattle.mill_board.specs.Works.{Means, HasSpans, IsTrueHeld, after_turns, started}
+use Rattle.mill_board.specs.Works.{Means, HasSpans, IsTrueHeld, started}
 use Rattle.mill_board.specs.Seats.{first_view}
 use Rattle.mill_board.specs.Kept.{Kept}
-use Rattle.mill_board.specs.inner.Starts.{starts}
+use Rattle.mill_board.specs.inner.Starts.{StartTrue, starts}
 use Rattle.mill_board.proofs.Sums.{once_least}
 
 one_view : {A : Type 0} → {v : A} (Q : A → Type 0) → Q v → (j : ℕ) (u : A) → get_elem? (v ∷ []) j ≡ some u → Q u
@@ -20,10 +20,10 @@ length-map_some [] = refl
 length-map_some (x ∷ xs) = let t = length-map_some xs in omega (arith, t)
 
 -- a piece with no turn done is as its turns leave it
-pub started_true : {W P : Type 0} (M : Means W P) (work : W) (n : ℕ) → n < M.pieces work → M.first work n ≤ M.limit work n → IsTrueHeld M work (started M work n)
-started_true M work n under span = record {
+pub started_true : {W P : Type 0} (M : Means W P) (work : W) (n : ℕ) → n < M.pieces work → M.first work n ≤ M.limit work n → M.IsAt work n (M.first work n) (M.start work n) → IsTrueHeld M work (started M work n)
+started_true M work n under span here = record {
   number = under;
-  going = λ e. (omega arith, span, (λ u lo hi. absurd (omega arith)), let z : M.first work n - M.first work n ≡ 0 = omega arith in ap (after_turns M work n) (sym z));
+  going = λ e. (omega arith, span, (λ u lo hi. absurd (omega arith)), here);
   failed = λ e. absurd (cc);
 }
 
@@ -59,9 +59,9 @@ module _ {W P : Type 0} (M : Means W P) (work : W) where
   starts_none n (suc k) zero e = some-ne-none _ (some-injective _ _ e)
   starts_none n (suc k) (suc i) e = starts_none (n + 1) k i e
 
-  pub opens : (turns p : ℕ) (slots : List (Option (Held P))) → p ≡ M.pieces work → p < 2 ^ 32 → HasSpans M work turns → slots ≡ starts M work 0 p
+  pub opens : (turns p : ℕ) (slots : List (Option (Held P))) → p ≡ M.pieces work → p < 2 ^ 32 → HasSpans M work turns → slots ≡ starts M work 0 p → StartTrue M work p
       → Kept M (record { work = work; turns = turns }) (opening (0 ∷ turns ∷ 0 ∷ []) slots (first_view (record { work = work; turns = turns })))
-  opens turns p slots count few spans are =
+  opens turns p slots count few spans are all_true =
       let v : View W = first_view (record { work = work; turns = turns }) in
       subst (λ (l : List (Option (Held P))). Kept M (record { work = work; turns = turns }) (opening (0 ∷ turns ∷ 0 ∷ []) l v)) (sym are)
       (record {
@@ -73,8 +73,8 @@ module _ {W P : Type 0} (M : Means W P) (work : W) where
         numbers = λ n. let t = once_least n (M.pieces work) in omega (arith, t);
         seen = one_view (λ u. turns ≤ u.seen) (omega arith);
         least = inl refl;
-        home = λ n x e. let t = starts_at 0 p n x e in let q : 0 + n ≡ n = omega arith in let lt = t.1 in let under : n < M.pieces work = omega (arith, lt, count) in
-            (started M work n, t.0 ∙ ap (λ m. Some (started M work m)) q, refl, started_true M work n under (spans n under).0);
+        home = λ n x e. let t = starts_at 0 p n x e in let q : 0 + n ≡ n = omega arith in let lt = t.1 in
+            (started M work n, t.0 ∙ ap (λ m. Some (started M work m)) q, refl, all_true n lt);
         untouched = λ n le lt. let q : 0 + n ≡ n = omega arith in starts_there 0 p n (omega (arith, lt, count)) ∙ ap (λ m. some (some (Some (started M work m)))) q;
         back = refl;
         outs = λ j u n e o. absurd (let z = one_view (λ (k : View W). k.out ≡ None) refl j u e in cc);

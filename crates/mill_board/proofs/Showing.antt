@@ -14,10 +14,10 @@ use Rattle.mill_sched.specs.Laws.{IsOnTurn, IsPlaced, IsUntouched, number_of}
 use Rattle.mill_board.specs.declared.work.Held.{Held}
 use Rattle.mill_board.specs.declared.work.Terms.{Terms}
 use Rattle.mill_board.specs.declared.view.View.{View}
-use Rattle.mill_board.specs.Works.{Means, FailsAt, IsTrueHeld, started}
+use Rattle.mill_board.specs.Works.{Means, FailsAt, IsTrueHeld, PassesBefore, started}
 use Rattle.mill_board.specs.Kept.{BoardState, HasView, Kept, claim_of, least_of, times}
-use Rattle.mill_board.specs.Shows.{IsHomeAs, Shows, ShowsCore}
-use Rattle.mill_board.proofs.Failing.{failing_turn, failing_turn_is, is_failing_turn, past}
+use Rattle.mill_board.specs.Shows.{AreFails, IsHomeAs, Shows, ShowsCore}
+use Rattle.mill_board.proofs.Failing.{past}
 use Rattle.mill_board.proofs.Sums.{once_at_most, once_in, sum_has, sum_has_two}
 use Rattle.mill_board.proofs.Views.{same_some}
 
@@ -60,9 +60,9 @@ module _ {W : Type 0} where
   holds_none (x ∷ xs) zero n e = worker_holds_none x.out x.ended n e
   holds_none (x ∷ xs) (suc seat) n e = holds_none xs seat n e
 
-module _ {W P : Type 0} (M : Means W P) (work : W) where
+module _ {W P : Type 0} (M : Means W P) (work : W) (turn_of : ℕ → Option ℕ) where
   abbrev task_of : ℕ → Task
-  task_of n = record { first = M.first work n; limit = M.limit work n; fails = failing_turn M work n }
+  task_of n = record { first = M.first work n; limit = M.limit work n; fails = turn_of n }
 
   abbrev piece_of : ℕ → mathlib.Core.Option.Option (Option (Held P)) → Piece
   piece_of n none = untouched (task_of n)
@@ -107,35 +107,36 @@ module _ {W P : Type 0} (M : Means W P) (work : W) where
   pieces_free k (x ∷ xs) zero = no_holder k x
   pieces_free k (x ∷ xs) (suc n) = pieces_free (suc k) xs n
 
+module _ {W P : Type 0} (M : Means W P) (work : W) (turn_of : ℕ → Option ℕ) (are : AreFails M work turn_of) where
   -- what is at a failing turn is not past it
-  not_past : (n next : ℕ) (o : Option ℕ) → failing_turn M work n ≡ o → M.first work n ≤ M.limit work n → ((f : ℕ) → FailsAt M work n f → next ≤ f) → IfSome o (λ f. next ≤ f)
-  not_past n next None e span all = tt
-  not_past n next (Some f) e span all = all f (is_failing_turn M work n f e span)
+  not_past : (n next : ℕ) (o : Option ℕ) → turn_of n ≡ o → n < M.pieces work → ((f : ℕ) → FailsAt M work n f → next ≤ f) → IfSome o (λ f. next ≤ f)
+  not_past n next None e under all = tt
+  not_past n next (Some f) e under all = all f ((are n f under).0 e)
 
-  untouched_on_turn : (n : ℕ) → M.first work n ≤ M.limit work n → IsOnTurn (untouched (task_of n))
-  untouched_on_turn n span = record { from = omega arith; to = span; not_past = not_past n (M.first work n) (failing_turn M work n) refl span (λ f fails. fails.from); failed = λ e. absurd (cc) }
+  untouched_on_turn : (n : ℕ) → n < M.pieces work → M.first work n ≤ M.limit work n → IsOnTurn (untouched (task_of M work turn_of n))
+  untouched_on_turn n under span = record { from = omega arith; to = span; not_past = not_past n (M.first work n) (turn_of n) refl under (λ f fails_there. fails_there.from); failed = λ e. absurd (cc) }
 
-  held_on_turn : (n : ℕ) (h : Held P) → M.first work n ≤ M.limit work n → h.number ≡ n → IsTrueHeld M work h → IsOnTurn (piece_of n (some (Some h)))
-  held_on_turn n h span number is = by_cases h.failed refl
+  held_on_turn : (n : ℕ) (h : Held P) → n < M.pieces work → h.number ≡ n → IsTrueHeld M work h → IsOnTurn (piece_of M work turn_of n (some (Some h)))
+  held_on_turn n h under number is = by_cases h.failed refl
     where
-      by_cases : (b : Bool) → h.failed ≡ b → IsOnTurn (piece_of n (some (Some h)))
+      by_cases : (b : Bool) → h.failed ≡ b → IsOnTurn (piece_of M work turn_of n (some (Some h)))
       by_cases true e =
           let f = subst (λ k. FailsAt M work k h.next) number (is.failed e).0 in
           let from = f.from in let to = f.to in
-          record { from = from; to = omega (arith, to); not_past = not_past n h.next (failing_turn M work n) refl span (λ u g. past M work n h.next u f.passes g); failed = λ q. failing_turn_is M work n h.next f }
+          record { from = from; to = omega (arith, to); not_past = not_past n h.next (turn_of n) refl under (λ u g. past M work n h.next u f.passes g); failed = λ q. (are n h.next under).1 f }
       by_cases false e =
           let g = is.going e in
           let from = subst (λ k. M.first work k ≤ h.next) number g.0 in
           let to = subst (λ k. h.next ≤ M.limit work k) number g.1 in
-          record { from = from; to = to; not_past = not_past n h.next (failing_turn M work n) refl span (λ u f. past M work n h.next u (subst (λ k. Rattle.mill_board.specs.Works.PassesBefore M work k h.next) number g.2) f); failed = λ q. absurd (cc) }
+          record { from = from; to = to; not_past = not_past n h.next (turn_of n) refl under (λ u f. past M work n h.next u (subst (λ k. PassesBefore M work k h.next) number g.2) f); failed = λ q. absurd (cc) }
 
-module _ {W P : Type 0} (M : Means W P) (terms : Terms W) (s : BoardState W P) (h : Kept M terms s) where
+module _ {W P : Type 0} (M : Means W P) (terms : Terms W) (s : BoardState W P) (turn_of : ℕ → Option ℕ) (are : AreFails M terms.work turn_of) (h : Kept M terms s) where
   -- the state that is shown
   abbrev core_of : Core
-  core_of = record { claim = claim_of s; least = least_of s; turns = terms.turns; pieces = pieces_from M terms.work 0 s.homes; workers = workers_of s.views }
+  core_of = record { claim = claim_of s; least = least_of s; turns = terms.turns; pieces = pieces_from M terms.work turn_of 0 s.homes; workers = workers_of s.views }
 
-  piece_is : (n : ℕ) (x : mathlib.Core.Option.Option (Option (Held P))) (d : Piece) → get_elem? s.homes n ≡ some x → get_or (pieces_from M terms.work 0 s.homes) n d ≡ piece_of M terms.work n x
-  piece_is n x d e = piece_there M terms.work 0 s.homes n x d e ∙ ap (λ m. piece_of M terms.work m x) (add-zero n)
+  piece_is : (n : ℕ) (x : mathlib.Core.Option.Option (Option (Held P))) (d : Piece) → get_elem? s.homes n ≡ some x → get_or (pieces_from M terms.work turn_of 0 s.homes) n d ≡ piece_of M terms.work turn_of n x
+  piece_is n x d e = piece_there M terms.work turn_of 0 s.homes n x d e ∙ ap (λ m. piece_of M terms.work turn_of m x) (add-zero n)
 
   -- a number that is out is under the claim and the pieces
   out_under : (seat : ℕ) (v : View W) (n : ℕ) → HasView s seat v → v.out ≡ Some n → (n < claim_of s) × (n < length s.homes)
@@ -151,24 +152,24 @@ module _ {W P : Type 0} (M : Means W P) (terms : Terms W) (s : BoardState W P) (
 
   untouched_from : (n : ℕ) → claim_of s ≤ n → IsUntouched (piece_at core_of n)
   untouched_from n le = dite (dec_le (length s.homes) n)
-      (λ over. subst IsUntouched (sym (past_all M terms.work 0 s.homes n (untouched no_task) over)) (record { next = refl; unfailed = refl; home = refl }))
+      (λ over. subst IsUntouched (sym (past_all M terms.work turn_of 0 s.homes n (untouched no_task) over)) (record { next = refl; unfailed = refl; home = refl }))
       (λ gt. let lt = lt_of_not-le gt in let slots = h.slots in
       subst IsUntouched (sym (piece_is n (some (Some (started M terms.work n))) (untouched no_task) (h.untouched n le (omega (arith, lt, slots))))) (record { next = refl; unfailed = refl; home = refl }))
 
   is_placed : IsPlaced core_of
   is_placed = record {
     untouched = untouched_from;
-    drawn = λ w n e. let t = seat_of s.views w n e in let u = out_under w t.0 n t.1 t.2 in (u.0, let b = u.1 in let len = pieces_len M terms.work 0 s.homes in omega (arith, b, len));
-    held = λ w n. (λ e. absurd (holds_none s.views w n e), λ e. let no = pieces_free M terms.work 0 s.homes n in absurd (cc));
+    drawn = λ w n e. let t = seat_of s.views w n e in let u = out_under w t.0 n t.1 t.2 in (u.0, let b = u.1 in let len = pieces_len M terms.work turn_of 0 s.homes in omega (arith, b, len));
+    held = λ w n. (λ e. absurd (holds_none s.views w n e), λ e. let no = pieces_free M terms.work turn_of 0 s.homes n in absurd (cc));
     apart = λ v w n e f. let a = seat_of s.views v n e in let b = seat_of s.views w n f in apart v w a.0 b.0 n a.1 b.1 a.2 b.2;
   }
 
-  slot_on_turn : (n : ℕ) (x : mathlib.Core.Option.Option (Option (Held P))) → get_elem? s.homes n ≡ some x → n < M.pieces terms.work → IsOnTurn (piece_of M terms.work n x)
-  slot_on_turn n none e lt = untouched_on_turn M terms.work n (h.spans n lt).0
-  slot_on_turn n (some None) e lt = untouched_on_turn M terms.work n (h.spans n lt).0
+  slot_on_turn : (n : ℕ) (x : mathlib.Core.Option.Option (Option (Held P))) → get_elem? s.homes n ≡ some x → n < M.pieces terms.work → IsOnTurn (piece_of M terms.work turn_of n x)
+  slot_on_turn n none e lt = untouched_on_turn M terms.work turn_of are n lt (h.spans n lt).0
+  slot_on_turn n (some None) e lt = untouched_on_turn M terms.work turn_of are n lt (h.spans n lt).0
   slot_on_turn n (some (Some k)) e lt =
       let t = h.home n (Some k) e in let is : k ≡ t.0 = same_some k t.0 t.1 in
-      held_on_turn M terms.work n k (h.spans n lt).0 (ap (λ (q : Held P). q.number) is ∙ t.2) (subst (λ (q : Held P). IsTrueHeld M terms.work q) (sym is) t.3)
+      held_on_turn M terms.work turn_of are n k lt (ap (λ (q : Held P). q.number) is ∙ t.2) (subst (λ (q : Held P). IsTrueHeld M terms.work q) (sym is) t.3)
 
   is_shown : Shows M terms s core_of
   is_shown =
@@ -177,24 +178,23 @@ module _ {W P : Type 0} (M : Means W P) (terms : Terms W) (s : BoardState W P) (
         claim = refl;
         least = refl;
         turns = refl;
-        pieces = pieces_len M terms.work 0 s.homes ∙ h.slots;
+        pieces = pieces_len M terms.work turn_of 0 s.homes ∙ h.slots;
         workers = length-map s.views worker_of;
-        tasks = λ n lt. let x = slot_there M terms.work s.homes n (omega (arith, lt, slots)) in
-            let is : (piece_at core_of n).task ≡ task_of M terms.work n = ap (λ (p : Piece). p.task) (piece_is n x.0 (untouched no_task) x.1) ∙ task_there M terms.work n x.0 in
-            let span = (h.spans n lt).0 in
+        tasks = λ n lt. let x = slot_there M terms.work turn_of s.homes n (omega (arith, lt, slots)) in
+            let is : (piece_at core_of n).task ≡ task_of M terms.work turn_of n = ap (λ (p : Piece). p.task) (piece_is n x.0 (untouched no_task) x.1) ∙ task_there M terms.work turn_of n x.0 in
             record {
               first = ap (λ (t : Task). t.first) is;
               limit = ap (λ (t : Task). t.limit) is;
-              fails = λ t. let same : (piece_at core_of n).task.fails ≡ failing_turn M terms.work n = ap (λ (k : Task). k.fails) is in
-                  ((λ e. is_failing_turn M terms.work n t (sym same ∙ e) span), λ f. same ∙ failing_turn_is M terms.work n t f);
+              fails = λ t. let same : (piece_at core_of n).task.fails ≡ turn_of n = ap (λ (k : Task). k.fails) is in
+                  ((λ e. (are n t lt).0 (sym same ∙ e)), λ f. same ∙ (are n t lt).1 f);
             };
         home = λ n k e. subst (λ (p : Piece). IsHomeAs k p) (sym (piece_is n (some (Some k)) (untouched no_task) e)) (record { next = refl; failed = refl; home = refl });
         out = λ n e. let o = h.owned n e in (o.0, o.1, record { view = o.2; out = o.3; drawn = (h.outs o.0 o.1 n o.2 o.3).0; worker = ap number_of (worker_there s.views o.0 o.1 o.2) ∙ worker_number o.1.out o.1.ended ∙ o.3 });
         numbers = λ seat v at. ap number_of (worker_there s.views seat v at) ∙ worker_number v.out v.ended;
         placed = is_placed;
-        on_turn = λ k d lt. let len = pieces_len M terms.work 0 s.homes in let x = slot_there M terms.work s.homes k (omega (arith, lt, len)) in
+        on_turn = λ k d lt. let len = pieces_len M terms.work turn_of 0 s.homes in let x = slot_there M terms.work turn_of s.homes k (omega (arith, lt, len)) in
             subst IsOnTurn (sym (piece_is k x.0 d x.1)) (slot_on_turn k x.0 x.1 (omega (arith, lt, len, slots)));
       }
 
 pub shows_core : {W P : Type 0} (M : Means W P) → ShowsCore M
-shows_core M terms s h = (core_of M terms s h, is_shown M terms s h)
+shows_core M terms s turn_of are h = (core_of M terms s turn_of are h, is_shown M terms s turn_of are h)

@@ -1,5 +1,5 @@
 -- A board's table as a state of the machine of events (mill_sched).
-use Rattle.std.specs.Prelude.{◌≡◌, ◌↔◌, ℕ, ◌<◌, length, All, Some, None}
+use Rattle.std.specs.Prelude.{◌≡◌, ◌↔◌, ℕ, ◌<◌, length, All, Option, Some, None}
 use Rattle.mill_sched.specs.declared.piece.Task.{Task}
 use Rattle.mill_sched.specs.declared.piece.Piece.{Piece}
 use Rattle.mill_sched.specs.States.{State as Core, piece_at, worker_at}
@@ -15,6 +15,10 @@ pub record IsHomeAs {P : Type 0} (h : Held P) (piece : Piece) : Type 0 where
   pub next : piece.next ≡ h.next
   pub failed : piece.failed ≡ h.failed
   pub home : piece.holder ≡ None
+
+-- these are the turns at which the pieces of a work fail, each at its own, and none where a piece fails at no turn
+abbrev pub AreFails : {W P : Type 0} → Means W P → W → (ℕ → Option ℕ) → Type 0
+AreFails M work fails = (n t : ℕ) → n < M.pieces work → (fails n ≡ Some t) ↔ FailsAt M work n t
 
 -- a task has the turns of the piece of a number, and the one at which it fails, if it does
 pub record IsTaskOf {W P : Type 0} (M : Means W P) (work : W) (n : ℕ) (task : Task) : Type 0 where
@@ -43,6 +47,6 @@ pub record Shows {W P : Type 0} (M : Means W P) (terms : Terms W) (s : BoardStat
   pub placed : IsPlaced core
   pub on_turn : All IsOnTurn core.pieces
 
--- whenever the rule holds, the table shows such a state
+-- whenever the rule holds, the table shows such a state, of the machine that is told at which turns the work's pieces fail
 abbrev pub ShowsCore : {W P : Type 0} → Means W P → Type 0
-ShowsCore {W} {P} M = (terms : Terms W) (s : BoardState W P) → Kept M terms s → (core : Core) × Shows M terms s core
+ShowsCore {W} {P} M = (terms : Terms W) (s : BoardState W P) (fails : ℕ → Option ℕ) → AreFails M terms.work fails → Kept M terms s → (core : Core) × Shows M terms s core

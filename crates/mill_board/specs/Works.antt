@@ -1,46 +1,42 @@
 -- What the pieces of a work are, what their turns do, and when a piece is as its turns leave it.
-use Rattle.std.specs.Prelude.{◌≡◌, ℕ, zero, suc, ◌+◌, ◌-◌, ◌<◌, ◌≤◌, ◌⊎◌, Bool, true, false, List, length, slice_get, Some}
+use Rattle.std.specs.Prelude.{◌≡◌, ℕ, ◌<◌, ◌≤◌, ◌⊎◌, true, false, List, length, slice_get, Some}
 use Rattle.mill_board.specs.declared.work.Held.{Held}
 use Rattle.mill_board.specs.declared.work.Terms.{Terms}
 
--- what a work means: how many pieces it has; the turns of the piece of a number, from its first on and under its limit; that piece at the start; whether a turn of a piece succeeds; and the piece after the turn
-pub record Means (W P : Type 0) : Type 0 where
+-- what a work means: how many pieces it has; the turns of the piece of a number, from its first on and under its limit; that piece at the start; when a piece is as its turns under one leave it; whether its turn passes; and when a piece is as its failing turn leaves it
+pub record Means (W P : Type 0) : Type 1 where
   pub pieces : W → ℕ
   pub first : W → ℕ → ℕ
   pub limit : W → ℕ → ℕ
   pub start : W → ℕ → P
-  pub succeeds : W → P → ℕ → Bool
-  pub turned : W → P → ℕ → P
-
--- the piece of a number after so many turns from its first on
-abbrev pub after_turns : {W P : Type 0} → Means W P → W → ℕ → ℕ → P
-after_turns M work n zero = M.start work n
-after_turns M work n (suc k) = M.turned work (after_turns M work n k) (M.first work n + k)
-
--- the piece of a number after its turns under this one
-abbrev pub state_at : {W P : Type 0} → Means W P → W → ℕ → ℕ → P
-state_at M work n t = after_turns M work n (t - M.first work n)
-
--- the turn of the piece of a number succeeds, after those before it
-abbrev pub succeeds_at : {W P : Type 0} → Means W P → W → ℕ → ℕ → Bool
-succeeds_at M work n t = M.succeeds work (state_at M work n t) t
+  pub IsAt : W → ℕ → ℕ → P → Type 0
+  pub Passes : W → ℕ → ℕ → Type 0
+  pub IsFailed : W → ℕ → ℕ → P → Type 0
 
 -- no turn of the piece before this one fails
 abbrev pub PassesBefore : {W P : Type 0} → Means W P → W → ℕ → ℕ → Type 0
-PassesBefore M work n t = (u : ℕ) → M.first work n ≤ u → u < t → succeeds_at M work n u ≡ true
+PassesBefore M work n t = (u : ℕ) → M.first work n ≤ u → u < t → M.Passes work n u
 
 -- the piece of a number fails at this turn, which is one of its own, and at none before it
 pub record FailsAt {W P : Type 0} (M : Means W P) (work : W) (n t : ℕ) : Type 0 where
   pub from : M.first work n ≤ t
   pub to : t < M.limit work n
   pub passes : PassesBefore M work n t
-  pub fails : succeeds_at M work n t ≡ false
+  pub fails : ¬ M.Passes work n t
+
+-- this turn of the piece of a number comes next: it is one of its own, none before it fails, and the piece is as those leave it
+pub record IsDue {W P : Type 0} (M : Means W P) (work : W) (n t : ℕ) (piece : P) : Type 0 where
+  pub number : n < M.pieces work
+  pub from : M.first work n ≤ t
+  pub to : t < M.limit work n
+  pub passes : PassesBefore M work n t
+  pub is_at : M.IsAt work n t piece
 
 -- a held piece is one of the work's, and as its turns leave it: up to its next turn, or to the one at which it fails, and this one too
 pub record IsTrueHeld {W P : Type 0} (M : Means W P) (work : W) (h : Held P) : Type 0 where
   pub number : h.number < M.pieces work
-  pub going : h.failed ≡ false → (M.first work h.number ≤ h.next) × (h.next ≤ M.limit work h.number) × PassesBefore M work h.number h.next × (h.piece ≡ state_at M work h.number h.next)
-  pub failed : h.failed ≡ true → FailsAt M work h.number h.next × (h.piece ≡ M.turned work (state_at M work h.number h.next) h.next)
+  pub going : h.failed ≡ false → (M.first work h.number ≤ h.next) × (h.next ≤ M.limit work h.number) × PassesBefore M work h.number h.next × M.IsAt work h.number h.next h.piece
+  pub failed : h.failed ≡ true → FailsAt M work h.number h.next × M.IsFailed work h.number h.next h.piece
 
 -- the piece of a number with no turn done
 abbrev pub started : {W P : Type 0} → Means W P → W → ℕ → Held P

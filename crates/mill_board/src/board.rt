@@ -2,7 +2,7 @@ ghost use Rattle.std.specs.Prelude.{◌≡◌, ◌+◌, ◌^◌, ◌<◌, ◌≤
 ghost use Rattle.mill_board.specs.Works.{HasSpans, IsFailure, IsTrueHeld, started};
 ghost use Rattle.mill_board.specs.Seats.{IsFree, IsSeatOf, OnlySees, first_view, given_half, kept_half};
 ghost use Rattle.mill_board.specs.Kept.{times};
-ghost use Rattle.mill_board.specs.inner.Starts.{starts};
+ghost use Rattle.mill_board.specs.inner.Starts.{AreSpans, StartTrue, starts};
 
 use crate::rule::{BACK, CLAIM, Drawing, Halving, LEAST, Looking, Lowering, Putting, Shares, Slot};
 use crate::seat::Seat;
@@ -157,7 +157,9 @@ impl<W: Work> Board<W> {
 fn fresh_slots<W: Work>(alloc: Global, work: &W, pieces: u64) -> Result<Vec<Slot<W>>, WantOfMemory>
     requires count { pieces ≡ W.means.pieces work.now }
     requires few { pieces < 2 ^ 32 }
-    ensures { IfOk result (λ slots. slots.items ≡ starts W.means work.now 0 pieces) }
+    requires spans { AreSpans W.means work.now }
+    ensures slots { IfOk result (λ slots. slots.items ≡ starts W.means work.now 0 pieces) }
+    ensures are_true { IfOk result (λ slots. StartTrue W.means work.now pieces) }
 {
     let mut slots = Vec::new(alloc);
     for number in 0..pieces {

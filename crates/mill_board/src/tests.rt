@@ -39,9 +39,9 @@ const TURNS: u64 = 10;
 impl<'a, G: Gate> Work for Runs<'a, G> {
     type Piece = Run;
 
-    ghost use Rattle.std.specs.Prelude.{◌+◌, ◌==◌, cond, length, not, slice_index};
+    ghost use Rattle.std.specs.Prelude.{◌≡◌, length, slice_index};
 
-    ghost means = { record { pieces = λ w. length w.fails.now; first = λ w n. 0; limit = λ w n. 10; start = λ w n. record { number = n; fails = slice_index w.fails.now n; done = 0 }; succeeds = λ w p t. not (p.fails == t); turned = λ w p t. record p { done = cond (p.fails == t) p.done (t + 1) } } };
+    ghost means = { record { pieces = λ w. length w.fails.now; first = λ w n. 0; limit = λ w n. 10; start = λ w n. record { number = n; fails = slice_index w.fails.now n; done = 0 }; IsAt = λ w n t p. p ≡ record { number = n; fails = slice_index w.fails.now n; done = t }; Passes = λ w n t. ¬ (slice_index w.fails.now n ≡ t); IsFailed = λ w n t p. p ≡ record { number = n; fails = slice_index w.fails.now n; done = t } } };
 
     fn span(&self, _number: u64) -> (u64, u64) {
         (0, TURNS)

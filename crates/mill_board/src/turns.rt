@@ -1,4 +1,4 @@
-ghost use Rattle.std.specs.Prelude.{◌≡◌, ◌+◌, ◌<◌, ◌⊎◌, IfOk, false, true};
+ghost use Rattle.std.specs.Prelude.{◌≡◌, ◌+◌, ◌<◌, ◌≤◌, ◌⊎◌, IfOk, false, true};
 ghost use Rattle.mill_board.specs.Works.{IsTrueHeld, started};
 ghost use Rattle.mill_board.specs.inner.Turns.{Turned};
 
@@ -24,8 +24,10 @@ pub fn turn_once<W: Work>(work: &W, held: &mut Held<W::Piece>, limit: u64)
 
 /// The piece of this number, with no turn done.
 pub fn start<W: Work>(alloc: Global, work: &W, number: u64) -> Result<Held<W::Piece>, WantOfMemory>
-    requires { number < W.means.pieces work.now }
-    ensures { IfOk result (λ held. held ≡ started W.means work.now number) }
+    requires number { number < W.means.pieces work.now }
+    requires span { W.means.first work.now number ≤ W.means.limit work.now number }
+    ensures held { IfOk result (λ held. held ≡ started W.means work.now number) }
+    ensures is_true { IfOk result (IsTrueHeld W.means work.now) }
 {
     let (next, _) = work.span(number);
     let piece = work.fresh(alloc, number)?;

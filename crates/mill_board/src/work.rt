@@ -1,5 +1,5 @@
-ghost use Rattle.std.specs.Prelude.{◌≡◌, ℕ, ◌<◌, ◌≤◌, IfOk};
-ghost use Rattle.mill_board.specs.Works.{Means, PassesBefore, state_at};
+ghost use Rattle.std.specs.Prelude.{◌≡◌, ℕ, ◌+◌, ◌<◌, false, IfOk, IsTrue};
+ghost use Rattle.mill_board.specs.Works.{IsDue, Means};
 
 use mill_base::WantOfMemory;
 use std::alloc::Global;
@@ -24,9 +24,9 @@ pub struct Held<P> {
 /// Work that workers share, in numbered pieces. Each piece has a span of turns, and may fail at one of
 /// them; its later turns are then not done.
 ///
-/// A work means how many pieces it has, their spans, what each is at the start, and what a turn does
-/// to a piece: whether it succeeds, and the piece after it. Nothing else may come of a turn, whichever
-/// worker does it.
+/// A work means how many pieces it has, their spans, what each is at the start, whether a turn of it
+/// passes, and when a piece is as its turns leave it. Nothing else may come of a turn, whichever worker
+/// does it.
 pub trait Work: Drop + Send + Sync {
     /// What a turn changes.
     type Piece: Drop + Send;
@@ -42,12 +42,13 @@ pub trait Work: Drop + Send + Sync {
     /// The piece of this number, with no turn done.
     fn fresh(&self, alloc: Global, number: u64) -> Result<Self::Piece, WantOfMemory>
         requires { number < means.pieces self.now }
-        ensures { IfOk result (λ piece. piece ≡ means.start self.now number) };
+        ensures start { IfOk result (λ piece. piece ≡ means.start self.now number) }
+        ensures is_at { IfOk result (means.IsAt self.now number (means.first self.now number)) };
 
     /// Does a turn of a piece that is as the turns before it have left it, where none of them has
-    /// failed. It says whether the turn succeeds.
+    /// failed. It says whether the turn passes.
     fn turn(&self, piece: &mut Self::Piece, turn: u64) -> bool
-        requires { (n : ℕ) × (n < means.pieces self.now) × (means.first self.now n ≤ turn) × (turn < means.limit self.now n) × PassesBefore means self.now n turn × (piece.old ≡ state_at means self.now n turn) }
-        ensures answer { result ≡ means.succeeds self.now piece.old turn }
-        ensures piece { piece.new ≡ means.turned self.now piece.old turn };
+        requires { (n : ℕ) × IsDue means self.now n turn piece.old }
+        ensures passed { IsTrue result → (n : ℕ) → IsDue means self.now n turn piece.old → means.Passes self.now n turn × means.IsAt self.now n (turn + 1) piece.new }
+        ensures failed { result ≡ false → (n : ℕ) → IsDue means self.now n turn piece.old → (¬ means.Passes self.now n turn) × means.IsFailed self.now n turn piece.new };
 }

@@ -1,7 +1,7 @@
 // Whole reads and writes over each shelf and sink, with ample memory and with a call that fails.
 use crate::{
-    Failed, FileShelf, MemFile, MemShelf, MemSink, ReadEnd, Shelf, StdSink, read_whole, store,
-    write_whole,
+    Failed, FileShelf, MemFile, MemShelf, MemSink, PieceEnd, Pieces, ReadEnd, Shelf, StdSink,
+    read_whole, store, write_whole,
 };
 use std::alloc::{AllocError, Global};
 use std::test::Fail;
@@ -45,6 +45,40 @@ fn reads_whole_files_in_memory(rt: HostRuntime) -> Result<(), Fail> {
             (Err(end), Err(wanted)) => assert_eq!(rt; *end, wanted, "{name} {limit}"),
             _ => assert!(rt; false, "{name} {limit}"),
         }
+    }
+    Ok(())
+}
+
+// Pieces of at most two bytes. After its last answer a call answers it again, and reads nothing: in
+// the row before the last that read would fail, and in some others it would succeed.
+#[test]
+fn gives_a_file_in_pieces(rt: HostRuntime) -> Result<(), Fail> {
+    let none: &[u64] = &[];
+    let rows: [(&str, u64, &[u64], &[u8], Result<usize, PieceEnd>); 9] = [
+        ("a", 3, none, b"one", Ok(0)),
+        ("a", 2, none, b"on", Err(PieceEnd::TooLong)),
+        ("a", 1, none, b"", Err(PieceEnd::TooLong)),
+        ("b", 0, none, b"", Ok(0)),
+        ("c", 9, none, b"", Err(PieceEnd::ReadFault)),
+        ("a", 3, &[0], b"", Err(PieceEnd::ReadFault)),
+        ("a", 3, &[1], b"on", Err(PieceEnd::ReadFault)),
+        ("a", 3, &[3], b"one", Ok(0)),
+        ("a", 3, &[2], b"one", Err(PieceEnd::ReadFault)),
+    ];
+    for (name, limit, fails, want, end) in rows {
+        let mut shelf = shelf(rt.alloc(), "out", fails)?;
+        let mut pieces = Pieces::new(&mut shelf, name, limit);
+        let mut given = Vec::new(rt.alloc());
+        let mut last = Ok(0);
+        for _ in 0..6 {
+            let mut buf = [0u8; 2];
+            last = pieces.next(&mut buf);
+            if let Ok(count) = last {
+                given.extend_from_slice(&buf[..count])?;
+            }
+        }
+        assert_eq!(rt; given.as_slice(), want, "{name} {limit}");
+        assert_eq!(rt; last, end, "{name} {limit}");
     }
     Ok(())
 }

@@ -1,44 +1,27 @@
 -- A program line by line, as the reader's loop takes it.
-use Rattle.std.proofs.Common.{◌≡◌, ℕ, ◌≤◌, List, [], ◌∷◌, ◌++◌, length, Option, Some, None, Result, Ok, Err, true, false, refl, sym, ap, ◌∙◌, arith, rules, length-append, inl, inr}
+use Rattle.std.proofs.Common.{◌≡◌, ℕ, List, [], ◌∷◌, ◌++◌, Option, Some, None, Result, Ok, true, false, refl, sym, ◌∙◌, arith, rules, length-append, inl, inr}
 use Rattle.std.proofs.lemmas.List.Elements.{Contains-push_cases}
-use Rattle.std.specs.Prelude.{Contains, ◌⊎◌, Vec}
-use Rattle.mill_base.specs.declared.limits.TheConstants.{MAX_MOVES}
-use Rattle.std.specs.declared.alloc.Global.{Global}
+use Rattle.std.specs.Prelude.{Contains, ◌⊎◌}
 use Rattle.mill_base.specs.Motion.{Follow}
-use Rattle.mill_base.specs.Ranges.{IsInTextRange, MoveInTextRange, MovesInTextRange}
+use Rattle.mill_base.specs.Ranges.{MoveInTextRange, MovesInTextRange}
 use Rattle.mill_base.specs.declared.points.Pt3.{Pt3}
 use Rattle.mill_base.specs.declared.motion.Move.{Move}
 use Rattle.mill_ngc.specs.declared.fault.NgcFault.{NgcFault}
-use Rattle.mill_ngc.specs.declared.fault.NgcFault.TheVariants as fault
 use Rattle.mill_ngc.specs.declared.progress.Progress.{Progress}
 use Rattle.mill_ngc.specs.Said.{◌>>=◌}
 use Rattle.mill_ngc.specs.Programs.{line_begun, after_line, made_list, moves_from}
-use Rattle.mill_ngc.specs.Readings.{ReadsMoves}
+use Rattle.mill_ngc.specs.Pieces.{end_of, SoFar, AreSound}
 use Rattle.mill_ngc.specs.inner.Bounds.{KeepsMove, MakesMove, MakesNone}
 
 -- ---- the meaning of the rest
 
-abbrev behind : List Move → List (List ℕ) → Result (Progress × Option Move) NgcFault → Result (List Move) NgcFault
+abbrev pub behind : List Move → List (List ℕ) → Result (Progress × Option Move) NgcFault → Result (List Move) NgcFault
 behind moves lines so_far = so_far >>= λ s. moves_from s.0 (moves ++ made_list s.1) lines
 
-moves_from-line : (p : Progress) (moves : List Move) (line : List ℕ) (lines : List (List ℕ)) → p.ended ≡ false
+pub moves_from-line : (p : Progress) (moves : List Move) (line : List ℕ) (lines : List (List ℕ)) → p.ended ≡ false
     → moves_from p moves (line ∷ lines) ≡ behind moves lines (after_line p line)
 unfolding moves_from
 moves_from-line p moves line lines going = rw going refl
-
--- it is that from the next line on
-pub moves_from-next : (p q : Progress) (moves : List Move) (made : Option Move) (line : List ℕ) (lines : List (List ℕ)) (total : Result (List Move) NgcFault)
-    → p.ended ≡ false → after_line p line ≡ Ok (q, made)
-    → moves_from p moves (line ∷ lines) ≡ total → moves_from q (moves ++ made_list made) lines ≡ total
-moves_from-next p q moves made line lines total going h so_far =
-    sym (moves_from-line p moves line lines going ∙ ap (behind moves lines) h) ∙ so_far
-
--- or the line's fault
-pub moves_from-fault : (p : Progress) (moves : List Move) (line : List ℕ) (lines : List (List ℕ)) (f : NgcFault) (total : Result (List Move) NgcFault)
-    → p.ended ≡ false → after_line p line ≡ Err f
-    → moves_from p moves (line ∷ lines) ≡ total → total ≡ Err f
-moves_from-fault p moves line lines f total going h so_far =
-    sym so_far ∙ moves_from-line p moves line lines going ∙ ap (behind moves lines) h
 
 -- where the program has ended, it is the moves so far
 pub moves_from-ended : (p : Progress) (moves : List Move) (lines : List (List ℕ)) → p.ended ≡ true → moves_from p moves lines ≡ Ok moves
@@ -46,26 +29,7 @@ unfolding moves_from
 moves_from-ended p moves [] over = rw over refl
 moves_from-ended p moves (line ∷ lines) over = rw over refl
 
--- where the lines end before the program, it is that fault
-pub moves_from-end : (p : Progress) (moves : List Move) → p.ended ≡ false → moves_from p moves [] ≡ Err (fault.NoEnd p.line)
-unfolding moves_from
-moves_from-end p moves going = rw going refl
-
 -- ---- the moves so far
-
--- where the moves end, or the start
-abbrev pub end_of : Pt3 → List Move → Pt3
-end_of start [] = start
-end_of start (m ∷ moves) = end_of m.to moves
-
--- what holds of the moves behind some lines
-pub record SoFar (start : Pt3) (p : Progress) (moves : List Move) : Type 0 where
-  pub here : IsInTextRange p.here
-  pub in_range : MovesInTextRange moves
-  pub follow : Follow start moves
-  pub end : end_of start moves ≡ p.here
-  pub count : length moves ≡ p.moves
-  pub few : p.moves ≤ MAX_MOVES
 
 Follow-push : (at : Pt3) (moves : List Move) (m : Move) → Follow at moves → m.from ≡ end_of at moves → Follow at (moves ++ m ∷ [])
 Follow-push at [] m follow e = (e, tt)
@@ -113,6 +77,6 @@ so_far-line start p q moves (Some m) s keeps = so_far-move start p q moves m s k
 pub so_far-begun : (start : Pt3) (p : Progress) (moves : List Move) → SoFar start p moves → SoFar start (line_begun p) moves
 so_far-begun start p moves s = record { here = s.here; in_range = s.in_range; follow = s.follow; end = s.end; count = s.count; few = s.few }
 
--- the answer at a fault
-pub reads-fault : (meant : Result (List Move) NgcFault) (f : NgcFault) (result : Result (Vec Move Global) NgcFault) → meant ≡ Err f → result ≡ Err f → ReadsMoves meant result
-reads-fault meant f result e told = rw told (λ _. e)
+-- as many moves as the lines have made are few enough
+pub are_sound : (start : Pt3) (p : Progress) (moves : List Move) → SoFar start p moves → AreSound start moves
+are_sound start p moves s = record { in_range = s.in_range; follow = s.follow; few = omega (arith, s.count, s.few) }

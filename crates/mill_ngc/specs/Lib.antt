@@ -3,5 +3,7 @@ pub mod Profile
 pub mod Said
 pub mod Motion
 pub mod Programs
+pub mod Pieces
+pub mod Texts
 pub mod Readings
 pub mod inner

@@ -2,13 +2,16 @@
 //! line, after a profile of NISTIR 6556 (RS274/NGC version 3).
 //!
 //! It stands on `mill_words` for the words of a line and on `mill_base` for the moves. A text is
-//! read line by line with no memory but that of the moves. `specs/Profile.antt` has the table of
-//! words, `specs/Said.antt` what a line's words say, `specs/Motion.antt` what that does, and
-//! `specs/Programs.antt` what a whole text means.
+//! read line by line with no memory but that of the moves, whole or in pieces.
+//! `specs/Profile.antt` has the table of words, `specs/Said.antt` what a line's words say,
+//! `specs/Motion.antt` what that does, `specs/Programs.antt` what a whole text means, and
+//! `specs/Pieces.antt` what is read so far of one that comes in pieces.
 #![tactic(auto)]
 
 mod fault;
 mod groups;
+mod laws;
+mod line_reader;
 mod lines;
 mod motion;
 mod numbers;
@@ -19,6 +22,10 @@ mod reader;
 mod said;
 #[cfg(test)]
 mod tests;
+mod text_reader;
+mod unfinished;
 
 pub use fault::NgcFault;
+pub use laws::{pieces_join, pieces_read_program};
 pub use program::read_program;
+pub use reader::Reader;

@@ -1,18 +1,16 @@
-ghost use Rattle.std.specs.Prelude.{◌≡◌, ◌++◌, ◌≤◌, length, IfOk, OnOk, IfErr};
+ghost use Rattle.std.specs.Prelude.{◌≤◌, length, IfOk};
 ghost use Rattle.mill_base.specs.declared.limits.TheConstants.{MAX_MOVES};
 ghost use Rattle.mill_base.specs.Motion.{Follow};
 ghost use Rattle.mill_base.specs.Ranges.{IsInTextRange, MovesInTextRange};
-ghost use Rattle.mill_ngc.specs.Programs.{program_of, made_list};
+ghost use Rattle.mill_ngc.specs.Programs.{program_of};
 ghost use Rattle.mill_ngc.specs.Readings.{ReadsMoves};
-ghost use Rattle.mill_ngc.specs.declared.fault.NgcFault.TheVariants as faults;
 
 use crate::fault::NgcFault;
-use crate::lines::split_line;
 use crate::reader::Reader;
 use mill_base::{MAX_MOVES, Move, Pt3};
 use std::alloc::Global;
 
-/// ReadsMoves a program text as moves, the first of which begins at `start`.
+/// Reads a program text as moves, the first of which begins at `start`.
 ///
 /// Each line feed ends a line. Where the first line that isn't blank holds only `%`, the program
 /// ends with the next such line; `M2` or `M30` ends it at the end of its line in any case (NISTIR
@@ -34,34 +32,9 @@ pub fn read_program(alloc: Global, text: &[u8], start: Pt3) -> Result<Vec<Move>,
 {
     let mut moves = Vec::with_capacity(alloc, room_for(text))?;
     let mut reader = Reader::new(start);
-    let mut rest = text;
-    loop {
-        let (line, more) = split_line(rest);
-        let made = reader.read_line(line)?;
-        add(&mut moves, made)?;
-        if reader.has_ended() {
-            return Ok(moves);
-        }
-        match more {
-            Some(text) => rest = text,
-            None => {
-                return Err(NgcFault::NoEnd {
-                    line: reader.line(),
-                });
-            }
-        }
-    }
-}
-
-// Adds the move of a line, if it makes one.
-fn add(moves: &mut Vec<Move>, made: Option<Move>) -> Result<(), NgcFault>
-    ensures ok { OnOk result (moves.new.items ≡ moves.old.items ++ made_list made) }
-    ensures fault { IfErr result (λ f. f ≡ faults.WantOfMemory) }
-{
-    if let Some(made) = made {
-        moves.push(made)?;
-    }
-    Ok(())
+    reader.feed(text, &mut moves)?;
+    reader.finish(&mut moves)?;
+    Ok(moves)
 }
 
 // How many moves to take memory for: nearly each ends with a line feed.

@@ -1,194 +1,96 @@
-//! A reader that is fed a program line by line.
-ghost use Rattle.std.specs.Prelude.{◌≡◌, ◌<◌, ◌^◌, length, OnOk, IfOk, IfErr, Ok, Err};
-ghost use Rattle.std.specs.Str.{bytes_eq};
+//! Reads a program that comes in pieces.
+ghost use Rattle.std.specs.Prelude.{◌≡◌, ◌≢◌, ◌<◌, ◌≤◌, ◌+◌, ◌^◌, [], length, Err};
 ghost use Rattle.mill_base.specs.Ranges.{IsInTextRange};
-ghost use Rattle.mill_words.specs.Lines.{line_of};
-ghost use Rattle.mill_words.specs.Words.{Line};
-ghost use Rattle.mill_words.specs.Marks.{is_blank as is_blank_byte};
-ghost use Rattle.mill_ngc.specs.declared.progress.Progress.{Progress};
-ghost use Rattle.mill_ngc.specs.Programs.{start_at, is_percent as is_percent_line, percent_step as percent_step_by, has_frame, with_percent, with_line, line_begun, after_line, after_words, words_or_fault};
-ghost use Rattle.mill_ngc.specs.inner.Bounds.{Keeps};
+ghost use Rattle.mill_base.specs.declared.points.Pt3.{Pt3};
+ghost use Rattle.mill_ngc.specs.Pieces.{Reading, reading_at, lines_read, fed, at_end, answer, last_answer, IsFront, MovesSoFar, AreSound};
+ghost use Rattle.mill_ngc.specs.Texts.{shown, StandsInRange};
+ghost use Rattle.mill_ngc.specs.declared.fault.NgcFault.TheVariants as faults;
 
 use crate::fault::NgcFault;
-use crate::profile::Mode;
-use crate::progress::{Frame, Progress};
-use crate::said::Said;
+use crate::text_reader::TextReader;
 use mill_base::{Move, Pt3};
-use mill_words::{LineWords, read_line_into};
 use std::marker::Model;
 
-/// The most bytes of a line.
-const LONGEST: usize = 256;
-
-/// Reads the lines of a program one after another.
+/// Reads a program's text that comes in pieces, cut anywhere.
 ///
-/// Beside its progress it lends room for a line's words, so that none is moved.
+/// [`feed`](Reader::feed) takes the pieces in turn, and [`finish`](Reader::finish) ends the text.
+/// The moves and the first fault are those of the joined text, which
+/// [`read_program`](crate::read_program) tells. No piece is kept: a reader holds the bytes of one
+/// line, of which there are at most 256.
 #[derive(Drop)]
-pub(crate) struct Reader {
-    progress: Progress,
-    words: LineWords,
-    said: Said,
+pub struct Reader {
+    text: TextReader,
+    fault: Option<NgcFault>,
 }
 
 impl Model for Reader {
-    ghost Value = { Progress };
+    ghost Value = { Reading };
 
-    ghost view = { λ r. r.progress };
+    ghost view = { λ r. shown r.fault r.text };
+
+    ghost invariant = { λ r. StandsInRange (shown r.fault r.text) };
 }
 
 impl Reader {
-    /// A reader before the first line, with the tool at this point.
+    /// A reader before the first piece. The first move begins at `start`.
     pub fn new(start: Pt3) -> Self
-        ensures { result ≡ start_at start }
+        requires { IsInTextRange start }
+        ensures reading { result ≡ reading_at start }
+        ensures moves { MovesSoFar start result [] }
     {
         Reader {
-            progress: Progress {
-                here: start,
-                mode: Mode::Off,
-                millimetres: false,
-                absolute: false,
-                positioned: false,
-                frame: Frame::Unknown,
-                ended: false,
-                moves: 0,
-                line: 0,
-            },
-            words: LineWords::new(),
-            said: Said::new(),
+            text: TextReader::new(start),
+            fault: None,
         }
     }
 
-    /// Whether the program has ended.
-    pub fn has_ended(&self) -> bool
-        ensures { result ≡ self.now.ended }
-    {
-        self.progress.ended
-    }
-
-    /// How many lines it was fed.
-    pub fn line(&self) -> u64
-        ensures { result ≡ self.now.line }
-    {
-        self.progress.line
-    }
-
-    /// Takes the next line, without its line end. The answer is the line's move, if it makes one.
+    /// Takes the next piece of the text, and adds the moves of the lines that are whole now to
+    /// `out`, up to the program's end.
     ///
-    /// After a fault the reader isn't to be fed again.
-    #[tactic(auto, unfolding(crate::specs::Programs::after_line))]
-    pub fn read_line(&mut self, line: &[u8]) -> Result<Option<Move>, NgcFault>
-        requires here { IsInTextRange self.old.here }
-        requires number { self.old.line < 2 ^ 63 }
-        ensures ok { IfOk result (λ made. after_line self.old line.now ≡ Ok (self.new, made)) }
-        ensures fault { IfErr result (λ f. after_line self.old line.now ≡ Err f) }
-        ensures keeps { IfOk result (λ made. Keeps (line_begun self.old) made self.new) }
+    /// The answer is the first fault of the text so far, if it has one; the moves of the lines
+    /// before it stand in `out` then. From then on each call answers it again and adds nothing.
+    /// That holds for `WantOfMemory` too, which comes where `out` can't grow.
+    ///
+    /// The lines of the text and the bytes of the piece together are to be fewer than 2^63.
+    pub fn feed(&mut self, piece: &[u8], out: &mut Vec<Move>) -> Result<(), NgcFault>
+        requires { lines_read self.old + length piece.now < 2 ^ 63 }
+        ensures fed { result ≢ Err faults.WantOfMemory →
+            (self.new, out.new.items) ≡ fed (self.old, out.old.items) piece.now }
+        ensures answer { result ≡ answer self.new }
+        ensures front { IsFront out.new.items (fed (self.old, out.old.items) piece.now).1 }
+        ensures grows { IsFront out.old.items out.new.items }
+        ensures lines { lines_read self.new ≤ lines_read self.old + length piece.now }
+        ensures moves { (start : Pt3) → MovesSoFar start self.old out.old.items →
+            MovesSoFar start self.new out.new.items }
     {
-        self.progress.line += 1;
-        if line.len() > LONGEST {
-            return Err(NgcFault::LongLine {
-                line: self.progress.line,
-            });
+        if let Some(fault) = self.fault {
+            return Err(fault);
         }
-        if has_percent(self.progress.frame, line) {
-            self.progress.take_percent();
-            return Ok(None);
-        }
-        read_words(self.progress.line, line, &mut self.words)?;
-        self.progress.act_words(&self.words, &mut self.said)
-    }
-}
-
-impl Progress {
-    // Does what the words of the line say.
-    #[tactic(auto, unfolding(crate::specs::Programs::after_words))]
-    fn act_words(&mut self, words: &LineWords, said: &mut Said) -> Result<Option<Move>, NgcFault>
-        requires here { IsInTextRange self.old.here }
-        ensures ok { IfOk result (λ made. after_words self.old words.now ≡ Ok (self.new, made)) }
-        ensures fault { IfErr result (λ f. after_words self.old words.now ≡ Err f) }
-        ensures keeps { IfOk result (λ made. Keeps self.old made self.new) }
-    {
-        said.read(self.line, self.positioned, words)?;
-        self.know_frame(words.is_blank());
-        self.act(said)
-    }
-
-    // A line that isn't blank, and isn't a `%` alone, shows that a program isn't framed.
-    fn know_frame(&mut self, blank: bool)
-        ensures { self.new ≡ with_line self.old blank }
-    {
-        match self.frame {
-            Frame::Unknown => {
-                if !blank {
-                    self.frame = Frame::Plain;
-                }
+        match self.text.read_piece(piece, out) {
+            Ok(()) => Ok(()),
+            Err(fault) => {
+                self.fault = Some(fault);
+                Err(fault)
             }
-            _ => {}
         }
     }
 
-    // A `%` line begins the program's frame, or ends it.
-    fn take_percent(&mut self)
-        ensures { self.new ≡ with_percent self.old }
+    /// Ends the text, and adds the move of its last line to `out` if that has one.
+    ///
+    /// The answer is the text's first fault, if it has one: an earlier one again, one of the last
+    /// line, or `NoEnd`.
+    pub fn finish(self, out: &mut Vec<Move>) -> Result<(), NgcFault>
+        requires { lines_read self < 2 ^ 63 }
+        ensures moves_are { result ≢ Err faults.WantOfMemory → out.new.items ≡ (at_end (self, out.old.items)).1 }
+        ensures answer { result ≢ Err faults.WantOfMemory → result ≡ last_answer (at_end (self, out.old.items)).0 }
+        ensures front { IsFront out.new.items (at_end (self, out.old.items)).1 }
+        ensures grows { IsFront out.old.items out.new.items }
+        ensures moves { (start : Pt3) → MovesSoFar start self out.old.items → AreSound start out.new.items }
     {
-        match self.frame {
-            Frame::Framed => self.ended = true,
-            _ => self.frame = Frame::Framed,
+        if let Some(fault) = self.fault {
+            return Err(fault);
         }
+        let mut text = self.text;
+        text.finish(out)
     }
-}
-
-fn read_words(number: u64, line: &[u8], words: &mut LineWords) -> Result<(), NgcFault>
-    requires { length line.now < 2 ^ 32 }
-    ensures ok { OnOk result (line_of line.now ≡ Ok words.new) }
-    ensures fault { IfErr result (λ f. words_or_fault number (line_of line.now) ≡ Err f) }
-{
-    match read_line_into(line, words) {
-        Ok(()) => Ok(()),
-        Err(fault) => Err(NgcFault::Word {
-            line: number,
-            fault,
-        }),
-    }
-}
-
-// Whether the line is one of a frame's `%` lines.
-fn has_percent(frame: Frame, line: &[u8]) -> bool
-    ensures { result ≡ has_frame frame (is_percent_line line.now) }
-{
-    match frame {
-        Frame::Plain => false,
-        _ => is_percent(line),
-    }
-}
-
-fn is_percent(line: &[u8]) -> bool
-    ensures { result ≡ is_percent_line line.now }
-{
-    let mut seen = false;
-    for byte in line {
-        match percent_step(seen, *byte) {
-            Some(next) => seen = next,
-            None => return false,
-        }
-    }
-    seen
-}
-
-// Whether a `%` has come behind this byte, if the line may still hold only that.
-fn percent_step(seen: bool, byte: u8) -> Option<bool>
-    ensures { result ≡ percent_step_by seen byte }
-{
-    if is_blank(byte) {
-        return Some(seen);
-    }
-    if byte == b'%' && !seen {
-        return Some(true);
-    }
-    None
-}
-
-fn is_blank(byte: u8) -> bool
-    ensures { result ≡ is_blank_byte byte }
-{
-    byte == b' ' || byte == b'\t' || byte == b'\r'
 }

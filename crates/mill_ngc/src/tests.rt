@@ -1,4 +1,6 @@
 //! Programs and what they mean, by hand.
+mod pieces;
+
 use super::*;
 use mill_base::{Kind, Move, Pt3};
 use mill_words::{Num, WordFault};

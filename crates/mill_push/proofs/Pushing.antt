@@ -46,12 +46,13 @@ pub most_reach : (p : Pusher) → IsPusher p → p.reach ≤ℤ pos 10000
 most_reach p ok = through p.reach (radius_of p.cutter) (pos 10000) ok.reach_most (most_radius p.cutter ok.cutter_ok)
 
 -- a reach less and more than a position, as the machine stores them
+pub about_by : (r x : ℤ) → (pos 1) ≤ℤ r → r ≤ℤ pos 10000 → Within MAX_COORDINATE x
+    → (to_z w32 (of_z w32 (to_z w32 (of_z w32 x) -ℤ to_z w32 (of_z w32 r))) ≡ x -ℤ r) × (to_z w32 (of_z w32 (to_z w32 (of_z w32 x) +ℤ to_z w32 (of_z w32 r))) ≡ x +ℤ r)
+about_by r x some most h = rw (stored x h, stored_reach r some most) (less_reach x r h some most, and_reach x r h some most)
+
 pub about : (p : Pusher) (x : ℤ) → IsPusher p → Within MAX_COORDINATE x
     → (to_z w32 (of_z w32 (to_z w32 (of_z w32 x) -ℤ to_z w32 (of_z w32 p.reach))) ≡ x -ℤ p.reach) × (to_z w32 (of_z w32 (to_z w32 (of_z w32 x) +ℤ to_z w32 (of_z w32 p.reach))) ≡ x +ℤ p.reach)
-about p x ok h =
-    let some = ok.reach_least in
-    let most = most_reach p ok in
-    rw (stored x h, stored_reach p.reach some most) (less_reach x p.reach h some most, and_reach x p.reach h some most)
+about p x ok h = about_by p.reach x ok.reach_least (most_reach p ok) h
 
 -- the tips of a fiber are in range
 over_lowest : (z : ℤ) → Within MAX_COORDINATE z → LOWEST_TIP ≤ℤ z

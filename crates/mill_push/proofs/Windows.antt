@@ -6,6 +6,7 @@ use Rattle.std.proofs.lemmas.Int.{ints, fits_signed_from_abs}
 use lib.IntN.{ℤ, pos, ◌+ℤ◌, ◌-ℤ◌}
 use lib.Signed.{◌<ℤ◌, ◌≤ℤ◌}
 use Rattle.mill_base.specs.Numbers.{Within, lesser, greater}
+use Rattle.mill_base.specs.Sizes.{IsCutter, radius_of}
 use Rattle.mill_base.specs.declared.limits.TheConstants.{MAX_COORDINATE}
 use Rattle.mill_base.specs.declared.points.Tri.{Tri}
 use Rattle.mill_base.specs.declared.cutter.Cutter.{Cutter}
@@ -14,15 +15,14 @@ use Rattle.mill_geom.specs.declared.touch.Axis.{Axis}
 use Rattle.mill_geom.specs.declared.touch.Axis.TheVariants.{X, Y}
 use Rattle.mill_push.specs.declared.fiber.Fiber.{Fiber}
 use Rattle.mill_push.specs.declared.fiber.Run.{Run}
-use Rattle.mill_push.specs.declared.stretch.Pusher.{Pusher}
 use Rattle.mill_push.specs.Fibers.{IsTouched}
 use Rattle.mill_push.specs.Touches.{strip_along}
 use Rattle.mill_push.specs.inner.Known.{IsRunInRange, IsWindow}
-use Rattle.mill_push.specs.inner.Pushers.{IsPusher}
-use Rattle.mill_push.specs.inner.Reaches.{IsReachForTri}
-use Rattle.mill_push.specs.inner.Windows.{extent_along, extent_of}
+use Rattle.mill_push.specs.inner.Reaches.{IsReach, IsReachForTri}
+use Rattle.mill_push.specs.inner.Windows.{extent_along, extent_of, other_than}
 use Rattle.mill_push.proofs.Meeting.{touched_meets}
-use Rattle.mill_push.proofs.Pushing.{most_reach}
+use Rattle.mill_push.proofs.Pushing.{most_radius}
+use Rattle.mill_push.proofs.Stored.{through}
 
 -- the same run from equal ends
 pub same_run : (a b p q : ℤ) → a ≡ p → b ≡ q → ◌≡◌ {A = Run} (record { first = a; last = b }) (record { first = p; last = q })
@@ -38,11 +38,25 @@ extent_in_range a b c h k l = record { first_ok = record { within = low a b c h.
     high : (a b c : ℤ) → nat_abs a ≤ 524287 → nat_abs b ≤ 524287 → nat_abs c ≤ 524287 → nat_abs (greater a (greater b c)) ≤ 524287
     high a b c h k l = grind (arith, ints)
 
+-- a reach for all up to the greatest of the corners' heights is one for what the triangle has
+pub reach_by_extent : (cutter : Cutter) (tri : Tri) (z reach : ℤ) (heights : Run) → heights ≡ extent_of tri.a.z tri.b.z tri.c.z → IsReach cutter (heights.last -ℤ z) reach → IsReachForTri cutter z reach tri
+reach_by_extent cutter tri z reach heights e h = record {
+  top = heights.last;
+  under = subst (λ (run : Run). (tri.a.z ≤ℤ run.last) × (tri.b.z ≤ℤ run.last) × (tri.c.z ≤ℤ run.last)) (sym e) (greatest tri.a.z tri.b.z tri.c.z);
+  holds = h;
+}
+  where
+    greatest : (a b c : ℤ) → (a ≤ℤ greater a (greater b c)) × (b ≤ℤ greater a (greater b c)) × (c ≤ℤ greater a (greater b c))
+    greatest a b c = grind (arith, ints)
+
+-- it is no more than the greatest radius
+pub most_for_tri : (cutter : Cutter) (z reach : ℤ) (tri : Tri) → IsCutter cutter → IsReachForTri cutter z reach tri → reach ≤ℤ pos 10000
+most_for_tri cutter z reach tri ok h = through reach (radius_of cutter) (pos 10000) h.holds.most (most_radius cutter ok)
+
 -- a reach less and more than a coordinate fits
-pub fits_about : (p : Pusher) (x : ℤ) → IsPusher p → Within MAX_COORDINATE x → FitsSigned w32 (x -ℤ p.reach) × FitsSigned w32 (x +ℤ p.reach)
-fits_about p x ok h =
-    let most = most_reach p ok in
-    (fits_signed_from_abs w32 (x -ℤ p.reach) (less x p.reach h.within ok.reach_least most), fits_signed_from_abs w32 (x +ℤ p.reach) (small x p.reach h.within ok.reach_least most))
+pub fits_about : (r x : ℤ) → (pos 1) ≤ℤ r → r ≤ℤ pos 10000 → Within MAX_COORDINATE x → FitsSigned w32 (x -ℤ r) × FitsSigned w32 (x +ℤ r)
+fits_about r x some most h =
+    (fits_signed_from_abs w32 (x -ℤ r) (less x r h.within some most), fits_signed_from_abs w32 (x +ℤ r) (small x r h.within some most))
   where
     less : (x r : ℤ) → nat_abs x ≤ 524287 → (pos 1) ≤ℤ r → r ≤ℤ pos 10000 → nat_abs (x -ℤ r) < 2147483648
     less x r h a b = omega (arith, ints)
@@ -81,7 +95,44 @@ reached Y tri at r v m = (low _ m.y r v m.in_first.over m.in_second.under, high 
     high : (a x r v : ℤ) → x ≤ℤ a → (v -ℤ r) ≤ℤ x → v ≤ℤ (a +ℤ r)
     high a x r v h k = omega (arith, ints)
 
+-- and beside the fiber to within r of it
+reached_beside : (axis : Axis) (tri : Tri) (at r v : ℤ) → Meet (box_of tri) (strip_along axis at r v v)
+    → (((extent_along (other_than axis) tri).first -ℤ r) ≤ℤ at) × (at ≤ℤ ((extent_along (other_than axis) tri).last +ℤ r))
+reached_beside X tri at r v m = (low _ m.y r at m.in_first.over m.in_second.under, high _ m.y r at m.in_first.under m.in_second.over)
+  where
+    low : (a y r at : ℤ) → a ≤ℤ y → y ≤ℤ (at +ℤ r) → (a -ℤ r) ≤ℤ at
+    low a y r at h k = omega (arith, ints)
+
+    high : (a y r at : ℤ) → y ≤ℤ a → (at -ℤ r) ≤ℤ y → at ≤ℤ (a +ℤ r)
+    high a y r at h k = omega (arith, ints)
+reached_beside Y tri at r v m = (low _ m.x r at m.in_first.right m.in_second.left, high _ m.x r at m.in_first.left m.in_second.right)
+  where
+    low : (a y r at : ℤ) → a ≤ℤ y → y ≤ℤ (at +ℤ r) → (a -ℤ r) ≤ℤ at
+    low a y r at h k = omega (arith, ints)
+
+    high : (a y r at : ℤ) → y ≤ℤ a → (at -ℤ r) ≤ℤ y → at ≤ℤ (a +ℤ r)
+    high a y r at h k = omega (arith, ints)
+
 module _ (cutter : Cutter) (tri : Tri) (fiber : Fiber) (r : ℤ) (reach : IsReachForTri cutter fiber.z r tri) where
+  -- a triangle that is farther beside the fiber is touched nowhere
+  pub beside_before : (low v : ℤ) → low ≡ (extent_along (other_than fiber.axis) tri).first -ℤ r → fiber.at <ℤ low → ¬ IsTouched cutter tri fiber v
+  beside_before low v e h t =
+      let same : v ≤ℤ v = omega (arith, ints) in
+      let near = reached_beside fiber.axis tri fiber.at r v (touched_meets cutter tri fiber r v v v reach same same t) in
+      against fiber.at low (subst (λ (l : ℤ). l ≤ℤ fiber.at) (sym e) near.0) h
+    where
+      against : (a b : ℤ) → b ≤ℤ a → a <ℤ b → ⊥
+      against a b h k = omega (arith, ints)
+
+  pub beside_after : (high v : ℤ) → high ≡ (extent_along (other_than fiber.axis) tri).last +ℤ r → high <ℤ fiber.at → ¬ IsTouched cutter tri fiber v
+  beside_after high v e h t =
+      let same : v ≤ℤ v = omega (arith, ints) in
+      let near = reached_beside fiber.axis tri fiber.at r v (touched_meets cutter tri fiber r v v v reach same same t) in
+      against high fiber.at (subst (λ (l : ℤ). fiber.at ≤ℤ l) (sym e) near.1) h
+    where
+      against : (a b : ℤ) → b ≤ℤ a → a <ℤ b → ⊥
+      against a b h k = omega (arith, ints)
+
   touched_within : (v : ℤ) → IsTouched cutter tri fiber v → (((extent_along fiber.axis tri).first -ℤ r) ≤ℤ v) × (v ≤ℤ ((extent_along fiber.axis tri).last +ℤ r))
   touched_within v t =
       let same : v ≤ℤ v = omega (arith, ints) in

@@ -5,7 +5,7 @@ ghost use Rattle.mill_base.specs.Ranges.{TriInRange};
 ghost use Rattle.mill_cells.specs.Sorted.{sorted_of};
 ghost use Rattle.mill_push.specs.inner.Known.{IsNewAnswer};
 ghost use Rattle.mill_push.specs.inner.Pushers.{IsPusher};
-ghost use Rattle.mill_push.specs.inner.Reaches.{IsReachForPart, IsReachForTri};
+ghost use Rattle.mill_push.specs.inner.Reaches.{IsReachForPart};
 ghost use Rattle.mill_push.specs.Touches.{TouchesFew, position_count, strip_along};
 ghost use Rattle.mill_push.specs.inner.Unions.{AreSpans, AreStretches};
 
@@ -60,7 +60,6 @@ impl Pusher {
     ) -> Option<Run>
         requires self_ok { IsPusher self }
         requires tri_ok { TriInRange tri.now }
-        requires reach_ok { IsReachForTri self.cutter self.fiber.z self.reach tri.now }
         requires from_ok { Within MAX_COORDINATE from }
         requires to_ok { Within MAX_COORDINATE to }
         requires order { from ≤ℤ to }

@@ -1,4 +1,4 @@
-ghost use Rattle.std.specs.Prelude.{◌<◌, ◌≤◌, nat_abs, pos};
+ghost use Rattle.std.specs.Prelude.{◌<◌, ◌≤◌, ◌-ℤ◌, nat_abs, pos};
 ghost use Rattle.mill_base.specs.Sizes.{IsCutter};
 ghost use Rattle.mill_base.specs.declared.limits.TheConstants.{MAX_RADIUS};
 ghost use Rattle.mill_push.specs.inner.Reaches.{IsBallReach, IsReach, IsReachForPart, IsWallReach};
@@ -12,7 +12,15 @@ pub fn reach_over(part: &Part, cutter: Cutter, z: i32) -> i32
     requires { IsCutter cutter }
     ensures { IsReachForPart cutter z result part.now }
 {
-    let top = part.top().unwrap_or(z);
+    reach_up_to(cutter, z, part.top().unwrap_or(z))
+}
+
+/// How far from its axis the cutter, with its tip at the height `z`, may hold points that aren't over
+/// the height `top`.
+pub fn reach_up_to(cutter: Cutter, z: i32, top: i32) -> i32
+    requires { IsCutter cutter }
+    ensures { IsReach cutter (top -ℤ z) result }
+{
     if top <= z {
         return 1;
     }

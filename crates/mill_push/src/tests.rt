@@ -351,6 +351,33 @@ fn cone_near_the_top(rt: HostRuntime) -> Result<(), Fail> {
     )
 }
 
+// The first point is at the height 300, and the second at 360, 30 beside it. A ball of radius 100 whose
+// tip is at 280 holds what is nearer to the axis than 60 at the height of the first, and where the
+// square of the distance is less than 80 * 120 at that of the second: there 8649 is 93², 900 is 30²,
+// 7921 is 89², and 1600 is 40².
+#[test]
+fn points_of_two_heights(rt: HostRuntime) -> Result<(), Fail> {
+    let high = at(900, 30, 360);
+    let mut tris = Vec::new(rt.alloc());
+    tris.push(point(500))?;
+    tris.push(Tri {
+        a: high,
+        b: high,
+        c: high,
+    })?;
+    let part = Part::new(tris);
+    let ball = Cutter::Ball { radius: 100 };
+    for (across, want) in [
+        (0, [run(441, 559), run(807, 993)].as_slice()),
+        (60, [run(807, 993)].as_slice()),
+        (70, [run(811, 989)].as_slice()),
+    ] {
+        let found = runs(&rt, &part, ball, fiber(Axis::X, across, 280), (0, 1200))?;
+        assert_eq!(rt; found.as_slice(), want, "{across} beside the first");
+    }
+    Ok(())
+}
+
 // Without the window's ends the run is from 401 to 599.
 #[test]
 fn narrow_windows(rt: HostRuntime) -> Result<(), Fail> {

@@ -1,34 +1,75 @@
-ghost use Rattle.std.specs.Prelude.{◌≡◌, ◌≤ℤ◌, IfSome};
+ghost use Rattle.std.specs.Prelude.{◌≡◌, ◌≤ℤ◌, ℤ, IfSome, IsTrue};
 ghost use Rattle.mill_base.specs.Numbers.{Within};
 ghost use Rattle.mill_base.specs.declared.limits.TheConstants.{MAX_COORDINATE};
 ghost use Rattle.mill_base.specs.Ranges.{TriInRange};
+ghost use Rattle.mill_push.specs.Fibers.{IsTouched};
 ghost use Rattle.mill_push.specs.inner.Known.{IsRunInRange, IsStart, IsWindow};
 ghost use Rattle.mill_push.specs.inner.Pushers.{IsPusher};
 ghost use Rattle.mill_push.specs.inner.Reaches.{IsReachForTri};
-ghost use Rattle.mill_push.specs.inner.Windows.{extent_along, extent_of};
+ghost use Rattle.mill_push.specs.inner.Windows.{extent_along, extent_of, other_than};
 
 use crate::fiber::Run;
+use crate::reach::reach_up_to;
 use crate::stretch::Pusher;
 use mill_base::Tri;
 use mill_geom::Axis;
 
 impl Pusher {
-    /// The positions from `from` to `to` at which the triangle's box is within the cutter's reach: at
-    /// no other is the triangle touched.
+    /// The positions from `from` to `to` at which the triangle's box is within the cutter's reach for
+    /// what the triangle has: at no other is the triangle touched.
     pub fn window(self, tri: &Tri, from: i32, to: i32) -> Run
         requires self_ok { IsPusher self }
         requires tri_ok { TriInRange tri.now }
-        requires reach_ok { IsReachForTri self.cutter self.fiber.z self.reach tri.now }
         requires from_ok { Within MAX_COORDINATE from }
         requires to_ok { Within MAX_COORDINATE to }
+        requires order { from ≤ℤ to }
         ensures in_range { IsRunInRange result }
         ensures window { IsWindow self.cutter tri.now self.fiber from to result }
     {
+        let reach = self.reach_for(tri);
+        if self.is_beside(tri, reach) {
+            return Run {
+                first: to,
+                last: from,
+            };
+        }
         let extent = extent(tri, self.fiber.axis);
         Run {
-            first: from.max(extent.first - self.reach),
-            last: to.min(extent.last + self.reach),
+            first: from.max(extent.first - reach),
+            last: to.min(extent.last + reach),
         }
+    }
+
+    /// How far from its axis the cutter may hold points of the triangle: each is nearer than that.
+    fn reach_for(self, tri: &Tri) -> i32
+        requires self_ok { IsPusher self }
+        requires tri_ok { TriInRange tri.now }
+        ensures { IsReachForTri self.cutter self.fiber.z result tri.now }
+    {
+        let heights = extent_of_three(tri.a.z, tri.b.z, tri.c.z);
+        reach_up_to(self.cutter, self.fiber.z, heights.last)
+    }
+
+    /// Whether the triangle's box is farther beside the fiber than the reach: it is touched nowhere.
+    fn is_beside(self, tri: &Tri, reach: i32) -> bool
+        requires self_ok { IsPusher self }
+        requires tri_ok { TriInRange tri.now }
+        requires reach_ok { IsReachForTri self.cutter self.fiber.z reach tri.now }
+        ensures { IsTrue result → (v : ℤ) → ¬ IsTouched self.cutter tri.now self.fiber v }
+    {
+        let across = extent(tri, other(self.fiber.axis));
+        let at = self.fiber.at;
+        across.first - reach > at || across.last + reach < at
+    }
+}
+
+/// The axis across this one.
+fn other(axis: Axis) -> Axis
+    ensures { result ≡ other_than axis }
+{
+    match axis {
+        Axis::X => Axis::Y,
+        Axis::Y => Axis::X,
     }
 }
 

@@ -4,14 +4,13 @@ mod Turned
 mod Ranges
 mod Most
 mod Remaining
-mod Stops
-mod Prefix
 mod Stored
 mod Unique
 mod Safe
 mod Accepted
 mod Scanning
-mod Striping
-mod Limits
+mod Sharing
+mod Gathered
+mod Tested
 mod Repeats
 pub mod Named

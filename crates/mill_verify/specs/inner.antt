@@ -2,3 +2,5 @@
 pub mod Firsts
 pub mod Stock
 pub mod Readiness
+pub mod Pieces
+pub mod Failures

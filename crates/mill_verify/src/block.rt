@@ -108,3 +108,6 @@ impl Block {
         true
     }
 }
+
+#[cfg(test)]
+mod tests;

@@ -1,31 +1,33 @@
 //! The verdict on a program: the first written test that fails, or acceptance.
 //!
-//! It stands on `mill_part`, `mill_cells`, `mill_gouge`, `mill_dexel` and `mill_job`. It promises that the answer is
-//! the verdict, for any number of workers, that there is at most one, that an accepted program cuts
-//! safely at every fraction of every move, and that a rejected move is blocked at the leaf that is
+//! It stands on `mill_part`, `mill_cells`, `mill_gouge`, `mill_dexel`, `mill_board` and `mill_job`. It promises that the
+//! answer is the verdict, for any number of workers, that there is at most one, that an accepted program
+//! cuts safely at every fraction of every move, and that a rejected move is blocked at the leaf that is
 //! named. Definitions: `specs/Tests` are the four tests, `specs/Verdicts` the verdict, `specs/Claims`
 //! what an accepted program does, `specs/Blocks` what becomes of a block of moves that is tested
-//! against the part; `specs/Stock` and `specs/Firsts` serve the functions within.
+//! against the part; what stands in `specs/inner` serves the functions within.
 //!
-//! The four tests stand in `floor`, `gouge` (by blocks, `block`), `rapid` and `left`. The work goes test by test and the
-//! verdict goes move by move: each test looks only at the moves before the first that fails an earlier
-//! one, so the last failure that is found is the first of the verdict.
+//! The four tests stand in `floor`, `block`, mill_dexel's rows, and `left`. The moves before the first
+//! that fails test (i) are tested by blocks against the part and by rows against the stock. Both are
+//! pieces of one work that threads share (`work`), and the first piece in it that fails at the least
+//! move gives the verdict (`failure`). Test (iv) comes last.
 #![tactic(auto)]
 
 mod block;
+mod failure;
 mod floor;
-mod gouge;
 mod laws;
 mod left;
-mod limit;
+mod piece;
 mod program;
-mod rapid;
 mod stock;
 #[cfg(test)]
 mod test_shape;
 mod verdict;
+mod work;
 
 pub use block::Block;
 pub use laws::one_verdict;
-pub use program::{verify, verify_with_cells};
+pub use mill_board::{Gate, NoGate};
+pub use program::{verify, verify_with, verify_with_cells};
 pub use verdict::{Reason, Verdict};

@@ -1,4 +1,4 @@
-ghost use Rattle.std.specs.Prelude.{◌≡◌, ℕ, ◌≤◌, ℤ, length, take, Ok, IfOk};
+ghost use Rattle.std.specs.Prelude.{◌≡◌, ℕ, ◌≤◌, ℤ, length, Ok, IfOk};
 ghost use Rattle.mill_base.specs.declared.limits.TheConstants.{MAX_MOVES, MAX_WORKERS};
 ghost use Rattle.mill_base.specs.Covers.{IsUnder};
 ghost use Rattle.mill_base.specs.Motion.{Follow};
@@ -8,17 +8,22 @@ ghost use Rattle.mill_job.specs.Columns.{home};
 ghost use Rattle.mill_job.specs.Jobs.{IsJob};
 ghost use Rattle.mill_sweep.specs.declared.leaf.Leaf.{Leaf};
 ghost use Rattle.mill_verify.specs.Claims.{CutsSafely};
-ghost use Rattle.mill_verify.specs.inner.Firsts.{IsLimit, ShowsBlocks};
-ghost use Rattle.mill_verify.specs.inner.Stock.{AreTurned, IsStock};
+ghost use Rattle.mill_verify.specs.inner.Firsts.{IsFloorEnd, ShowsBlocks};
+ghost use Rattle.mill_verify.specs.inner.Pieces.{AreReady, AreTested};
+ghost use Rattle.mill_verify.specs.inner.Stock.{IsStock};
 ghost use Rattle.mill_verify.specs.Tests.{GoodBefore};
 ghost use Rattle.mill_verify.specs.Verdicts.{BlocksMove, StopsMove, IsVerdict};
 
+use crate::block::Block;
+use crate::failure::{first_failed, reason_of};
+use crate::floor::floor_end;
 use crate::left::stock_left;
-use crate::limit::{Limit, part_limit};
-use crate::rapid::first_stop;
-use crate::stock::turned_rows;
+use crate::piece::Piece;
+use crate::stock::rows_of;
 use crate::verdict::{Reason, Verdict};
+use crate::work::Tests;
 use mill_base::{Move, WantOfMemory};
+use mill_board::{Closed, Gate, NoGate, run_all};
 use mill_cells::Cells;
 use mill_dexel::Row;
 use mill_job::Job;
@@ -37,8 +42,8 @@ use std::thread::Threads;
 /// holds the cutter at each moment of the leaf and is wider by at most 0.02 mm, has some point of the
 /// triangle, or the column's top, strictly inside.
 ///
-/// The work is handed to `workers` threads, from 1 to 64; the verdict doesn't depend on their number.
-/// Each test looks only at the moves before the first that fails the tests before it.
+/// The work is shared by `workers` threads, from 1 to 64; the verdict doesn't depend on their number, or
+/// on which of them does what.
 ///
 /// The part is nowhere higher than the uncut stock. The program has at most 1,000,000 moves; it
 /// starts at the job's home, and each move begins where the one before it ended. A part point covers
@@ -71,8 +76,43 @@ pub fn verify<R: Threads + Sync>(
         → result ≡ Ok (Verdict.Reject (Reason.Rapid number row col leaf))
         → StopsMove job.now moves.now number row col leaf }
 {
+    verify_with(rt, alloc, NoGate, job, part, moves, workers)
+}
+
+/// The verdict of [`verify`], where each test of a move passes this gate first.
+///
+/// The gate is told which part of the work comes to which move. The numbers are first those of the
+/// blocks, 64 moves each, which are tested against the part, and then those of the stock's rows; moves
+/// are counted from 0. The verdict doesn't depend on the gate.
+pub fn verify_with<R: Threads + Sync, G: Gate>(
+    rt: &R,
+    alloc: Global,
+    gate: G,
+    job: &Job,
+    part: &Part,
+    moves: &[Move],
+    workers: u32,
+) -> Result<Verdict, WantOfMemory>
+    requires job_ok { IsJob job.now }
+    requires moves_ok { MovesInRange moves.now }
+    requires under { IsUnder part.now job.now.top }
+    requires follow { Follow (home job.now) moves.now }
+    requires few { length moves.now ≤ MAX_MOVES }
+    requires some_workers { 1 ≤ workers }
+    requires few_workers { workers ≤ MAX_WORKERS }
+    ensures verdict { IfOk result (IsVerdict job.now part.now moves.now) }
+    ensures safe { (count columns : ℕ) (left : ℤ)
+        → result ≡ Ok (Verdict.Accept count columns left)
+        → CutsSafely job.now part.now moves.now }
+    ensures blocked { (number tri : ℕ) (leaf : Leaf)
+        → result ≡ Ok (Verdict.Reject (Reason.Gouge number tri leaf))
+        → BlocksMove job.now part.now moves.now number tri leaf }
+    ensures stopped { (number row col : ℕ) (leaf : Leaf)
+        → result ≡ Ok (Verdict.Reject (Reason.Rapid number row col leaf))
+        → StopsMove job.now moves.now number row col leaf }
+{
     let sorted = SortedPart::new(alloc, part)?;
-    verify_with_cells(rt, alloc, job, part, sorted.cells(), moves, workers)
+    tested(rt, alloc, gate, job, part, sorted.cells(), moves, workers)
 }
 
 /// The verdict of [`verify`], by cells that the part's triangles are sorted into already.
@@ -104,44 +144,84 @@ pub fn verify_with_cells<R: Threads + Sync>(
         → result ≡ Ok (Verdict.Reject (Reason.Rapid number row col leaf))
         → StopsMove job.now moves.now number row col leaf }
 {
-    // A law without code: a leaf that fails is one of the last of its move.
-    failing_is_blocked();
-    let limit = part_limit(rt, job, part, cells, moves, workers);
-    let rows = turned_rows(rt, alloc, job, &moves[..limit.passed], workers)?;
-    Ok(verdict_of(rt, job, part, cells, moves, limit, &rows, workers))
+    tested(rt, alloc, NoGate, job, part, cells, moves, workers)
 }
 
-/// The verdict, from how far the moves pass tests (i) and (ii), and the rows after those that do.
-fn verdict_of<R: Threads + Sync>(
+/// The verdict, where each test of a move passes this gate first, by cells that the part's triangles are
+/// sorted into.
+///
+/// Threads share the tests against the part and the stock of the moves before the first that fails test
+/// (i). What these come to has the first that fails.
+fn tested<R: Threads + Sync, G: Gate>(
     rt: &R,
+    alloc: Global,
+    gate: G,
     job: &Job,
     part: &Part,
     cells: &Cells,
     moves: &[Move],
-    limit: Limit,
-    rows: &[Row],
     workers: u32,
-) -> Verdict
+) -> Result<Verdict, WantOfMemory>
     requires job_ok { IsJob job.now }
     requires cells_ok { cells.now ≡ sorted_of part.now }
-    requires limit_ok { IsLimit job.now part.now moves.now limit }
-    requires rows_ok { AreTurned job.now (take limit.passed moves.now) rows.now }
+    requires moves_ok { MovesInRange moves.now }
+    requires under { IsUnder part.now job.now.top }
+    requires follow { Follow (home job.now) moves.now }
+    requires few { length moves.now ≤ MAX_MOVES }
+    requires some_workers { 1 ≤ workers }
     requires few_workers { workers ≤ MAX_WORKERS }
-    ensures verdict { IsVerdict job.now part.now moves.now result }
-    ensures shown { ShowsBlocks job.now part.now moves.now result }
+    ensures verdict { IfOk result (IsVerdict job.now part.now moves.now) }
+    ensures safe { (count columns : ℕ) (left : ℤ)
+        → result ≡ Ok (Verdict.Accept count columns left)
+        → CutsSafely job.now part.now moves.now }
+    ensures blocked { (number tri : ℕ) (leaf : Leaf)
+        → result ≡ Ok (Verdict.Reject (Reason.Gouge number tri leaf))
+        → BlocksMove job.now part.now moves.now number tri leaf }
+    ensures stopped { (number row col : ℕ) (leaf : Leaf)
+        → result ≡ Ok (Verdict.Reject (Reason.Rapid number row col leaf))
+        → StopsMove job.now moves.now number row col leaf }
 {
-    if let Some(stop) = first_stop(job, &moves[..limit.passed], rows) {
-        return Verdict::Reject(Reason::Rapid {
-            at: stop.at,
-            row: stop.row,
-            col: stop.col,
-            leaf: stop.leaf,
-        });
+    // A law without code: a leaf that fails is one of the last of its move.
+    failing_is_blocked();
+    let turns = floor_end(job, moves) as u64;
+    let work = Tests::new(job, part, cells, moves, turns, gate);
+    let pieces = work.pieces();
+    let closed = run_all(rt, alloc, work, pieces, turns, workers)?;
+    verdict_of(rt, alloc, job, part, cells, moves, turns, closed, workers)
+}
+
+/// The verdict, from what the tests of the first `turns` moves came to, which all pass test (i).
+///
+/// Of the pieces that failed at the least turn a block comes before the rows, and a row before those
+/// after it.
+fn verdict_of<R: Threads + Sync>(
+    rt: &R,
+    alloc: Global,
+    job: &Job,
+    part: &Part,
+    cells: &Cells,
+    moves: &[Move],
+    turns: u64,
+    closed: Closed<Piece>,
+    workers: u32,
+) -> Result<Verdict, WantOfMemory>
+    requires ready { AreReady job.now part.now cells.now moves.now turns }
+    requires floor { IsFloorEnd job.now moves.now turns }
+    requires tested { AreTested job.now part.now moves.now turns closed.least closed.pieces.items }
+    requires few_workers { workers ≤ MAX_WORKERS }
+    ensures verdict { IfOk result (IsVerdict job.now part.now moves.now) }
+    ensures shown { IfOk result (ShowsBlocks job.now part.now moves.now) }
+{
+    let Closed { least, pieces } = closed;
+    if let Some(number) = first_failed(&pieces, least) {
+        let reason = reason_of(&pieces[number], Block::count(turns));
+        return Ok(Verdict::Reject(reason));
     }
-    if let Some(reason) = limit.fails {
-        return Verdict::Reject(reason);
+    if turns < moves.len() as u64 {
+        return Ok(Verdict::Reject(Reason::Floor { at: turns }));
     }
-    last_verdict(rt, job, part, cells, moves, rows, workers)
+    let rows = rows_of(alloc, pieces)?;
+    Ok(last_verdict(rt, job, part, cells, moves, &rows, workers))
 }
 
 /// The verdict after the last move, all moves being good.

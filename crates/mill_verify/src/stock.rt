@@ -1,44 +1,22 @@
-ghost use Rattle.std.specs.Prelude.{◌≤◌, All, IfOk};
-ghost use Rattle.mill_base.specs.declared.limits.TheConstants.{MAX_WORKERS};
-ghost use Rattle.mill_base.specs.Ranges.{MovesInRange};
-ghost use Rattle.mill_dexel.specs.Rows.{IsRowOf};
-ghost use Rattle.mill_job.specs.Jobs.{IsJob};
-ghost use Rattle.mill_verify.specs.inner.Stock.{AreTurned, AreUncut};
+ghost use Rattle.std.specs.Prelude.{◌≡◌, IfOk};
+ghost use Rattle.std.specs.List.{flat_map};
+ghost use Rattle.mill_verify.specs.inner.Pieces.{row_in};
 
-use mill_base::{Move, WantOfMemory};
-use mill_dexel::{Row, rows_static};
-use mill_job::Job;
+use crate::piece::Piece;
+use mill_base::WantOfMemory;
+use mill_board::Held;
+use mill_dexel::Row;
 use std::alloc::Global;
-use std::thread::Threads;
 
-/// All rows of the stock, each after its turns: through all moves, or up to the first rapid that it
-/// stops. The rows are turned by `workers` threads.
-pub fn turned_rows<R: Threads + Sync>(
-    rt: &R,
-    alloc: Global,
-    job: &Job,
-    moves: &[Move],
-    workers: u32,
-) -> Result<Vec<Row>, WantOfMemory>
-    requires job_ok { IsJob job.now }
-    requires moves_ok { MovesInRange moves.now }
-    requires some { 1 ≤ workers }
-    requires few { workers ≤ MAX_WORKERS }
-    ensures { IfOk result (λ rows. AreTurned job.now moves.now rows.items) }
-{
-    let rows = make_rows(alloc, job)?;
-    Ok(rows_static(rt, job, rows, moves, workers))
-}
-
-/// All rows of the uncut stock.
-fn make_rows(alloc: Global, job: &Job) -> Result<Vec<Row>, WantOfMemory>
-    requires { IsJob job.now }
-    ensures uncut { IfOk result (λ rows. AreUncut job.now rows.items) }
-    ensures rows_ok { IfOk result (λ rows. All (IsRowOf job.now) rows.items) }
+/// The rows of the stock that are among the pieces, in order.
+pub fn rows_of(alloc: Global, pieces: Vec<Held<Piece>>) -> Result<Vec<Row>, WantOfMemory>
+    ensures { IfOk result (λ rows. rows.items ≡ flat_map row_in pieces.items) }
 {
     let mut rows = Vec::new(alloc);
-    for number in 0..job.rows() {
-        rows.push(Row::new(alloc, job, u64::from(number))?)?;
+    for held in pieces {
+        if let Piece::Stock { number: _, row } = held.piece {
+            rows.push(row)?;
+        }
     }
     Ok(rows)
 }

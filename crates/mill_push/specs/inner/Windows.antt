@@ -14,3 +14,8 @@ extent_of a b c = record { first = lesser a (lesser b c); last = greater a (grea
 abbrev pub extent_along : Axis → Tri → Run
 extent_along X tri = extent_of tri.a.x tri.b.x tri.c.x
 extent_along Y tri = extent_of tri.a.y tri.b.y tri.c.y
+
+-- the axis across an axis
+abbrev pub other_than : Axis → Axis
+other_than X = Y
+other_than Y = X

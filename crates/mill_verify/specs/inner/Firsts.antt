@@ -1,32 +1,25 @@
 -- Where each test fails first, apart from the tests before it.
-use Rattle.std.specs.Prelude.{◌≡◌, ◌⊎◌, ℕ, ◌<◌, ◌≤◌, ◌/◌, ◌%◌, ℤ, pos, ◌-ℤ◌, ◌<ℤ◌, ◌≤ℤ◌, List, length, take, Option, Some, None, IfSome, IfNone, MatchOption, Result, Ok, Err, MatchResult}
+use Rattle.std.specs.Prelude.{◌≡◌, ◌⊎◌, ℕ, ◌<◌, ◌≤◌, ℤ, pos, ◌-ℤ◌, ◌<ℤ◌, ◌≤ℤ◌, List, length, take, Result, Ok, Err, MatchResult}
 use Rattle.std.specs.Int.{int_max}
 use Rattle.mill_base.specs.declared.points.Tri.{Tri}
 use Rattle.mill_base.specs.declared.motion.Move.{Move}
-use Rattle.mill_base.specs.declared.motion.Kind.TheVariants.{Rapid}
 use Rattle.mill_base.specs.Points.{point_tri, tri_at}
 use Rattle.mill_base.specs.Covers.{Covered, IsHighestCovered}
-use Rattle.mill_sweep.specs.Halving.{Blocks, FailsAt}
+use Rattle.mill_sweep.specs.Halving.{Blocks}
 use Rattle.mill_sweep.specs.Leaves.{span_of}
 use Rattle.mill_sweep.specs.declared.leaf.Leaf.{Leaf}
 use Rattle.mill_job.specs.declared.job.Job.{Job}
 use Rattle.mill_job.specs.Columns.{IsColumn, IsBefore, column_x, column_y, column_count}
 use Rattle.mill_dexel.specs.Tops.{top_after, top_point}
-use Rattle.mill_dexel.specs.declared.fail.RowFail.{RowFail}
 use Rattle.mill_verify.specs.Blocks.{BlockState}
-use Rattle.mill_verify.specs.Tests.{ClearsPart, PassesColumn, ClearsStock, IsOverFloor, IsCut, GoodBefore}
+use Rattle.mill_verify.specs.Tests.{IsOverFloor, IsCut}
 use Rattle.mill_dexel.specs.Turns.{move_at}
-use Rattle.mill_gouge.specs.Gouges.{IsFirstGouge}
-use Rattle.mill_verify.specs.Verdicts.{IsLeftOver, IsMostLeft, IsRejection}
-use Rattle.mill_verify.specs.declared.limit.Limit.{Limit}
+use Rattle.mill_verify.specs.Verdicts.{IsLeftOver, IsMostLeft}
 use Rattle.mill_verify.specs.declared.verdict.Verdict.{Verdict}
 use Rattle.mill_verify.specs.declared.verdict.Verdict.TheVariants.{Accept, Reject}
 use Rattle.mill_verify.specs.declared.verdict.Reason.{Reason}
 use Rattle.mill_verify.specs.declared.verdict.Reason.TheVariants.{Floor, Gouge, Rapid as RapidCut, Left}
-use Rattle.mill_verify.specs.declared.gouge.PartFail.{PartFail}
-use Rattle.mill_verify.specs.declared.gouge.Stripes.{Stripes}
 use Rattle.mill_verify.specs.declared.left.Uncut.{Uncut}
-use Rattle.mill_verify.specs.declared.rapid.Stop.{Stop}
 
 -- the point at the top of column (j, i) before move k blocks this leaf of the move
 abbrev pub StopsAt : Job → List Move → ℕ → ℕ → ℕ → Leaf → Type 0
@@ -43,104 +36,15 @@ abbrev pub ShowsBlocks : Job → List Tri → List Move → Verdict → Type 0
 ShowsBlocks job part moves (Accept count columns left) = Unit {0}
 ShowsBlocks job part moves (Reject reason) = ShowsBlock job part moves reason
 
--- the moves from number s to before e clear the part
-abbrev pub ClearsBetween : Job → List Tri → List Move → ℕ → ℕ → Type 0
-ClearsBetween job part moves s e = (k : ℕ) → s ≤ k → k < e → ClearsPart job part moves k
-
 -- a block as move k meets it: all its moves before that have had their turn, and cleared the part
 abbrev pub block_before : BlockState → ℕ → BlockState
 block_before b k = record b { next = k }
-
--- of the moves from number s to before e, this is the first that doesn't clear the part, with its first gouge
-pub record IsFirstPartFail (job : Job) (part : List Tri) (moves : List Move) (s e : ℕ) (fail : PartFail) : Type 0 where
-  pub start : s ≤ fail.at
-  pub there : fail.at < e
-  pub before : ClearsBetween job part moves s fail.at
-  pub first : IsFirstGouge job.cutter (move_at moves fail.at) part fail.gouge
-
--- the moves stand in blocks of 64, which go to the stripes in turn: this is the stripe of move k
-abbrev pub stripe_of : Stripes → ℕ → ℕ
-stripe_of stripes k = k / 64 % stripes.count
-
--- move k is in one of the stripes from the first to before the last
-pub record IsInStripes (stripes : Stripes) (k : ℕ) : Type 0 where
-  pub first : stripes.first ≤ stripe_of stripes k
-  pub last : stripe_of stripes k < stripes.last
-
--- these are some of at most 64 stripes, in which stand some of the moves
-pub record AreStripes (moves : List Move) (stripes : Stripes) : Type 0 where
-  pub there : stripes.turns ≤ length moves
-  pub few : stripes.count ≤ 64
-  pub some : stripes.first < stripes.last
-  pub within : stripes.last ≤ stripes.count
-
--- the moves before number e that are in these stripes clear the part
-abbrev pub ClearsStripesTo : Job → List Tri → List Move → Stripes → ℕ → Type 0
-ClearsStripesTo job part moves stripes e = (k : ℕ) → k < e → IsInStripes stripes k → ClearsPart job part moves k
-
--- all moves that are in these stripes clear the part
-abbrev pub ClearsStripes : Job → List Tri → List Move → Stripes → Type 0
-ClearsStripes job part moves stripes = ClearsStripesTo job part moves stripes stripes.turns
-
--- of the moves that are in these stripes, this is the first that doesn't clear the part, with its first gouge
-pub record IsFirstStripesFail (job : Job) (part : List Tri) (moves : List Move) (stripes : Stripes) (fail : PartFail) : Type 0 where
-  pub there : fail.at < stripes.turns
-  pub stripe : IsInStripes stripes fail.at
-  pub before : ClearsStripesTo job part moves stripes fail.at
-  pub first : IsFirstGouge job.cutter (move_at moves fail.at) part fail.gouge
-
--- what the test of some stripes says
-abbrev pub AreStripesTold : Job → List Tri → List Move → Stripes → Option PartFail → Type 0
-AreStripesTold job part moves stripes fail = MatchOption fail (ClearsStripes job part moves stripes) (IsFirstStripesFail job part moves stripes)
-
--- of two answers this is the one whose move comes before that of the other
-abbrev pub IsEarlierFail : Option PartFail → Option PartFail → Option PartFail → Type 0
-IsEarlierFail None right told = told ≡ right
-IsEarlierFail (Some fail) None told = told ≡ Some fail
-IsEarlierFail (Some fail) (Some other) told =
-    ((told ≡ Some fail) × (fail.at ≤ other.at))
-    ⊎ ((told ≡ Some other) × (other.at < fail.at))
 
 -- the moves before this number pass test (i), and the move there, if there is one, doesn't
 pub record IsFloorEnd (job : Job) (moves : List Move) (end_at : ℕ) : Type 0 where
   pub within : end_at ≤ length moves
   pub over : (k : ℕ) → k < end_at → IsOverFloor job moves k
   pub fails : end_at < length moves → ¬ IsOverFloor job moves end_at
-
--- the moves before the end pass tests (i) and (ii); with no failure named these are all, and a failure that is named is the program's, provided that the moves before it are good
-pub record IsLimit (job : Job) (part : List Tri) (moves : List Move) (limit : Limit) : Type 0 where
-  pub within : limit.passed ≤ length moves
-  pub over : (k : ℕ) → k < limit.passed → IsOverFloor job moves k
-  pub clears : (k : ℕ) → k < limit.passed → ClearsPart job part moves k
-  pub whole : IfNone limit.fails (limit.passed ≡ length moves)
-  pub fails : IfSome limit.fails (λ reason. GoodBefore job part moves limit.passed → IsRejection job part moves reason)
-  pub shown : IfSome limit.fails (ShowsBlock job part moves)
-
--- every move passes test (iii)
-abbrev pub ClearsStockThrough : Job → List Move → Type 0
-ClearsStockThrough job moves = (k : ℕ) → k < length moves → ClearsStock job moves k
-
--- move k is the first that fails test (iii), at column (j, i) first, whose top blocks this leaf, at which the test fails
-pub record IsFirstStop (job : Job) (moves : List Move) (k j i : ℕ) (leaf : Leaf) : Type 0 where
-  pub there : k < length moves
-  pub before : (e : ℕ) → e < k → ClearsStock job moves e
-  pub rapid : (move_at moves k).kind ≡ Rapid
-  pub column : IsColumn job j i
-  pub first : (a b : ℕ) → IsColumn job a b → IsBefore a b j i → PassesColumn job moves k a b
-  pub fails : FailsAt job.cutter (move_at moves k) (point_tri (top_point job (take k moves) j i)) leaf
-  pub blocked : StopsAt job moves k j i leaf
-
--- there is a stop so far, at move k or before it
-abbrev pub IsStoppedBy : ℕ → Option Stop → Type 0
-IsStoppedBy k None = ⊥
-IsStoppedBy k (Some stop) = stop.at ≤ k
-
--- with row j, which failed there if it did, the first stop so far becomes another: itself, where the row didn't fail or the stop is no later; else the row's
-abbrev pub IsEarlierStop : ℕ → Option RowFail → Option Stop → Option Stop → Type 0
-IsEarlierStop j None first next = next ≡ first
-IsEarlierStop j (Some fail) first next =
-    ((next ≡ first) × IsStoppedBy fail.at first)
-    ⊎ ((next ≡ Some (record { at = fail.at; row = j; col = fail.col; leaf = fail.leaf })) × ¬ IsStoppedBy fail.at first)
 
 -- a column at (x, y) with this top is cut to within the allowance, and is left this much over its greatest covered height
 pub record IsCutTo (job : Job) (part : List Tri) (x y top left : ℤ) : Type 0 where

@@ -6,6 +6,8 @@ ghost use Rattle.mill_base.specs.Covers.{IsUnder};
 ghost use Rattle.mill_base.specs.Motion.{Follow};
 ghost use Rattle.mill_base.specs.Ranges.{IsInRange, MovesInRange};
 
+mod gated;
+
 use super::*;
 use crate::test_shape::{block_job, corner, plate};
 use mill_base::{Cutter, Kind, Pt3, Tri};
@@ -262,6 +264,27 @@ fn names_the_leaf_of_a_rapid(rt: HostRuntime) {
     }
 }
 
+// Down to 199 as a rapid: the plate and the stock both stop the move, and the plate comes first.
+#[test]
+fn names_the_part_before_the_stock(rt: HostRuntime) {
+    let alloc = rt.alloc();
+    let job = block_job(Cutter::Flat { radius: 150 }, 0, 0);
+    let part = plate(alloc, 200).unwrap_or_else(|_| panic!(rt; "want of memory"));
+    let moves = down_and_up(Kind::Rapid, 199);
+    let gouge = Verdict::Reject(Reason::Gouge {
+        at: 0,
+        tri: 0,
+        leaf: Leaf { d: 8, k: 254 },
+    });
+    for workers in [1, 4, 64] {
+        assert_eq!(rt;
+            verify(&rt, alloc, &job, &part, &moves, workers),
+            Ok(gouge),
+            "by {workers}"
+        );
+    }
+}
+
 /// In the middle at 200, and at 199 under the plate in these two turns.
 fn bottom(turn: u32, first: u32, second: u32) -> Pt3
     ensures { IsInRange result }
@@ -306,10 +329,9 @@ fn downs_and_ups(alloc: Global, first: u32, second: u32) -> Result<Vec<Move>, Wa
 }
 
 // Move 124, the last but three of its block of 64, scrapes the plate, and so does one near the start of
-// a later block. Among two, three or four workers the later block is now in an earlier stripe, now
-// in a later one, and now in the same. The last program scrapes nowhere.
+// a later block, which a worker may come to earlier. The last program scrapes nowhere.
 #[test]
-fn names_the_first_move_of_all_stripes(rt: HostRuntime) {
+fn names_the_first_move_of_all_blocks(rt: HostRuntime) {
     let alloc = rt.alloc();
     let job = block_job(Cutter::Flat { radius: 150 }, 0, 0);
     let part = plate(alloc, 200).unwrap_or_else(|_| panic!(rt; "want of memory"));

@@ -1,26 +1,49 @@
-use Rattle.mill_verify.proofs.Turned.{stock_after}
-use Rattle.mill_verify.proofs.Prefix.{fails_stock, stopped_stock, rejected, all_good, stock_all}
+use Rattle.std.proofs.Common.{ℕ, List, length, sym, subst, ◌∙◌, arith}
+use Rattle.mill_board.specs.declared.work.Held.{Held}
+use Rattle.mill_dexel.specs.Rows.{RowState}
+use Rattle.mill_verify.specs.declared.piece.Piece.{Piece}
+use Rattle.mill_verify.specs.declared.verdict.Reason.{Reason}
+use Rattle.mill_verify.specs.inner.Failures.{IsFirstFailed, IsReasonOf, NoneFailed}
+use Rattle.mill_verify.specs.inner.Stock.{IsStock}
+use Rattle.mill_verify.proofs.Tested.{all_good, floor_rejects, reason_there, rejected, stock_is}
 use Rattle.mill_verify.proofs.program.verdict_of.Goals as goal
+
+pub reason_of-reason-requires : goal.reason_of-reason-requires
+reason_of-reason-requires g c =
+    let q = c.requires in
+    let first = subst (λ (hs : List (Held Piece)). IsFirstFailed c.args.closed.least hs c.in-Some.number) c.deref.ensures.value c.in-Some.ensures in
+    subst (λ (k : ℕ). (reason : Reason) × IsReasonOf k c.index.result.now.next c.index.result.now.piece reason) (sym c.count.ensures)
+    (reason_there c.args.job.now c.args.part.now c.args.moves.now c.args.turns c.args.closed.least c.args.closed.pieces.items q.ready.within q.floor q.tested c.in-Some.number first q.ready.job_ok q.ready.few c.index.result.now c.index.ensures)
 
 pub returns-in-Some-clause-verdict : goal.returns-in-Some-clause-verdict
 returns-in-Some-clause-verdict g c =
-    fails_stock c.args.job.now c.args.part.now c.args.moves.now c.args.limit c.requires.limit_ok c.in-Some.stop.at c.in-Some.stop.row c.in-Some.stop.col c.in-Some.stop.leaf c.in-Some.ensures
+    let q = c.requires in
+    let first = subst (λ (hs : List (Held Piece)). IsFirstFailed c.args.closed.least hs c.in-Some.number) c.deref.ensures.value c.in-Some.ensures in
+    (rejected c.args.job.now c.args.part.now c.args.moves.now c.args.turns c.args.closed.least c.args.closed.pieces.items q.ready.within q.floor q.tested c.in-Some.number first c.index.result.now c.reason_of-reason.result c.index.ensures
+    (subst (λ (k : ℕ). IsReasonOf k c.index.result.now.next c.index.result.now.piece c.reason_of-reason.result) c.count.ensures c.reason_of-reason.ensures)).0
 
 pub returns-in-Some-clause-shown : goal.returns-in-Some-clause-shown
 returns-in-Some-clause-shown g c =
-    stopped_stock c.args.job.now c.args.part.now c.args.moves.now c.args.limit c.requires.limit_ok c.in-Some.stop.at c.in-Some.stop.row c.in-Some.stop.col c.in-Some.stop.leaf c.in-Some.ensures
+    let q = c.requires in
+    let first = subst (λ (hs : List (Held Piece)). IsFirstFailed c.args.closed.least hs c.in-Some.number) c.deref.ensures.value c.in-Some.ensures in
+    (rejected c.args.job.now c.args.part.now c.args.moves.now c.args.turns c.args.closed.least c.args.closed.pieces.items q.ready.within q.floor q.tested c.in-Some.number first c.index.result.now c.reason_of-reason.result c.index.ensures
+    (subst (λ (k : ℕ). IsReasonOf k c.index.result.now.next c.index.result.now.piece c.reason_of-reason.result) c.count.ensures c.reason_of-reason.ensures)).1
 
-pub returns-in-Some-fails-clause-verdict : goal.returns-in-Some-fails-clause-verdict
-returns-in-Some-fails-clause-verdict g c =
-    let is = c.in-Some-fails.is in
-    rejected c.args.job.now c.args.part.now c.args.moves.now c.args.limit c.requires.limit_ok c.in-Some-fails.reason (cc) c.in_default.ensures
+pub returns-then-turns-moves-clause-verdict : goal.returns-then-turns-moves-clause-verdict
+returns-then-turns-moves-clause-verdict g c =
+    let q = c.requires in
+    let none = subst (λ (hs : List (Held Piece)). NoneFailed c.args.closed.least hs (length hs)) c.deref.ensures.value c.in_default.ensures in
+    floor_rejects c.args.job.now c.args.part.now c.args.moves.now c.args.turns c.args.closed.least c.args.closed.pieces.items q.ready.within q.floor q.tested none c.if-turns-moves.true
 
 pub last_verdict-requires-clause-good : goal.last_verdict-requires-clause-good
 last_verdict-requires-clause-good g c _ _ =
-    let is = c.in_default-fails.is in
-    all_good c.args.job.now c.args.part.now c.args.moves.now c.args.limit c.requires.limit_ok (cc) c.in_default.ensures
+    let q = c.requires in let over = c.if-turns-moves.false in
+    let none = subst (λ (hs : List (Held Piece)). NoneFailed c.args.closed.least hs (length hs)) c.deref.ensures.value c.in_default.ensures in
+    all_good c.args.job.now c.args.part.now c.args.moves.now c.args.turns c.args.closed.least c.args.closed.pieces.items q.ready.within q.floor q.tested none (omega (over, arith))
 
 pub last_verdict-requires-clause-rows_ok : goal.last_verdict-requires-clause-rows_ok
 last_verdict-requires-clause-rows_ok g c _ _ =
-    let is = c.in_default-fails.is in
-    stock_all c.args.job.now c.args.part.now c.args.moves.now c.args.limit c.requires.limit_ok c.args.rows.now (cc) (stock_after c.requires.rows_ok c.in_default.ensures)
+    let q = c.requires in let over = c.if-turns-moves.false in
+    let none = subst (λ (hs : List (Held Piece)). NoneFailed c.args.closed.least hs (length hs)) c.deref.ensures.value c.in_default.ensures in
+    subst (λ (rows : List RowState). IsStock c.args.job.now c.args.moves.now rows) (sym (c.deref-2.ensures.value ∙ c.in_ok-rows.ensures))
+    (stock_is c.args.job.now c.args.part.now c.args.moves.now c.args.turns c.args.closed.least c.args.closed.pieces.items q.ready.within q.floor q.tested none (omega (over, arith)))

@@ -2,7 +2,6 @@ use Rattle.std.proofs.lemmas.List.Elements.{Contains-get_or}
 use Rattle.mill_push.proofs.Collecting.{collect_starts, next_within, goes_on_without, goes_on_with, collect_ends, collect_cost}
 use Rattle.mill_push.proofs.Cutting.{span_in_range, spans_in_range}
 use Rattle.mill_push.proofs.Growing.{grown_by_one}
-use Rattle.mill_push.proofs.Reaching.{for_member}
 use Rattle.mill_push.proofs.Stored.{stored}
 use Rattle.mill_push.proofs.stretch.Pusher.stretches.Goals as goal
 
@@ -28,14 +27,6 @@ new_stretch-requires-clause-tri_ok g c =
     let i = rw (from, to) at c.loop-number.invariant in
     let inside = next_within c.args.self c.args.part.now c.args.from c.args.to c.in-Some.ensures i in
     c.tris-tris.ensures.in_range _ (rw c.tris-tris.ensures.list (Contains-get_or c.args.part.now c.in-Some.number _ inside))
-
-pub new_stretch-requires-clause-reach_ok : goal.new_stretch-requires-clause-reach_ok
-new_stretch-requires-clause-reach_ok g c =
-    let from = stored c.args.from c.requires.from_ok in
-    let to = stored c.args.to c.requires.to_ok in
-    let i = rw (from, to) at c.loop-number.invariant in
-    let inside = next_within c.args.self c.args.part.now c.args.from c.args.to c.in-Some.ensures i in
-    rw c.tris-tris.ensures.list (for_member c.args.self.cutter c.args.self.fiber.z c.args.self.reach c.args.part.now _ c.requires.reach_ok (Contains-get_or c.args.part.now c.in-Some.number _ inside))
 
 pub new_stretch-requires-clause-known : goal.new_stretch-requires-clause-known
 new_stretch-requires-clause-known g c =

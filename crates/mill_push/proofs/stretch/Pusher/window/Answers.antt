@@ -2,47 +2,51 @@ use Rattle.std.proofs.Common.{rules, ap, w32}
 use Rattle.std.proofs.lemmas.Int.{to_z-of_z}
 use lib.IntN.{◌+ℤ◌, ◌-ℤ◌}
 use Rattle.mill_push.specs.declared.fiber.Run.{Run}
-use Rattle.mill_push.proofs.Pushing.{about, most_reach}
+use Rattle.mill_push.proofs.Pushing.{about_by}
 use Rattle.mill_push.proofs.Stored.{stored, stored_reach}
-use Rattle.mill_push.proofs.Windows.{fits_about, window_is, window_ok}
+use Rattle.mill_push.proofs.Windows.{fits_about, most_for_tri, window_is, window_ok}
 use Rattle.mill_push.proofs.stretch.Pusher.window.Goals as goal
 
 pub overflow_sub-extent : goal.overflow_sub-extent
 overflow_sub-extent c =
-    let p = c.args.self in
-    let ok = c.requires.self_ok in
+    let r = c.reach_for-reach.result in
+    let reach = c.reach_for-reach.ensures in
+    let most = most_for_tri c.args.self.cutter c.args.self.fiber.z r c.args.tri.now c.requires.self_ok.cutter_ok reach in
     let first = c.extent-extent.ensures.in_range.first_ok in
-    rw (stored c.extent-extent.result.first first, stored_reach p.reach ok.reach_least (most_reach p ok)) (fits_about p c.extent-extent.result.first ok first).0
+    rw (stored c.extent-extent.result.first first, stored_reach r reach.holds.least most) (fits_about r c.extent-extent.result.first reach.holds.least most first).0
 
 pub overflow_add-extent : goal.overflow_add-extent
 overflow_add-extent c =
-    let p = c.args.self in
-    let ok = c.requires.self_ok in
+    let r = c.reach_for-reach.result in
+    let reach = c.reach_for-reach.ensures in
+    let most = most_for_tri c.args.self.cutter c.args.self.fiber.z r c.args.tri.now c.requires.self_ok.cutter_ok reach in
     let last = c.extent-extent.ensures.in_range.last_ok in
-    rw (stored c.extent-extent.result.last last, stored_reach p.reach ok.reach_least (most_reach p ok)) (fits_about p c.extent-extent.result.last ok last).1
+    rw (stored c.extent-extent.result.last last, stored_reach r reach.holds.least most) (fits_about r c.extent-extent.result.last reach.holds.least most last).1
 
 pub returns-clause-in_range : goal.returns-clause-in_range
 returns-clause-in_range c =
-    let p = c.args.self in
-    let ok = c.requires.self_ok in
+    let r = c.reach_for-reach.result in
+    let reach = c.reach_for-reach.ensures in
+    let most = most_for_tri c.args.self.cutter c.args.self.fiber.z r c.args.tri.now c.requires.self_ok.cutter_ok reach in
     let extent = c.extent-extent.ensures.in_range in
-    let low = about p c.extent-extent.result.first ok extent.first_ok in
-    let high = about p c.extent-extent.result.last ok extent.last_ok in
+    let low = about_by r c.extent-extent.result.first reach.holds.least most extent.first_ok in
+    let high = about_by r c.extent-extent.result.last reach.holds.least most extent.last_ok in
     let first = rw (stored c.args.from c.requires.from_ok, low.0) at c.max.ensures.value in
     let last = rw (stored c.args.to c.requires.to_ok, high.1) at c.min.ensures.value in
     rw (to_z-of_z w32 c.max.result (search rules), to_z-of_z w32 c.min.result (search rules), first, last)
-    (window_ok p.reach c.args.from c.args.to c.extent-extent.result.first c.extent-extent.result.last ok.reach_least c.requires.from_ok c.requires.to_ok extent.first_ok extent.last_ok)
+    (window_ok r c.args.from c.args.to c.extent-extent.result.first c.extent-extent.result.last reach.holds.least c.requires.from_ok c.requires.to_ok extent.first_ok extent.last_ok)
 
 pub returns-clause-window : goal.returns-clause-window
 returns-clause-window c =
     let p = c.args.self in
-    let ok = c.requires.self_ok in
+    let r = c.reach_for-reach.result in
+    let reach = c.reach_for-reach.ensures in
+    let most = most_for_tri p.cutter p.fiber.z r c.args.tri.now c.requires.self_ok.cutter_ok reach in
     let extent = c.extent-extent.ensures.in_range in
-    let low = about p c.extent-extent.result.first ok extent.first_ok in
-    let high = about p c.extent-extent.result.last ok extent.last_ok in
+    let low = about_by r c.extent-extent.result.first reach.holds.least most extent.first_ok in
+    let high = about_by r c.extent-extent.result.last reach.holds.least most extent.last_ok in
     let first = rw (stored c.args.from c.requires.from_ok, low.0) at c.max.ensures.value in
     let last = rw (stored c.args.to c.requires.to_ok, high.1) at c.min.ensures.value in
     let value = c.extent-extent.ensures.value in
     rw (to_z-of_z w32 c.max.result (search rules), to_z-of_z w32 c.min.result (search rules), first, last)
-    (window_is p.cutter c.args.tri.now p.fiber p.reach c.requires.reach_ok c.args.from c.args.to (c.extent-extent.result.first -ℤ p.reach) (c.extent-extent.result.last +ℤ p.reach)
-    (ap (λ (r : Run). r.first -ℤ p.reach) value) (ap (λ (r : Run). r.last +ℤ p.reach) value))
+    (window_is p.cutter c.args.tri.now p.fiber r reach c.args.from c.args.to (c.extent-extent.result.first -ℤ r) (c.extent-extent.result.last +ℤ r) (ap (λ (run : Run). run.first -ℤ r) value) (ap (λ (run : Run). run.last +ℤ r) value))

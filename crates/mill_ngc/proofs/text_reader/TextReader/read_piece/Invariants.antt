@@ -1,0 +1,18 @@
+use Rattle.std.proofs.Common.{◌≡◌, ◌≤◌, ◌+◌, length}
+use Rattle.mill_base.specs.Ranges.{IsInTextRange}
+use Rattle.mill_base.specs.declared.points.Pt3.{Pt3}
+use Rattle.mill_ngc.specs.Pieces.{fed, IsFront, SoFar}
+use Rattle.mill_ngc.specs.Texts.{reading_of}
+use Rattle.mill_ngc.proofs.text_reader.TextReader.read_piece.Given as goal
+
+abbrev pub invariant-loop-rest : goal.invariant-loop-rest
+invariant-loop-rest l = record {
+  so_far : fed (reading_of l.self, l.out.items) l.rest ≡ fed (reading_of l.fn.self, l.fn.out.items) l.fn.piece;
+  lines : l.self.lines.line + length l.rest ≤ l.fn.self.lines.line + length l.fn.piece;
+  here : IsInTextRange l.self.lines.here;
+  grows : IsFront l.fn.out.items l.out.items;
+  moves : (start : Pt3) → SoFar start l.fn.self.lines l.fn.out.items → SoFar start l.self.lines l.out.items;
+}
+
+abbrev pub decreases-loop-rest : goal.decreases-loop-rest
+decreases-loop-rest l = length l.rest

@@ -1,0 +1,130 @@
+-- What a reader has read that is given a program in pieces: the lines that are whole so far, and the bytes behind them.
+use Rattle.std.specs.Prelude.{◌≡◌, ℕ, ◌+◌, ◌≤◌, nat_lt, if◌then◌else◌, List, [], ◌∷◌, ◌++◌, length, Option, Result, Ok, Err}
+use Rattle.mill_base.specs.declared.limits.TheConstants.{MAX_MOVES}
+use Rattle.mill_base.specs.declared.points.Pt3.{Pt3}
+use Rattle.mill_base.specs.declared.motion.Move.{Move}
+use Rattle.mill_base.specs.Motion.{Follow}
+use Rattle.mill_base.specs.Ranges.{IsInTextRange, MovesInTextRange}
+use Rattle.mill_ngc.specs.declared.fault.NgcFault.{NgcFault}
+use Rattle.mill_ngc.specs.declared.fault.NgcFault.TheVariants as fault
+use Rattle.mill_ngc.specs.declared.progress.Progress.{Progress}
+use Rattle.mill_ngc.specs.Programs.{lines_of, after_line, made_list, start_at, program_of}
+
+-- ---- the state of a reader
+
+-- the program goes on, or has ended, with what its whole lines have settled and the bytes behind the last line end; or it has a fault
+pub data Reading : Type 0 where
+  Going : Progress → List ℕ → Reading
+  Failed : NgcFault → Reading
+
+-- before the first byte, with the tool at this point
+abbrev pub reading_at : Pt3 → Reading
+reading_at start = Going (start_at start) []
+
+-- the bytes behind the last line end
+abbrev pub line_so_far : Reading → List ℕ
+line_so_far (Going p line) = line
+line_so_far (Failed f) = []
+
+-- how many whole lines have been read
+abbrev pub lines_read : Reading → ℕ
+lines_read (Going p line) = p.line
+lines_read (Failed f) = 0
+
+-- ---- lines
+
+-- a line that was begun goes on with the first of these
+abbrev pub put_before : List ℕ → List (List ℕ) → List (List ℕ)
+put_before first [] = first ∷ []
+put_before first (line ∷ lines) = (first ++ line) ∷ lines
+
+-- a whole line makes its move, or is the program's fault
+abbrev pub after_result : List Move → Result (Progress × Option Move) NgcFault → Reading × List Move
+after_result moves (Ok s) = (Going s.0 [], moves ++ made_list s.1)
+after_result moves (Err f) = (Failed f, moves)
+
+-- the state and the moves behind a whole line; behind the program's end, and behind a fault, nothing counts
+abbrev pub after_whole : Reading → List Move → List ℕ → Reading × List Move
+after_whole (Failed f) moves line = (Failed f, moves)
+after_whole (Going p so_far) moves line = if p.ended then (Going p so_far, moves) else after_result moves (after_line p line)
+
+-- a line that isn't whole yet is kept, unless it is too long already
+abbrev pub after_begun : Reading → List ℕ → Reading
+after_begun (Failed f) line = Failed f
+after_begun (Going p so_far) line =
+    if p.ended then Going p so_far else
+    (if nat_lt 256 (length line) then Failed (fault.LongLine (p.line + 1)) else Going p line)
+
+-- the state and the moves behind these lines, of which the last isn't whole yet
+unfoldable pub after_lines : Reading × List Move → List (List ℕ) → Reading × List Move
+after_lines s [] = s
+after_lines s (line ∷ []) = (after_begun s.0 line, s.1)
+after_lines s (line ∷ next ∷ lines) = after_lines (after_whole s.0 s.1 line) (next ∷ lines)
+
+-- ---- a text
+
+-- the state and the moves behind the next piece of the text, whose first line goes on the line so far
+unfoldable pub fed : Reading × List Move → List ℕ → Reading × List Move
+fed s piece = after_lines s (put_before (line_so_far s.0) (lines_of piece))
+
+-- the text ends: the line so far is its last
+abbrev pub at_end : Reading × List Move → Reading × List Move
+at_end s = after_whole s.0 s.1 (line_so_far s.0)
+
+-- the answer to a piece
+abbrev pub answer : Reading → Result Unit NgcFault
+answer (Going p line) = Ok tt
+answer (Failed f) = Err f
+
+-- the answer behind the last line
+abbrev pub last_answer : Reading → Result Unit NgcFault
+last_answer (Going p line) = if p.ended then Ok tt else Err (fault.NoEnd p.line)
+last_answer (Failed f) = Err f
+
+-- ---- the moves
+
+-- the first list is the front of the second
+pub record IsFront (moves all : List Move) : Type 0 where
+  pub rest : List Move
+  pub is : all ≡ moves ++ rest
+
+-- the moves follow on each other from the start, in range and not too many
+pub record AreSound (start : Pt3) (moves : List Move) : Type 0 where
+  pub in_range : MovesInTextRange moves
+  pub follow : Follow start moves
+  pub few : length moves ≤ MAX_MOVES
+
+-- where the tool stands behind the moves
+abbrev pub end_of : Pt3 → List Move → Pt3
+end_of start [] = start
+end_of start (m ∷ moves) = end_of m.to moves
+
+-- they lead to where the whole lines have left the tool, and are as many as these have made
+pub record SoFar (start : Pt3) (p : Progress) (moves : List Move) : Type 0 where
+  pub here : IsInTextRange p.here
+  pub in_range : MovesInTextRange moves
+  pub follow : Follow start moves
+  pub end : end_of start moves ≡ p.here
+  pub count : length moves ≡ p.moves
+  pub few : p.moves ≤ MAX_MOVES
+
+-- the moves that a reader has made so far
+abbrev pub MovesSoFar : Pt3 → Reading → List Move → Type 0
+MovesSoFar start (Going p line) moves = SoFar start p moves
+MovesSoFar start (Failed f) moves = AreSound start moves
+
+-- ---- laws
+
+-- what is read doesn't depend on where the text is cut
+abbrev pub PiecesJoin : Type 0
+PiecesJoin = (s : Reading × List Move) (text more : List ℕ) → fed (fed s text) more ≡ fed s (text ++ more)
+
+-- the moves and the answer behind the last line
+abbrev pub told : List Move → Result Unit NgcFault → Result (List Move) NgcFault
+told moves (Ok u) = Ok moves
+told moves (Err f) = Err f
+
+-- what is read of a whole text is what it means
+abbrev pub ReadsProgram : Type 0
+ReadsProgram = (start : Pt3) (text : List ℕ) →
+    told (at_end (fed (reading_at start, []) text)).1 (last_answer (at_end (fed (reading_at start, []) text)).0) ≡ program_of start text

@@ -1,0 +1,192 @@
+//! A reader that is fed a program line by line, up to its first fault.
+ghost use Rattle.std.specs.Prelude.{◌≡◌, ◌<◌, ◌^◌, length, OnOk, IfOk, IfErr, Ok, Err};
+ghost use Rattle.std.specs.Str.{bytes_eq};
+ghost use Rattle.mill_base.specs.Ranges.{IsInTextRange};
+ghost use Rattle.mill_words.specs.Lines.{line_of};
+ghost use Rattle.mill_words.specs.Words.{Line};
+ghost use Rattle.mill_words.specs.Marks.{is_blank as is_blank_byte};
+ghost use Rattle.mill_ngc.specs.declared.progress.Progress.{Progress};
+ghost use Rattle.mill_ngc.specs.Programs.{start_at, is_percent as is_percent_line, percent_step as percent_step_by, has_frame, with_percent, with_line, line_begun, after_line, after_words, words_or_fault};
+ghost use Rattle.mill_ngc.specs.inner.Bounds.{Keeps};
+
+use crate::fault::NgcFault;
+use crate::profile::Mode;
+use crate::progress::{Frame, Progress};
+use crate::said::Said;
+use crate::unfinished::LONGEST;
+use mill_base::{Move, Pt3};
+use mill_words::{LineWords, read_line_into};
+use std::marker::Model;
+
+/// Reads the lines of a program one after another.
+///
+/// Beside its progress it lends room for a line's words, so that none is moved.
+#[derive(Drop)]
+pub(crate) struct LineReader {
+    progress: Progress,
+    words: LineWords,
+    said: Said,
+}
+
+impl Model for LineReader {
+    ghost Value = { Progress };
+
+    ghost view = { λ r. r.progress };
+}
+
+impl LineReader {
+    /// A reader before the first line, with the tool at this point.
+    pub fn new(start: Pt3) -> Self
+        ensures { result ≡ start_at start }
+    {
+        LineReader {
+            progress: Progress {
+                here: start,
+                mode: Mode::Off,
+                millimetres: false,
+                absolute: false,
+                positioned: false,
+                frame: Frame::Unknown,
+                ended: false,
+                moves: 0,
+                line: 0,
+            },
+            words: LineWords::new(),
+            said: Said::new(),
+        }
+    }
+
+    /// Whether the program has ended.
+    pub fn has_ended(&self) -> bool
+        ensures { result ≡ self.now.ended }
+    {
+        self.progress.ended
+    }
+
+    /// How many lines it was fed.
+    pub fn line(&self) -> u64
+        ensures { result ≡ self.now.line }
+    {
+        self.progress.line
+    }
+
+    /// Takes the next line, without its line end. The answer is the line's move, if it makes one.
+    ///
+    /// After a fault the reader isn't to be fed again.
+    #[tactic(auto, unfolding(crate::specs::Programs::after_line))]
+    pub fn read_line(&mut self, line: &[u8]) -> Result<Option<Move>, NgcFault>
+        requires here { IsInTextRange self.old.here }
+        requires number { self.old.line < 2 ^ 63 }
+        ensures ok { IfOk result (λ made. after_line self.old line.now ≡ Ok (self.new, made)) }
+        ensures fault { IfErr result (λ f. after_line self.old line.now ≡ Err f) }
+        ensures keeps { IfOk result (λ made. Keeps (line_begun self.old) made self.new) }
+    {
+        self.progress.line += 1;
+        if line.len() > LONGEST {
+            return Err(NgcFault::LongLine {
+                line: self.progress.line,
+            });
+        }
+        if has_percent(self.progress.frame, line) {
+            self.progress.take_percent();
+            return Ok(None);
+        }
+        read_words(self.progress.line, line, &mut self.words)?;
+        self.progress.act_words(&self.words, &mut self.said)
+    }
+}
+
+impl Progress {
+    // Does what the words of the line say.
+    #[tactic(auto, unfolding(crate::specs::Programs::after_words))]
+    fn act_words(&mut self, words: &LineWords, said: &mut Said) -> Result<Option<Move>, NgcFault>
+        requires here { IsInTextRange self.old.here }
+        ensures ok { IfOk result (λ made. after_words self.old words.now ≡ Ok (self.new, made)) }
+        ensures fault { IfErr result (λ f. after_words self.old words.now ≡ Err f) }
+        ensures keeps { IfOk result (λ made. Keeps self.old made self.new) }
+    {
+        said.read(self.line, self.positioned, words)?;
+        self.know_frame(words.is_blank());
+        self.act(said)
+    }
+
+    // A line that isn't blank, and isn't a `%` alone, shows that a program isn't framed.
+    fn know_frame(&mut self, blank: bool)
+        ensures { self.new ≡ with_line self.old blank }
+    {
+        match self.frame {
+            Frame::Unknown => {
+                if !blank {
+                    self.frame = Frame::Plain;
+                }
+            }
+            _ => {}
+        }
+    }
+
+    // A `%` line begins the program's frame, or ends it.
+    fn take_percent(&mut self)
+        ensures { self.new ≡ with_percent self.old }
+    {
+        match self.frame {
+            Frame::Framed => self.ended = true,
+            _ => self.frame = Frame::Framed,
+        }
+    }
+}
+
+fn read_words(number: u64, line: &[u8], words: &mut LineWords) -> Result<(), NgcFault>
+    requires { length line.now < 2 ^ 32 }
+    ensures ok { OnOk result (line_of line.now ≡ Ok words.new) }
+    ensures fault { IfErr result (λ f. words_or_fault number (line_of line.now) ≡ Err f) }
+{
+    match read_line_into(line, words) {
+        Ok(()) => Ok(()),
+        Err(fault) => Err(NgcFault::Word {
+            line: number,
+            fault,
+        }),
+    }
+}
+
+// Whether the line is one of a frame's `%` lines.
+fn has_percent(frame: Frame, line: &[u8]) -> bool
+    ensures { result ≡ has_frame frame (is_percent_line line.now) }
+{
+    match frame {
+        Frame::Plain => false,
+        _ => is_percent(line),
+    }
+}
+
+fn is_percent(line: &[u8]) -> bool
+    ensures { result ≡ is_percent_line line.now }
+{
+    let mut seen = false;
+    for byte in line {
+        match percent_step(seen, *byte) {
+            Some(next) => seen = next,
+            None => return false,
+        }
+    }
+    seen
+}
+
+// Whether a `%` has come behind this byte, if the line may still hold only that.
+fn percent_step(seen: bool, byte: u8) -> Option<bool>
+    ensures { result ≡ percent_step_by seen byte }
+{
+    if is_blank(byte) {
+        return Some(seen);
+    }
+    if byte == b'%' && !seen {
+        return Some(true);
+    }
+    None
+}
+
+fn is_blank(byte: u8) -> bool
+    ensures { result ≡ is_blank_byte byte }
+{
+    byte == b' ' || byte == b'\t' || byte == b'\r'
+}

@@ -1,0 +1,141 @@
+//! Reads a text piece by piece, up to its first fault.
+ghost use Rattle.std.specs.Prelude.{◌≡◌, ◌≢◌, ◌++◌, ◌<◌, ◌≤◌, ◌+◌, ◌^◌, [], false, length, OnOk, OnErr, IfOk, IfErr, Ok, Err};
+ghost use Rattle.mill_base.specs.Ranges.{IsInTextRange};
+ghost use Rattle.mill_base.specs.declared.points.Pt3.{Pt3};
+ghost use Rattle.mill_ngc.specs.Programs.{after_line, made_list, line_begun, start_at};
+ghost use Rattle.mill_ngc.specs.Pieces.{Failed, after_begun, fed, at_end, last_answer, IsFront, SoFar, AreSound};
+ghost use Rattle.mill_ngc.specs.inner.Bounds.{Keeps};
+ghost use Rattle.mill_ngc.specs.Texts.{reading_of};
+ghost use Rattle.mill_ngc.specs.declared.fault.NgcFault.TheVariants as faults;
+
+use crate::fault::NgcFault;
+use crate::line_reader::LineReader;
+use crate::lines::split_line;
+use crate::unfinished::{LONGEST, UnfinishedLine};
+use mill_base::{Move, Pt3};
+
+/// What the whole lines of a text have settled, and the bytes of the line behind them.
+#[derive(Drop)]
+pub(crate) struct TextReader {
+    pub lines: LineReader,
+    pub unfinished: UnfinishedLine,
+}
+
+impl TextReader {
+    pub fn new(start: Pt3) -> Self
+        ensures lines { result.lines ≡ start_at start }
+        ensures unfinished { result.unfinished ≡ [] }
+    {
+        TextReader {
+            lines: LineReader::new(start),
+            unfinished: UnfinishedLine::new(),
+        }
+    }
+
+    /// Takes the next piece, and adds the moves of the lines that are whole now.
+    pub fn read_piece(&mut self, piece: &[u8], out: &mut Vec<Move>) -> Result<(), NgcFault>
+        requires here { IsInTextRange self.old.lines.here }
+        requires number { self.old.lines.line + length piece.now < 2 ^ 63 }
+        ensures ok { OnOk result (fed (reading_of self.old, out.old.items) piece.now ≡ (reading_of self.new, out.new.items)) }
+        ensures fault { IfErr result (λ f. f ≢ faults.WantOfMemory →
+            fed (reading_of self.old, out.old.items) piece.now ≡ (Failed f, out.new.items)) }
+        ensures front { IsFront out.new.items (fed (reading_of self.old, out.old.items) piece.now).1 }
+        ensures grows { IsFront out.old.items out.new.items }
+        ensures sound { (start : Pt3) → SoFar start self.old.lines out.old.items → AreSound start out.new.items }
+        ensures so_far { (start : Pt3) → SoFar start self.old.lines out.old.items → OnOk result (SoFar start self.new.lines out.new.items) }
+        ensures here { OnOk result (IsInTextRange self.new.lines.here) }
+        ensures number { OnOk result (self.new.lines.line ≤ self.old.lines.line + length piece.now) }
+    {
+        let mut rest = piece;
+        while !self.lines.has_ended() {
+            let (line, more) = split_line(rest);
+            match more {
+                Some(text) => {
+                    let made = self.end_line(line)?;
+                    add(out, made)?;
+                    rest = text;
+                }
+                None => return self.keep(line),
+            }
+        }
+        Ok(())
+    }
+
+    // Takes the bytes before a line end, and reads the line that they end. The answer is its move,
+    // if it makes one.
+    fn end_line(&mut self, bytes: &[u8]) -> Result<Option<Move>, NgcFault>
+        requires here { IsInTextRange self.old.lines.here }
+        requires number { self.old.lines.line < 2 ^ 63 }
+        ensures ok { IfOk result (λ made. after_line self.old.lines (self.old.unfinished ++ bytes.now) ≡ Ok (self.new.lines, made)) }
+        ensures fault { IfErr result (λ f. after_line self.old.lines (self.old.unfinished ++ bytes.now) ≡ Err f) }
+        ensures keeps { IfOk result (λ made. Keeps (line_begun self.old.lines) made self.new.lines) }
+        ensures begins { OnOk result (self.new.unfinished ≡ []) }
+    {
+        if self.unfinished.len() == 0 {
+            return self.lines.read_line(bytes);
+        }
+        if self.unfinished.len() + bytes.len() > LONGEST {
+            return Err(NgcFault::LongLine {
+                line: self.lines.line() + 1,
+            });
+        }
+        self.unfinished.extend(bytes);
+        let made = self.lines.read_line(self.unfinished.as_bytes())?;
+        self.unfinished.clear();
+        Ok(made)
+    }
+
+    // Keeps bytes of a line that isn't whole yet.
+    fn keep(&mut self, bytes: &[u8]) -> Result<(), NgcFault>
+        requires going { self.old.lines.ended ≡ false }
+        requires number { self.old.lines.line < 2 ^ 63 }
+        ensures ok { OnOk result (after_begun (reading_of self.old) (self.old.unfinished ++ bytes.now) ≡ reading_of self.new) }
+        ensures fault { IfErr result (λ f. after_begun (reading_of self.old) (self.old.unfinished ++ bytes.now) ≡ Failed f) }
+        ensures same { self.new.lines ≡ self.old.lines }
+    {
+        if self.unfinished.len() + bytes.len() > LONGEST {
+            return Err(NgcFault::LongLine {
+                line: self.lines.line() + 1,
+            });
+        }
+        self.unfinished.extend(bytes);
+        Ok(())
+    }
+
+    /// Reads the text's last line.
+    pub fn finish(&mut self, out: &mut Vec<Move>) -> Result<(), NgcFault>
+        requires here { IsInTextRange self.old.lines.here }
+        requires number { self.old.lines.line < 2 ^ 63 }
+        ensures ok { OnOk result (out.new.items ≡ (at_end (reading_of self.old, out.old.items)).1) }
+        ensures ends { OnOk result (last_answer (at_end (reading_of self.old, out.old.items)).0 ≡ Ok tt) }
+        ensures fault { IfErr result (λ f. f ≢ faults.WantOfMemory → out.new.items ≡ (at_end (reading_of self.old, out.old.items)).1) }
+        ensures told { IfErr result (λ f. f ≢ faults.WantOfMemory → last_answer (at_end (reading_of self.old, out.old.items)).0 ≡ Err f) }
+        ensures front { IsFront out.new.items (at_end (reading_of self.old, out.old.items)).1 }
+        ensures grows { IsFront out.old.items out.new.items }
+        ensures sound { (start : Pt3) → SoFar start self.old.lines out.old.items → AreSound start out.new.items }
+    {
+        if self.lines.has_ended() {
+            return Ok(());
+        }
+        let last = self.lines.read_line(self.unfinished.as_bytes())?;
+        add(out, last)?;
+        if self.lines.has_ended() {
+            return Ok(());
+        }
+        Err(NgcFault::NoEnd {
+            line: self.lines.line(),
+        })
+    }
+}
+
+// Adds the move of a line, if it makes one.
+fn add(moves: &mut Vec<Move>, made: Option<Move>) -> Result<(), NgcFault>
+    ensures ok { OnOk result (moves.new.items ≡ moves.old.items ++ made_list made) }
+    ensures fault { IfErr result (λ f. f ≡ faults.WantOfMemory) }
+    ensures kept { OnErr result (moves.new.items ≡ moves.old.items) }
+{
+    if let Some(made) = made {
+        moves.push(made)?;
+    }
+    Ok(())
+}

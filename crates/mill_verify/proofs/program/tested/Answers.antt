@@ -1,0 +1,23 @@
+use Rattle.std.specs.Prelude.{refl}
+use Rattle.mill_verify.specs.declared.verdict.Verdict.TheVariants.{Accept, Reject}
+use Rattle.mill_verify.specs.declared.verdict.Reason.TheVariants.{Gouge, Rapid}
+use Rattle.mill_verify.proofs.Accepted.{accepted_is_safe}
+use Rattle.mill_verify.proofs.Named.{blocked, stopped}
+use Rattle.mill_verify.proofs.program.tested.Goals as goal
+
+pub returns-clause-safe : goal.returns-clause-safe
+returns-clause-safe g c count columns left e =
+    let v = rw e at c.verdict_of.ensures.verdict in
+    accepted_is_safe c.args.job.now c.args.part.now c.args.moves.now (Accept count columns left) c.requires.job_ok c.requires.moves_ok v count columns left refl
+
+pub returns-clause-blocked : goal.returns-clause-blocked
+returns-clause-blocked g c number tri leaf e =
+    let v = rw e at c.verdict_of.ensures.verdict in
+    let s = rw e at c.verdict_of.ensures.shown in
+    blocked c.failing_is_blocked.ensures c.args.job.now c.args.part.now c.args.moves.now c.requires.job_ok c.requires.moves_ok (Reject (Gouge number tri leaf)) v s number tri leaf refl
+
+pub returns-clause-stopped : goal.returns-clause-stopped
+returns-clause-stopped g c number row col leaf e =
+    let v = rw e at c.verdict_of.ensures.verdict in
+    let s = rw e at c.verdict_of.ensures.shown in
+    stopped c.failing_is_blocked.ensures c.args.job.now c.args.part.now c.args.moves.now c.requires.job_ok c.requires.moves_ok (Reject (Rapid number row col leaf)) v s number row col leaf refl

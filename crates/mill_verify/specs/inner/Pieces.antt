@@ -1,0 +1,85 @@
+-- Tests (ii) and (iii) of a program as pieces of work that threads share: the blocks of its moves and, after them, the rows of the stock.
+use Rattle.std.specs.Prelude.{◌≡◌, ℕ, ◌+◌, ◌-◌, ◌<◌, ◌≤◌, cond, ltb, List, [], ◌∷◌, length}
+use Rattle.mill_base.specs.declared.limits.TheConstants.{MAX_MOVES}
+use Rattle.mill_base.specs.declared.points.Tri.{Tri}
+use Rattle.mill_base.specs.declared.motion.Move.{Move}
+use Rattle.mill_base.specs.Ranges.{MovesInRange}
+use Rattle.mill_board.specs.Works.{IsClosed, Means}
+use Rattle.mill_board.specs.declared.work.Held.{Held}
+use Rattle.mill_cells.specs.Sorted.{Sorted, sorted_of}
+use Rattle.mill_job.specs.declared.job.Job.{Job}
+use Rattle.mill_job.specs.Jobs.{IsJob}
+use Rattle.mill_job.specs.Columns.{row_count}
+use Rattle.mill_dexel.specs.Rows.{RowState}
+use Rattle.mill_dexel.specs.Turns.{ClearsRow, IsRowStopped, move_at, row_before}
+use Rattle.mill_verify.specs.Blocks.{IsBlockStopped, block_count, block_of}
+use Rattle.mill_verify.specs.Tests.{ClearsPart}
+use Rattle.mill_verify.specs.inner.Firsts.{block_before}
+use Rattle.mill_verify.specs.inner.Stock.{uncut_row}
+use Rattle.mill_verify.specs.declared.piece.Piece.{Piece}
+use Rattle.mill_verify.specs.declared.piece.Piece.TheVariants.{Block, Stock}
+
+-- what the tests are made of: the job, the part, the moves, and how many of these have turns
+pub record TestsShown : Type 0 where
+  pub job : Job
+  pub part : List Tri
+  pub moves : List Move
+  pub turns : ℕ
+
+-- the cells are the part's, the moves are in range, and no more of them have turns than there are
+pub record AreReady (job : Job) (part : List Tri) (cells : Sorted) (moves : List Move) (turns : ℕ) : Type 0 where
+  pub job_ok : IsJob job
+  pub cells_ok : cells ≡ sorted_of part
+  pub moves_ok : MovesInRange moves
+  pub few : length moves ≤ MAX_MOVES
+  pub within : turns ≤ length moves
+
+-- in how many blocks the moves stand that have turns
+abbrev pub blocks_of : TestsShown → ℕ
+blocks_of w = block_count w.turns
+
+-- the blocks and, after them, the rows
+abbrev pub piece_count : TestsShown → ℕ
+piece_count w = blocks_of w + row_count w.job
+
+-- the turns of a block are those of its moves, and a row has them all
+abbrev pub first_turn : TestsShown → ℕ → ℕ
+first_turn w n = cond (ltb n (blocks_of w)) (block_of w.turns n).first 0
+
+abbrev pub turn_limit : TestsShown → ℕ → ℕ
+turn_limit w n = cond (ltb n (blocks_of w)) (block_of w.turns n).limit w.turns
+
+-- a block before its first turn, or a row that is uncut
+abbrev pub fresh_piece : TestsShown → ℕ → Piece
+fresh_piece w n = cond (ltb n (blocks_of w)) (Block n (block_of w.turns n)) (Stock n (uncut_row w.job (n - blocks_of w)))
+
+-- piece n as its turns before t leave it, all of which it passed
+abbrev pub IsPieceAt : TestsShown → ℕ → ℕ → Piece → Type 0
+IsPieceAt w n t (Block m b) = (m ≡ n) × (n < blocks_of w) × (b ≡ block_before (block_of w.turns n) t)
+IsPieceAt w n t (Stock m r) = (m ≡ n) × (n ≡ blocks_of w + r.row) × (r ≡ row_before w.job w.moves (uncut_row w.job r.row) t)
+
+-- move t passes the test of piece n: a block's is that against the part, and a row's that against the row's columns
+pub record PassesTest (w : TestsShown) (n t : ℕ) : Type 0 where
+  pub part : n < blocks_of w → ClearsPart w.job w.part w.moves t
+  pub stock : (j : ℕ) → n ≡ blocks_of w + j → ClearsRow w.job (row_before w.job w.moves (uncut_row w.job j) t) (move_at w.moves t)
+
+-- piece n as its turn t leaves it, which it failed
+abbrev pub IsPieceFailed : TestsShown → ℕ → ℕ → Piece → Type 0
+IsPieceFailed w n t (Block m b) = (m ≡ n) × (n < blocks_of w) × IsBlockStopped w.job w.part w.moves (block_before (block_of w.turns n) t) b
+IsPieceFailed w n t (Stock m r) = (m ≡ n) × (n ≡ blocks_of w + r.row) × IsRowStopped w.job (move_at w.moves t) (row_before w.job w.moves (uncut_row w.job r.row) t) r
+
+-- what the tests mean as work
+abbrev pub tests : Means TestsShown Piece
+tests = record { pieces = piece_count; first = first_turn; limit = turn_limit; start = fresh_piece; IsAt = IsPieceAt; Passes = PassesTest; IsFailed = IsPieceFailed }
+
+-- what the tests come to
+abbrev pub AreTested : Job → List Tri → List Move → ℕ → ℕ → List (Held Piece) → Type 0
+AreTested job part moves turns least pieces = IsClosed tests (record { work = record { job = job; part = part; moves = moves; turns = turns }; turns = turns }) least pieces
+
+-- the row of the stock that a piece is, if it is one
+abbrev pub row_of : Piece → List RowState
+row_of (Block m b) = []
+row_of (Stock m r) = r ∷ []
+
+abbrev pub row_in : Held Piece → List RowState
+row_in h = row_of h.piece

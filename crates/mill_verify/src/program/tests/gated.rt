@@ -1,0 +1,97 @@
+//! A gate that shows that two threads share the tests, and that none is made twice.
+use super::*;
+use std::sync::atomic::Ordering::SeqCst;
+use std::sync::atomic::{AtomicBool, AtomicU64};
+use std::thread::yield_now;
+
+/// How long a turn is held up at most, in turns of the loop that waits.
+const PATIENCE: u32 = 10_000_000;
+
+/// Turn 0 of number 0 waits for turn 0 of number 1, and that one for it: no thread alone gets past them.
+#[derive(Drop)]
+struct Meeting {
+    /// How often turn 0 of each number came.
+    first: [AtomicU64; 4],
+    /// How often turn 1 of each number came.
+    second: [AtomicU64; 4],
+    /// A turn was held up for too long.
+    gave_up: AtomicBool,
+}
+
+fn no_turns() -> [AtomicU64; 4] {
+    [
+        AtomicU64::new(0),
+        AtomicU64::new(0),
+        AtomicU64::new(0),
+        AtomicU64::new(0),
+    ]
+}
+
+impl Meeting {
+    fn new() -> Meeting {
+        Meeting {
+            first: no_turns(),
+            second: no_turns(),
+            gave_up: AtomicBool::new(false),
+        }
+    }
+
+    fn count(&self, number: u64, turn: u64) {
+        let turns = match turn {
+            0 => &self.first,
+            1 => &self.second,
+            _ => return,
+        };
+        if let Some(turn) = turns.get(number as usize) {
+            turn.fetch_add(1, SeqCst);
+        }
+    }
+
+    fn wait_for(&self, number: usize) {
+        if let Some(first) = self.first.get(number) {
+            for _ in 0..PATIENCE {
+                if first.load(SeqCst) > 0 {
+                    return;
+                }
+                yield_now();
+            }
+            self.gave_up.store(true, SeqCst);
+        }
+    }
+}
+
+impl Gate for Meeting {
+    fn pass(&self, number: u64, turn: u64) {
+        self.count(number, turn);
+        match (number, turn) {
+            (0, 0) => self.wait_for(1),
+            (1, 0) => self.wait_for(0),
+            _ => {}
+        }
+    }
+}
+
+// Two moves are one block, and there are three rows: each has its two turns once.
+#[test]
+fn two_threads_meet(rt: HostRuntime) {
+    let alloc = rt.alloc();
+    let job = block_job(Cutter::Flat { radius: 150 }, 0, 0);
+    let part = plate(alloc, 200).unwrap_or_else(|_| panic!(rt; "want of memory"));
+    let moves = down_and_up(Kind::Feed, 200);
+    let meeting = Meeting::new();
+    let accept = Verdict::Accept {
+        moves: 2,
+        columns: 9,
+        most_left: 0,
+    };
+    assert_eq!(rt;
+        verify_with(&rt, alloc, &meeting, &job, &part, &moves, 2),
+        Ok(accept)
+    );
+    assert!(rt; !meeting.gave_up.load(SeqCst));
+    for turns in [&meeting.first, &meeting.second] {
+        for turn in turns.iter() {
+            assert_eq!(rt; turn.load(SeqCst), 1);
+        }
+    }
+}

@@ -1,0 +1,107 @@
+ghost use Rattle.std.specs.Prelude.{◌≡◌, ◌^◌, ◌<◌};
+ghost use Rattle.mill_verify.specs.inner.Pieces.{AreReady, piece_count};
+
+use crate::block::Block;
+use crate::piece::Piece;
+use mill_base::{Move, WantOfMemory};
+use mill_board::{Gate, Work};
+use mill_cells::Cells;
+use mill_dexel::Row;
+use mill_job::Job;
+use mill_part::Part;
+use std::alloc::Global;
+use std::marker::Model;
+
+/// Tests (ii) and (iii) of a program as work that threads share: its pieces are the blocks of moves and,
+/// after them, the rows of the stock, and each has a turn a move. The moves that have turns are those
+/// before the first that fails test (i).
+#[derive(Drop)]
+pub struct Tests<'a, G> {
+    job: &'a Job,
+    part: &'a Part,
+    cells: &'a Cells,
+    moves: &'a [Move],
+    turns: u64,
+    gate: G,
+}
+
+impl<'a, G> Model for Tests<'a, G> {
+    ghost use Rattle.mill_verify.specs.inner.Pieces.{AreReady, TestsShown};
+
+    ghost Value = { TestsShown };
+
+    ghost view = { λ w. record { job = w.job.now; part = w.part.now; moves = w.moves.now; turns = w.turns } };
+
+    ghost invariant = { λ w. AreReady w.job.now w.part.now w.cells.now w.moves.now w.turns };
+}
+
+impl<'a, G: Gate> Tests<'a, G> {
+    /// The tests of the first `turns` moves, each of which passes this gate first.
+    pub fn new(
+        job: &'a Job,
+        part: &'a Part,
+        cells: &'a Cells,
+        moves: &'a [Move],
+        turns: u64,
+        gate: G,
+    ) -> Tests<'a, G>
+        requires { AreReady job.now part.now cells.now moves.now turns }
+        ensures { result ≡ record { job = job.now; part = part.now; moves = moves.now; turns = turns } }
+    {
+        Tests {
+            job,
+            part,
+            cells,
+            moves,
+            turns,
+            gate,
+        }
+    }
+
+    /// How many pieces there are.
+    pub fn pieces(&self) -> u64
+        ensures count { result ≡ piece_count self.now }
+        ensures few { result < 2 ^ 32 }
+    {
+        Block::count(self.turns) + u64::from(self.job.rows())
+    }
+}
+
+impl<'a, G: Gate> Work for Tests<'a, G> {
+    type Piece = Piece;
+
+    ghost use Rattle.mill_verify.specs.inner.Pieces.{tests};
+
+    ghost means = { tests };
+
+    fn span(&self, number: u64) -> (u64, u64) {
+        if number < Block::count(self.turns) {
+            let block = Block::new(number, self.turns);
+            return (block.first(), block.limit());
+        }
+        (0, self.turns)
+    }
+
+    fn fresh(&self, alloc: Global, number: u64) -> Result<Piece, WantOfMemory> {
+        let blocks = Block::count(self.turns);
+        if number < blocks {
+            let block = Block::new(number, self.turns);
+            return Ok(Piece::Block { number, block });
+        }
+        let row = Row::new(alloc, self.job, number - blocks)?;
+        Ok(Piece::Stock { number, row })
+    }
+
+    fn turn(&self, piece: &mut Piece, turn: u64) -> bool {
+        match piece {
+            Piece::Block { number, block } => {
+                self.gate.pass(*number, turn);
+                block.turn(self.job, self.part, self.cells, self.moves, turn)
+            }
+            Piece::Stock { number, row } => {
+                self.gate.pass(*number, turn);
+                row.turn(self.job, self.moves, turn)
+            }
+        }
+    }
+}
