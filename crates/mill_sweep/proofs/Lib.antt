@@ -9,6 +9,7 @@ pub mod Lower
 mod Computed
 mod Rows
 pub mod Far
+pub mod Reach
 mod Rest
 mod Roots
 mod Besides
