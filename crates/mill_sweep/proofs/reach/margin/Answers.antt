@@ -8,7 +8,7 @@ use Rattle.mill_base.specs.Sizes.{HasRadius, IsCutter, radius_of}
 use Rattle.mill_base.specs.declared.cutter.Cutter.{Cutter}
 use Rattle.mill_base.specs.declared.cutter.Cutter.TheVariants.{Flat, Ball, Cone}
 use Rattle.mill_base.specs.declared.limits.TheConstants.{MAX_COORDINATE, MAX_RADIUS}
-use Rattle.mill_sweep.proofs.Reach.{margin_least}
+use Rattle.mill_sweep.proofs.OutOfReach.{margin_least}
 use Rattle.mill_sweep.proofs.reach.margin.Goals as goal
 
 sized : (cutter : Cutter) → IsCutter cutter → HasRadius (radius_of cutter) MAX_RADIUS

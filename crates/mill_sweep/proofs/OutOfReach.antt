@@ -19,6 +19,7 @@ use Rattle.mill_sweep.specs.Moments.{IsFar}
 use Rattle.mill_sweep.specs.Reach.{margin_of, low_side_of, high_side_of, reach_box_of, low_end_of, OutOfReachPasses}
 use Rattle.mill_sweep.proofs.Far.{far_passes}
 use Rattle.mill_sweep.proofs.Passing.{radius_least}
+use Rattle.mill_sweep.proofs.Sides.{least_of, most_of, ends_of, joined, split, wide}
 
 -- some place is in both stretches
 record HasCommon (low high from to : ℤ) : Type 0 where
@@ -33,15 +34,6 @@ module _ (r f t a b c : ℤ) (least : (pos 0) ≤ℤ r) (f_ok : Within MAX_COORD
   along : LieApart r f t a b c ⊎ HasCommon (lesser a (lesser b c)) (greater a (greater b c)) (low_side_of f t r) (high_side_of f t r)
   along = by (int_lt (greater f t +ℤ r) (lesser a (lesser b c))) refl (int_lt (greater a (greater b c)) (lesser f t -ℤ r)) refl
     where
-      lows : (a b c : ℤ) → (lesser a (lesser b c) ≤ℤ a) × (lesser a (lesser b c) ≤ℤ b) × (lesser a (lesser b c) ≤ℤ c)
-      lows a b c = grind (arith, ints)
-
-      highs : (a b c : ℤ) → (a ≤ℤ greater a (greater b c)) × (b ≤ℤ greater a (greater b c)) × (c ≤ℤ greater a (greater b c))
-      highs a b c = grind (arith, ints)
-
-      ends : (f t : ℤ) → (lesser f t ≤ℤ f) × (lesser f t ≤ℤ t) × (f ≤ℤ greater f t) × (t ≤ℤ greater f t)
-      ends f t = grind (arith, ints)
-
       over : (e h r l x : ℤ) → e ≤ℤ h → int_lt (h +ℤ r) l ≡ true → l ≤ℤ x → (e +ℤ r) ≤ℤ x
       over e h r l x p q s = omega (p, q, s, arith, ints)
 
@@ -63,23 +55,11 @@ module _ (r f t a b c : ℤ) (least : (pos 0) ≤ℤ r) (f_ok : Within MAX_COORD
         left_too = grind (q, s, arith, ints);
       }
 
-      -- a number is over the greater of two where it is over both, and under the lesser of two where it is under both
-      joined : (a b n : ℤ) → a ≤ℤ n → b ≤ℤ n → greater a b ≤ℤ n
-      joined a b n p q = grind (p, q, arith, ints)
-
-      split : (a b n : ℤ) → n ≤ℤ a → n ≤ℤ b → n ≤ℤ lesser a b
-      split a b n p q = grind (p, q, arith, ints)
-
       not_over : (h r low : ℤ) → int_lt (h +ℤ r) low ≡ false → low ≤ℤ (h +ℤ r)
       not_over h r low e = omega (e, arith, ints)
 
       not_under : (high l r : ℤ) → int_lt high (l -ℤ r) ≡ false → (l -ℤ r) ≤ℤ high
       not_under high l r e = omega (e, arith, ints)
-
-      -- a stretch of one place and more, wider by r, still begins before it ends, also where it is cut off
-      wide : (l h e r : ℤ) → l ≤ℤ e → e ≤ℤ h → (pos 0) ≤ℤ r → nat_abs e ≤ 524287
-          → ((l -ℤ r) ≤ℤ (h +ℤ r)) × ((l -ℤ r) ≤ℤ pos 524287) × ((pos 0 -ℤ pos 524287) ≤ℤ (h +ℤ r)) × ((pos 0 -ℤ pos 524287) ≤ℤ pos 524287)
-      wide l h e r p q s u = (omega (p, q, s, arith, ints), omega (p, s, u, arith, ints), omega (q, s, u, arith, ints), omega (arith, ints))
 
       through : (a b c : ℤ) → a ≤ℤ b → b ≤ℤ c → a ≤ℤ c
       through a b c p q = omega (p, q, arith, ints)
@@ -89,18 +69,18 @@ module _ (r f t a b c : ℤ) (least : (pos 0) ≤ℤ r) (f_ok : Within MAX_COORD
       common e g =
           let low = lesser a (lesser b c) in
           let high = greater a (greater b c) in
-          let n = ends f t in
+          let n = ends_of f t in
           let w = wide (lesser f t) (greater f t) f r n.0 n.2 least f_ok.within in
-          met low high _ _ (through low a high (lows a b c).0 (highs a b c).0)
+          met low high _ _ (through low a high (least_of a b c).0 (most_of a b c).0)
           (split _ _ _ (joined _ _ _ w.0 w.2) (joined _ _ _ w.1 w.3))
-          (split _ _ low (not_over (greater f t) r low e) (low_most (pos 0) low a (lows a b c).0 a_ok.within))
-          (joined _ _ high (not_under high (lesser f t) r g) (high_least high a (highs a b c).0 a_ok.within))
+          (split _ _ low (not_over (greater f t) r low e) (low_most (pos 0) low a (least_of a b c).0 a_ok.within))
+          (joined _ _ high (not_under high (lesser f t) r g) (high_least high a (most_of a b c).0 a_ok.within))
 
       by : (p : Bool) → int_lt (greater f t +ℤ r) (lesser a (lesser b c)) ≡ p → (q : Bool) → int_lt (greater a (greater b c)) (lesser f t -ℤ r) ≡ q
           → LieApart r f t a b c ⊎ HasCommon (lesser a (lesser b c)) (greater a (greater b c)) (low_side_of f t r) (high_side_of f t r)
       by true e q g =
-          let l = lows a b c in
-          let n = ends f t in
+          let l = least_of a b c in
+          let n = ends_of f t in
           inl (inl (record {
             a_e = over f _ r _ a n.2 e l.0;
             b_e = over f _ r _ b n.2 e l.1;
@@ -110,8 +90,8 @@ module _ (r f t a b c : ℤ) (least : (pos 0) ≤ℤ r) (f_ok : Within MAX_COORD
             c_f = over t _ r _ c n.3 e l.2;
           }))
       by false e true g =
-          let h = highs a b c in
-          let n = ends f t in
+          let h = most_of a b c in
+          let n = ends_of f t in
           inl (inr (record {
             a_e = under f _ r _ a h.0 g n.0;
             b_e = under f _ r _ b h.1 g n.0;
@@ -124,10 +104,10 @@ module _ (r f t a b c : ℤ) (least : (pos 0) ≤ℤ r) (f_ok : Within MAX_COORD
 
 -- the margin of a job's cutter
 pub margin_least : (cutter : Cutter) → IsCutter cutter → (pos 0) ≤ℤ margin_of cutter
-margin_least cutter ok = wide (radius_of cutter) (radius_least cutter ok)
+margin_least cutter ok = more (radius_of cutter) (radius_least cutter ok)
   where
-    wide : (r : ℤ) → (pos 1) ≤ℤ r → (pos 0) ≤ℤ (r +ℤ pos 2)
-    wide r h = omega (h, arith, ints)
+    more : (r : ℤ) → (pos 1) ≤ℤ r → (pos 0) ≤ℤ (r +ℤ pos 2)
+    more r h = omega (h, arith, ints)
 
 -- a triangle is far from the move, or its box meets the box about it
 far_or_near : (cutter : Cutter) (m : Move) (tri : Tri) → IsCutter cutter → MoveInRange m → TriInRange tri → IsFar cutter m tri ⊎ Meet (box_of tri) (reach_box_of cutter m)
@@ -148,19 +128,13 @@ far_or_near cutter m tri ok ranged inside =
 -- a triangle that doesn't come over the lower of the move's ends is passed
 low_passes : (cutter : Cutter) (m : Move) (tri : Tri) → IsCutter cutter → MoveInRange m → highest tri ≤ℤ low_end_of m → Passes cutter m tri
 low_passes cutter m tri ok ranged low =
-    let h = corners tri.a.z tri.b.z tri.c.z in
-    let e = ends m.from.z m.to.z in
+    let h = most_of tri.a.z tri.b.z tri.c.z in
+    let e = ends_of m.from.z m.to.z in
     far_passes cutter m tri ok ranged (inl (record {
       from = record { a = through _ _ _ _ h.0 low e.0; b = through _ _ _ _ h.1 low e.0; c = through _ _ _ _ h.2 low e.0 };
       to = record { a = through _ _ _ _ h.0 low e.1; b = through _ _ _ _ h.1 low e.1; c = through _ _ _ _ h.2 low e.1 };
     }))
   where
-    corners : (a b c : ℤ) → (a ≤ℤ greater a (greater b c)) × (b ≤ℤ greater a (greater b c)) × (c ≤ℤ greater a (greater b c))
-    corners a b c = grind (arith, ints)
-
-    ends : (a b : ℤ) → (lesser a b ≤ℤ a) × (lesser a b ≤ℤ b)
-    ends a b = grind (arith, ints)
-
     through : (a b c d : ℤ) → a ≤ℤ b → b ≤ℤ c → c ≤ℤ d → a ≤ℤ d
     through a b c d p q r = omega (p, q, r, arith, ints)
 
