@@ -1,7 +1,8 @@
 -- The first gouge of a move, triangle by triangle of those that are in its reach.
-use Rattle.std.proofs.Common.{◌≡◌, ◌⊎◌, ◌↔◌, inl, inr, refl, ℕ, ◌<◌, Bool, true, false, List, [], ◌∷◌, length, map, get_or, sym, subst, ap, ◌∙◌, arith}
-use Rattle.std.specs.Prelude.{Option, Some, None, MatchOption, int_lt, nat_eq}
+use Rattle.std.proofs.Common.{◌≡◌, ◌⊎◌, ◌↔◌, inl, inr, refl, ℕ, ◌<◌, Bool, true, false, List, [], ◌∷◌, length, map, get_or, sym, subst, ◌∙◌, arith}
+use Rattle.std.specs.Prelude.{Option, Some, None, MatchOption, int_lt, int_le}
 use Rattle.std.specs.List.{Contains}
+use Rattle.std.proofs.lemmas.Bool.Decides.{eqb_tells}
 use Rattle.std.proofs.lemmas.Int.{ints}
 use Rattle.std.proofs.lemmas.List.{length-map, get_or-map}
 use Rattle.std.proofs.lemmas.List.Elements.{Contains-get_or}
@@ -43,6 +44,13 @@ over_clears cutter m part top out ok ranged tris under over t inside =
     most : (a b c top low : ℤ) → a ≤ℤ top → b ≤ℤ top → c ≤ℤ top → top ≤ℤ low → greater a (greater b c) ≤ℤ low
     most a b c top low p q r s = grind (p, q, r, s, arith, ints)
 
+-- the test whether it does, of the two heights as they are stored
+pub is_over : (top low end stored_top stored_low : ℤ) → stored_top ≡ top → stored_low ≡ low → low ≡ end → int_le stored_top stored_low ≡ true → top ≤ℤ end
+is_over top low end stored_top stored_low p q r e = subst (λ (z : ℤ). z ≤ℤ end) p (subst (λ (z : ℤ). stored_top ≤ℤ z) (q ∙ r) (tested stored_top stored_low e))
+  where
+    tested : (a b : ℤ) → int_le a b ≡ true → a ≤ℤ b
+    tested a b e = omega (e, arith, ints)
+
 -- the triangle is one of the part's, the move fails at it, and it blocks the leaf
 pub record IsFound (cutter : Cutter) (m : Move) (part : List Tri) (gouge : Gouge) : Type 0 where
   pub tri : gouge.tri < length part
@@ -58,21 +66,16 @@ pub record IsLooking (cutter : Cutter) (m : Move) (part : List Tri) (left : List
 -- a number is one of the list's, or isn't
 is_one : (xs : List ℕ) (i : ℕ) → Contains xs i ⊎ (Contains xs i → ⊥)
 is_one [] i = inr (nothing_in_nil i)
-is_one (x ∷ xs) i = by (nat_eq x i) refl (is_one xs i)
-  where
-    same : nat_eq x i ≡ true → x ≡ i
-    same e = omega (e, arith)
-
-    apart : nat_eq x i ≡ false → x ≡ i → ⊥
-    apart e p = omega (e, p, arith)
-
-    by : (b : Bool) → nat_eq x i ≡ b → Contains xs i ⊎ (Contains xs i → ⊥) → Contains (x ∷ xs) i ⊎ (Contains (x ∷ xs) i → ⊥)
-    by true e rest = inl (subst (Contains (x ∷ xs)) (same e) (here x xs))
-    by false e (inl c) = inl (there x xs i c)
-    by false e (inr none) = inr (λ c. elim (cons_cases x xs i c) [
-      | inl p ↦ apart e p
+is_one (x ∷ xs) i = elim (eqb_tells x i) [
+  | inl same ↦ inl (subst (Contains (x ∷ xs)) same.1 (here x xs))
+  | inr apart ↦ elim (is_one xs i) [
+    | inl c ↦ inl (there x xs i c)
+    | inr none ↦ inr (λ c. elim (cons_cases x xs i c) [
+      | inl same ↦ apart.1 same
       | inr later ↦ none later
     ])
+  ]
+]
 
 -- a triangle of the part that isn't near and over the lower end is passed
 out_passes : (cutter : Cutter) (m : Move) (part : List Tri) (t : ℕ) → OutOfReachPasses → IsCutter cutter → MoveInRange m → TrisInRange part → t < length part
@@ -82,11 +85,11 @@ out_passes cutter m part t out ok ranged tris inside none = by (int_lt (low_end_
     tri_ok : TriInRange (tri_at part t)
     tri_ok = part_in_range part t tris inside
 
-    is_over : (a b : ℤ) → int_lt a b ≡ true → a <ℤ b
-    is_over a b e = omega (e, arith, ints)
+    over_it : (a b : ℤ) → int_lt a b ≡ true → a <ℤ b
+    over_it a b e = omega (e, arith, ints)
 
-    isn't_over : (a b : ℤ) → int_lt a b ≡ false → b ≤ℤ a
-    isn't_over a b e = omega (e, arith, ints)
+    under_it : (a b : ℤ) → int_lt a b ≡ false → b ≤ℤ a
+    under_it a b e = omega (e, arith, ints)
 
     near : Meet (box_of (tri_at part t)) (reach_box_of cutter m) → IsNear (map box_of part) (reach_box_of cutter m) t
     near meet = record {
@@ -95,8 +98,8 @@ out_passes cutter m part t out ok ranged tris inside none = by (int_lt (low_end_
     }
 
     by : (b : Bool) → int_lt (low_end_of m) (top_at (map highest part) t) ≡ b → Passes cutter m (tri_at part t)
-    by true e = out cutter m (tri_at part t) ok ranged tri_ok (inl (λ meet. none (record { near = near meet; over = is_over _ _ e })))
-    by false e = out cutter m (tri_at part t) ok ranged tri_ok (inr (subst (λ (h : ℤ). h ≤ℤ low_end_of m) (top_is part t _ inside) (isn't_over _ _ e)))
+    by true e = out cutter m (tri_at part t) ok ranged tri_ok (inl (λ meet. none (record { near = near meet; over = over_it _ _ e })))
+    by false e = out cutter m (tri_at part t) ok ranged tri_ok (inr (subst (λ (h : ℤ). h ≤ℤ low_end_of m) (top_is part t _ inside) (under_it _ _ e)))
 
 -- before the first triangle, those in reach are left
 pub look_starts : (cutter : Cutter) (m : Move) (part : List Tri) (sorted : Sorted) (left : List ℕ) → OutOfReachPasses → IsCutter cutter → MoveInRange m → TrisInRange part → sorted ≡ sorted_of part
@@ -112,6 +115,14 @@ look_starts cutter m part sorted left out ok ranged tris e each = record {
   where
     near : (i : ℕ) → Contains left i ↔ IsNearOver (sorted_of part) (reach_box_of cutter m) (low_end_of m) i
     near = subst (λ (s : Sorted). (i : ℕ) → Contains left i ↔ IsNearOver s (reach_box_of cutter m) (low_end_of m) i) e each
+
+-- what comes of the cells is in the move's reach
+pub reach_each : (cutter : Cutter) (m : Move) (sorted : Sorted) (items left : List ℕ) (area : Box2) (low : ℤ) → left ≡ items → area ≡ reach_box_of cutter m → low ≡ low_end_of m
+    → ((i : ℕ) → Contains items i ↔ IsNearOver sorted area low i) → (i : ℕ) → Contains left i ↔ IsNearOver sorted (reach_box_of cutter m) (low_end_of m) i
+reach_each cutter m sorted items left area low same area_is low_is each =
+    subst (λ (l : List ℕ). (i : ℕ) → Contains l i ↔ IsNearOver sorted (reach_box_of cutter m) (low_end_of m) i) (sym same)
+    (subst (λ (b : Box2). (i : ℕ) → Contains items i ↔ IsNearOver sorted b (low_end_of m) i) area_is
+    (subst (λ (z : ℤ). (i : ℕ) → Contains items i ↔ IsNearOver sorted area z i) low_is each))
 
 -- each triangle that comes is one of the part's
 pub next_within : (cutter : Cutter) (m : Move) (part : List Tri) (left later : List ℕ) (i : ℕ) (first : Option Gouge) → left ≡ i ∷ later → IsLooking cutter m part left first → i < length part
