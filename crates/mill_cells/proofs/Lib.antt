@@ -6,6 +6,7 @@ pub mod Given
 pub mod LidLemmas
 pub mod Lists
 pub mod Meeting
+pub mod Over
 pub mod OverLemmas
 pub mod PassedLemmas
 pub mod Passing

@@ -3,13 +3,14 @@ ghost use Rattle.std.specs.List.{IsDistinct};
 ghost use Rattle.mill_base.specs.Ranges.{TrisInRange};
 ghost use Rattle.mill_cells.specs.Boxes.{IsNear};
 ghost use Rattle.mill_cells.specs.Sizes.{IsSmallGrid, IsCellSize};
-ghost use Rattle.mill_cells.specs.Sorted.{sorted_of};
+ghost use Rattle.mill_cells.specs.Sorted.{sorted_of, IsNearOver};
 
 use crate::boxes::{bounds, tri_box, tri_top};
 use crate::frame::Frame;
 use crate::grid::{Grid, sorted};
 use crate::near::Near;
 use crate::near_over::NearOver;
+use crate::near_rising::NearRising;
 use crate::size;
 use mill_base::{Box2, Tri, WantOfMemory};
 use std::alloc::Global;
@@ -82,15 +83,27 @@ impl Cells {
         Near::new(&self.grid, area)
     }
 
-    /// The triangles whose box meets the area, of which `NearOver::next_over` gives those over a
-    /// height; touching borders meet.
+    /// The numbers of the triangles whose box meets the area and whose top, the greatest of its three
+    /// heights, is over `z`, each once; touching borders meet.
+    ///
+    /// The area is as for `near`, and `z` in units of 0.01 mm. It doesn't look at the triangles of a
+    /// cell in which none is over `z`.
+    pub fn near_over(&self, area: Box2, z: i32) -> NearOver<'_>
+        ensures each { (i : ℕ) → Contains result i ↔ IsNearOver self.now area z i }
+        ensures once { IsDistinct nat_eq result }
+    {
+        NearOver::new(&self.grid, area, z)
+    }
+
+    /// The triangles whose box meets the area, of which `NearRising::next_over` gives those over a
+    /// height that may rise from call to call; touching borders meet.
     ///
     /// It doesn't look at the triangles of a cell in which none is over the height.
-    pub fn near_over(&self, area: Box2) -> NearOver<'_>
+    pub fn near_rising(&self, area: Box2) -> NearRising<'_>
         ensures each { (i : ℕ) → Contains result.numbers i ↔ IsNear self.now.boxes area i }
         ensures once { IsDistinct nat_eq result.numbers }
         ensures tops { result.tops ≡ self.now.tops }
     {
-        NearOver::new(&self.grid, area)
+        NearRising::new(&self.grid, area)
     }
 }

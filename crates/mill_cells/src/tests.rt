@@ -71,7 +71,7 @@ fn top_near(cells: &Cells, tris: &[Tri], area: Box2, floor: i32) -> i32
     ensures { (i : ℕ) → IsNear cells.now.boxes area i → top_at cells.now.tops i ≤ℤ result }
 {
     let mut top = floor;
-    let mut near = cells.near_over(area);
+    let mut near = cells.near_rising(area);
     while let Some(number) = near.next_over(top) {
         top = tri_top(&tris[number as usize]);
     }
@@ -123,10 +123,71 @@ fn gives_what_is_over_a_height(rt: HostRuntime) -> Result<(), Fail> {
         y1: 10,
     };
     for (height, first, second) in [(4, Some(0), Some(1)), (5, Some(1), None), (8, None, None)] {
-        let mut near = cells.near_over(area);
+        let mut near = cells.near_rising(area);
         assert_eq!(rt; near.next_over(height), first, "over {height}");
         assert_eq!(rt; near.next_over(height), second, "over {height}");
         assert_eq!(rt; near.next_over(-9), None, "after {height}");
+    }
+    Ok(())
+}
+
+/// A level triangle at the height 200.
+fn plate() -> [Tri; 1]
+    ensures { TrisInRange result }
+{
+    [Tri {
+        a: at(0, 0, 200),
+        b: at(100, 0, 200),
+        c: at(0, 100, 200),
+    }]
+}
+
+// A triangle comes over a height that is under its own, and not over its own.
+#[test]
+fn gives_a_plate_under_its_height(rt: HostRuntime) -> Result<(), Fail> {
+    let tris = plate();
+    let size = Cells::size_for(&tris);
+    let cells = Cells::new(rt.alloc(), &tris, size).unwrap_or_else(|_| panic!(rt;
+        "want of memory"
+    ));
+    let area = Box2 {
+        x0: 0,
+        y0: 0,
+        x1: 10,
+        y1: 10,
+    };
+    for (z, want) in [(199, Some(0)), (200, None)] {
+        let mut near = cells.near_over(area, z);
+        assert_eq!(rt; near.next(), want, "over {z}");
+        assert_eq!(rt; near.next(), None, "over {z}");
+    }
+    Ok(())
+}
+
+// Of the triangles near the area, each that is over the height comes once.
+#[test]
+fn gives_each_near_over_a_height(rt: HostRuntime) -> Result<(), Fail> {
+    let tris = apart();
+    let size = Cells::size_for(&tris);
+    let cells = Cells::new(rt.alloc(), &tris, size).unwrap_or_else(|_| panic!(rt;
+        "want of memory"
+    ));
+    for (x0, z, first, second) in [
+        (10, 4, Some(0), Some(1)),
+        (11, 4, Some(1), None),
+        (10, 5, Some(1), None),
+        (10, 8, None, None),
+    ] {
+        let area = Box2 {
+            x0,
+            y0: 0,
+            x1: 100,
+            y1: 10,
+        };
+        let mut near = cells.near_over(area, z);
+        assert_eq!(rt; near.next(), first, "from {x0} over {z}");
+        assert_eq!(rt; near.next(), second, "from {x0} over {z}");
+        assert_eq!(rt; near.next(), None, "from {x0} over {z}");
     }
     Ok(())
 }

@@ -52,7 +52,7 @@ pub fn raised_near(part: &Part, cells: &Cells, spindle: Spindle, area: Box2, fro
 {
     let tris = part.tris();
     let mut height = from;
-    let mut near = cells.near_over(area);
+    let mut near = cells.near_rising(area);
     while let Some(number) = near.next_over(height) {
         height = spindle.raised(&tris[number as usize], height);
     }

@@ -5,12 +5,11 @@ ghost use Rattle.mill_cells.specs.Sorted.{sorted_of};
 ghost use Rattle.mill_sweep.specs.Halving.{Passes};
 ghost use Rattle.mill_gouge.specs.Gouges.{PassesPart};
 
-use crate::area::{area_about, is_over, low_end};
 use crate::top::lid;
 use mill_base::{Cutter, Move, Tri};
 use mill_cells::Cells;
 use mill_part::Part;
-use mill_sweep::Sweep;
+use mill_sweep::{Sweep, reach_box};
 
 /// Whether the move passes each triangle of the part.
 ///
@@ -22,15 +21,13 @@ pub fn clears(cutter: Cutter, part: &Part, cells: &Cells, step: &Move) -> bool
     requires move_ok { MoveInRange step.now }
     ensures { IsTrue result ↔ PassesPart cutter step.now part.now }
 {
-    let part_top = lid(part);
-    if is_over(step, part_top) {
+    let tris = part.tris();
+    let (area, low) = reach_box(cutter, step);
+    if low >= lid(part) {
         return true;
     }
-    let tris = part.tris();
-    let low = low_end(step);
     let sweep = Sweep::new(cutter, step);
-    let mut near = cells.near_over(area_about(cutter, step));
-    while let Some(tri) = near.next_over(low) {
+    for tri in cells.near_over(area, low) {
         if !passes(&sweep, &tris[tri as usize]) {
             return false;
         }

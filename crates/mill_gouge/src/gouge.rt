@@ -5,12 +5,11 @@ ghost use Rattle.mill_cells.specs.Sorted.{sorted_of};
 ghost use Rattle.mill_gouge.specs.inner.Firsts.{IsEarlier};
 ghost use Rattle.mill_gouge.specs.Gouges.{IsFirstGouge, PassesPart};
 
-use crate::area::{area_about, is_over, low_end};
 use crate::top::lid;
 use mill_base::{Cutter, Move, Tri};
 use mill_cells::Cells;
 use mill_part::Part;
-use mill_sweep::{Leaf, Sweep};
+use mill_sweep::{Leaf, Sweep, reach_box};
 
 /// A triangle that a move doesn't pass, and the leaf of the move that it blocks. Triangles are
 /// counted from 0.
@@ -37,16 +36,14 @@ pub fn first_gouge(cutter: Cutter, part: &Part, cells: &Cells, step: &Move) -> O
         (PassesPart cutter step.now part.now)
         (IsFirstGouge cutter step.now part.now) }
 {
-    let part_top = lid(part);
-    if is_over(step, part_top) {
+    let tris = part.tris();
+    let (area, low) = reach_box(cutter, step);
+    if low >= lid(part) {
         return None;
     }
-    let tris = part.tris();
-    let low = low_end(step);
     let sweep = Sweep::new(cutter, step);
     let mut first = None;
-    let mut near = cells.near_over(area_about(cutter, step));
-    while let Some(tri) = near.next_over(low) {
+    for tri in cells.near_over(area, low) {
         first = earlier(first, &sweep, &tris[tri as usize], tri);
     }
     first

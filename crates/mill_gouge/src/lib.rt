@@ -4,11 +4,10 @@
 //! It stands on the part and its cells (mill_part, mill_cells) and on `mill_sweep`, which tries one
 //! triangle. It promises that `clears` is so exactly where the move passes each triangle by halving,
 //! and that `first_gouge` else names the least triangle that the move doesn't pass, with its failing
-//! leaf, which that triangle blocks. Only triangles near the move are tried. Definitions:
-//! `specs/Gouges`; `specs/Near` and `specs/Firsts` serve the functions within.
+//! leaf, which that triangle blocks. Only triangles in the move's reach are tried. Definitions:
+//! `specs/Gouges`; `specs/inner/Firsts` serves the functions within.
 #![tactic(auto)]
 
-mod area;
 mod clear;
 mod gouge;
 mod top;

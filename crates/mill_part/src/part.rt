@@ -167,7 +167,7 @@ impl Part {
         let tris = self.tris();
         let column = Column { x, y, band };
         let mut height = floor;
-        let mut near = cells.near_over(column.area());
+        let mut near = cells.near_rising(column.area());
         while let Some(number) = near.next_over(height) {
             height = column.raised(height, &tris[number as usize]);
         }
@@ -215,7 +215,7 @@ fn has_near_point_over(tris: &[Tri], cells: &Cells, column: Column, height: i32)
         → ¬ HasPointOver tris.now column.band column.x column.y height }
 {
     let lower = height - 1;
-    let mut near = cells.near_over(column.area());
+    let mut near = cells.near_rising(column.area());
     while let Some(number) = near.next_over(lower) {
         if column.is_covered(&tris[number as usize], height) {
             return true;

@@ -101,7 +101,7 @@ impl Pusher {
     {
         let tris = part.tris();
         let mut runs = Vec::new(alloc);
-        let mut near = cells.near_over(self.strip(from, to));
+        let mut near = cells.near_rising(self.strip(from, to));
         while let Some(number) = near.next_over(self.fiber.z) {
             let tri = &tris[number as usize];
             let Some(stretch) = self.new_stretch(tri, from, to, &runs, steps) else {

@@ -9,6 +9,8 @@ pub mod Lower
 mod Computed
 mod Rows
 pub mod Far
+pub mod OutOfReach
+mod Sides
 mod Rest
 mod Roots
 mod Besides

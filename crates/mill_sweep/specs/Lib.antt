@@ -5,3 +5,4 @@ pub mod Halving
 pub mod Sweeps
 pub mod Moments
 pub mod Vertical
+pub mod Reach

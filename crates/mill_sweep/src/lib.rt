@@ -1,11 +1,13 @@
 //! Which moves pass a triangle or a point at every moment, by halving the move into leaves.
 //!
-//! It stands on `mill_base`, `mill_shape` and the contact crates. Definitions: `specs/Leaves` says
-//! what the leaves of a move are and where they lie, `specs/Halving` which moves pass and which leaf
-//! of another move fails, `specs/Apart` when a triangle lies beside a move or under it,
-//! `specs/Moments` what passing implies at each moment, and `specs/Vertical` what a move straight up
-//! or down passes. `passes_tri` decides whether a move passes, and `first_block` names its failing
-//! leaf. A `Sweep` does so for many triangles and one move.
+//! It stands on `mill_base`, `mill_shape` and the contact crates, and says by mill_cells when boxes
+//! meet. Definitions: `specs/Leaves` says what the leaves of a move are and where they lie,
+//! `specs/Halving` which moves pass and which leaf of another move fails, `specs/Apart` when a
+//! triangle lies beside a move or under it, `specs/Reach` in which box and over which height each
+//! triangle comes that a move doesn't pass, `specs/Moments` what passing implies at each moment, and
+//! `specs/Vertical` what a move straight up or down passes. `passes_tri` decides whether a move
+//! passes, and `first_block` names its failing leaf. A `Sweep` does so for many triangles and one
+//! move. `reach_box` says which triangles need to be tried at all.
 #![tactic(auto)]
 
 mod beside;
@@ -19,6 +21,7 @@ mod leaf_span;
 mod leaf_test;
 mod moments;
 mod move_depth;
+mod reach;
 mod sweep;
 #[cfg(test)]
 mod tests;
@@ -33,4 +36,5 @@ pub use moments::{
     vertical_passes, vertical_passes_point,
 };
 pub use move_depth::depth;
+pub use reach::{out_of_reach_passes, reach_box};
 pub use sweep::Sweep;

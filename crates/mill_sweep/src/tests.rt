@@ -2,6 +2,7 @@ ghost use Rattle.mill_base.specs.Ranges.{IsInRange, MoveInRange, TriInRange};
 
 use crate::halving::{first_block, first_block_point, passes_point, passes_tri, triangle_at};
 use crate::leaf::Leaf;
+use crate::reach::reach_box;
 use mill_base::{Cutter, Kind, Move, Pt3, Tri};
 
 fn at(x: i16, y: i16, z: i16) -> Pt3
@@ -104,4 +105,28 @@ fn ball_runs_into_a_point(rt: HostRuntime) {
         assert_eq!(rt; first_block_point(ball, &step, point), want, "at {z}");
         assert_eq!(rt; passes_point(ball, &step, point), want.is_none(), "at {z}");
     }
+}
+
+// The ends' box, wider by the radius and 2, and the lower end; no further out than 524,287.
+#[test]
+fn reach_is_the_box_of_the_ends(rt: HostRuntime) {
+    let flat = Cutter::Flat { radius: 150 };
+    let (area, low) = reach_box(flat, &feed((100, -200, 400), (300, 50, 20)));
+    assert_eq!(rt; (area.x0, area.y0, area.x1, area.y1), (-52, -352, 452, 202));
+    assert_eq!(rt; low, 20);
+    let corner = Move {
+        kind: Kind::Feed,
+        from: Pt3 {
+            x: -524_287,
+            y: 524_287,
+            z: 0,
+        },
+        to: at(0, 0, 5),
+    };
+    let (area, low) = reach_box(flat, &corner);
+    assert_eq!(rt;
+        (area.x0, area.y0, area.x1, area.y1),
+        (-524_287, -152, 152, 524_287)
+    );
+    assert_eq!(rt; low, 0);
 }

@@ -4,7 +4,7 @@ use Rattle.mill_cells.proofs.TestLemmas.{top_starts, top_on, top_last, comes_wit
 use Rattle.mill_cells.proofs.tests.top_near.Goals as goal
 
 pub loop-number-init : goal.loop-number-init
-loop-number-init c = top_starts _ _ _ _ c.near_over-near.ensures.tops c.near_over-near.ensures.each
+loop-number-init c = top_starts _ _ _ _ c.near_rising-near.ensures.tops c.near_rising-near.ensures.each
 
 pub bounds-tris-number : goal.bounds-tris-number
 bounds-tris-number c = comes_within _ _ _ _ _ _ _ c.requires c.in-Some.ensures c.loop-number.invariant

@@ -9,8 +9,8 @@ use Rattle.mill_drop.proofs.near.raised_near.Goals as goal
 pub loop-number-init : goal.loop-number-init
 loop-number-init c =
     let from = coordinate c.args.from c.requires.from_ok in
-    rw (from, c.tris-tris.ensures.list) (raise_starts c.args.spindle.cutter c.args.part.now no_tri c.args.area c.args.spindle.x c.args.spindle.y c.args.from c.args.cells.now c.near_over-near.result
-    c.requires.from_ok c.requires.cells_ok c.near_over-near.ensures.tops c.near_over-near.ensures.each)
+    rw (from, c.tris-tris.ensures.list) (raise_starts c.args.spindle.cutter c.args.part.now no_tri c.args.area c.args.spindle.x c.args.spindle.y c.args.from c.args.cells.now c.near_rising-near.result
+    c.requires.from_ok c.requires.cells_ok c.near_rising-near.ensures.tops c.near_rising-near.ensures.each)
 
 pub loop-number-smaller : goal.loop-number-smaller
 loop-number-smaller c = c.in-Some.ensures.shorter

@@ -1,9 +1,6 @@
-use Rattle.std.specs.Prelude.{length, None}
+use Rattle.std.specs.Prelude.{None}
 use Rattle.mill_gouge.proofs.Looking.{IsLooking}
 use Rattle.mill_gouge.proofs.clear.clears.Given as goal
 
 abbrev pub invariant-loop-tri : goal.invariant-loop-tri
-invariant-loop-tri l = IsLooking l.fn.cutter l.step l.part l.near None
-
-abbrev pub decreases-loop-tri : goal.decreases-loop-tri
-decreases-loop-tri l = length l.near.numbers
+invariant-loop-tri l = IsLooking l.fn.cutter l.step l.part l.tri-iterator None

@@ -9,8 +9,8 @@ use Rattle.mill_part.proofs.part.has_near_point_over.Goals as goal
 
 pub loop-number-init : goal.loop-number-init
 loop-number-init c =
-    search_starts c.args.tris.now no_tri c.args.column.band c.args.column.x c.args.column.y _ c.args.cells.now c.near_over-near.result c.requires.cells_ok c.near_over-near.ensures.tops
-    (rw c.area.ensures at c.near_over-near.ensures.each)
+    search_starts c.args.tris.now no_tri c.args.column.band c.args.column.x c.args.column.y _ c.args.cells.now c.near_rising-near.result c.requires.cells_ok c.near_rising-near.ensures.tops
+    (rw c.area.ensures at c.near_rising-near.ensures.each)
 
 pub loop-number-smaller : goal.loop-number-smaller
 loop-number-smaller c = c.in-Some.ensures.shorter

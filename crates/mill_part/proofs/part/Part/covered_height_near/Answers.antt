@@ -14,9 +14,9 @@ loop-number-init c =
     let y = coordinate c.args.y c.requires.y_ok in
     let band = band_kept c.args.band c.requires.band_least c.requires.band_most in
     let square = rw (x, y, band) at c.area.ensures in
-    let each = rw square at c.near_over-near.ensures.each in
+    let each = rw square at c.near_rising-near.ensures.each in
     rw (floor, x, y, band, c.tris-tris.ensures.list) (
-      scan_starts c.args.self.now no_tri c.args.floor c.args.band c.args.x c.args.y c.args.cells.now c.near_over-near.result c.requires.cells_ok c.near_over-near.ensures.tops each,
+      scan_starts c.args.self.now no_tri c.args.floor c.args.band c.args.x c.args.y c.args.cells.now c.near_rising-near.result c.requires.cells_ok c.near_rising-near.ensures.tops each,
       c.requires.floor_ok,
     )
 

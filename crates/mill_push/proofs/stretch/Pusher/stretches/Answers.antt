@@ -10,8 +10,8 @@ loop-number-init g c =
     let from = stored c.args.from c.requires.from_ok in
     let to = stored c.args.to c.requires.to_ok in
     let strip = rw (from, to) at c.strip.ensures in
-    let each = rw strip at c.near_over-near.ensures.each in
-    rw (from, to, c.new-runs.ensures.items) (collect_starts c.args.self c.args.part.now c.args.from c.args.to c.args.cells.now c.near_over-near.result c.args.steps.now c.requires.cells_ok c.near_over-near.ensures.tops each c.near_over-near.ensures.once)
+    let each = rw strip at c.near_rising-near.ensures.each in
+    rw (from, to, c.new-runs.ensures.items) (collect_starts c.args.self c.args.part.now c.args.from c.args.to c.args.cells.now c.near_rising-near.result c.args.steps.now c.requires.cells_ok c.near_rising-near.ensures.tops each c.near_rising-near.ensures.once)
 
 pub bounds-tris-number : goal.bounds-tris-number
 bounds-tris-number g c =

@@ -4,7 +4,7 @@ use Rattle.std.proofs.lemmas.Int.{to_z-of_z}
 use Rattle.mill_cells.specs.Ahead.{Ahead, Comes, NoneComes}
 use Rattle.mill_cells.specs.Walks.{rest_of}
 use Rattle.mill_cells.proofs.PassedLemmas.{which_comes}
-use Rattle.mill_cells.proofs.near_over.NearOver.next_over.Goals as goal
+use Rattle.mill_cells.proofs.near_rising.NearRising.next_over.Goals as goal
 
 pub returns : goal.returns
 returns c =
