@@ -1,8 +1,8 @@
 -- Bands of 64 moves: one more, and that the number of them is enough.
-use Rattle.std.proofs.Common.{◌≡◌, inl, inr, ℕ, ◌+◌, ◌-◌, ◌*◌, ◌/◌, ◌%◌, ◌<◌, ◌≤◌, refl, sym, subst, ◌∙◌, ap, length, arith}
-use Rattle.std.specs.Prelude.{List, [], ◌∷◌, ◌++◌, slice_index_or, min}
+use Rattle.std.proofs.Common.{◌≡◌, ◌⊎◌, inl, inr, ℕ, ◌+◌, ◌*◌, ◌<◌, ◌≤◌, sym, subst, ap, length, arith}
+use Rattle.std.specs.Prelude.{List, [], ◌∷◌, ◌++◌, slice_index_or}
 use Rattle.std.proofs.lemmas.Bool.{cases_lt}
-use Rattle.std.proofs.lemmas.List.{get_or_append_left}
+use Rattle.std.proofs.lemmas.List.{get_or_append_left, length_push}
 use Rattle.std.proofs.Math.Seq.{get_or-append_seam}
 use Rattle.mill_base.specs.declared.motion.Move.{Move}
 use Rattle.mill_dexel.specs.declared.band.Band.{Band}
@@ -16,7 +16,7 @@ bands_none moves count bands e = record { number = ap length e; each = λ i othe
 -- one band more
 pub bands_more : (moves : List Move) (count n : ℕ) (bands : List Band) (band : Band) → AreBandsTo moves count n bands → IsBandAt moves count n band → AreBandsTo moves count (n + 1) (bands ++ band ∷ [])
 bands_more moves count n bands band so_far last = record {
-  number = omega (arith, so_far.number);
+  number = omega (arith, so_far.number, length_push bands band);
   each = λ i other there. by i other (cases_lt i n) there;
 }
   where
