@@ -6,7 +6,7 @@ ghost use Rattle.mill_board.specs.Seats.{IsFree, IsSeatOf, OnlySees};
 use crate::board::Board;
 use crate::close::Closed;
 use crate::seat::Seat;
-use crate::turns::turn_once;
+use crate::turns::move_on;
 use crate::work::{Held, Work};
 use mill_base::WantOfMemory;
 use std::alloc::Global;
@@ -25,7 +25,7 @@ impl<W: Work> Board<W> {
     {
         let (_, limit) = self.terms.work.span(held.number);
         while held.next < limit && held.next <= self.least(seat) {
-            turn_once(&self.terms.work, &mut held, limit);
+            move_on(&self.terms.work, &mut held, limit);
             if held.failed {
                 self.lower(seat, &held);
                 break;
