@@ -14,7 +14,8 @@ use std::thread::{Threads, join};
 
 impl<W: Work> Board<W> {
     /// Does the turns of a held piece, up to its last or its failure, or while they aren't over the
-    /// least turn; before each it looks at that. Where the piece fails it lowers it.
+    /// least turn. It looks at that before each turn that it does, and once before those that it goes
+    /// over together. Where the piece fails it lowers it.
     pub(crate) fn advance(&self, seat: &mut Seat<W>, mut held: Held<W::Piece>) -> Held<W::Piece>
         requires seat { IsSeatOf self.now seat.old }
         requires held { IsTrueHeld W.means self.now.terms.work held }
