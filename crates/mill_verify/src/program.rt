@@ -184,7 +184,7 @@ fn tested<R: Threads + Sync, G: Gate>(
     // A law without code: a leaf that fails is one of the last of its move.
     failing_is_blocked();
     let turns = floor_end(job, moves) as u64;
-    let work = Tests::new(job, part, cells, moves, turns, gate);
+    let work = Tests::new(alloc, job, part, cells, moves, turns, gate)?;
     let pieces = work.pieces();
     let closed = run_all(rt, alloc, work, pieces, turns, workers)?;
     verdict_of(rt, alloc, job, part, cells, moves, turns, closed, workers)
