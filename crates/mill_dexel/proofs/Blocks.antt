@@ -16,10 +16,11 @@ use Rattle.mill_job.specs.Columns.{column_x, column_y}
 use Rattle.mill_sweep.specs.Halving.{PassesPoint}
 use Rattle.mill_sweep.proofs.Far.{far_passes}
 use Rattle.mill_dexel.specs.Tops.{tops_after_move}
-use Rattle.mill_dexel.specs.Rows.{RowState, IsRowOf, top_at}
+use Rattle.mill_dexel.specs.Rows.{RowState, IsRowOf, PassesRow, top_at, uncut_row}
 use Rattle.mill_dexel.specs.Cuts.{IsBeyond}
 use Rattle.mill_dexel.specs.Turns.{move_at, ClearsRow, StopsRow, tops_after, row_before, TurnsEndAt, IsRunOn, IsTurned, TurnsEndBy, IsRunUpTo, IsTurnedUpTo}
-use Rattle.mill_dexel.specs.inner.Bands.{IsInBand, IsBand, PassesOver}
+use Rattle.mill_dexel.specs.Bands.{IsInBand, IsBand}
+use Rattle.mill_dexel.specs.inner.Passing.{PassesOver}
 use Rattle.mill_dexel.specs.declared.fail.RowFail.{RowFail}
 use Rattle.mill_dexel.specs.declared.band.Band.{Band}
 use Rattle.mill_dexel.proofs.Beyond.{move_keeps}
@@ -146,13 +147,16 @@ turns_end job moves limit old new all = by old.failed
     }
     by (Some fail) same = same
 
--- a move that stays far away from a row leaves its tops as they are, and where it is a rapid, it passes the row
-far_clears : (job : Job) (r : RowState) (m : Move) → IsCutter job.cutter → MoveInRange m → IsBeyond (radius_of job.cutter +ℤ pos MAX_LAST_REACH) m.from.y m.to.y (column_y job r.row) → ClearsRow job r m
-far_clears job r m size range beyond rapid = λ i within. by (column_x job i) (column_y job r.row) (top_at r.tops i) beyond
+-- a move that stays far away from a row passes each of its columns, and so its test
+pub far_passes_row : (job : Job) (r : RowState) (m : Move) → IsCutter job.cutter → MoveInRange m → IsBeyond (radius_of job.cutter +ℤ pos MAX_LAST_REACH) m.from.y m.to.y (column_y job r.row) → PassesRow job r m
+far_passes_row job r m size range beyond = λ i within. by (column_x job i) (column_y job r.row) (top_at r.tops i) beyond
   where
     by : (x y z : ℤ) → IsBeyond (radius_of job.cutter +ℤ pos MAX_LAST_REACH) m.from.y m.to.y y → PassesPoint job.cutter m (point_at x y z)
     by x y z (inl h) = far_passes job.cutter m (point_tri (point_at x y z)) size range (inr (inr (inr (record { a_e = h.first; b_e = h.first; c_e = h.first; a_f = h.second; b_f = h.second; c_f = h.second }))))
     by x y z (inr h) = far_passes job.cutter m (point_tri (point_at x y z)) size range (inr (inr (inl (record { a_e = h.first; b_e = h.first; c_e = h.first; a_f = h.second; b_f = h.second; c_f = h.second }))))
+
+far_clears : (job : Job) (r : RowState) (m : Move) → IsCutter job.cutter → MoveInRange m → IsBeyond (radius_of job.cutter +ℤ pos MAX_LAST_REACH) m.from.y m.to.y (column_y job r.row) → ClearsRow job r m
+far_clears job r m size range beyond rapid = far_passes_row job r m size range beyond
 
 -- a band that is widened to one move more
 pub band_more : (moves : List Move) (first t : ℕ) (low high low' high' : ℤ) → ((k : ℕ) → first ≤ k → k < t → IsInBand low high (move_at moves k)) → low' ≤ℤ low → high ≤ℤ high' → IsInBand low' high' (move_at moves t)
@@ -219,14 +223,40 @@ module _ (job : Job) (moves : List Move) (old now : RowState) (start : ℕ) (siz
       (past_one (start + more) (omega (arith, there)) (far (start + more) (omega arith) (omega arith)) (run_past more (omega (arith, there)) (λ k from to. far k from (omega (arith, to)))))
 
 -- so a row that goes over a band at once went through its turns up to the band's end
+pub over_runs : (job : Job) (moves : List Move) (band : Band) (old now new : RowState) → IsJob job → MovesInRange moves → band.«end» ≤ length moves → IsBand moves band
+    → IsRunTo job moves old now now.done → PassesOver job band now new → IsRunTo job moves old new band.«end»
+over_runs job moves band old now new is_job range there is_band run over =
+    subst (λ (r : RowState). IsRunTo job moves old r band.«end») (sym over.is)
+    (subst (λ (k : ℕ). IsRunTo job moves old (record now { done = k }) k) whole
+    (run_past job moves old now now.done is_job.cutter_ok range run (band.«end» - now.done) (omega (arith, there, over.onward))
+    (λ k from to. in_band_beyond (radius_of job.cutter +ℤ pos MAX_LAST_REACH) (column_y job now.row) band.low band.high (move_at moves k) (is_band k (omega (arith, from, over.first)) (omega (arith, to, over.onward))) over.beyond)))
+  where
+    whole : now.done + (band.«end» - now.done) ≡ band.«end»
+    whole = omega (arith, over.onward)
+
 pub over_is_up_to : (job : Job) (moves : List Move) (band : Band) (old new : RowState) → IsJob job → MovesInRange moves → IsRowOf job old → old.failed ≡ None → band.«end» ≤ length moves → IsBand moves band
     → PassesOver job band old new → IsTurnedUpTo job moves band.«end» old new
 over_is_up_to job moves band old new is_job range is_row unfailed there is_band over =
-    subst (IsTurnedUpTo job moves band.«end» old) (sym over.is)
-    (subst (λ (k : ℕ). IsTurnedUpTo job moves band.«end» old (record old { done = k })) whole
-    (run_ended job moves band.«end» old (record old { done = old.done + (band.«end» - old.done) }) (old.done + (band.«end» - old.done)) (omega (arith, over.onward))
-    (run_past job moves old old old.done is_job.cutter_ok range (run_start job moves old is_row unfailed) (band.«end» - old.done) (omega (arith, there, over.onward))
-    (λ k from to. in_band_beyond (radius_of job.cutter +ℤ pos MAX_LAST_REACH) (column_y job old.row) band.low band.high (move_at moves k) (is_band k (omega (arith, from, over.first)) (omega (arith, to, over.onward))) over.beyond))))
+    run_ended job moves band.«end» old new band.«end» (omega arith) (over_runs job moves band old old new is_job range there is_band (run_start job moves old is_row unfailed) over)
+
+-- a row that the moves before t have left of the uncut row, and that went over those from t on, before n
+pub record IsOver (job : Job) (moves : List Move) (t : ℕ) (old now : RowState) (n : ℕ) : Type 0 where
+  pub onward : t ≤ n
+  pub clears : (k : ℕ) → t ≤ k → k < n → ClearsRow job (row_before job moves (uncut_row job old.row) k) (move_at moves k)
+  pub is : now ≡ row_before job moves (uncut_row job old.row) n
+
+pub gone_over : (job : Job) (moves : List Move) (t : ℕ) (old now : RowState) (n : ℕ) → old ≡ row_before job moves (uncut_row job old.row) t → IsRunTo job moves old now n → IsOver job moves t old now n
+gone_over job moves t old now n left run = record {
+  onward = omega (arith, done, run.onward);
+  clears = λ k from to. subst (λ (r : RowState). ClearsRow job r (move_at moves k)) (same k from) (run.passed k (omega (arith, done, from)) to).clears;
+  is = run.is ∙ same n (omega (arith, done, run.onward));
+}
   where
-    whole : old.done + (band.«end» - old.done) ≡ band.«end»
-    whole = omega (arith, over.onward)
+    done : old.done ≡ t
+    done = ap (λ (r : RowState). r.done) left
+
+    left_there : old ≡ row_before job moves (uncut_row job old.row) old.done
+    left_there = subst (λ (n : ℕ). old ≡ row_before job moves (uncut_row job old.row) n) (sym done) left
+
+    same : (k : ℕ) → t ≤ k → row_before job moves old k ≡ row_before job moves (uncut_row job old.row) k
+    same k from = row_parts job moves (uncut_row job old.row) old k (omega arith) (omega (arith, done, from)) left_there

@@ -14,6 +14,7 @@ mod Lines
 mod UncutRows
 pub mod RunLaws
 mod Blocks
+mod Bands
 mod Chunks
 pub mod TopLaws
 pub mod RowLaws

@@ -4,4 +4,5 @@ pub mod Laws
 pub mod Rows
 pub mod Turns
 pub mod Cuts
+pub mod Bands
 pub mod inner

@@ -1,5 +1,5 @@
 -- A row of columns, and the first of its columns at which a rapid would cut.
-use Rattle.std.specs.Prelude.{◌≡◌, ℕ, ◌<◌, ℤ, pos, List, length, All, Option, slice_index_or}
+use Rattle.std.specs.Prelude.{◌≡◌, ℕ, ◌<◌, ℤ, pos, List, length, All, Option, None, replicate, slice_index_or}
 use Rattle.mill_base.specs.Points.{point_at, point_tri}
 use Rattle.mill_base.specs.declared.points.Pt3.{Pt3}
 use Rattle.mill_base.specs.declared.points.Tri.{Tri}
@@ -18,6 +18,10 @@ pub record RowState : Type 0 where
   pub tops : List ℤ
   pub done : ℕ
   pub failed : Option RowFail
+
+-- row j of the uncut stock, before the first move
+abbrev pub uncut_row : Job → ℕ → RowState
+uncut_row job j = record { row = j; tops = replicate (column_count job) job.top; done = 0; failed = None }
 
 -- the top of column i
 abbrev pub top_at : List ℤ → ℕ → ℤ

@@ -1,5 +1,5 @@
 ghost use Rattle.std.specs.Prelude.{◌≡◌, ◌≤◌, ◌≤ℤ◌, length};
-ghost use Rattle.mill_dexel.specs.inner.Bands.{IsBand};
+ghost use Rattle.mill_dexel.specs.Bands.{IsBand};
 
 use mill_base::Move;
 

@@ -5,13 +5,14 @@
 //! `specs/Rows` what a row is and where a rapid stops at it, `specs/Turns` what becomes of a row in a
 //! program, `specs/Laws` what a top implies.
 //!
-//! Most moves do nothing to most rows, and that is seen early. A row goes over a block of moves at
-//! once where all of them stay far away from it (`specs/Bands`), leaves out a move's first sample
-//! where the move before has cut it there, and looks only at its columns inside the circle of a
-//! sample (`specs/Cuts`), and at a rapid at those within the radius and 2.
+//! Most moves do nothing to most rows, and that is seen early. A row goes over a band of moves at
+//! once where all of them stay far away from it (`Row::go_over`), leaves out a move's first sample
+//! where the move before has cut it there (`Row::turn_on`), and looks only at its columns inside the
+//! circle of a sample (`specs/Cuts`), and at a rapid at those within the radius and 2.
 #![tactic(auto)]
 
 mod band;
+mod bands;
 mod chord;
 mod cut;
 mod fail;
@@ -24,6 +25,7 @@ mod sample;
 mod tests;
 mod turns;
 
+pub use bands::Bands;
 pub use fail::RowFail;
 pub use laws::{cut_at_end, over_top_is_removed, passes_after_cut};
 pub use row::Row;

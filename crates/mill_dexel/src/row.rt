@@ -1,16 +1,17 @@
-ghost use Rattle.std.specs.Prelude.{◌≡◌, ◌<◌, false, length, None, IfOk, IfSome, IsTrue, MatchOption, replicate};
+ghost use Rattle.std.specs.Prelude.{◌≡◌, ℕ, ◌-◌, ◌<◌, ◌≤◌, false, length, None, Some, IfOk, IfSome, IsTrue, MatchOption};
 ghost use Rattle.mill_base.specs.Ranges.{MoveInRange, MovesInRange};
 ghost use Rattle.mill_base.specs.declared.motion.Kind.TheVariants.{Rapid};
 ghost use Rattle.mill_job.specs.Columns.{row_count, column_count};
 ghost use Rattle.mill_job.specs.Jobs.{IsJob};
-ghost use Rattle.mill_dexel.specs.inner.Bands.{PassesOver};
+ghost use Rattle.mill_dexel.specs.inner.Passing.{PassesOver};
 ghost use Rattle.mill_dexel.specs.inner.Readiness.{IsNext};
 ghost use Rattle.mill_dexel.specs.Cuts.{IsCutAt};
 ghost use Rattle.mill_dexel.specs.Tops.{tops_after_move};
-ghost use Rattle.mill_dexel.specs.Rows.{IsRowOf, PassesRow, IsFirstStop, IsColumnBlocked, row_point, uncut_tri};
-ghost use Rattle.mill_dexel.specs.Turns.{ClearsRow, IsRowStopped, StopsRow, move_at, turned};
+ghost use Rattle.mill_dexel.specs.Rows.{IsRowOf, PassesRow, IsFirstStop, IsColumnBlocked, row_point, uncut_row, uncut_tri};
+ghost use Rattle.mill_dexel.specs.Turns.{ClearsRow, IsRowStopped, StopsRow, move_at, row_before, turned};
 
 use crate::band::Band;
+use crate::bands::Bands;
 use crate::cut::cut_move;
 use crate::fail::RowFail;
 use crate::reach::{is_apart, reach_of};
@@ -44,7 +45,7 @@ impl Row {
         requires job { IsJob job.now }
         requires row { number < row_count job.now }
         ensures row { IfOk result (λ r. IsRowOf job.now r) }
-        ensures uncut { IfOk result (λ r. r ≡ record { row = number; tops = replicate (column_count job.now) job.now.top; done = 0; failed = None }) }
+        ensures uncut { IfOk result (λ r. r ≡ uncut_row job.now number) }
     {
         let tops = vec![in alloc; job.top; job.columns() as usize]?;
         Ok(Row {
@@ -126,6 +127,52 @@ impl Row {
         ensures row { IsRowOf job.now self.new }
     {
         self.turn_after(job, moves, t, None)
+    }
+
+    /// The turn of move `t`, as `turn` makes it, in a row that all moves before it have cut. Where the
+    /// move starts at the end of the one before, its first sample is left out, which would cut nothing.
+    pub fn turn_on(&mut self, job: &Job, moves: &[Move], t: u64) -> bool
+        requires job { IsJob job.now }
+        requires moves_ok { MovesInRange moves.now }
+        requires row { IsRowOf job.now self.old }
+        requires unfailed { self.old.failed ≡ None }
+        requires next { t ≡ self.old.done }
+        requires there { t < length moves.now }
+        requires from_uncut { self.old ≡ row_before job.now moves.now (uncut_row job.now self.old.row) t }
+        ensures clears { IsTrue result → ClearsRow job.now self.old (move_at moves.now t) }
+        ensures cut { IsTrue result → self.new ≡ turned job.now (move_at moves.now t) self.old }
+        ensures stopped { result ≡ false → IsRowStopped job.now (move_at moves.now t) self.old self.new }
+        ensures row { IsRowOf job.now self.new }
+    {
+        self.turn_after(job, moves, t, end_before(moves, t))
+    }
+
+    /// Lets the row go over its next moves, from `t` on, where they stay so far away that none of them
+    /// touches it, and says which move is next then. It goes band by band, up to the first band that
+    /// comes near, so that a row far away from a whole program goes over it at once.
+    pub fn go_over(&mut self, job: &Job, bands: &Bands, t: u64) -> u64
+        requires job { IsJob job.now }
+        requires moves_ok { MovesInRange bands.now.moves }
+        requires row { IsRowOf job.now self.old }
+        requires unfailed { self.old.failed ≡ None }
+        requires there { t < bands.now.count }
+        requires from_uncut { self.old ≡ row_before job.now bands.now.moves (uncut_row job.now self.old.row) t }
+        ensures onward { t ≤ result }
+        ensures within { result ≤ bands.now.count }
+        ensures clears { (k : ℕ) → t ≤ k → k < result → ClearsRow job.now (row_before job.now bands.now.moves (uncut_row job.now self.old.row) k) (move_at bands.now.moves k) }
+        ensures is { self.new ≡ row_before job.now bands.now.moves (uncut_row job.now self.old.row) result }
+        ensures row { IsRowOf job.now self.new }
+    {
+        let count = bands.count();
+        let mut next = t;
+        while next < count {
+            let band = bands.around(next);
+            if !self.pass_over(job, band) {
+                return next;
+            }
+            next = band.end;
+        }
+        next
     }
 
     /// The turn of move `t`, as `turn` makes it, in a row that is known to be cut at the point `last`, if
@@ -218,14 +265,19 @@ impl Row {
         })
     }
 
-    /// Whether the move passes even the uncut row, and so every column of this one.
+    /// Whether the move passes even the uncut row, and so every column of this one. Most moves are far
+    /// away in y, and that is seen first.
     fn is_passed_uncut(&self, job: &Job, step: &Move) -> bool
         requires job { IsJob job.now }
         requires row { IsRowOf job.now self.now }
         requires step { MoveInRange step.now }
         ensures { IsTrue result → PassesRow job.now self.now step.now }
     {
-        passes_tri(job.cutter, step, &uncut_row(job, self.number))
+        let y = job.row_y(self.number);
+        if is_apart(job, y, step.from.y, step.to.y) {
+            return true;
+        }
+        passes_tri(job.cutter, step, &uncut_triangle(job, self.number))
     }
 
     /// The point at the top of a column.
@@ -243,8 +295,20 @@ impl Row {
     }
 }
 
+/// Where the move before move `t` ends; none before the first.
+fn end_before(moves: &[Move], t: u64) -> Option<Pt3>
+    requires { t < length moves.now }
+    ensures first { t ≡ 0 → result ≡ None }
+    ensures later { 0 < t → result ≡ Some (move_at moves.now (t - 1)).to }
+{
+    if t == 0 {
+        return None;
+    }
+    Some(moves[(t - 1) as usize].to)
+}
+
 /// The uncut row as a flat triangle.
-fn uncut_row(job: &Job, number: u32) -> Tri
+fn uncut_triangle(job: &Job, number: u32) -> Tri
     requires job { IsJob job.now }
     requires row { number < row_count job.now }
     ensures { result ≡ uncut_tri job.now number }

@@ -4,7 +4,7 @@ ghost use Rattle.mill_base.specs.Ranges.{MovesInRange};
 ghost use Rattle.mill_base.specs.declared.limits.TheConstants.{MAX_WORKERS};
 ghost use Rattle.mill_job.specs.Jobs.{IsJob};
 ghost use Rattle.mill_dexel.specs.Rows.{IsRowOf};
-ghost use Rattle.mill_dexel.specs.inner.Bands.{IsBand};
+ghost use Rattle.mill_dexel.specs.Bands.{IsBand};
 ghost use Rattle.mill_dexel.specs.inner.Readiness.{AreReady};
 ghost use Rattle.mill_dexel.specs.Turns.{IsTurned, IsTurnedUpTo};
 ghost use denote.Param.Send.{IsSync};

@@ -2,7 +2,7 @@ ghost use Rattle.std.specs.Prelude.{◌≡◌, ◌≤◌, None, length};
 ghost use Rattle.mill_base.specs.Ranges.{MovesInRange};
 ghost use Rattle.mill_job.specs.Jobs.{IsJob};
 ghost use Rattle.mill_dexel.specs.Rows.{IsRowOf};
-ghost use Rattle.mill_dexel.specs.inner.Bands.{IsBand};
+ghost use Rattle.mill_dexel.specs.Bands.{IsBand};
 ghost use Rattle.mill_dexel.specs.Turns.{IsTurnedUpTo, OneOutcome};
 
 use crate::band::Band;

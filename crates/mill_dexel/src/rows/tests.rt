@@ -1,13 +1,15 @@
-ghost use Rattle.std.specs.Prelude.{◌≡◌, ◌<◌, ◌≤◌, All, IfOk};
+ghost use Rattle.std.specs.Prelude.{◌≡◌, ◌<◌, ◌≤◌, length, All, IfOk, None};
 ghost use Rattle.mill_base.specs.Numbers.{Within};
 ghost use Rattle.mill_base.specs.declared.limits.TheConstants.{MAX_COORDINATE};
 ghost use Rattle.mill_base.specs.Points.{point_at};
 ghost use Rattle.mill_base.specs.Ranges.{IsInRange, MoveInRange, MovesInRange};
 ghost use Rattle.mill_job.specs.Columns.{row_count};
 ghost use Rattle.mill_job.specs.Jobs.{IsJob};
-ghost use Rattle.mill_dexel.specs.Rows.{IsRowOf};
+ghost use Rattle.mill_dexel.specs.Rows.{IsRowOf, uncut_row};
+ghost use Rattle.mill_dexel.specs.Turns.{row_before};
 
 use super::*;
+use crate::bands::Bands;
 use crate::fail::RowFail;
 use mill_base::{Box2, Cutter, Kind, Pt3, WantOfMemory};
 use mill_decimal::Snap;
@@ -18,7 +20,7 @@ use std::alloc::Global;
 /// Five rows, at y = 0, 100, 200, 300 and 400, of three columns each, from 0 to 300.
 fn five_rows() -> Job
     ensures job { IsJob result }
-    ensures row { 3 < row_count result }
+    ensures row { 4 < row_count result }
 {
     Job {
         cutter: Cutter::Flat { radius: 150 },
@@ -145,5 +147,86 @@ fn workers_change_nothing(rt: HostRuntime) -> Result<(), WantOfMemory> {
             assert_eq!(rt; row.failed(), failed);
         }
     }
+    Ok(())
+}
+
+/// Lets an uncut row go on from move 0 by `turn_on`, to the end or to the first move that fails.
+fn turned_on(row: &mut Row, job: &Job, moves: &[Move])
+    requires job { IsJob job.now }
+    requires moves_ok { MovesInRange moves.now }
+    requires row { IsRowOf job.now row.old }
+    requires unfailed { row.old.failed ≡ None }
+    requires from_uncut { row.old ≡ row_before job.now moves.now (uncut_row job.now row.old.row) 0 }
+{
+    for t in 0..moves.len() as u64 {
+        if !row.turn_on(job, moves, t) {
+            return;
+        }
+    }
+}
+
+/// A row of the uncut stock after the program, by `turn_on`.
+fn row_after(alloc: Global, number: u64) -> Result<Row, WantOfMemory>
+    requires { number < 5 }
+{
+    let job = five_rows();
+    let mut row = Row::new(alloc, &job, number)?;
+    turned_on(&mut row, &job, &program());
+    Ok(row)
+}
+
+#[test]
+fn turns_on_as_it_turns(rt: HostRuntime) -> Result<(), WantOfMemory> {
+    let pocket = row_after(rt.alloc(), 2)?;
+    assert_eq!(rt; pocket.tops(), [200, 200, 200].as_slice());
+    assert_eq!(rt; pocket.done(), 4);
+    let stopped = row_after(rt.alloc(), 3)?;
+    assert_eq!(rt; stopped.tops(), [300, 300, 300].as_slice());
+    assert_eq!(rt; stopped.failed(), Some(stop()));
+    let slot = row_after(rt.alloc(), 4)?;
+    assert_eq!(rt; slot.tops(), [100, 100, 300].as_slice());
+    assert_eq!(rt; slot.done(), 4);
+    Ok(())
+}
+
+/// Moves along y = 0, 150 of them, and then ten along y = 200.
+fn two_lines(alloc: Global) -> Result<Vec<Move>, WantOfMemory>
+    ensures range { IfOk result (λ moves. MovesInRange moves.items) }
+    ensures count { IfOk result (λ moves. length moves.items ≡ 160) }
+{
+    let mut moves = Vec::new(alloc);
+    for t in 0..160 {
+        let y = if t < 150 { 0 } else { 200 };
+        moves.push(step(Kind::Feed, place(0, y, 400), place(100, y, 400)))?;
+    }
+    Ok(moves)
+}
+
+/// Up to which move an uncut row goes over the first moves of a program.
+fn gone_over(alloc: Global, moves: &[Move], number: u64, count: u64) -> Result<u64, WantOfMemory>
+    requires moves_ok { MovesInRange moves.now }
+    requires row { number < 5 }
+    requires some { 0 < count }
+    requires there { count ≤ length moves.now }
+{
+    let job = five_rows();
+    let bands = Bands::new(alloc, moves, count)?;
+    let mut row = Row::new(alloc, &job, number)?;
+    Ok(row.go_over(&job, &bands, 0))
+}
+
+// The cutter's radius is 150, so a row at least 152 away from a whole band goes over it: the first two
+// bands of 64 are along y = 0, and the third has moves along y = 200, too.
+#[test]
+fn goes_over_what_is_far_away(rt: HostRuntime) -> Result<(), WantOfMemory> {
+    let alloc = rt.alloc();
+    let moves = two_lines(alloc)?;
+    assert_eq!(rt; gone_over(alloc, &moves, 0, 160)?, 0);
+    assert_eq!(rt; gone_over(alloc, &moves, 1, 160)?, 0);
+    assert_eq!(rt; gone_over(alloc, &moves, 2, 160)?, 128);
+    assert_eq!(rt; gone_over(alloc, &moves, 3, 160)?, 128);
+    assert_eq!(rt; gone_over(alloc, &moves, 4, 160)?, 160);
+    assert_eq!(rt; gone_over(alloc, &moves, 3, 150)?, 150);
+    assert_eq!(rt; gone_over(alloc, &moves, 3, 64)?, 64);
     Ok(())
 }

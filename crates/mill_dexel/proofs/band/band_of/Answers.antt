@@ -5,7 +5,7 @@ use Rattle.mill_base.proofs.Machine.{stored}
 use Rattle.mill_base.specs.Points.{point_at}
 use Rattle.mill_base.specs.declared.motion.Move.{Move}
 use Rattle.mill_base.specs.declared.motion.Kind.TheVariants.{Rapid}
-use Rattle.mill_dexel.specs.inner.Bands.{IsInBand}
+use Rattle.mill_dexel.specs.Bands.{IsInBand}
 use Rattle.mill_dexel.proofs.RunLaws.{move_read}
 use Rattle.mill_dexel.proofs.Blocks.{band_more}
 use Rattle.mill_dexel.proofs.band.band_of.Goals as goal

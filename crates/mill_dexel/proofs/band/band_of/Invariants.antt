@@ -1,5 +1,5 @@
 use Rattle.std.specs.Prelude.{ℕ, ◌<◌, ◌≤◌}
-use Rattle.mill_dexel.specs.inner.Bands.{IsInBand}
+use Rattle.mill_dexel.specs.Bands.{IsInBand}
 use Rattle.mill_dexel.specs.Turns.{move_at}
 use Rattle.mill_dexel.proofs.band.band_of.Given as goal
 

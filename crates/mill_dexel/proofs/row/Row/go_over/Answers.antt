@@ -1,0 +1,25 @@
+use Rattle.std.proofs.Common.{◌≡◌, ℕ, ◌<◌, ◌≤◌, length, sym, subst, ap, rules, arith}
+use Rattle.mill_dexel.specs.Rows.{RowState}
+use Rattle.mill_dexel.specs.inner.Passing.{PassesOver}
+use Rattle.mill_dexel.proofs.RunLaws.{IsRunTo}
+use Rattle.mill_dexel.proofs.Blocks.{run_start, over_runs, gone_over}
+use Rattle.mill_dexel.proofs.row.Row.go_over.Goals as goal
+
+pub loop-next-init : goal.loop-next-init
+loop-next-init c =
+    let done : c.args.self.now.done ≡ c.args.t = ap (λ (r : RowState). r.done) c.requires.from_uncut in (
+      subst (λ (n : ℕ). IsRunTo c.args.job.now c.args.bands.now.moves c.args.self.now c.args.self.now n) done (run_start c.args.job.now c.args.bands.now.moves c.args.self.now c.requires.row c.requires.unfailed),
+      done,
+      omega (arith, c.requires.there),
+    )
+
+pub loop-next-preserved : goal.loop-next-preserved
+loop-next-preserved c =
+    let around = c.around-band.ensures in
+    let over = c.pass_over.ensures.passed (search rules) in
+    let there : c.around-band.result.now.«end» ≤ length c.args.bands.now.moves = omega (arith, around.within, c.count-count.ensures.there, c.count-count.ensures.value) in (
+      over_runs c.args.job.now c.args.bands.now.moves c.around-band.result.now c.args.self.now c.loop-next.self c.pass_over.new.self c.requires.job c.requires.moves_ok there around.is_band
+          (subst (λ (n : ℕ). IsRunTo c.args.job.now c.args.bands.now.moves c.args.self.now c.loop-next.self n) (sym c.loop-next.invariant.1) c.loop-next.invariant.0) over,
+      ap (λ (r : RowState). r.done) over.is,
+      around.within,
+    )
