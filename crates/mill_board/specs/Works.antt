@@ -32,6 +32,12 @@ pub record IsDue {W P : Type 0} (M : Means W P) (work : W) (n t : ℕ) (piece : 
   pub passes : PassesBefore M work n t
   pub is_at : M.IsAt work n t piece
 
+-- the turns of the piece of a number before this one pass, this one is at most their limit, and the piece is as they leave it
+pub record HasPassedTo {W P : Type 0} (M : Means W P) (work : W) (n t : ℕ) (piece : P) : Type 0 where
+  pub to : t ≤ M.limit work n
+  pub passes : PassesBefore M work n t
+  pub is_at : M.IsAt work n t piece
+
 -- a held piece is one of the work's, and as its turns leave it: up to its next turn, or to the one at which it fails, and this one too
 pub record IsTrueHeld {W P : Type 0} (M : Means W P) (work : W) (h : Held P) : Type 0 where
   pub number : h.number < M.pieces work

@@ -7,7 +7,7 @@ ghost use Rattle.mill_board.specs.inner.Closings.{HasTrue, HasTrueFrom, IsSound}
 use crate::board::Board;
 use crate::rule::{BACK, CLAIM, LEAST, Slot};
 use crate::seat::Seat;
-use crate::turns::{start, turn_once};
+use crate::turns::{move_on, start};
 use crate::work::{Held, Terms, Work};
 use mill_base::WantOfMemory;
 use std::alloc::Global;
@@ -159,7 +159,7 @@ fn make_anew<W: Work>(
     let (_, limit) = work.span(number);
     let mut held = start(alloc, work, number)?;
     while held.next < limit && held.next <= least {
-        turn_once(work, &mut held, limit);
+        move_on(work, &mut held, limit);
         if held.failed {
             return Ok(held);
         }

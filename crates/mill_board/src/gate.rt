@@ -1,5 +1,5 @@
-/// What each turn of a work passes first, with its piece's number. It changes nothing of the work: a gate
-/// may count turns, or hold one up for a while.
+/// What each turn of a work passes before it is done, or when it is gone over, with its piece's number. It
+/// changes nothing of the work: a gate may count turns, or hold one up for a while.
 pub trait Gate: Drop + Send + Sync {
     fn pass(&self, number: u64, turn: u64);
 }

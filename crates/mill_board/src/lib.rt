@@ -3,7 +3,8 @@
 //! Each piece has turns, and may fail at one of them. What is wanted is the least turn at which any
 //! piece fails, and each piece done up to that turn. A worker draws a piece, does its turns while they
 //! aren't over the least failing turn that is known by then, lowers that where its piece fails, and puts
-//! the piece back.
+//! the piece back. Turns that are known to pass, whoever does them and whenever, it may go over many at
+//! once, with one look at the least failing turn.
 //!
 //! It stands on atomic_table, whose steps are single accesses to shared memory, so no call waits for
 //! another; on mill_base, and, in a law alone, on mill_sched. `run_all` does a whole work, by any number

@@ -2,6 +2,7 @@
 ghost use Rattle.std.specs.Prelude.{◌≡◌};
 
 mod gated;
+mod gone_over;
 
 use crate::{Board, Gate, NoGate, Work, run_all};
 use mill_base::WantOfMemory;
@@ -18,12 +19,19 @@ struct Runs<'a, G> {
     /// How many pieces were made.
     made: &'a AtomicU64,
     gate: G,
+    /// How many turns a piece goes over at once, at most.
+    leap: u64,
 }
 
 fn work_of<'a, G: Gate>(fails: &'a [u64], made: &'a AtomicU64, gate: G) -> Runs<'a, G>
     ensures { result.fails.now ≡ fails.now }
 {
-    Runs { fails, made, gate }
+    Runs {
+        fails,
+        made,
+        gate,
+        leap: 0,
+    }
 }
 
 /// How many turns have passed, and the turn that won't.
@@ -54,6 +62,12 @@ impl<'a, G: Gate> Work for Runs<'a, G> {
             fails: self.fails[number as usize],
             done: 0,
         })
+    }
+
+    fn pass_over(&self, piece: &mut Run, turn: u64) -> u64 {
+        let next = piece.fails.min(TURNS).min(turn.saturating_add(self.leap));
+        piece.done = next;
+        next
     }
 
     fn turn(&self, piece: &mut Run, turn: u64) -> bool {

@@ -6,8 +6,9 @@ use crate::work::{Held, Work};
 use mill_base::WantOfMemory;
 use std::alloc::Global;
 
-/// Does the next turn of a held piece, which has one that lies under this limit of its span.
-pub fn turn_once<W: Work>(work: &W, held: &mut Held<W::Piece>, limit: u64)
+/// Takes on a held piece, whose next turn lies under this limit of its span: over turns that are known to
+/// pass or, where there are none, by that one turn.
+pub fn move_on<W: Work>(work: &W, held: &mut Held<W::Piece>, limit: u64)
     requires held { IsTrueHeld W.means work.now held.old }
     requires going { held.old.failed ≡ false }
     requires limit { limit ≡ W.means.limit work.now held.old.number }
@@ -15,7 +16,10 @@ pub fn turn_once<W: Work>(work: &W, held: &mut Held<W::Piece>, limit: u64)
     ensures held { IsTrueHeld W.means work.now held.new }
     ensures turned { Turned held.old held.new }
 {
-    if work.turn(&mut held.piece, held.next) {
+    let next = work.pass_over(&mut held.piece, held.next);
+    if next > held.next {
+        held.next = next;
+    } else if work.turn(&mut held.piece, held.next) {
         held.next += 1;
     } else {
         held.failed = true;

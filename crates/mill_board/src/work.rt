@@ -1,5 +1,5 @@
-ghost use Rattle.std.specs.Prelude.{◌≡◌, ℕ, ◌+◌, ◌<◌, false, IfOk, IsTrue};
-ghost use Rattle.mill_board.specs.Works.{IsDue, Means};
+ghost use Rattle.std.specs.Prelude.{◌≡◌, ℕ, ◌+◌, ◌<◌, ◌≤◌, false, IfOk, IsTrue};
+ghost use Rattle.mill_board.specs.Works.{HasPassedTo, IsDue, Means};
 
 use mill_base::WantOfMemory;
 use std::alloc::Global;
@@ -44,6 +44,18 @@ pub trait Work: Drop + Send + Sync {
         requires { number < means.pieces self.now }
         ensures start { IfOk result (λ piece. piece ≡ means.start self.now number) }
         ensures is_at { IfOk result (means.IsAt self.now number (means.first self.now number)) };
+
+    /// Goes over turns of a piece that are known to pass, from this one on, and says which turn is then
+    /// next: this one where it goes over none, as it does unless a work says otherwise. The piece is as
+    /// the turns before the next one leave it. Turns that are gone over pass whenever they are done and
+    /// whoever does them, so no worker looks at the least failing turn before each of them.
+    fn pass_over(&self, _piece: &mut Self::Piece, turn: u64) -> u64
+        requires { (n : ℕ) × IsDue means self.now n turn _piece.old }
+        ensures onward { turn ≤ result }
+        ensures passed { (n : ℕ) → IsDue means self.now n turn _piece.old → HasPassedTo means self.now n result _piece.new }
+    {
+        turn
+    }
 
     /// Does a turn of a piece that is as the turns before it have left it, where none of them has
     /// failed. It says whether the turn passes.

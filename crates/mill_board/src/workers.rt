@@ -6,7 +6,7 @@ ghost use Rattle.mill_board.specs.Seats.{IsFree, IsSeatOf, OnlySees};
 use crate::board::Board;
 use crate::close::Closed;
 use crate::seat::Seat;
-use crate::turns::turn_once;
+use crate::turns::move_on;
 use crate::work::{Held, Work};
 use mill_base::WantOfMemory;
 use std::alloc::Global;
@@ -14,7 +14,8 @@ use std::thread::{Threads, join};
 
 impl<W: Work> Board<W> {
     /// Does the turns of a held piece, up to its last or its failure, or while they aren't over the
-    /// least turn; before each it looks at that. Where the piece fails it lowers it.
+    /// least turn. It looks at that before each turn that it does, and once before those that it goes
+    /// over together. Where the piece fails it lowers it.
     pub(crate) fn advance(&self, seat: &mut Seat<W>, mut held: Held<W::Piece>) -> Held<W::Piece>
         requires seat { IsSeatOf self.now seat.old }
         requires held { IsTrueHeld W.means self.now.terms.work held }
@@ -25,7 +26,7 @@ impl<W: Work> Board<W> {
     {
         let (_, limit) = self.terms.work.span(held.number);
         while held.next < limit && held.next <= self.least(seat) {
-            turn_once(&self.terms.work, &mut held, limit);
+            move_on(&self.terms.work, &mut held, limit);
             if held.failed {
                 self.lower(seat, &held);
                 break;

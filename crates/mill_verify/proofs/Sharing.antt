@@ -1,12 +1,12 @@
 -- The pieces of the tests: their turns, and what one turn makes of a piece.
-use Rattle.std.specs.Prelude.{◌≡◌, ℕ, ◌+◌, ◌*◌, ◌<◌, ◌≤◌, min, cond, ltb, Bool, ℤ, List, length, take, None, Some}
+use Rattle.std.specs.Prelude.{◌≡◌, ℕ, ◌+◌, ◌*◌, ◌<◌, ◌≤◌, min, cond, ltb, Bool, ℤ, List, length, take, None, Some, refl}
 use Rattle.std.proofs.Common.{sym, ◌∙◌, ap, subst, arith, inl, inr}
 use Rattle.std.proofs.lemmas.Bool.{cases_lt, lt-ltb, le-ltb}
 use Rattle.mill_base.specs.declared.motion.Move.{Move}
-use Rattle.mill_board.specs.Works.{HasSpans, IsDue}
+use Rattle.mill_board.specs.Works.{HasPassedTo, HasSpans, IsDue}
 use Rattle.mill_job.specs.declared.job.Job.{Job}
 use Rattle.mill_job.specs.Columns.{row_count}
-use Rattle.mill_dexel.specs.Rows.{IsRowOf, RowState}
+use Rattle.mill_dexel.specs.Rows.{IsRowOf, RowState, uncut_row}
 use Rattle.mill_dexel.specs.Turns.{ClearsRow, IsRowStopped, StopsRow, move_at, row_before, turned as row_turned}
 use Rattle.mill_dexel.specs.Tops.{row_after}
 use Rattle.mill_dexel.proofs.RowLaws.{row_after_is_row, row_after_more}
@@ -17,7 +17,6 @@ use Rattle.mill_verify.proofs.Scanning.{block_more}
 use Rattle.std.proofs.lemmas.List.{take_more}
 use Rattle.mill_verify.specs.Blocks.{BlockState, IsBlockStopped, block_count, block_of, turned}
 use Rattle.mill_verify.specs.inner.Pieces.{IsPieceAt, IsPieceFailed, PassesTest, TestsShown, blocks_of, first_turn, tests, turn_limit}
-use Rattle.mill_verify.specs.inner.Stock.{uncut_row}
 use Rattle.mill_verify.specs.declared.piece.Piece.TheVariants.{Block, Stock}
 
 module _ (w : TestsShown) (n : ℕ) where
@@ -63,6 +62,13 @@ module _ (job : Job) (moves : List Move) (j k : ℕ) where
       ∙ ap (λ (ts : List ℤ). record { row = j; tops = ts; done = k + 1; failed = None }) (sym (row_after_more job j (take k moves) (move_at moves k)) ∙ ap (row_after job j) (sym (take_more moves k _ there)))
       ∙ sym (before_is job moves j (k + 1))
 
+-- a move that a row lets pass as that move meets it passes the test of the row's piece
+row_test : (w : TestsShown) (n t j : ℕ) → n ≡ blocks_of w + j → ClearsRow w.job (row_before w.job w.moves (uncut_row w.job j) t) (move_at w.moves t) → PassesTest w n t
+row_test w n t j number clears = record {
+  part = λ block. absurd (omega (number, block, arith));
+  stock = λ i at. subst (λ (k : ℕ). ClearsRow w.job (row_before w.job w.moves (uncut_row w.job k) t) (move_at w.moves t)) (let e : j ≡ i = omega (number, at, arith) in e) clears;
+}
+
 module _ (w : TestsShown) (n t m : ℕ) where
   -- a row that is due is one of the job's
   pub row_due : (r : RowState) → IsJob w.job → IsDue tests w n t (Stock m r) → IsRowOf w.job r
@@ -83,13 +89,23 @@ module _ (w : TestsShown) (n t m : ℕ) where
   row_passes r new within d clears is =
       let number = d.is_at.1 in
       let met = ap (row_turned w.job (move_at w.moves t)) d.is_at.2 ∙ row_more w.job w.moves r.row t (row_move r within d) in (
-        record {
-          part = λ block. absurd (omega (number, block, arith));
-          stock = λ j at. subst (λ (k : ℕ). ClearsRow w.job (row_before w.job w.moves (uncut_row w.job k) t) (move_at w.moves t)) (let e : r.row ≡ j = omega (number, at, arith) in e)
-              (subst (λ (x : RowState). ClearsRow w.job x (move_at w.moves t)) d.is_at.2 clears);
-        },
+        row_test w n t r.row number (subst (λ (x : RowState). ClearsRow w.job x (move_at w.moves t)) d.is_at.2 clears),
         subst (λ (x : RowState). IsPieceAt w n (t + 1) (Stock m x)) (sym is) (d.is_at.0, number, met),
       )
+
+  -- where it goes over moves that it lets pass, it is as the next one meets it
+  pub row_goes_over : (r new : RowState) (next : ℕ) → IsDue tests w n t (Stock m r) → next ≤ w.turns
+      → ((k : ℕ) → t ≤ k → k < next → ClearsRow w.job (row_before w.job w.moves (uncut_row w.job r.row) k) (move_at w.moves k))
+      → new ≡ row_before w.job w.moves (uncut_row w.job r.row) next → HasPassedTo tests w n next (Stock m new)
+  row_goes_over r new next d within clears is =
+      let number = d.is_at.1 in record {
+        to = let limit = limit_of_row w n (omega (number, arith)) in omega (within, limit, arith);
+        passes = λ u from under. elim (cases_lt u t) [
+          | inl before ↦ d.passes u from before
+          | inr onward ↦ row_test w n u r.row number (clears u onward under)
+        ];
+        is_at = subst (λ (x : RowState). IsPieceAt w n next (Stock m x)) (sym is) (d.is_at.0, number, refl);
+      }
 
   -- where it stops the move, the piece has failed
   pub row_fails : (r new : RowState) → IsDue tests w n t (Stock m r) → IsRowStopped w.job (move_at w.moves t) r new → (¬ PassesTest w n t) × IsPieceFailed w n t (Stock m new)

@@ -12,7 +12,7 @@ use Rattle.mill_gouge.specs.declared.gouge.Gouge.{Gouge as Found}
 use Rattle.mill_gouge.specs.Gouges.{IsFirstGouge}
 use Rattle.mill_job.specs.declared.job.Job.{Job}
 use Rattle.mill_job.specs.Jobs.{IsJob}
-use Rattle.mill_dexel.specs.Rows.{RowState}
+use Rattle.mill_dexel.specs.Rows.{RowState, uncut_row}
 use Rattle.mill_dexel.specs.Turns.{StopsRow, move_at, row_before}
 use Rattle.mill_dexel.specs.declared.fail.RowFail.{RowFail}
 use Rattle.mill_verify.specs.Blocks.{BlockState}
@@ -26,7 +26,7 @@ use Rattle.mill_verify.specs.declared.piece.Piece.TheVariants.{Block, Stock}
 use Rattle.mill_verify.specs.inner.Failures.{IsFirstFailed, IsReasonOf, NoneFailed}
 use Rattle.mill_verify.specs.inner.Firsts.{IsFloorEnd, ShowsBlocks}
 use Rattle.mill_verify.specs.inner.Pieces.{AreTested, IsPieceAt, IsPieceFailed, PassesTest, TestsShown, blocks_of, first_turn, piece_count, row_in, tests, turn_limit}
-use Rattle.mill_verify.specs.inner.Stock.{IsStock, uncut_row}
+use Rattle.mill_verify.specs.inner.Stock.{IsStock}
 use Rattle.mill_verify.proofs.Gathered.{gathered}
 use Rattle.mill_verify.proofs.Ranges.{rows_few}
 use Rattle.mill_verify.proofs.Sharing.{first_of_block, first_of_row, limit_of_block, limit_of_row, spans}

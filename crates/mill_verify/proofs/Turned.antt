@@ -12,12 +12,11 @@ use Rattle.mill_sweep.specs.declared.leaf.Leaf.{Leaf}
 use Rattle.mill_job.specs.declared.job.Job.{Job}
 use Rattle.mill_job.specs.Columns.{column_count, column_x, column_y}
 use Rattle.mill_dexel.specs.Tops.{row_after, top_point}
-use Rattle.mill_dexel.specs.Rows.{RowState, row_point}
+use Rattle.mill_dexel.specs.Rows.{RowState, row_point, uncut_row}
 use Rattle.mill_dexel.specs.Turns.{ClearsRow, StopsRow, move_at, tops_after, row_before}
 use Rattle.mill_dexel.specs.declared.fail.RowFail.{RowFail}
 use Rattle.mill_dexel.proofs.RowLaws.{row_after-at, row_after_none, row_after_more}
 use Rattle.mill_verify.specs.Tests.{PassesColumn}
-use Rattle.mill_verify.specs.inner.Stock.{uncut_row}
 use Rattle.mill_verify.specs.inner.Firsts.{StopsAt}
 
 -- move by move, the tops after some moves become those after more

@@ -49,7 +49,8 @@ use std::thread::Threads;
 /// starts at the job's home, and each move begins where the one before it ended. A part point covers
 /// the column on which it stands, and those nearer to it than the job's band.
 ///
-/// The only error is want of memory, for the cells of the part and the rows of the stock.
+/// The only error is want of memory, for the cells of the part, the bands of the moves and the rows of
+/// the stock.
 pub fn verify<R: Threads + Sync>(
     rt: &R,
     alloc: Global,
@@ -83,7 +84,8 @@ pub fn verify<R: Threads + Sync>(
 ///
 /// The gate is told which part of the work comes to which move. The numbers are first those of the
 /// blocks, 64 moves each, which are tested against the part, and then those of the stock's rows; moves
-/// are counted from 0. The verdict doesn't depend on the gate.
+/// are counted from 0. A row goes over the moves that stay far away from it at once, and these pass the
+/// gate when it is past them. The verdict doesn't depend on the gate.
 pub fn verify_with<R: Threads + Sync, G: Gate>(
     rt: &R,
     alloc: Global,
@@ -184,7 +186,7 @@ fn tested<R: Threads + Sync, G: Gate>(
     // A law without code: a leaf that fails is one of the last of its move.
     failing_is_blocked();
     let turns = floor_end(job, moves) as u64;
-    let work = Tests::new(job, part, cells, moves, turns, gate);
+    let work = Tests::new(alloc, job, part, cells, moves, turns, gate)?;
     let pieces = work.pieces();
     let closed = run_all(rt, alloc, work, pieces, turns, workers)?;
     verdict_of(rt, alloc, job, part, cells, moves, turns, closed, workers)

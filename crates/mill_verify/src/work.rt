@@ -1,4 +1,4 @@
-ghost use Rattle.std.specs.Prelude.{◌≡◌, ◌^◌, ◌<◌};
+ghost use Rattle.std.specs.Prelude.{◌≡◌, ◌^◌, ◌<◌, IfOk};
 ghost use Rattle.mill_verify.specs.inner.Pieces.{AreReady, piece_count};
 
 use crate::block::Block;
@@ -6,7 +6,7 @@ use crate::piece::Piece;
 use mill_base::{Move, WantOfMemory};
 use mill_board::{Gate, Work};
 use mill_cells::Cells;
-use mill_dexel::Row;
+use mill_dexel::{Bands, Row};
 use mill_job::Job;
 use mill_part::Part;
 use std::alloc::Global;
@@ -20,8 +20,7 @@ pub struct Tests<'a, G> {
     job: &'a Job,
     part: &'a Part,
     cells: &'a Cells,
-    moves: &'a [Move],
-    turns: u64,
+    bands: Bands<'a>,
     gate: G,
 }
 
@@ -30,32 +29,34 @@ impl<'a, G> Model for Tests<'a, G> {
 
     ghost Value = { TestsShown };
 
-    ghost view = { λ w. record { job = w.job.now; part = w.part.now; moves = w.moves.now; turns = w.turns } };
+    ghost view = { λ w. record { job = w.job.now; part = w.part.now; moves = w.bands.moves; turns = w.bands.count } };
 
-    ghost invariant = { λ w. AreReady w.job.now w.part.now w.cells.now w.moves.now w.turns };
+    ghost invariant = { λ w. AreReady w.job.now w.part.now w.cells.now w.bands.moves w.bands.count };
 }
 
 impl<'a, G: Gate> Tests<'a, G> {
-    /// The tests of the first `turns` moves, each of which passes this gate first.
+    /// The tests of the first `turns` moves, each of which passes this gate. The only error is want of
+    /// memory, for the bands of the moves.
     pub fn new(
+        alloc: Global,
         job: &'a Job,
         part: &'a Part,
         cells: &'a Cells,
         moves: &'a [Move],
         turns: u64,
         gate: G,
-    ) -> Tests<'a, G>
+    ) -> Result<Tests<'a, G>, WantOfMemory>
         requires { AreReady job.now part.now cells.now moves.now turns }
-        ensures { result ≡ record { job = job.now; part = part.now; moves = moves.now; turns = turns } }
+        ensures { IfOk result (λ tests. tests ≡ record { job = job.now; part = part.now; moves = moves.now; turns = turns }) }
     {
-        Tests {
+        let bands = Bands::new(alloc, moves, turns)?;
+        Ok(Tests {
             job,
             part,
             cells,
-            moves,
-            turns,
+            bands,
             gate,
-        }
+        })
     }
 
     /// How many pieces there are.
@@ -63,7 +64,7 @@ impl<'a, G: Gate> Tests<'a, G> {
         ensures count { result ≡ piece_count self.now }
         ensures few { result < 2 ^ 32 }
     {
-        Block::count(self.turns) + u64::from(self.job.rows())
+        Block::count(self.bands.count()) + u64::from(self.job.rows())
     }
 }
 
@@ -75,32 +76,49 @@ impl<'a, G: Gate> Work for Tests<'a, G> {
     ghost means = { tests };
 
     fn span(&self, number: u64) -> (u64, u64) {
-        if number < Block::count(self.turns) {
-            let block = Block::new(number, self.turns);
+        let turns = self.bands.count();
+        if number < Block::count(turns) {
+            let block = Block::new(number, turns);
             return (block.first(), block.limit());
         }
-        (0, self.turns)
+        (0, turns)
     }
 
     fn fresh(&self, alloc: Global, number: u64) -> Result<Piece, WantOfMemory> {
-        let blocks = Block::count(self.turns);
+        let turns = self.bands.count();
+        let blocks = Block::count(turns);
         if number < blocks {
-            let block = Block::new(number, self.turns);
+            let block = Block::new(number, turns);
             return Ok(Piece::Block { number, block });
         }
         let row = Row::new(alloc, self.job, number - blocks)?;
         Ok(Piece::Stock { number, row })
     }
 
+    /// A row goes over the moves that stay far away from it, and a block over none. The gate is passed by
+    /// each turn, also by one that is gone over.
+    fn pass_over(&self, piece: &mut Piece, turn: u64) -> u64 {
+        match piece {
+            Piece::Block { .. } => turn,
+            Piece::Stock { number, row } => {
+                let next = row.go_over(self.job, &self.bands, turn);
+                for passed in turn..next {
+                    self.gate.pass(*number, passed);
+                }
+                next
+            }
+        }
+    }
+
     fn turn(&self, piece: &mut Piece, turn: u64) -> bool {
         match piece {
             Piece::Block { number, block } => {
                 self.gate.pass(*number, turn);
-                block.turn(self.job, self.part, self.cells, self.moves, turn)
+                block.turn(self.job, self.part, self.cells, self.bands.moves(), turn)
             }
             Piece::Stock { number, row } => {
                 self.gate.pass(*number, turn);
-                row.turn(self.job, self.moves, turn)
+                row.turn_on(self.job, self.bands.moves(), turn)
             }
         }
     }

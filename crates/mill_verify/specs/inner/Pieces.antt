@@ -10,12 +10,11 @@ use Rattle.mill_cells.specs.Sorted.{Sorted, sorted_of}
 use Rattle.mill_job.specs.declared.job.Job.{Job}
 use Rattle.mill_job.specs.Jobs.{IsJob}
 use Rattle.mill_job.specs.Columns.{row_count}
-use Rattle.mill_dexel.specs.Rows.{RowState}
+use Rattle.mill_dexel.specs.Rows.{RowState, uncut_row}
 use Rattle.mill_dexel.specs.Turns.{ClearsRow, IsRowStopped, move_at, row_before}
 use Rattle.mill_verify.specs.Blocks.{IsBlockStopped, block_count, block_of}
 use Rattle.mill_verify.specs.Tests.{ClearsPart}
 use Rattle.mill_verify.specs.inner.Firsts.{block_before}
-use Rattle.mill_verify.specs.inner.Stock.{uncut_row}
 use Rattle.mill_verify.specs.declared.piece.Piece.{Piece}
 use Rattle.mill_verify.specs.declared.piece.Piece.TheVariants.{Block, Stock}
 

@@ -1,8 +1,8 @@
 -- The whole stock, row by row.
-use Rattle.std.specs.Prelude.{◌≡◌, ℕ, ◌<◌, List, length, replicate, None, slice_index_or}
+use Rattle.std.specs.Prelude.{◌≡◌, ℕ, ◌<◌, List, length, slice_index_or}
 use Rattle.mill_base.specs.declared.motion.Move.{Move}
 use Rattle.mill_job.specs.declared.job.Job.{Job}
-use Rattle.mill_job.specs.Columns.{row_count, column_count}
+use Rattle.mill_job.specs.Columns.{row_count}
 use Rattle.mill_dexel.specs.Rows.{RowState}
 use Rattle.mill_dexel.specs.Tops.{row_after}
 
@@ -15,7 +15,3 @@ pub record IsRow (job : Job) (moves : List Move) (j : ℕ) (row : RowState) : Ty
 pub record IsStock (job : Job) (moves : List Move) (rows : List RowState) : Type 0 where
   pub count : length rows ≡ row_count job
   pub rows_ok : (j : ℕ) (other : RowState) → j < row_count job → IsRow job moves j (slice_index_or rows j other)
-
--- row j of the uncut stock, before the first move
-abbrev pub uncut_row : Job → ℕ → RowState
-uncut_row job j = record { row = j; tops = replicate (column_count job) job.top; done = 0; failed = None }

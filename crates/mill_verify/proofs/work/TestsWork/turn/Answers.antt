@@ -8,7 +8,7 @@ use Rattle.mill_verify.proofs.work.TestsWork.turn.Goals as goal
 
 pub turn-requires-in-Stock-clause-row : goal.turn-requires-in-Stock-clause-row
 turn-requires-in-Stock-clause-row g c =
-    let w : TestsShown = record { job = c.self.inside.job.now; part = c.self.inside.part.now; moves = c.self.inside.moves.now; turns = c.self.inside.turns } in
+    let w : TestsShown = record { job = c.self.inside.job.now; part = c.self.inside.part.now; moves = c.self.inside.bands.moves; turns = c.self.inside.bands.count } in
     let t : ℕ = c.args.turn in
     let n : ℕ = c.requires.0 in
     let due = subst (λ (x : TestsShown). IsDue tests x n t (Stock c.in-Stock.number c.in-Stock.row)) (sym c.self.view_is) (subst (λ (p : Piece). IsDue tests c.args.self.now n t p) c.in-Stock.is c.requires.1) in
@@ -16,24 +16,24 @@ turn-requires-in-Stock-clause-row g c =
 
 pub returns-in-Block-clause-passed : goal.returns-in-Block-clause-passed
 returns-in-Block-clause-passed g c e =
-    let w : TestsShown = record { job = c.self.inside.job.now; part = c.self.inside.part.now; moves = c.self.inside.moves.now; turns = c.self.inside.turns } in
+    let w : TestsShown = record { job = c.self.inside.job.now; part = c.self.inside.part.now; moves = c.self.inside.bands.moves; turns = c.self.inside.bands.count } in
     subst (λ (x : TestsShown). (n : ℕ) → IsDue tests x n c.args.turn c.args.piece.now → PassesTest x n c.args.turn × IsPieceAt x n (c.args.turn + 1) (Block c.in-Block.number c.turn.new.self)) c.self.view_is
     (λ n d. block_passes w n c.args.turn c.in-Block.number c.in-Block.block c.turn.new.self (subst (λ (p : Piece). IsDue tests w n c.args.turn p) c.in-Block.is d) (c.turn.ensures.clears e) (c.turn.ensures.passed e))
 
 pub returns-in-Block-clause-failed : goal.returns-in-Block-clause-failed
 returns-in-Block-clause-failed g c e =
-    let w : TestsShown = record { job = c.self.inside.job.now; part = c.self.inside.part.now; moves = c.self.inside.moves.now; turns = c.self.inside.turns } in
+    let w : TestsShown = record { job = c.self.inside.job.now; part = c.self.inside.part.now; moves = c.self.inside.bands.moves; turns = c.self.inside.bands.count } in
     subst (λ (x : TestsShown). (n : ℕ) → IsDue tests x n c.args.turn c.args.piece.now → (¬ PassesTest x n c.args.turn) × IsPieceFailed x n c.args.turn (Block c.in-Block.number c.turn.new.self)) c.self.view_is
     (λ n d. block_fails w n c.args.turn c.in-Block.number c.in-Block.block c.turn.new.self (subst (λ (p : Piece). IsDue tests w n c.args.turn p) c.in-Block.is d) (c.turn.ensures.stopped e))
 
 pub returns-in-Stock-clause-passed : goal.returns-in-Stock-clause-passed
 returns-in-Stock-clause-passed g c e =
-    let w : TestsShown = record { job = c.self.inside.job.now; part = c.self.inside.part.now; moves = c.self.inside.moves.now; turns = c.self.inside.turns } in
+    let w : TestsShown = record { job = c.self.inside.job.now; part = c.self.inside.part.now; moves = c.self.inside.bands.moves; turns = c.self.inside.bands.count } in
     subst (λ (x : TestsShown). (n : ℕ) → IsDue tests x n c.args.turn c.args.piece.now → PassesTest x n c.args.turn × IsPieceAt x n (c.args.turn + 1) (Stock c.in-Stock.number c.turn-in-Stock.new.self)) c.self.view_is
     (λ n d. row_passes w n c.args.turn c.in-Stock.number c.in-Stock.row c.turn-in-Stock.new.self c.self.invariant.within (subst (λ (p : Piece). IsDue tests w n c.args.turn p) c.in-Stock.is d) (c.turn-in-Stock.ensures.clears e) (c.turn-in-Stock.ensures.cut e))
 
 pub returns-in-Stock-clause-failed : goal.returns-in-Stock-clause-failed
 returns-in-Stock-clause-failed g c e =
-    let w : TestsShown = record { job = c.self.inside.job.now; part = c.self.inside.part.now; moves = c.self.inside.moves.now; turns = c.self.inside.turns } in
+    let w : TestsShown = record { job = c.self.inside.job.now; part = c.self.inside.part.now; moves = c.self.inside.bands.moves; turns = c.self.inside.bands.count } in
     subst (λ (x : TestsShown). (n : ℕ) → IsDue tests x n c.args.turn c.args.piece.now → (¬ PassesTest x n c.args.turn) × IsPieceFailed x n c.args.turn (Stock c.in-Stock.number c.turn-in-Stock.new.self)) c.self.view_is
     (λ n d. row_fails w n c.args.turn c.in-Stock.number c.in-Stock.row c.turn-in-Stock.new.self (subst (λ (p : Piece). IsDue tests w n c.args.turn p) c.in-Stock.is d) (c.turn-in-Stock.ensures.stopped e))
