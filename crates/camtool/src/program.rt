@@ -35,7 +35,10 @@ pub fn load_program<S: Shelf>(
 {
     let mut buf = vec![in alloc; 0u8; PIECE]?;
     let mut moves = Vec::new(alloc);
-    let reader = take_file(shelf, name, job.home(), &mut buf, &mut moves)?;
+    let reader = match take_file(shelf, name, job.home(), &mut buf, &mut moves) {
+        Ok(reader) => reader,
+        Err(fault) => return Err(fault),
+    };
     match reader.finish(&mut moves) {
         Ok(()) => Ok(moves),
         Err(NgcFault::WantOfMemory) => Err(LoadFault::Memory),
@@ -104,7 +107,8 @@ pub fn take_piece(
         OnOk result (HasTaken start reader.new moves.new.items (text ++ piece.now)) }
 {
     match reader.feed(piece, moves) {
+        Ok(()) => Ok(()),
         Err(NgcFault::WantOfMemory) => Err(WantOfMemory),
-        _ => Ok(()),
+        Err(_fault) => Ok(()),
     }
 }

@@ -144,7 +144,7 @@ fn read_back(alloc: Global, job: &Job, program: &[u8]) -> Result<Vec<Move>, Want
         Ok(()) => Ok(moves),
         Err(NgcFault::WantOfMemory) => Err(WantOfMemory),
         // The text reads as moves.
-        Err(_) => unreachable!(),
+        Err(_fault) => unreachable!(),
     }
 }
 
