@@ -1,6 +1,7 @@
 pub mod Told
 pub mod Taken
 pub mod Reading
+pub mod Programs
 pub mod Answering
 pub mod Blaming
 pub mod Serving

@@ -49,20 +49,6 @@ untold_part snap items (Err (Unfit (PartRefused fault))) h = tt
 untold_part snap items (Err (Unfit (ProgramRefused fault))) h = h
 untold_part snap items (Err (Unfit (PartTop height top))) h = h
 
-untold_program : (job : Job) (items : List ℕ) (r : Result (Vec Move) LoadFault) → LoadsProgram job (Some items) r → LoadsProgram job None r
-untold_program job items (Ok moves) h = tt
-untold_program job items (Err Memory) h = tt
-untold_program job items (Err (ReadFault JobFile)) h = h
-untold_program job items (Err (ReadFault PartFile)) h = h
-untold_program job items (Err (ReadFault ProgramFile)) h = tt
-untold_program job items (Err (Unfit (TooLong JobFile))) h = h
-untold_program job items (Err (Unfit (TooLong PartFile))) h = h
-untold_program job items (Err (Unfit (TooLong ProgramFile))) h = tt
-untold_program job items (Err (Unfit (JobRefused fault))) h = h
-untold_program job items (Err (Unfit (PartRefused fault))) h = h
-untold_program job items (Err (Unfit (ProgramRefused fault))) h = tt
-untold_program job items (Err (Unfit (PartTop height top))) h = h
-
 -- ---- the bytes that were read are what is told
 
 pub job_told : (told : Option (List ℕ)) (items : List ℕ) (r : Result Job LoadFault) → IfSome told (λ text. items ≡ text) → LoadsJob (Some items) r → LoadsJob told r
@@ -73,11 +59,6 @@ pub part_told : (snap : Snap) (told : Option (List ℕ)) (items : List ℕ) (r :
     → LoadsPart snap told r
 part_told snap None items r same h = untold_part snap items r h
 part_told snap (Some text) items r same h = subst (λ (t : List ℕ). LoadsPart snap (Some t) r) same h
-
-pub program_told : (job : Job) (told : Option (List ℕ)) (items : List ℕ) (r : Result (Vec Move) LoadFault) → IfSome told (λ text. items ≡ text) → LoadsProgram job (Some items) r
-    → LoadsProgram job told r
-program_told job None items r same h = untold_program job items r h
-program_told job (Some text) items r same h = subst (λ (t : List ℕ). LoadsProgram job (Some t) r) same h
 
 -- ---- what kept a command from one of its files
 

@@ -1,19 +1,19 @@
-//! Reading the files of a command: the job, the part and a program.
+//! Reading the job and the part of a command.
 ghost use Rattle.std.specs.Prelude.{◌≡◌, IfOk, Some};
 ghost use Rattle.mill_job.specs.Jobs.{IsJob};
-ghost use Rattle.camtool.specs.inner.Loads.{ReadsFile, LoadsJob, LoadsPart, LoadsProgram, LoadsSetup, OnlyLoads, CountsFault, IsSetup, AreMoves, IsLow};
+ghost use Rattle.camtool.specs.inner.Loads.{ReadsFile, LoadsJob, LoadsPart, LoadsSetup, OnlyLoads, CountsFault, IsSetup, IsLow};
 ghost use Rattle.camtool.specs.Setup.{setup_texts, Fits};
 ghost use Rattle.camtool.specs.declared.load.LoadFault.TheVariants as load_fault;
 
 use crate::file::File;
-use mill_base::{MAX_FILE_BYTES, Move, WantOfMemory};
+use mill_base::{MAX_FILE_BYTES, WantOfMemory};
 use mill_decimal::Snap;
 use mill_io::{ReadEnd, Shelf, read_whole};
 use mill_job::{Job, JobFault, read_job};
-use mill_ngc::{NgcFault, read_program};
+use mill_ngc::NgcFault;
 use mill_part::Part;
 use mill_stl::{StlFault, read_stl};
-use std::alloc::Global;
+use std::alloc::{AllocError, Global};
 
 /// Why a command's files give it nothing to work on.
 #[derive(Debug, Drop)]
@@ -39,6 +39,14 @@ pub enum LoadFault {
     ReadFault(File),
     /// They give it nothing to work on.
     Unfit(Unfit),
+}
+
+impl From<AllocError> for LoadFault {
+    ghost from_gives = { λ _ e. e ≡ load_fault.Memory };
+
+    fn from(_: AllocError) -> Self {
+        LoadFault::Memory
+    }
 }
 
 impl From<WantOfMemory> for LoadFault {
@@ -120,24 +128,6 @@ fn load_part<S: Shelf>(
     }
 }
 
-/// Reads a program, from the job's home.
-pub fn load_program<S: Shelf>(
-    alloc: Global,
-    shelf: &mut S,
-    name: &str,
-    job: &Job,
-) -> Result<Vec<Move>, LoadFault>
-    requires { IsJob job.now }
-    ensures told { LoadsProgram job.now ((S.shows shelf.old).contents name.now) result }
-    ensures ready { IfOk result (λ moves. AreMoves job.now moves.items) }
-    ensures store { OnlyLoads (S.shows shelf.old) (S.shows shelf.new) result }
-{
-    match read_file(alloc, shelf, name, File::Program) {
-        Ok(text) => program_from(alloc, &text, job),
-        Err(fault) => Err(fault),
-    }
-}
-
 /// All the bytes of one of the files.
 fn read_file<S: Shelf>(
     alloc: Global,
@@ -179,19 +169,5 @@ fn part_from(alloc: Global, text: &[u8], snap: Snap) -> Result<Part, LoadFault>
         Ok(read) => Ok(Part::new(read.tris)),
         Err(StlFault::WantOfMemory) => Err(LoadFault::Memory),
         Err(fault) => Err(LoadFault::Unfit(Unfit::PartRefused(fault))),
-    }
-}
-
-fn program_from(alloc: Global, text: &[u8], job: &Job) -> Result<Vec<Move>, LoadFault>
-    requires fits { Fits text.now }
-    requires job_ok { IsJob job.now }
-    ensures told { LoadsProgram job.now (Some text.now) result }
-    ensures ready { IfOk result (λ moves. AreMoves job.now moves.items) }
-    ensures cause { CountsFault 0 0 result }
-{
-    match read_program(alloc, text, job.home()) {
-        Ok(moves) => Ok(moves),
-        Err(NgcFault::WantOfMemory) => Err(LoadFault::Memory),
-        Err(fault) => Err(LoadFault::Unfit(Unfit::ProgramRefused(fault))),
     }
 }

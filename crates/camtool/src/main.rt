@@ -18,6 +18,7 @@ mod load;
 mod place;
 mod plan;
 mod print;
+mod program;
 mod run;
 mod sample;
 mod status;
@@ -38,7 +39,7 @@ fn main(rt: HostRuntime) -> ExitCode {
     let alloc = rt.alloc();
     let status = match words_of(&rt) {
         Ok(words) => {
-            let mut shelf = FileShelf::new(&rt);
+            let mut shelf = FileShelf::new(alloc, &rt);
             let mut sink = StdSink::new(&rt);
             run(&rt, alloc, &words, &mut shelf, &mut sink)
         }

@@ -17,13 +17,14 @@ ghost use Rattle.camtool.specs.Statuses.{status_code};
 use crate::load::Setup;
 use crate::plan::tell_plan_fault;
 use crate::print::{add_length, add_number, add_text};
+use crate::program::take_piece;
 use crate::status::Status;
 use crate::tell::{tell, tell_made};
 use mill_base::{Box2, Cutter, Move, Pt3, Tri, WantOfMemory};
 use mill_decimal::Snap;
 use mill_io::Sink;
 use mill_job::{Job, Levels, Place};
-use mill_ngc::{NgcFault, read_program};
+use mill_ngc::{NgcFault, Reader};
 use mill_part::Part;
 use mill_plan::{Planned, plan};
 use mill_verify::{Verdict, one_verdict, verify};
@@ -136,11 +137,14 @@ fn read_back(alloc: Global, job: &Job, program: &[u8]) -> Result<Vec<Move>, Want
     ensures told { IfOk result (λ moves. program_of (home job.now) program.now ≡ Ok moves.items) }
     ensures ready { IfOk result (λ moves. AreMoves job.now moves.items) }
 {
-    match read_program(alloc, program, job.home()) {
-        Ok(moves) => Ok(moves),
+    let mut moves = Vec::new(alloc);
+    let mut reader = Reader::new(job.home());
+    take_piece(&mut reader, program, &mut moves)?;
+    match reader.finish(&mut moves) {
+        Ok(()) => Ok(moves),
         Err(NgcFault::WantOfMemory) => Err(WantOfMemory),
         // The text reads as moves.
-        Err(_) => unreachable!(),
+        Err(_fault) => unreachable!(),
     }
 }
 

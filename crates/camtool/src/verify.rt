@@ -9,8 +9,9 @@ ghost use Rattle.camtool.specs.inner.Prints.{PrintsOr, TriesVerdict};
 ghost use Rattle.camtool.specs.Statuses.{status_code};
 ghost use Rattle.camtool.specs.Verify.{texts_of, verdict_status, verdict_line, rejection_line, leaf_end, tolerances_end, NamesMove};
 
-use crate::load::{LoadFault, load_program, load_setup};
+use crate::load::{LoadFault, load_setup};
 use crate::print::{add_column, add_length, add_number, add_text};
+use crate::program::load_program;
 use crate::status::Status;
 use crate::tell::{tell, tell_fault};
 use mill_base::{Move, WantOfMemory};

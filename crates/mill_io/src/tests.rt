@@ -145,7 +145,7 @@ fn stores_and_reads_a_real_file(rt: HostRuntime) -> Result<(), Fail> {
     let path = env::temp_dir(&rt)?.join(rt.alloc(), name.as_str())?;
     let path = path.to_str().ok_or("a path that is not text")?;
     let long = vec![in rt.alloc(); 7u8; 70000]?;
-    let mut shelf = FileShelf::new(&rt);
+    let mut shelf = FileShelf::new(rt.alloc(), &rt);
     let missing = read_whole(rt.alloc(), &mut shelf, path, 9);
     assert!(rt; matches!(missing, Err(ReadEnd::ReadFault)));
     let before = store(&mut shelf, path, b"what goes");
@@ -156,6 +156,48 @@ fn stores_and_reads_a_real_file(rt: HostRuntime) -> Result<(), Fail> {
     assert_eq!(rt; (before, stored), (Ok(()), Ok(())));
     assert!(rt; read?.as_slice() == long.as_slice());
     assert!(rt; matches!(short, Err(ReadEnd::TooLong)));
+    Ok(())
+}
+
+// Reads at most three bytes of a file.
+fn read_three<S: Shelf>(shelf: &mut S, name: &str, from: u64) -> Result<([u8; 3], usize), Failed> {
+    let mut buf = [0u8; 3];
+    let count = shelf.read(name, from, &mut buf)?;
+    Ok((buf, count))
+}
+
+// A file that is replaced while it is read is read on as it was, also at a place before; a store
+// closes it.
+#[test]
+fn reads_a_replaced_file_as_it_was(rt: HostRuntime) -> Result<(), Fail> {
+    let id = process::id(rt.process());
+    let folder = env::temp_dir(&rt)?;
+    let first = folder.join(rt.alloc(), format!(in rt.alloc(); "mill-io-first-{id}")?.as_str())?;
+    let second = folder.join(rt.alloc(), format!(in rt.alloc(); "mill-io-second-{id}")?.as_str())?;
+    let first = first.to_str().ok_or("a path that is not text")?;
+    let second = second.to_str().ok_or("a path that is not text")?;
+    let mut shelf = FileShelf::new(rt.alloc(), &rt);
+    let stored = (
+        store(&mut shelf, first, b"first"),
+        store(&mut shelf, second, b"other"),
+    );
+    let begun = read_three(&mut shelf, first, 0);
+    fs::rename(&rt, second, first)?;
+    let rest = read_three(&mut shelf, first, 3);
+    let again = read_three(&mut shelf, first, 1);
+    let missing = read_three(&mut shelf, second, 0);
+    let new = read_three(&mut shelf, first, 2);
+    let written = store(&mut shelf, first, b"more");
+    let end = read_three(&mut shelf, first, 2);
+    fs::remove_file(&rt, first)?;
+    assert_eq!(rt; stored, (Ok(()), Ok(())));
+    assert_eq!(rt; begun, Ok((*b"fir", 3)));
+    assert_eq!(rt; rest, Ok((*b"st\0", 2)));
+    assert_eq!(rt; again, Ok((*b"irs", 3)));
+    assert_eq!(rt; missing, Err(Failed));
+    assert_eq!(rt; new, Ok((*b"her", 3)));
+    assert_eq!(rt; written, Ok(()));
+    assert_eq!(rt; end, Ok((*b"re\0", 2)));
     Ok(())
 }
 

@@ -4,5 +4,5 @@ mod PercentLemmas
 mod ProgramLemmas
 mod PieceLemmas
 pub mod JoinLemmas
-mod WholeText
+pub mod WholeText
 pub mod MoveLines

@@ -5,5 +5,4 @@ pub mod Motion
 pub mod Programs
 pub mod Pieces
 pub mod Texts
-pub mod Readings
 pub mod inner

@@ -1,8 +1,8 @@
 //! Reads a program of G-codes: exactly the moves that its text means, or its first fault with the
 //! line, after a profile of NISTIR 6556 (RS274/NGC version 3).
 //!
-//! It stands on `mill_words` for the words of a line and on `mill_base` for the moves. A text is
-//! read line by line with no memory but that of the moves, whole or in pieces.
+//! It stands on `mill_words` for the words of a line and on `mill_base` for the moves. A text comes
+//! in pieces, cut anywhere, and is read line by line with no memory but that of the moves.
 //! `specs/Profile.antt` has the table of words, `specs/Said.antt` what a line's words say,
 //! `specs/Motion.antt` what that does, `specs/Programs.antt` what a whole text means, and
 //! `specs/Pieces.antt` what is read so far of one that comes in pieces.
@@ -16,7 +16,6 @@ mod lines;
 mod motion;
 mod numbers;
 mod profile;
-mod program;
 mod progress;
 mod reader;
 mod said;
@@ -27,5 +26,4 @@ mod unfinished;
 
 pub use fault::NgcFault;
 pub use laws::{pieces_join, pieces_read_program};
-pub use program::read_program;
 pub use reader::Reader;

@@ -11,12 +11,21 @@ use crate::text_reader::TextReader;
 use mill_base::{Move, Pt3};
 use std::marker::Model;
 
-/// Reads a program's text that comes in pieces, cut anywhere.
+/// Reads a program's text, which comes in pieces, cut anywhere, as moves.
 ///
 /// [`feed`](Reader::feed) takes the pieces in turn, and [`finish`](Reader::finish) ends the text.
-/// The moves and the first fault are those of the joined text, which
-/// [`read_program`](crate::read_program) tells. No piece is kept: a reader holds the bytes of one
-/// line, of which there are at most 256.
+/// The answer is exactly the moves of the joined text, or its first fault, which [`NgcFault`] tells
+/// with its line. No piece is kept: a reader holds the bytes of one line, of which there are at most
+/// 256.
+///
+/// Each line feed ends a line. Where the first line that isn't blank holds only `%`, the program
+/// ends with the next such line; `M2` or `M30` ends it at the end of its line in any case (NISTIR
+/// 6556, 3.6.1). What comes behind has no meaning.
+///
+/// A line with an axis word makes a move in the motion mode, `G0` or `G1` (3.5.1, 3.5.2), from the
+/// present point to that point with the named coordinates replaced, which are millimetres (`G21`,
+/// 3.5.7) and absolute (`G90`, 3.5.17). `F`, `S`, `T`, the other words of the profile's table and
+/// line numbers have no effect on the moves.
 #[derive(Drop)]
 pub struct Reader {
     text: TextReader,

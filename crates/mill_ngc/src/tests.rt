@@ -1,4 +1,6 @@
 //! Programs and what they mean, by hand.
+ghost use Rattle.mill_base.specs.Ranges.{IsInTextRange};
+
 mod pieces;
 
 use super::*;
@@ -26,9 +28,20 @@ fn number(mant: u64, scale: u8) -> Num {
     }
 }
 
+// The moves of a text, which is read in one piece.
+fn moves_of(alloc: Global, text: &str, start: Pt3) -> Result<Vec<Move>, NgcFault>
+    requires { IsInTextRange start }
+{
+    let mut moves = Vec::new(alloc);
+    let mut reader = Reader::new(start);
+    reader.feed(text.as_bytes(), &mut moves)?;
+    reader.finish(&mut moves)?;
+    Ok(moves)
+}
+
 // The fault of a text, if it has one.
 fn fault_of(alloc: Global, text: &str) -> Option<NgcFault> {
-    read_program(alloc, text.as_bytes(), ORIGIN).err()
+    moves_of(alloc, text, ORIGIN).err()
 }
 
 // The fault of a line behind `G21 G90`.
@@ -41,7 +54,7 @@ fn fault_at(alloc: Global, line: &str) -> Result<Option<NgcFault>, AllocError> {
 fn reads_a_framed_program(rt: HostRuntime) -> Result<(), NgcFault> {
     let text =
         " (job 1)\r\n%\r\nG21 G90 G17 G40 G49 G54 G61 G94 G80\r\nT1 M6 S8000 M3 M8 M7\nG1 Z2 F300\n\ng0 (up) z4;over the part\nX-0.05 Y+10.\nG80\nN9 M5 M9\n%\nnot read";
-    let moves = read_program(rt.alloc(), text.as_bytes(), HOME)?;
+    let moves = moves_of(rt.alloc(), text, HOME)?;
     let want = [
         Move {
             kind: Kind::Feed,
@@ -72,7 +85,7 @@ G49\ng49\nG049\nG54\ng54.0\nG+54\nG61\ng61.\nG061\nG80\ng80\nG080.
 M6\nm06\nM6.0\nM3\nm3\nM03.\nM4\nm4\nM+4\nM5\nm05\nM5.0\nM7 M8 M9\nm9 m8 m7\nM7 M7 M07\nM8 M3 M8\nM9 M9
 F0\nf100.5\nF-1\nS0\ns12000\nS.5\nT0\nt12\nT3.5\nT1 M6\n(a)\nN1\n ;b\n
 G0 X1\nG00 X2\nG-0 X3\nG1 Y1\ng01 Y2\nG1.0 Y3\nX4\nx5\nX+6.\nY-1\ny-2\nY 3 1\nZ1\nz-.5\nZ0.25 M30 ; end";
-    let moves = read_program(rt.alloc(), text.as_bytes(), ORIGIN)?;
+    let moves = moves_of(rt.alloc(), text, ORIGIN)?;
     assert_eq!(rt; moves.len(), 15);
     assert_eq!(rt; moves[2].kind, Kind::Rapid);
     assert_eq!(rt; moves[3].kind, Kind::Feed);
@@ -93,7 +106,7 @@ fn makes_moves(rt: HostRuntime) -> Result<(), NgcFault> {
         ("G1 X0 M3 M8 F1 S1 T1 M6", point(0, 0, 0)),
     ] {
         let text = format!(in rt.alloc(); "G21 G90\n{line}\nM2\n")?;
-        let moves = read_program(rt.alloc(), text.as_bytes(), ORIGIN)?;
+        let moves = moves_of(rt.alloc(), text.as_str(), ORIGIN)?;
         assert_eq!(rt; moves.len(), 1, "{line}");
         assert_eq!(rt; moves[0].to, to, "{line}");
     }

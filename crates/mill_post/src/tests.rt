@@ -1,7 +1,10 @@
 //! Programs by hand, which read back.
+ghost use Rattle.mill_base.specs.Ranges.{IsInTextRange};
+
 use super::*;
 use mill_base::{Kind, Move, Pt3};
-use mill_ngc::read_program;
+use mill_ngc::{NgcFault, Reader};
+use std::alloc::Global;
 use std::test::Fail;
 
 const HOME: Pt3 = Pt3 {
@@ -36,6 +39,17 @@ fn rapid(from: Pt3, to: Pt3) -> Move {
     }
 }
 
+// The moves that a text reads as.
+fn read_back(alloc: Global, text: &[u8], start: Pt3) -> Result<Vec<Move>, NgcFault>
+    requires { IsInTextRange start }
+{
+    let mut moves = Vec::new(alloc);
+    let mut reader = Reader::new(start);
+    reader.feed(text, &mut moves)?;
+    reader.finish(&mut moves)?;
+    Ok(moves)
+}
+
 #[test]
 fn writes_moves(rt: HostRuntime) -> Result<(), Fail> {
     let near = point(0, 0, 200);
@@ -44,7 +58,7 @@ fn writes_moves(rt: HostRuntime) -> Result<(), Fail> {
     let text = write_program(rt.alloc(), moves.as_slice())?;
     let want: &[u8] = b"%\nG17 G21 G90\nG1 X0.00 Y0.00 Z2.00\nG0 X2.00 Y2.00 Z4.00\nM2\n%\n";
     assert_eq!(rt; text.as_slice(), want);
-    let again = read_program(rt.alloc(), text.as_slice(), HOME)?;
+    let again = read_back(rt.alloc(), text.as_slice(), HOME)?;
     assert_eq!(rt; again.as_slice(), moves.as_slice());
     Ok(())
 }
@@ -54,7 +68,7 @@ fn writes_no_move(rt: HostRuntime) -> Result<(), Fail> {
     let text = write_program(rt.alloc(), &[])?;
     let want: &[u8] = b"%\nG17 G21 G90\nM2\n%\n";
     assert_eq!(rt; text.as_slice(), want);
-    let again = read_program(rt.alloc(), text.as_slice(), HOME)?;
+    let again = read_back(rt.alloc(), text.as_slice(), HOME)?;
     assert_eq!(rt; again.len(), 0);
     Ok(())
 }
@@ -68,7 +82,7 @@ fn writes_extreme_coordinates(rt: HostRuntime) -> Result<(), Fail> {
     let want: &[u8] =
         b"%\nG17 G21 G90\nG0 X-1310.71 Y-1310.71 Z-1310.71\nG1 X1310.71 Y-0.05 Z-1.00\nG1 X1.00 Y1.00 Z4.00\nM2\n%\n";
     assert_eq!(rt; text.as_slice(), want);
-    let again = read_program(rt.alloc(), text.as_slice(), LOWEST)?;
+    let again = read_back(rt.alloc(), text.as_slice(), LOWEST)?;
     assert_eq!(rt; again.as_slice(), moves.as_slice());
     Ok(())
 }

@@ -1,7 +1,8 @@
 -- What reading a file or a word comes to, and what reading all that a command needs comes to.
-use Rattle.std.specs.Prelude.{◌≡◌, ◌≤◌, ℕ, ℤ, ◌<ℤ◌, List, length, Option, Some, None, IfSome, Result, Ok, Err}
+use Rattle.std.specs.Prelude.{◌≡◌, ◌≤◌, ℕ, ℤ, ◌<ℤ◌, List, [], length, take, Option, Some, None, IfSome, Result, Ok, Err}
 use Rattle.std.specs.Global.{Vec}
-use Rattle.mill_base.specs.declared.limits.TheConstants.{MAX_TEXT_COORDINATE, MAX_MOVES, MAX_WORKERS}
+use Rattle.mill_base.specs.declared.limits.TheConstants.{MAX_FILE_BYTES, MAX_TEXT_COORDINATE, MAX_MOVES, MAX_WORKERS}
+use Rattle.mill_base.specs.declared.points.Pt3.{Pt3}
 use Rattle.mill_base.specs.declared.points.Tri.{Tri}
 use Rattle.mill_base.specs.declared.motion.Move.{Move}
 use Rattle.mill_base.specs.Motion.{Follow}
@@ -13,6 +14,8 @@ use Rattle.mill_decimal.specs.declared.snap.Snap.{Snap}
 use Rattle.mill_decimal.specs.declared.snap.Snap.TheVariants.{Exact}
 use Rattle.mill_io.specs.Causes.{Rose}
 use Rattle.mill_io.specs.Views.{StoreView, ReadsOnly}
+use Rattle.mill_io.specs.declared.pieces.PieceEnd.{PieceEnd}
+use Rattle.mill_ngc.specs.Pieces.{Reading, reading_at, lines_read, fed, MovesSoFar}
 use Rattle.mill_part.specs.Tops.{IsTop}
 use Rattle.mill_part.specs.declared.part.Part.{Part}
 use Rattle.mill_job.specs.declared.job.Job.{Job}
@@ -31,7 +34,7 @@ use Rattle.camtool.specs.declared.place.WordFault.{WordFault}
 use Rattle.camtool.specs.Drop.{ReadsPlace, RefusesWord}
 use Rattle.camtool.specs.Level.{ReadsHeight, RefusesHeight}
 use Rattle.camtool.specs.Sample.{sample_job, sample_part}
-use Rattle.camtool.specs.Setup.{SetupTexts, IsTooLong, IsJobText, IsRefusedJob, IsPartText, IsRefusedPart, ReadsSetup, IsUnfit, IsReadBefore}
+use Rattle.camtool.specs.Setup.{SetupTexts, Fits, IsTooLong, IsJobText, IsRefusedJob, IsPartText, IsRefusedPart, ReadsSetup, IsUnfit, IsReadBefore}
 use Rattle.camtool.specs.Verify.{Texts, IsProgramText, IsRefusedProgram, Reads, IsUnfitProgram, IsReadBeforeProgram}
 
 -- ---- one file
@@ -70,6 +73,41 @@ LoadsProgram job told (Err (ReadFault ProgramFile)) = Unit {0}
 LoadsProgram job told (Err (Unfit (TooLong ProgramFile))) = IfSome told IsTooLong
 LoadsProgram job told (Err (Unfit (ProgramRefused fault))) = IfSome told (λ text. IsRefusedProgram job text fault)
 LoadsProgram job told (Err _) = ⊥
+
+-- ---- a program's file, in pieces
+
+-- a reader has taken this text from this start, and made these moves
+pub record HasTaken (start : Pt3) (reader : Reading) (moves : List Move) (text : List ℕ) : Type 0 where
+  pub all : (reader, moves) ≡ fed (reading_at start, []) text
+  pub lines : lines_read reader ≤ length text
+  pub moves_ok : MovesSoFar start reader moves
+
+-- it has taken the whole text of a file, within the limit; where the file is told, this is it
+pub record TakesFile (start : Pt3) (told : Option (List ℕ)) (reader : Reading) (moves : List Move) : Type 0 where
+  pub text : List ℕ
+  pub whole : IfSome told (λ bytes. text ≡ bytes)
+  pub fits : Fits text
+  pub taken : HasTaken start reader moves text
+
+-- it has taken the front of a file
+pub record TakesFront (start : Pt3) (told : Option (List ℕ)) (given : ℕ) (reader : Reading) (moves : List Move) : Type 0 where
+  pub text : List ℕ
+  pub front : IfSome told (λ bytes. text ≡ take (length text) bytes)
+  pub size : length text ≡ given
+  pub taken : HasTaken start reader moves text
+
+-- the pieces of a file within its limit, before the first
+pub record IsFirst (limit given : ℕ) (end : Option (Result Unit PieceEnd)) : Type 0 where
+  pub limit_is : limit ≡ MAX_FILE_BYTES
+  pub none_given : given ≡ 0
+  pub going : end ≡ None
+
+-- why a program's file gives no text
+abbrev pub LoadsNone : Option (List ℕ) → LoadFault → Type 0
+LoadsNone told Memory = Unit {0}
+LoadsNone told (ReadFault f) = f ≡ ProgramFile
+LoadsNone told (Unfit (TooLong f)) = (f ≡ ProgramFile) × IfSome told IsTooLong
+LoadsNone told (Unfit _) = ⊥
 
 -- ---- all that a command needs
 

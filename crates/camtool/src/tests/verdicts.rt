@@ -161,3 +161,22 @@ fn answers_alike_for_each_number_of_workers(rt: HostRuntime) -> Result<(), Fail>
     }
     Ok(())
 }
+
+// A program of two pieces, with a line across their border.
+#[test]
+fn reads_a_program_of_two_pieces(rt: HostRuntime) -> Result<(), Fail> {
+    let alloc = rt.alloc();
+    let mut program = Vec::from_slice(alloc, b"G21 G90\n")?;
+    for _ in 0..10_000 {
+        program.extend_from_slice(b"G1 Z2\nG0 Z4\n")?;
+    }
+    program.extend_from_slice(b"M2\n")?;
+    let mut shelf = store(alloc, (JOB, PLATE, &program), &[])?;
+    let mut sink = MemSink::new(alloc, 200, &[])?;
+    let words = words(alloc, &["verify", "job", "part", "program"])?;
+    let ended = run(&rt, alloc, &words, &mut shelf, &mut sink);
+    let line: &[u8] = b"accepted moves 20000 columns 9 left 0.00 band 0.00 allowance 0.00\n";
+    assert_eq!(rt; sink.written(), line);
+    assert_eq!(rt; ended, Status::Done);
+    Ok(())
+}

@@ -2,7 +2,7 @@
 ghost use Rattle.std.specs.Prelude.{◌<◌};
 
 use super::HOME;
-use crate::{NgcFault, Reader, read_program};
+use crate::{NgcFault, Reader};
 use mill_base::Move;
 use mill_words::WordFault;
 use std::alloc::{AllocError, Global};
@@ -201,12 +201,8 @@ fn random_cuts_read_the_same(rt: HostRuntime) -> Result<(), Fail> {
         let text = program(rt.alloc(), &mut dice)?;
         let bytes = text.as_bytes();
         let whole = read_halves(rt.alloc(), bytes, 0);
-        match read_program(rt.alloc(), bytes, HOME) {
-            Ok(moves) => assert_eq!(rt; whole.moves.as_slice(), moves.as_slice()),
-            Err(fault) => {
-                assert_eq!(rt; whole.fault, Some(fault));
-                faults.push(fault)?;
-            }
+        if let Some(fault) = whole.fault {
+            faults.push(fault)?;
         }
         for most in [1, 7, 40, 400] {
             let told = read_pieces(&rt, rt.alloc(), bytes, most, &mut dice);

@@ -1,0 +1,114 @@
+//! Reading a program, in pieces.
+ghost use Rattle.std.specs.Prelude.{◌≡◌, ◌+◌, ◌<◌, ◌^◌, ◌++◌, ℕ, List, [], length, IfOk, IfErr, OnOk};
+ghost use Rattle.mill_base.specs.Ranges.{IsInTextRange};
+ghost use Rattle.mill_base.specs.declared.points.Pt3.{Pt3 as Point};
+ghost use Rattle.mill_job.specs.Jobs.{IsJob};
+ghost use Rattle.mill_ngc.specs.Pieces.{lines_read};
+ghost use Rattle.camtool.specs.inner.Loads.{LoadsProgram, OnlyLoads, AreMoves, HasTaken, TakesFile, LoadsNone, IsFirst};
+
+use crate::file::File;
+use crate::load::{LoadFault, Unfit};
+use mill_base::{MAX_FILE_BYTES, Move, Pt3, WantOfMemory};
+use mill_io::{PieceEnd, Pieces, Shelf};
+use mill_job::Job;
+use mill_ngc::{NgcFault, Reader};
+use std::alloc::Global;
+
+/// How many bytes of a program are read at once.
+const PIECE: usize = 65_536;
+
+/// Reads a program, from the job's home.
+///
+/// Its text is never held whole. It is read to the file's end, also behind its first fault and
+/// behind the program's end, so that a failed read and a file that is too long are told before a
+/// fault of the text.
+pub fn load_program<S: Shelf>(
+    alloc: Global,
+    shelf: &mut S,
+    name: &str,
+    job: &Job,
+) -> Result<Vec<Move>, LoadFault>
+    requires { IsJob job.now }
+    ensures told { LoadsProgram job.now ((S.shows shelf.old).contents name.now) result }
+    ensures ready { IfOk result (λ moves. AreMoves job.now moves.items) }
+    ensures store { OnlyLoads (S.shows shelf.old) (S.shows shelf.new) result }
+{
+    let mut buf = vec![in alloc; 0u8; PIECE]?;
+    let mut moves = Vec::new(alloc);
+    let reader = match take_file(shelf, name, job.home(), &mut buf, &mut moves) {
+        Ok(reader) => reader,
+        Err(fault) => return Err(fault),
+    };
+    match reader.finish(&mut moves) {
+        Ok(()) => Ok(moves),
+        Err(NgcFault::WantOfMemory) => Err(LoadFault::Memory),
+        Err(fault) => Err(LoadFault::Unfit(Unfit::ProgramRefused(fault))),
+    }
+}
+
+// A reader that has taken the whole text of a file, with the moves so far.
+fn take_file<S: Shelf>(
+    shelf: &mut S,
+    name: &str,
+    start: Pt3,
+    buf: &mut [u8],
+    moves: &mut Vec<Move>,
+) -> Result<Reader, LoadFault>
+    requires start { IsInTextRange start }
+    requires buf { 0 < length buf.old }
+    requires moves { moves.old.items ≡ [] }
+    ensures takes { IfOk result (λ reader.
+        TakesFile start ((S.shows shelf.old).contents name.now) reader moves.new.items) }
+    ensures fault { IfErr result (LoadsNone ((S.shows shelf.old).contents name.now)) }
+    ensures store { OnlyLoads (S.shows shelf.old) (S.shows shelf.new) result }
+{
+    let mut pieces = Pieces::new(shelf, name, MAX_FILE_BYTES);
+    take_pieces(&mut pieces, start, buf, moves)
+}
+
+// The same, piece by piece.
+fn take_pieces<S: Shelf>(
+    pieces: &mut Pieces<'_, S>,
+    start: Pt3,
+    buf: &mut [u8],
+    moves: &mut Vec<Move>,
+) -> Result<Reader, LoadFault>
+    requires start { IsInTextRange start }
+    requires buf { 0 < length buf.old }
+    requires moves { moves.old.items ≡ [] }
+    requires first { IsFirst pieces.old.limit pieces.old.given pieces.old.end }
+    ensures takes { IfOk result (λ reader.
+        TakesFile start ((S.shows pieces.old.shelf.now).contents pieces.old.name.now) reader moves.new.items) }
+    ensures fault { IfErr result (LoadsNone ((S.shows pieces.old.shelf.now).contents pieces.old.name.now)) }
+    ensures store { OnlyLoads (S.shows pieces.old.shelf.now) (S.shows pieces.new.shelf.now) result }
+    ensures same_reference { pieces.new.shelf.ghost_name ≡ pieces.old.shelf.ghost_name }
+{
+    let mut reader = Reader::new(start);
+    loop {
+        let count = match pieces.next(buf) {
+            Ok(0) => return Ok(reader),
+            Ok(count) => count,
+            Err(PieceEnd::ReadFault) => return Err(LoadFault::ReadFault(File::Program)),
+            Err(PieceEnd::TooLong) => return Err(LoadFault::Unfit(Unfit::TooLong(File::Program))),
+        };
+        take_piece(&mut reader, &buf[..count], moves)?;
+    }
+}
+
+/// Takes the next piece of a program. A fault of the text isn't told now but at its end, where the
+/// reader answers it again.
+pub fn take_piece(
+    reader: &mut Reader,
+    piece: &[u8],
+    moves: &mut Vec<Move>,
+) -> Result<(), WantOfMemory>
+    requires { lines_read reader.old + length piece.now < 2 ^ 63 }
+    ensures { (start : Point) (text : List ℕ) → HasTaken start reader.old moves.old.items text →
+        OnOk result (HasTaken start reader.new moves.new.items (text ++ piece.now)) }
+{
+    match reader.feed(piece, moves) {
+        Ok(()) => Ok(()),
+        Err(NgcFault::WantOfMemory) => Err(WantOfMemory),
+        Err(_fault) => Ok(()),
+    }
+}
