@@ -1,5 +1,5 @@
-use Rattle.std.proofs.Common.{rules, arith}
-use Rattle.mill_dexel.proofs.BandLists.{bands_none, bands_more, bands_all}
+use Rattle.std.proofs.Common.{rules}
+use Rattle.mill_dexel.proofs.BandLists.{bands_none, bands_more}
 use Rattle.mill_dexel.proofs.bands.bands_of.Goals as goal
 
 pub loop-i-init : goal.loop-i-init

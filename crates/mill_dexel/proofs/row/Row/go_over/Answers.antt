@@ -1,6 +1,5 @@
-use Rattle.std.proofs.Common.{◌≡◌, ◌∙◌, ℕ, ◌<◌, ◌≤◌, length, sym, subst, ap, rules, arith}
+use Rattle.std.proofs.Common.{◌≡◌, ◌∙◌, ℕ, ◌≤◌, length, sym, subst, ap, rules, arith}
 use Rattle.mill_dexel.specs.Rows.{RowState}
-use Rattle.mill_dexel.specs.inner.Passing.{PassesOver}
 use Rattle.mill_dexel.proofs.RunLaws.{IsRunTo}
 use Rattle.mill_dexel.proofs.Blocks.{run_start, over_runs, gone_over}
 use Rattle.mill_dexel.proofs.row.Row.go_over.Goals as goal
