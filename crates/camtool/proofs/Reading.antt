@@ -1,9 +1,7 @@
 -- What was read from the bytes of a file holds of what the store tells of it.
 use Rattle.std.proofs.Common.{◌≡◌, ℕ, List, Option, Some, None, Result, Ok, Err, refl, subst, arith}
 use Rattle.std.specs.Prelude.{◌<◌, ◌-◌, ◌^◌, ℤ, IfSome}
-use Rattle.std.specs.Global.{Vec}
 use Rattle.mill_base.specs.declared.points.Tri.{Tri}
-use Rattle.mill_base.specs.declared.motion.Move.{Move}
 use Rattle.mill_decimal.specs.declared.snap.Snap.{Snap}
 use Rattle.mill_io.specs.Causes.{Rose}
 use Rattle.mill_job.specs.declared.job.Job.{Job}

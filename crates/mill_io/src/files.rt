@@ -28,12 +28,7 @@ impl<F: Read + Seek + Drop> OpenFile<F> {
 }
 
 // Reads from a place on in a file that stands at another, or at the same.
-fn read_at<F: Read + Seek>(
-    file: &mut F,
-    at: u64,
-    from: u64,
-    buf: &mut [u8],
-) -> io::Result<usize>
+fn read_at<F: Read + Seek>(file: &mut F, at: u64, from: u64, buf: &mut [u8]) -> io::Result<usize>
     ensures { IfOk result (λ n. n ≤ length buf.new) }
 {
     if from != at {

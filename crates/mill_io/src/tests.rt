@@ -172,8 +172,14 @@ fn read_three<S: Shelf>(shelf: &mut S, name: &str, from: u64) -> Result<([u8; 3]
 fn reads_a_replaced_file_as_it_was(rt: HostRuntime) -> Result<(), Fail> {
     let id = process::id(rt.process());
     let folder = env::temp_dir(&rt)?;
-    let first = folder.join(rt.alloc(), format!(in rt.alloc(); "mill-io-first-{id}")?.as_str())?;
-    let second = folder.join(rt.alloc(), format!(in rt.alloc(); "mill-io-second-{id}")?.as_str())?;
+    let first = folder.join(
+        rt.alloc(),
+        format!(in rt.alloc(); "mill-io-first-{id}")?.as_str(),
+    )?;
+    let second = folder.join(
+        rt.alloc(),
+        format!(in rt.alloc(); "mill-io-second-{id}")?.as_str(),
+    )?;
     let first = first.to_str().ok_or("a path that is not text")?;
     let second = second.to_str().ok_or("a path that is not text")?;
     let mut shelf = FileShelf::new(rt.alloc(), &rt);

@@ -1,4 +1,4 @@
-use Rattle.std.proofs.Common.{◌≡◌, ◌+◌, ◌≤◌, ◌<◌, ◌++◌, length, take, arith, ◌∙◌, sym, subst, rules, refl}
+use Rattle.std.proofs.Common.{◌+◌, ◌≤◌, ◌<◌, ◌++◌, length, take, arith, ◌∙◌, rules, refl}
 use Rattle.mill_base.specs.declared.limits.TheConstants.{MAX_FILE_BYTES}
 use Rattle.mill_io.proofs.Read.{reads_on}
 use Rattle.camtool.specs.inner.Loads.{HasTaken, TakesFront}
