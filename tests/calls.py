@@ -81,8 +81,18 @@ def contents(path):
         return kind, mode, None
     if found.st_size > TOLD_BYTES:
         return kind, mode, (found.st_size, found.st_mtime_ns, found.st_blocks)
+    return kind, mode, digest(path, mode)
+
+
+def digest(path, mode):
+    """A checksum of a file's bytes, also where its permissions don't let its owner read it."""
+    is_locked = not os.access(path, os.R_OK)
+    if is_locked:
+        os.chmod(path, mode | 0o400)
     with open(path, "rb") as file:
-        return kind, mode, hashlib.file_digest(file, "sha256").hexdigest()
+        if is_locked:
+            os.chmod(path, mode)
+        return hashlib.file_digest(file, "sha256").hexdigest()
 
 
 def state(folder):
