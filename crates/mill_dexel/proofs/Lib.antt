@@ -14,7 +14,7 @@ mod Lines
 mod UncutRows
 pub mod RunLaws
 mod Blocks
-mod Bands
+mod BandLists
 mod Chunks
 pub mod TopLaws
 pub mod RowLaws

@@ -195,7 +195,7 @@ fn two_lines(alloc: Global) -> Result<Vec<Move>, WantOfMemory>
     ensures count { IfOk result (λ moves. length moves.items ≡ 160) }
 {
     let mut moves = Vec::new(alloc);
-    for t in 0..160 {
+    for t in 0..160_u64 {
         let y = if t < 150 { 0 } else { 200 };
         moves.push(step(Kind::Feed, place(0, y, 400), place(100, y, 400)))?;
     }

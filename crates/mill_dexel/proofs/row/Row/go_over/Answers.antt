@@ -1,6 +1,5 @@
-use Rattle.std.proofs.Common.{◌≡◌, ℕ, ◌<◌, ◌≤◌, length, sym, subst, ap, rules, arith}
+use Rattle.std.proofs.Common.{◌≡◌, ◌∙◌, ℕ, ◌≤◌, length, sym, subst, ap, rules, arith}
 use Rattle.mill_dexel.specs.Rows.{RowState}
-use Rattle.mill_dexel.specs.inner.Passing.{PassesOver}
 use Rattle.mill_dexel.proofs.RunLaws.{IsRunTo}
 use Rattle.mill_dexel.proofs.Blocks.{run_start, over_runs, gone_over}
 use Rattle.mill_dexel.proofs.row.Row.go_over.Goals as goal
@@ -23,3 +22,17 @@ loop-next-preserved c =
       ap (λ (r : RowState). r.done) over.is,
       around.within,
     )
+
+pub returns-then-not-pass_over-clause-clears : goal.returns-then-not-pass_over-clause-clears
+returns-then-not-pass_over-clause-clears c = (gone_over c.args.job.now c.args.bands.now.moves c.args.t c.args.self.now c.loop-next.self c.loop-next.next c.requires.from_uncut c.loop-next.invariant.0).clears
+
+pub returns-then-not-pass_over-clause-is : goal.returns-then-not-pass_over-clause-is
+returns-then-not-pass_over-clause-is c =
+    c.pass_over.ensures.kept (search rules)
+    ∙ (gone_over c.args.job.now c.args.bands.now.moves c.args.t c.args.self.now c.loop-next.self c.loop-next.next c.requires.from_uncut c.loop-next.invariant.0).is
+
+pub returns-clause-clears : goal.returns-clause-clears
+returns-clause-clears c = (gone_over c.args.job.now c.args.bands.now.moves c.args.t c.args.self.now c.loop-next.self c.loop-next.next c.requires.from_uncut c.loop-next.invariant.0).clears
+
+pub returns-clause-is : goal.returns-clause-is
+returns-clause-is c = (gone_over c.args.job.now c.args.bands.now.moves c.args.t c.args.self.now c.loop-next.self c.loop-next.next c.requires.from_uncut c.loop-next.invariant.0).is

@@ -1,4 +1,4 @@
-use Rattle.std.proofs.Common.{ℕ, ◌-◌, ◌≤◌, ◌≡◌}
+use Rattle.std.proofs.Common.{◌-◌, ◌≤◌, ◌≡◌}
 use Rattle.mill_dexel.proofs.RunLaws.{IsRunTo}
 use Rattle.mill_dexel.proofs.row.Row.go_over.Given as goal
 

@@ -1,11 +1,25 @@
-use Rattle.std.proofs.Common.{◌∙◌, ap, subst, sym}
+use Rattle.std.proofs.Common.{◌∙◌, ap, subst, sym, arith}
+use Rattle.std.specs.Prelude.{pos, ◌+ℤ◌}
+use Rattle.std.proofs.lemmas.Int.{ints}
 use Rattle.mill_base.specs.Ranges.{TriInRange}
+use Rattle.mill_base.specs.Sizes.{radius_of}
+use Rattle.mill_base.specs.declared.limits.TheConstants.{MAX_LAST_REACH}
 use Rattle.mill_base.specs.declared.points.Tri.{Tri}
+use Rattle.mill_job.specs.Columns.{column_y}
 use Rattle.mill_sweep.specs.Halving.{Passes}
 use Rattle.mill_dexel.specs.Rows.{RowState, uncut_tri}
+use Rattle.mill_dexel.specs.Cuts.{IsBeyond}
 use Rattle.mill_dexel.proofs.Blocks.{far_passes_row}
+use Rattle.mill_dexel.proofs.Reaches.{beyond_same}
 use Rattle.mill_dexel.proofs.UncutRows.{uncut_passes, uncut_in_range}
 use Rattle.mill_dexel.proofs.row.Row.is_passed_uncut.Goals as goal
+
+pub returns-then-is_apart : goal.returns-then-is_apart
+returns-then-is_apart c = λ passed.
+    far_passes_row c.args.job.now c.args.self.now c.args.step.now c.requires.job.cutter_ok c.requires.step
+    (subst (λ (r : RowState). IsBeyond (radius_of c.args.job.now.cutter +ℤ pos MAX_LAST_REACH) c.args.step.now.from.y c.args.step.now.to.y (column_y c.args.job.now r.row)) c.self.view_is
+    (beyond_same _ _ _ _ (radius_of c.args.job.now.cutter +ℤ pos MAX_LAST_REACH) c.args.step.now.from.y c.args.step.now.to.y (column_y c.args.job.now c.self.inside.number)
+    (omega (arith, ints)) (omega (arith, ints)) (omega (arith, ints)) (omega (arith, ints)) (c.is_apart.ensures c.if-is_apart.true)))
 
 pub passes_tri-requires-clause-tri_ok : goal.passes_tri-requires-clause-tri_ok
 passes_tri-requires-clause-tri_ok c =
