@@ -111,14 +111,15 @@ impl<'a, G: Gate> Work for Tests<'a, G> {
     }
 
     fn turn(&self, piece: &mut Piece, turn: u64) -> bool {
+        let moves = self.bands.moves();
         match piece {
             Piece::Block { number, block } => {
                 self.gate.pass(*number, turn);
-                block.turn(self.job, self.part, self.cells, self.bands.moves(), turn)
+                block.turn(self.job, self.part, self.cells, moves, turn)
             }
             Piece::Stock { number, row } => {
                 self.gate.pass(*number, turn);
-                row.turn_on(self.job, self.bands.moves(), turn)
+                row.turn_on(self.job, moves, turn)
             }
         }
     }

@@ -58,6 +58,18 @@ impl Meeting {
             self.gave_up.store(true, SeqCst);
         }
     }
+
+    /// Turns 0 and 1 of each number came once, and none was held up for too long.
+    fn came_once(&self) -> bool {
+        for turns in [&self.first, &self.second] {
+            for turn in turns.iter() {
+                if turn.load(SeqCst) != 1 {
+                    return false;
+                }
+            }
+        }
+        !self.gave_up.load(SeqCst)
+    }
 }
 
 impl Gate for Meeting {
@@ -71,35 +83,43 @@ impl Gate for Meeting {
     }
 }
 
-// Two moves are one block, and there are three rows: each has its two turns once. The narrow cutter stays
-// far away from the first row and the last, which go over both moves at once.
+// Two moves are one block, and there are three rows: each has its two turns once.
 #[test]
 fn two_threads_meet(rt: HostRuntime) {
     let alloc = rt.alloc();
+    let job = block_job(Cutter::Flat { radius: 150 }, 0, 0);
     let part = plate(alloc, 200).unwrap_or_else(|_| panic!(rt; "want of memory"));
     let moves = down_and_up(Kind::Feed, 200);
+    let meeting = Meeting::new();
     let accept = Verdict::Accept {
         moves: 2,
         columns: 9,
         most_left: 0,
     };
+    assert_eq!(rt;
+        verify_with(&rt, alloc, &meeting, &job, &part, &moves, 2),
+        Ok(accept)
+    );
+    assert!(rt; meeting.came_once());
+}
+
+// The narrow cutter stays far away from the first row and the last, which go over both moves at once. Each
+// turn passes the gate all the same.
+#[test]
+fn turns_that_are_gone_over_pass_the_gate(rt: HostRuntime) {
+    let alloc = rt.alloc();
+    let job = block_job(Cutter::Flat { radius: 40 }, 0, 0);
+    let part = plate(alloc, 200).unwrap_or_else(|_| panic!(rt; "want of memory"));
+    let moves = down_and_up(Kind::Feed, 200);
+    let meeting = Meeting::new();
     let left = Verdict::Reject(Reason::Left {
         row: 0,
         col: 0,
         top: 300,
     });
-    for (radius, want) in [(150, accept), (40, left)] {
-        let job = block_job(Cutter::Flat { radius }, 0, 0);
-        let meeting = Meeting::new();
-        assert_eq!(rt;
-            verify_with(&rt, alloc, &meeting, &job, &part, &moves, 2),
-            Ok(want)
-        );
-        assert!(rt; !meeting.gave_up.load(SeqCst));
-        for turns in [&meeting.first, &meeting.second] {
-            for turn in turns.iter() {
-                assert_eq!(rt; turn.load(SeqCst), 1);
-            }
-        }
-    }
+    assert_eq!(rt;
+        verify_with(&rt, alloc, &meeting, &job, &part, &moves, 2),
+        Ok(left)
+    );
+    assert!(rt; meeting.came_once());
 }

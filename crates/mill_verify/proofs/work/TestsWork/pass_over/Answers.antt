@@ -1,0 +1,22 @@
+use Rattle.std.proofs.Common.{ℕ, sym, subst}
+use Rattle.mill_board.specs.Works.{HasPassedTo, IsDue}
+use Rattle.mill_verify.specs.declared.piece.Piece.{Piece}
+use Rattle.mill_verify.specs.declared.piece.Piece.TheVariants.{Stock}
+use Rattle.mill_verify.specs.inner.Pieces.{TestsShown, tests}
+use Rattle.mill_verify.proofs.Sharing.{row_due, row_goes_over}
+use Rattle.mill_verify.proofs.work.TestsWork.pass_over.Goals as goal
+
+pub go_over-next-requires-clause-row : goal.go_over-next-requires-clause-row
+go_over-next-requires-clause-row g c =
+    let w : TestsShown = record { job = c.self.inside.job.now; part = c.self.inside.part.now; moves = c.self.inside.bands.moves; turns = c.self.inside.bands.count } in
+    let t : ℕ = c.args.turn in
+    let n : ℕ = c.requires.0 in
+    let due = subst (λ (x : TestsShown). IsDue tests x n t (Stock c.in-Stock.number c.in-Stock.row)) (sym c.self.view_is) (subst (λ (p : Piece). IsDue tests c.args.self.now n t p) c.in-Stock.is c.requires.1) in
+    row_due w n t c.in-Stock.number c.in-Stock.row c.self.invariant.job_ok due
+
+pub returns-after-loop-passed-clause-passed : goal.returns-after-loop-passed-clause-passed
+returns-after-loop-passed-clause-passed g c =
+    let w : TestsShown = record { job = c.self.inside.job.now; part = c.self.inside.part.now; moves = c.self.inside.bands.moves; turns = c.self.inside.bands.count } in
+    let over = c.go_over-next.ensures in
+    subst (λ (x : TestsShown). (n : ℕ) → IsDue tests x n c.args.turn c.args.piece.now → HasPassedTo tests x n c.go_over-next.result (Stock c.in-Stock.number c.go_over-next.new.self)) c.self.view_is
+    (λ n d. row_goes_over w n c.args.turn c.in-Stock.number c.in-Stock.row c.go_over-next.new.self c.go_over-next.result (subst (λ (p : Piece). IsDue tests w n c.args.turn p) c.in-Stock.is d) over.within over.clears over.is)
