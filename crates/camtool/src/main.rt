@@ -33,17 +33,19 @@ use run::run;
 use status::Status;
 use std::env;
 use std::env::Env;
+use std::io::ErrorKind;
 use std::process::ExitCode;
+use tell::tell;
 
 fn main(rt: HostRuntime) -> ExitCode {
     let alloc = rt.alloc();
+    let mut sink = StdSink::new(&rt);
     let status = match words_of(&rt) {
         Ok(words) => {
             let mut shelf = FileShelf::new(alloc, &rt);
-            let mut sink = StdSink::new(&rt);
             run(&rt, alloc, &words, &mut shelf, &mut sink)
         }
-        Err(WantOfMemory) => Status::Memory,
+        Err(WantOfMemory) => tell(&mut sink, b"out of memory\n", Status::Memory),
     };
     ExitCode::from(status.code())
 }
@@ -51,10 +53,14 @@ fn main(rt: HostRuntime) -> ExitCode {
 // The words after the program's name; none where they aren't UTF-8, so that they are refused.
 fn words_of<R: Env + AllocGlobal>(rt: &R) -> Result<Vec<String>, WantOfMemory> {
     let mut words = Vec::new(rt.alloc());
-    if let Ok(args) = env::args(rt) {
-        for word in args.skip(1) {
-            words.push(word)?;
+    match env::args(rt) {
+        Ok(args) => {
+            for word in args.skip(1) {
+                words.push(word)?;
+            }
         }
+        Err(error) if error.kind() == ErrorKind::OutOfMemory => return Err(WantOfMemory),
+        Err(_) => {}
     }
     Ok(words)
 }
