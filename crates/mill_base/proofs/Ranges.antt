@@ -1,33 +1,64 @@
 -- What texts give is in the range that calls take, and 32 bits hold it.
 use native.Mathlib.Omega.{arith}
-use Rattle.std.specs.Prelude.{◌≡◌, ℤ, List}
+use Rattle.std.specs.Prelude.{◌≡◌, ◌≤◌, ℤ, List}
 use Rattle.std.proofs.Common.{refl}
 use mir.Syntax.{w32}
 use Rattle.mill_base.specs.Numbers.{Within}
-use Rattle.mill_base.specs.Ranges.{IsInRange, TriInRange, MoveInRange, TrisInRange, MovesInRange, IsInTextRange, TriInTextRange, MoveInTextRange, TrisInTextRange, MovesInTextRange}
+use Rattle.mill_base.specs.Units.{greatest_of}
+use Rattle.mill_base.specs.Ranges.{IsInRange, TriInRange, MoveInRange, TrisInRange, MovesInRange, IsInUnitRange, TriInUnitRange, MoveInUnitRange, TrisInUnitRange, MovesInUnitRange, IsInTextRange, TriInTextRange, MoveInTextRange, TrisInTextRange, MovesInTextRange}
 use Rattle.mill_base.specs.declared.limits.TheConstants.{MAX_COORDINATE, MAX_TEXT_COORDINATE}
 use Rattle.mill_base.specs.declared.points.Pt3.{Pt3}
 use Rattle.mill_base.specs.declared.points.Tri.{Tri}
 use Rattle.mill_base.specs.declared.motion.Move.{Move}
+use Rattle.mill_base.specs.declared.unit.Unit.{Unit}
+use Rattle.mill_base.specs.declared.unit.Unit.TheVariants.{Hundredth, Thousandth}
 use Rattle.mill_base.proofs.Machine.{stored, kept}
 
+-- ---- in each unit
+
+pub greatest_of-le : (unit : Unit) → greatest_of unit ≤ MAX_COORDINATE
+greatest_of-le Hundredth = omega arith
+greatest_of-le Thousandth = omega arith
+
+pub within_of_unit : (unit : Unit) (a : ℤ) → Within (greatest_of unit) a → Within MAX_COORDINATE a
+within_of_unit unit a h = record { within = omega (arith, greatest_of-le unit, h.within) }
+
+pub in_range_of_unit : (unit : Unit) (p : Pt3) → IsInUnitRange unit p → IsInRange p
+in_range_of_unit unit p h =
+    record { x_ok = within_of_unit unit p.x h.x_ok; y_ok = within_of_unit unit p.y h.y_ok; z_ok = within_of_unit unit p.z h.z_ok }
+
+pub tri_of_unit : (unit : Unit) (tri : Tri) → TriInUnitRange unit tri → TriInRange tri
+tri_of_unit unit tri h =
+    record { a_ok = in_range_of_unit unit tri.a h.a_ok; b_ok = in_range_of_unit unit tri.b h.b_ok; c_ok = in_range_of_unit unit tri.c h.c_ok }
+
+pub move_of_unit : (unit : Unit) (move : Move) → MoveInUnitRange unit move → MoveInRange move
+move_of_unit unit move h = record { from_ok = in_range_of_unit unit move.from h.from_ok; to_ok = in_range_of_unit unit move.to h.to_ok }
+
+pub tris_of_unit : (unit : Unit) (tris : List Tri) → TrisInUnitRange unit tris → TrisInRange tris
+tris_of_unit unit tris h = λ tri member. tri_of_unit unit tri (h tri member)
+
+pub moves_of_unit : (unit : Unit) (moves : List Move) → MovesInUnitRange unit moves → MovesInRange moves
+moves_of_unit unit moves h = λ move member. move_of_unit unit move (h move member)
+
+-- ---- in hundredths
+
 pub within_of_text : (a : ℤ) → Within MAX_TEXT_COORDINATE a → Within MAX_COORDINATE a
-within_of_text a h = record { within = omega (arith, h.within) }
+within_of_text = within_of_unit Hundredth
 
 pub in_range_of_text : (p : Pt3) → IsInTextRange p → IsInRange p
-in_range_of_text p h = record { x_ok = within_of_text p.x h.x_ok; y_ok = within_of_text p.y h.y_ok; z_ok = within_of_text p.z h.z_ok }
+in_range_of_text = in_range_of_unit Hundredth
 
 pub tri_of_text : (tri : Tri) → TriInTextRange tri → TriInRange tri
-tri_of_text tri h = record { a_ok = in_range_of_text tri.a h.a_ok; b_ok = in_range_of_text tri.b h.b_ok; c_ok = in_range_of_text tri.c h.c_ok }
+tri_of_text = tri_of_unit Hundredth
 
 pub move_of_text : (move : Move) → MoveInTextRange move → MoveInRange move
-move_of_text move h = record { from_ok = in_range_of_text move.from h.from_ok; to_ok = in_range_of_text move.to h.to_ok }
+move_of_text = move_of_unit Hundredth
 
 pub tris_of_text : (tris : List Tri) → TrisInTextRange tris → TrisInRange tris
-tris_of_text tris h = λ tri member. tri_of_text tri (h tri member)
+tris_of_text = tris_of_unit Hundredth
 
 pub moves_of_text : (moves : List Move) → MovesInTextRange moves → MovesInRange moves
-moves_of_text moves h = λ move member. move_of_text move (h move member)
+moves_of_text = moves_of_unit Hundredth
 
 -- a coordinate is stored as it is
 pub coordinate : (z : ℤ) → Within MAX_COORDINATE z → stored w32 z ≡ z

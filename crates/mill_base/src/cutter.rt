@@ -1,7 +1,7 @@
 ghost use Rattle.std.specs.Prelude.{◌≡◌};
 
-/// A cutter, as a solid that goes upward without end and is located by its tip. Lengths are in
-/// units of 0.01 mm.
+/// A cutter, as a solid that goes upward without end and is located by its tip. Lengths are in whole
+/// units.
 #[derive(Clone, Copy, Debug, PartialEq, Eq)]
 pub enum Cutter {
     /// A flat end mill.

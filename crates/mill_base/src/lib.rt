@@ -1,5 +1,5 @@
-//! Points, triangles, moves and cutters on the grid of 0.01 mm, the limits of the whole program, and
-//! exact whole-number arithmetic.
+//! Points, triangles, moves and cutters on a grid of whole units, 0.01 mm or 0.001 mm, the limits of
+//! the whole program, and exact whole-number arithmetic.
 //!
 //! It stands on nothing but std, and every other crate stands on it. Its definitions say what a
 //! point of a triangle is, which points a cutter strictly holds, what a move gouges and removes,
@@ -19,6 +19,7 @@ mod rounding;
 mod steps;
 #[cfg(test)]
 mod tests;
+mod unit;
 
 pub use arithmetic::{offset, product, square, square_sum};
 pub use cutter::Cutter;
@@ -34,3 +35,4 @@ pub use points::{Box2, Pt3, Tri};
 pub use roots::{ceil_root, floor_root};
 pub use rounding::{power_of_two, round_half_up};
 pub use steps::Steps;
+pub use unit::Unit;

@@ -1,10 +1,11 @@
-//! The limits of the whole program, each in one place. Lengths are in units of 0.01 mm.
+//! The limits of the whole program, each in one place. Lengths are in units of the job, 0.01 mm or
+//! 0.001 mm.
 
-/// The greatest magnitude of a coordinate that a text may give.
+/// The greatest magnitude of a coordinate that a text in units of 0.01 mm may give.
 pub const MAX_TEXT_COORDINATE: u32 = 131_071;
 
-/// The greatest magnitude of a coordinate that calls take: wider than what texts give, so that a
-/// finer unit is a matter of the readers alone.
+/// The greatest magnitude of a coordinate that calls take, and that a text in units of 0.001 mm may
+/// give.
 pub const MAX_COORDINATE: u32 = 524_287;
 
 /// The lowest height of a tip at which contact is tested: a widened cutter is lowered under its move.

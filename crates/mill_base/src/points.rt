@@ -1,4 +1,4 @@
-/// A point, in units of 0.01 mm.
+/// A point, in whole units, of 0.01 mm or 0.001 mm ([`Unit`](crate::Unit)).
 #[derive(Clone, Copy, Debug, PartialEq, Eq)]
 pub struct Pt3 {
     pub x: i32,

@@ -1,5 +1,5 @@
 use crate::{
-    Box2, Cutter, Lattice, ceil_root, floor_root, offset, product, round_half_up, square,
+    Box2, Cutter, Lattice, Unit, ceil_root, floor_root, offset, product, round_half_up, square,
     square_sum,
 };
 use std::test::Fail;
@@ -95,6 +95,19 @@ fn nodes_come_row_by_row(rt: HostRuntime) -> Result<(), Fail> {
     ];
     for (number, place) in places {
         assert_eq!(rt; lattice.node(number), place);
+    }
+    Ok(())
+}
+
+#[test]
+fn units_have_places_and_a_greatest_coordinate(rt: HostRuntime) -> Result<(), Fail> {
+    let table: [(Unit, u32, i32); 2] = [
+        (Unit::Hundredth, 2, 131_071),
+        (Unit::Thousandth, 3, 524_287),
+    ];
+    for (unit, places, greatest) in table {
+        assert_eq!(rt; unit.places(), places);
+        assert_eq!(rt; unit.greatest(), greatest);
     }
     Ok(())
 }

@@ -1,4 +1,0 @@
-pub mod DigitRuns
-pub mod Powers
-pub mod RoundTrip
-pub mod ShortForms

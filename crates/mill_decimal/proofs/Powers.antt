@@ -1,9 +1,13 @@
 -- Powers of ten, and numbers times them.
-use Rattle.std.proofs.Common.{◌≡◌, ℕ, ◌+◌, ◌*◌, ◌≤◌, ◌<◌, ◌^◌, suc, arith, refl, None, true}
+use Rattle.std.proofs.Common.{◌≡◌, ℕ, ◌+◌, ◌*◌, ◌≤◌, ◌<◌, ◌^◌, suc, arith, refl, None, Some, true}
 use Rattle.std.specs.Prelude.{◌/◌, ◌%◌, ◌==◌, ℤ, pos, negsuc, nat_abs, ◌<ℤ◌, ◌≤ℤ◌}
 use Rattle.std.proofs.Math.Nat.{pow-le-pow_right, pow-succ', div-eq_of_lt, mod-eq_of_lt, mul-le-mul}
 use Rattle.std.proofs.lemmas.Bool.{lt-leb}
+use Rattle.std.proofs.lemmas.Bool.Decides.{nat_tests}
 use Rattle.std.proofs.lemmas.Int.{ints}
+use Rattle.mill_base.specs.Units.{greatest_of}
+use Rattle.mill_base.specs.declared.unit.Unit.{Unit}
+use Rattle.mill_base.proofs.Ranges.{greatest_of-le}
 use Rattle.mill_decimal.specs.Decimals.{nearest, is_whole, in_range}
 
 -- a power of ten is at most a greater one
@@ -24,11 +28,15 @@ far_nearest m k lt past = div-eq_of_lt (far m k lt past)
 pub far_rest : (m k : ℕ) → m < 10 ^ 24 → 26 < k → m % 10 ^ k ≡ m
 far_rest m k lt past = mod-eq_of_lt (omega (arith, ten 26 k (omega arith)))
 
+-- a number of units in range is taken
+pub in_range-taken : (unit : Unit) (n : ℕ) → n ≤ greatest_of unit → in_range unit n ≡ Some n
+in_range-taken unit n fits = grind (arith, nat_tests)
+
 -- six zeros take any number but 0 out of range
-pub too_high : (m k : ℕ) → 0 < m → 5 < k → None ≡ in_range (m * 10 ^ k)
-too_high m k some past =
+pub too_high : (unit : Unit) (m k : ℕ) → 0 < m → 5 < k → None ≡ in_range unit (m * 10 ^ k)
+too_high unit m k some past =
     let least : 1 * 10 ^ 6 ≤ m * 10 ^ k = mul-le-mul some (ten 6 k past) in
-    rw (lt-leb (m * 10 ^ k) 131071 (omega arith)) refl
+    rw (lt-leb (m * 10 ^ k) (greatest_of unit) (omega (arith, greatest_of-le unit))) refl
 
 -- ---- the two cases of a power, by its magnitude
 

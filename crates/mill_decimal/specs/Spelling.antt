@@ -3,6 +3,8 @@ use Rattle.std.specs.Prelude.{ℕ, ◌+◌, ◌==◌, nat_lt, nat_le, Bool, fals
 use Rattle.std.specs.List.{prefix_len}
 use Rattle.std.specs.Char.{is_ascii_digit}
 use Rattle.std.specs.Str.Parse.{digits_value}
+use Rattle.mill_base.specs.declared.unit.Unit.{Unit}
+use Rattle.mill_base.specs.Units.{places_of}
 use Rattle.mill_decimal.specs.declared.fault.DecFault.{DecFault}
 use Rattle.mill_decimal.specs.declared.fault.DecFault.TheVariants.{Spelling, TooManyDigits}
 use Rattle.mill_decimal.specs.declared.scaled.Scaled.{Scaled}
@@ -59,27 +61,27 @@ exponent_of (b ∷ text) = if (b == 101) || (b == 69) then marked_exponent text 
 
 -- ---- the whole decimal
 
--- the digits are the mantissa, and a unit is a hundredth of a millimetre: units are the mantissa times ten to this power
-abbrev pub scaled_digits : Bool → List ℕ → List ℕ → ℤ → Scaled
-scaled_digits negative whole fraction exponent =
-    record { negative = negative; mantissa = digits_value 10 (whole ++ fraction); power = (exponent -ℤ pos (length fraction)) +ℤ pos 2 }
+-- the digits are the mantissa, and a millimetre has so many decimals of units: units are the mantissa times ten to this power
+abbrev pub scaled_digits : Unit → Bool → List ℕ → List ℕ → ℤ → Scaled
+scaled_digits unit negative whole fraction exponent =
+    record { negative = negative; mantissa = digits_value 10 (whole ++ fraction); power = (exponent -ℤ pos (length fraction)) +ℤ pos (places_of unit) }
 
 -- at least one digit and an exponent, or it is no decimal; and at most 24 digits
-abbrev pub scaled_by : Bool → List ℕ → List ℕ → Option ℤ → Result Scaled DecFault
-scaled_by negative whole fraction None = Err Spelling
-scaled_by negative whole fraction (Some exponent) =
+abbrev pub scaled_by : Unit → Bool → List ℕ → List ℕ → Option ℤ → Result Scaled DecFault
+scaled_by unit negative whole fraction None = Err Spelling
+scaled_by unit negative whole fraction (Some exponent) =
     if length whole + length fraction == 0 then Err Spelling else
     (if nat_lt 24 (length whole + length fraction) then Err TooManyDigits else
-    Ok (scaled_digits negative whole fraction exponent))
+    Ok (scaled_digits unit negative whole fraction exponent))
 
 -- the whole digits and what stands behind them
-abbrev pub scaled_behind : Bool → List ℕ → List ℕ → Result Scaled DecFault
-scaled_behind negative whole rest = scaled_by negative whole (fraction_of rest) (exponent_of (after_fraction rest))
+abbrev pub scaled_behind : Unit → Bool → List ℕ → List ℕ → Result Scaled DecFault
+scaled_behind unit negative whole rest = scaled_by unit negative whole (fraction_of rest) (exponent_of (after_fraction rest))
 
 -- a text without its sign
-abbrev pub scaled_unsigned : Bool → List ℕ → Result Scaled DecFault
-scaled_unsigned negative text = scaled_behind negative (digits_of text) (after_digits text)
+abbrev pub scaled_unsigned : Unit → Bool → List ℕ → Result Scaled DecFault
+scaled_unsigned unit negative text = scaled_behind unit negative (digits_of text) (after_digits text)
 
 -- the units of a text that is spelled as a decimal of at most 24 digits
-unfoldable pub scaled_of : List ℕ → Result Scaled DecFault
-scaled_of text = scaled_unsigned (is_negative text) (after_sign text)
+unfoldable pub scaled_of : Unit → List ℕ → Result Scaled DecFault
+scaled_of unit text = scaled_unsigned unit (is_negative text) (after_sign text)

@@ -10,9 +10,9 @@ pub enum DecFault {
     #[error("more than 24 digits")]
     TooManyDigits,
     /// Its units are not whole, under [`Snap::Exact`](crate::Snap::Exact).
-    #[error("not on the grid of 0.01 mm")]
+    #[error("not a whole number of units")]
     OffGrid,
-    /// Its units, rounded, have a magnitude over 131,071.
+    /// Its units, rounded, have a magnitude over the unit's greatest coordinate.
     #[error("out of range")]
     OutOfRange,
 }

@@ -1,4 +1,4 @@
-//! Decimal texts of millimetres, read to units of 0.01 mm and written back.
+//! Decimal texts of millimetres, read to whole units of 0.01 mm or 0.001 mm and written back.
 //!
 //! It stands on mill_base, `itoa` and `thiserror`, and takes no memory. It promises that a text is
 //! read to exactly the units that it stands for, or refused with the first of its faults, and that

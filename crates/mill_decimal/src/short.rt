@@ -2,12 +2,13 @@
 
 ghost use Rattle.std.specs.Prelude.{◌≡◌, ◌+◌, ◌<◌, ◌≤◌, ◌^◌, length, IfSome, Some, Ok, pos};
 ghost use Rattle.std.specs.Str.Parse.{digits_value, digits_value_after};
+ghost use Rattle.mill_base.specs.declared.unit.Unit.{Unit};
 ghost use Rattle.mill_decimal.specs.Spelling.{fraction_of, after_fraction, scaled_by, scaled_of as scaled_in};
 ghost use Rattle.mill_decimal.specs.inner.Shorts.{scaled_from};
 
 use crate::digits::{split_sign, split_value};
 
-/// The most bytes of a short text: the number that so many digits stand for, and a hundred times
+/// The most bytes of a short text: the number that so many digits stand for, and a thousand times
 /// that number, fit 64 bits.
 const MOST_BYTES: usize = 16;
 
@@ -23,7 +24,7 @@ pub struct Short {
 /// A short text that is spelled as a decimal with no exponent, nothing of another text.
 #[tactic(auto, unfolding(crate::specs::Spelling::scaled_of))]
 pub fn short_of(text: &[u8]) -> Option<Short>
-    ensures value { IfSome result (λ short. scaled_in text.now ≡ Ok (scaled_from short)) }
+    ensures value { IfSome result (λ short. (unit : Unit) → scaled_in unit text.now ≡ Ok (scaled_from unit short)) }
     ensures bound { IfSome result (λ short. short.mantissa < 10 ^ 16) }
     ensures places { IfSome result (λ short. short.places ≤ 16) }
 {
@@ -62,7 +63,7 @@ fn joined(negative: bool, mantissa: u64, whole: &[u8], fraction: &[u8]) -> Optio
     requires value { mantissa ≡ digits_value_after 10 (digits_value 10 whole.now) fraction.now }
     requires bound { mantissa < 10 ^ (length whole.now + length fraction.now) }
     requires few { length whole.now + length fraction.now ≤ 16 }
-    ensures value { IfSome result (λ short. scaled_by negative whole.now fraction.now (Some (pos 0)) ≡ Ok (scaled_from short)) }
+    ensures value { IfSome result (λ short. (unit : Unit) → scaled_by unit negative whole.now fraction.now (Some (pos 0)) ≡ Ok (scaled_from unit short)) }
     ensures bound { IfSome result (λ short. short.mantissa < 10 ^ 16) }
     ensures places { IfSome result (λ short. short.places ≤ 16) }
 {

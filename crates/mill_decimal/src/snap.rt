@@ -1,4 +1,4 @@
-/// How a decimal is read that lies between two units of 0.01 mm.
+/// How a decimal is read that lies between two whole units.
 #[derive(Clone, Copy, Debug, PartialEq, Eq)]
 pub enum Snap {
     /// It is rounded to the nearest unit, ties away from zero.

@@ -1,38 +1,71 @@
-ghost use Rattle.std.specs.Prelude.{◌≡◌, ◌++◌, ◌≤◌, length, decimal};
-ghost use Rattle.mill_decimal.specs.Decimals.{canonical};
+ghost use Rattle.std.specs.Prelude.{◌≡◌, ◌++◌, ◌∷◌, ◌^◌, ◌/◌, ◌%◌, ◌+◌, ◌<◌, ◌≤◌, [], length, decimal};
+ghost use Rattle.mill_base.specs.Units.{places_of};
+ghost use Rattle.mill_decimal.specs.Decimals.{canonical, last_digits};
 
 use crate::number_text::NumText;
 use itoa::Buffer;
+use mill_base::Unit;
 
-/// Writes a number of units of 0.01 mm as millimetres, in place of what stands in `out`.
+/// Writes a number of units as millimetres, in place of what stands in `out`.
 ///
 /// The canonical form is `-` where the number is negative, the whole millimetres without leading
-/// zeros but with at least one digit, a point, and two digits: -5 is `-0.05`.
+/// zeros but with at least one digit, a point, and as many digits as the unit has places: -5 is
+/// `-0.05` in hundredths and `-0.005` in thousandths.
 #[tactic(auto, unfolding(crate::specs::Decimals::canonical))]
-pub fn write_decimal(number: i32, out: &mut NumText)
-    ensures { out.new ≡ canonical number }
+pub fn write_decimal(number: i32, unit: Unit, out: &mut NumText)
+    ensures { out.new ≡ canonical unit number }
 {
     out.clear();
     if number < 0 {
         out.push(b'-');
     }
     let units = number.unsigned_abs();
-    push_millimetres(units / 100, out);
+    push_millimetres(units, unit, out);
     out.push(b'.');
-    out.push(b'0' + (units / 10 % 10) as u8);
-    out.push(b'0' + (units % 10) as u8);
+    push_places(units, unit, out);
 }
 
-// Adds the whole millimetres.
+// The whole millimetres of so many units.
+fn whole_millimetres(units: u32, unit: Unit) -> u32
+    ensures { result ≡ units / 10 ^ places_of unit }
+{
+    match unit {
+        Unit::Hundredth => units / 100,
+        Unit::Thousandth => units / 1000,
+    }
+}
+
+// Adds the whole millimetres of so many units: the more places the unit has, the fewer digits.
 #[tactic(auto, using(crate::proofs::DigitRuns::short_decimal))]
-fn push_millimetres(millimetres: u32, out: &mut NumText)
+fn push_millimetres(units: u32, unit: Unit, out: &mut NumText)
     requires sign { length out.old ≤ 1 }
-    requires size { millimetres ≤ 42949672 }
-    ensures text { out.new ≡ out.old ++ decimal millimetres }
-    ensures size { length out.new ≤ 9 }
+    ensures text { out.new ≡ out.old ++ decimal (units / 10 ^ places_of unit) }
+    ensures size { length out.new + places_of unit ≤ 11 }
 {
     let mut buffer = Buffer::new();
-    out.push_all(buffer.format(millimetres).as_bytes());
+    out.push_all(buffer.format(whole_millimetres(units, unit)).as_bytes());
+}
+
+// Adds as many last digits of the units as the unit has places.
+fn push_places(units: u32, unit: Unit, out: &mut NumText)
+    requires size { length out.old + places_of unit ≤ 12 }
+    ensures text { out.new ≡ out.old ++ last_digits (places_of unit) units }
+{
+    match unit {
+        Unit::Hundredth => {}
+        Unit::Thousandth => push_last_digit(units / 100, out),
+    }
+    push_last_digit(units / 10, out);
+    push_last_digit(units, out);
+}
+
+// Adds the last digit of a number.
+fn push_last_digit(number: u32, out: &mut NumText)
+    requires size { length out.old < 12 }
+    ensures text { out.new ≡ out.old ++ (48 + number % 10) ∷ [] }
+    ensures size { length out.new ≡ length out.old + 1 }
+{
+    out.push(b'0' + (number % 10) as u8);
 }
 
 #[cfg(test)]
@@ -41,16 +74,21 @@ mod tests {
 
     #[test]
     fn writes_decimals(rt: HostRuntime) {
-        let table: [(i32, &[u8]); 5] = [
-            (-5, b"-0.05"),
-            (0, b"0.00"),
-            (750, b"7.50"),
-            (131_071, b"1310.71"),
-            (i32::MIN, b"-21474836.48"),
+        let table: [(i32, Unit, &[u8]); 10] = [
+            (-5, Unit::Hundredth, b"-0.05"),
+            (0, Unit::Hundredth, b"0.00"),
+            (750, Unit::Hundredth, b"7.50"),
+            (131_071, Unit::Hundredth, b"1310.71"),
+            (i32::MIN, Unit::Hundredth, b"-21474836.48"),
+            (-5, Unit::Thousandth, b"-0.005"),
+            (0, Unit::Thousandth, b"0.000"),
+            (7_050, Unit::Thousandth, b"7.050"),
+            (524_287, Unit::Thousandth, b"524.287"),
+            (i32::MIN, Unit::Thousandth, b"-2147483.648"),
         ];
         let mut out = NumText::new();
-        for (number, want) in table {
-            write_decimal(number, &mut out);
+        for (number, unit, want) in table {
+            write_decimal(number, unit, &mut out);
             assert_eq!(rt; out.as_bytes(), want);
         }
     }

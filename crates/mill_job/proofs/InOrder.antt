@@ -6,6 +6,7 @@ use Rattle.std.proofs.lemmas.List.Elements.{All-nil, All-cons, All-weaker}
 use Rattle.std.proofs.lemmas.List.Kept.{AllPairs-cons}
 use Rattle.std.specs.List.{AllPairs}
 use Rattle.std.specs.Prelude.{ℤ, ◌<ℤ◌, int_lt, nat_le}
+use Rattle.mill_base.specs.declared.unit.Unit.{Unit}
 use Rattle.mill_job.specs.Tables.{all_coordinates, are_levels, checked, falls_from, is_falling, kind_fault, levels_of}
 use Rattle.mill_job.specs.inner.Ranged.{AreInOrder}
 use Rattle.mill_job.specs.declared.key.Key.TheVariants.{Levels}
@@ -42,20 +43,20 @@ pairs : (zs : List ℤ) → is_falling zs ≡ true → AllPairs Falls zs
 pairs [] e = λ i j d before there. absurd (omega arith)
 pairs (z ∷ zs) e = AllPairs-cons Falls z zs (all_under z zs e) (pairs_from z zs e)
 
-in_order : (zs : List ℤ) (test : Bool) → are_levels zs ≡ test → kind_fault Levels are_levels (Some zs) ≡ None → AreInOrder zs
-in_order zs false e none = let fails : kind_fault Levels are_levels (Some zs) ≡ Some (Range Levels) = rw e refl in cc
-in_order zs true e none =
-    let parts = both_true (nat_le (length zs) 64) (all_coordinates zs && is_falling zs) e in
-    record { few = leb-true (length zs) 64 parts.0; falling = pairs zs (both_true (all_coordinates zs) (is_falling zs) parts.1).1 }
+in_order : (unit : Unit) (zs : List ℤ) (test : Bool) → are_levels unit zs ≡ test → kind_fault Levels (are_levels unit) (Some zs) ≡ None → AreInOrder zs
+in_order unit zs false e none = let fails : kind_fault Levels (are_levels unit) (Some zs) ≡ Some (Range Levels) = rw e refl in cc
+in_order unit zs true e none =
+    let parts = both_true (nat_le (length zs) 64) (all_coordinates unit zs && is_falling zs) e in
+    record { few = leb-true (length zs) 64 parts.0; falling = pairs zs (both_true (all_coordinates unit zs) (is_falling zs) parts.1).1 }
 
 -- levels with which nothing is wrong are in order
-pub are_in_order : (numbers : Option (List ℤ)) → kind_fault Levels are_levels numbers ≡ None → AreInOrder (levels_of numbers)
-are_in_order None none = cc
-are_in_order (Some zs) none = in_order zs (are_levels zs) refl none
+pub are_in_order : (unit : Unit) (numbers : Option (List ℤ)) → kind_fault Levels (are_levels unit) numbers ≡ None → AreInOrder (levels_of numbers)
+are_in_order unit None none = cc
+are_in_order unit (Some zs) none = in_order unit zs (are_levels unit zs) refl none
 
 -- more numbers than 64 are out of range
-pub too_many : (numbers : Option (List ℤ)) → ((zs : List ℤ) → numbers ≡ Some zs → 64 < length zs) → is_some numbers ≡ true → Err (Range Levels) ≡ checked (kind_fault Levels are_levels numbers) (levels_of numbers)
-too_many None many whole = cc
-too_many (Some zs) many whole =
+pub too_many : (unit : Unit) (numbers : Option (List ℤ)) → ((zs : List ℤ) → numbers ≡ Some zs → 64 < length zs) → is_some numbers ≡ true → Err (Range Levels) ≡ checked (kind_fault Levels (are_levels unit) numbers) (levels_of numbers)
+too_many unit None many whole = cc
+too_many unit (Some zs) many whole =
     let long : nat_le (length zs) 64 ≡ false = lt-leb _ _ (many zs refl) in
     rw long refl

@@ -6,6 +6,7 @@ use Rattle.std.specs.Prelude.{ℤ}
 use Rattle.toml.specs.declared.value.Value.{Value}
 use Rattle.toml.specs.Data.{as_integer}
 use Rattle.toml.specs.View.{view, items_view}
+use Rattle.mill_base.specs.declared.unit.Unit.{Unit}
 use Rattle.mill_job.specs.Tables.{with_rest, integers, kind_fault, misfit_of, is_area, is_place, checked}
 use Rattle.mill_job.specs.declared.key.Key.{Key}
 
@@ -31,19 +32,19 @@ pub misfits : {V : Type 0} (key : Key) (test : List ℤ → Bool) (n : ℕ) → 
     → Err (misfit_of key (integers (items_view vs))) ≡ checked (kind_fault key test (integers (items_view vs))) w
 misfits key test n h vs other w = misfits_at key test (integers (items_view vs)) (λ zs e. h zs (λ same. other (sym (length-integers vs zs e) ∙ same))) w
 
-pub is_area-other : (zs : List ℤ) → length zs ≢ 4 → is_area zs ≡ false
-is_area-other [] h = refl
-is_area-other (a ∷ []) h = refl
-is_area-other (a ∷ b ∷ []) h = refl
-is_area-other (a ∷ b ∷ c ∷ []) h = refl
-is_area-other (a ∷ b ∷ c ∷ d ∷ []) h = absurd (h refl)
-is_area-other (a ∷ b ∷ c ∷ d ∷ e ∷ zs) h = refl
+pub is_area-other : (unit : Unit) (zs : List ℤ) → length zs ≢ 4 → is_area unit zs ≡ false
+is_area-other unit [] h = refl
+is_area-other unit (a ∷ []) h = refl
+is_area-other unit (a ∷ b ∷ []) h = refl
+is_area-other unit (a ∷ b ∷ c ∷ []) h = refl
+is_area-other unit (a ∷ b ∷ c ∷ d ∷ []) h = absurd (h refl)
+is_area-other unit (a ∷ b ∷ c ∷ d ∷ e ∷ zs) h = refl
 
-pub is_place-other : (zs : List ℤ) → length zs ≢ 2 → is_place zs ≡ false
-is_place-other [] h = refl
-is_place-other (a ∷ []) h = refl
-is_place-other (a ∷ b ∷ []) h = absurd (h refl)
-is_place-other (a ∷ b ∷ c ∷ zs) h = refl
+pub is_place-other : (unit : Unit) (zs : List ℤ) → length zs ≢ 2 → is_place unit zs ≡ false
+is_place-other unit [] h = refl
+is_place-other unit (a ∷ []) h = refl
+is_place-other unit (a ∷ b ∷ []) h = absurd (h refl)
+is_place-other unit (a ∷ b ∷ c ∷ zs) h = refl
 
 -- a list of so many members, by its members
 pub are_four : (vs : List Value) (a b c d : Value) → length vs ≡ 4 → a ≡ get_or vs 0 a → b ≡ get_or vs 1 b → c ≡ get_or vs 2 c → d ≡ get_or vs 3 d → vs ≡ a ∷ b ∷ c ∷ d ∷ []

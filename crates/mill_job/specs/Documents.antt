@@ -1,10 +1,13 @@
 -- What a job's text means: the document, then the keys, then the relations between them.
-use Rattle.std.specs.Prelude.{◌≡◌, ◌⊎◌, IsUtf8, ℕ, ◌*◌, nat_lt, codes, bytes_eq, Bool, ◌&&◌, if◌then◌else◌, ℤ, pos, ◌-ℤ◌, ◌*ℤ◌, int_le, int_lt, not, List, [], ◌∷◌, ◌++◌, Option, Some, None, option_and_then, option_map, Result, Err}
+use Rattle.std.specs.Prelude.{◌≡◌, ◌⊎◌, ⊤, IsUtf8, ℕ, ◌*◌, nat_lt, codes, bytes_eq, Bool, ◌&&◌, if◌then◌else◌, ℤ, pos, ◌-ℤ◌, ◌*ℤ◌, int_le, int_lt, not, List, [], ◌∷◌, ◌++◌, Option, Some, None, option_and_then, option_map, Result, Err}
 use Rattle.std.specs.List.{list_all}
 use Rattle.toml.specs.Data.{Members, get_member, as_str}
 use Rattle.toml.specs.Parse.{parse_document}
-use Rattle.mill_base.specs.declared.limits.TheConstants.{MAX_COLUMNS, MAX_RADIUS, MAX_TEXT_COORDINATE}
+use Rattle.mill_base.specs.declared.limits.TheConstants.{MAX_COLUMNS, MAX_RADIUS}
 use Rattle.mill_base.specs.Sizes.{radius_of}
+use Rattle.mill_base.specs.Units.{greatest_of}
+use Rattle.mill_base.specs.declared.unit.Unit.{Unit}
+use Rattle.mill_base.specs.declared.unit.Unit.TheVariants.{Hundredth, Thousandth}
 use Rattle.mill_decimal.specs.declared.snap.Snap.{Snap}
 use Rattle.mill_decimal.specs.declared.snap.Snap.TheVariants.{Nearest, Exact}
 use Rattle.mill_job.specs.Columns.{row_count, column_count}
@@ -17,18 +20,31 @@ use Rattle.mill_job.specs.declared.key.Key.TheVariants as key
 use Rattle.mill_job.specs.declared.fault.JobFault.{JobFault}
 use Rattle.mill_job.specs.declared.fault.JobFault.TheVariants.{Syntax, Unknown, Relation, WantOfMemory}
 
--- what is wrong with each key, in the format's order
-abbrev pub key_faults : Members → List (Option JobFault)
-key_faults ms =
+-- the texts of the units
+abbrev pub unit_texts : List (List ℕ)
+unit_texts = codes "hundredth" ∷ codes "thousandth" ∷ []
+
+-- the text `thousandth` means thousandths of a millimetre, and any other, or none, hundredths
+abbrev pub unit_from : Option (List ℕ) → Unit
+unit_from None = Hundredth
+unit_from (Some text) = if bytes_eq text (codes "thousandth") then Thousandth else Hundredth
+
+-- the unit of a document's numbers
+unfoldable pub unit_of : Members → Unit
+unit_of ms = unit_from (option_and_then as_str (get_member (name_of key.Unit) ms))
+
+-- what is wrong with each key but that of the unit, in the format's order
+abbrev pub key_faults_in : Unit → Members → List (Option JobFault)
+key_faults_in unit ms =
     shape_fault ms
     ∷ number_fault key.Radius (pos 1) MAX_RADIUS ms
     ∷ slope_fault key.Rise ms
     ∷ slope_fault key.Run ms
-    ∷ coordinate_fault key.Floor ms
-    ∷ coordinate_fault key.Top ms
-    ∷ coordinate_fault key.Clear ms
-    ∷ array_fault key.Area is_area ms
-    ∷ array_fault key.Home is_place ms
+    ∷ coordinate_fault unit key.Floor ms
+    ∷ coordinate_fault unit key.Top ms
+    ∷ coordinate_fault unit key.Clear ms
+    ∷ array_fault key.Area (is_area unit) ms
+    ∷ array_fault key.Home (is_place unit) ms
     ∷ number_fault key.Pitch (pos 1) MAX_DISTANCE ms
     ∷ number_fault key.Sample (pos 1) MAX_DISTANCE ms
     ∷ number_fault key.Allowance (pos 0) MAX_DISTANCE ms
@@ -36,11 +52,15 @@ key_faults ms =
     ∷ number_fault_if_there key.Lift (pos 0) MAX_DISTANCE ms
     ∷ number_fault_if_there key.Raster (pos 1) MAX_DISTANCE ms
     ∷ number_fault_if_there key.RoughRaster (pos 1) MAX_DISTANCE ms
-    ∷ number_fault_if_there key.Layer (pos 0) (pos MAX_TEXT_COORDINATE) ms
+    ∷ number_fault_if_there key.Layer (pos 0) (pos (greatest_of unit)) ms
     ∷ number_fault_if_there key.RoughStock (pos 0) MAX_DISTANCE ms
-    ∷ array_fault_if_there key.Levels are_levels ms
+    ∷ array_fault_if_there key.Levels (are_levels unit) ms
     ∷ text_fault_if_there key.Snap (codes "nearest" ∷ codes "exact" ∷ []) ms
     ∷ []
+
+-- what is wrong with each key, in the format's order: the unit comes first, since the ranges of others are by it
+abbrev pub key_faults : Members → List (Option JobFault)
+key_faults ms = text_fault_if_there key.Unit unit_texts ms ∷ key_faults_in (unit_of ms) ms
 
 -- the text `exact` means that finer decimals are refused, and any other, or none, that they are rounded
 abbrev pub snap_from : Option (List ℕ) → Snap
@@ -58,9 +78,10 @@ raster_of ms = number_or key.Raster (number_at key.Pitch ms) ms
 abbrev pub rough_raster_of : Members → ℤ
 rough_raster_of ms = number_or key.RoughRaster (raster_of ms) ms
 
--- the job of a document with whose keys nothing is wrong
-abbrev pub job_from : Members → Job
-job_from ms = record {
+-- the job of a document with whose keys nothing is wrong, in a unit
+abbrev pub job_with : Unit → Members → Job
+job_with unit ms = record {
+  unit = unit;
   cutter = cutter_with (shape_of ms) (number_at key.Radius ms) (number_given key.Rise ms) (number_given key.Run ms);
   floor = number_at key.Floor ms;
   top = number_at key.Top ms;
@@ -79,6 +100,10 @@ job_from ms = record {
   levels = levels_of (numbers_at key.Levels ms);
   snap = snap_of ms;
 }
+
+-- the same in the document's unit
+abbrev pub job_from : Members → Job
+job_from ms = job_with (unit_of ms) ms
 
 -- what is wrong between the cutter's keys, in order
 abbrev pub cutter_faults : Members → List (Option JobFault)
@@ -121,5 +146,5 @@ IsJobOf text answer = (IsUtf8 text × (answer ≡ job_of text)) ⊎ ((¬ IsUtf8 
 
 -- the answer is what the text means, or there was not enough memory
 abbrev pub GivesJob : List ℕ → Result Job JobFault → Type 0
-GivesJob text (Err WantOfMemory) = Unit {0}
+GivesJob text (Err WantOfMemory) = ⊤
 GivesJob text answer = IsJobOf text answer

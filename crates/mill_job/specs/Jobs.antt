@@ -1,8 +1,9 @@
 -- The ranges and relations that a job keeps.
 use Rattle.std.specs.Prelude.{◌*◌, ◌≤◌, List, length, All, AllPairs, ℤ, pos, ◌-ℤ◌, ◌*ℤ◌, ◌<ℤ◌, ◌≤ℤ◌}
 use Rattle.mill_base.specs.Numbers.{Within}
-use Rattle.mill_base.specs.declared.limits.TheConstants.{MAX_COLUMNS, MAX_TEXT_COORDINATE}
+use Rattle.mill_base.specs.declared.limits.TheConstants.{MAX_COLUMNS}
 use Rattle.mill_base.specs.Sizes.{IsCutter, radius_of}
+use Rattle.mill_base.specs.Units.{greatest_of}
 use Rattle.mill_job.specs.Columns.{row_count, column_count}
 use Rattle.mill_job.specs.Tables.{IsPlace}
 use Rattle.mill_job.specs.declared.job.Job.{Job}
@@ -31,14 +32,14 @@ pub record AreLevels (floor top : ℤ) (levels : List ℤ) : Type 0 where
 -- every number of the job is in its range, and the relations between them hold
 pub record IsJob (job : Job) : Type 0 where
   pub cutter_ok : IsCutter job.cutter
-  pub floor_ok : Within MAX_TEXT_COORDINATE job.floor
-  pub top_ok : Within MAX_TEXT_COORDINATE job.top
-  pub clear_ok : Within MAX_TEXT_COORDINATE job.clear
-  pub x0_ok : Within MAX_TEXT_COORDINATE job.area.x0
-  pub y0_ok : Within MAX_TEXT_COORDINATE job.area.y0
-  pub x1_ok : Within MAX_TEXT_COORDINATE job.area.x1
-  pub y1_ok : Within MAX_TEXT_COORDINATE job.area.y1
-  pub home_ok : IsPlace job.home
+  pub floor_ok : Within (greatest_of job.unit) job.floor
+  pub top_ok : Within (greatest_of job.unit) job.top
+  pub clear_ok : Within (greatest_of job.unit) job.clear
+  pub x0_ok : Within (greatest_of job.unit) job.area.x0
+  pub y0_ok : Within (greatest_of job.unit) job.area.y0
+  pub x1_ok : Within (greatest_of job.unit) job.area.x1
+  pub y1_ok : Within (greatest_of job.unit) job.area.y1
+  pub home_ok : IsPlace job.unit job.home
   pub pitch_ok : IsFrom (pos 1) MAX_DISTANCE job.pitch
   pub sample_ok : IsFrom (pos 1) MAX_DISTANCE job.sample
   pub allowance_ok : IsFrom (pos 0) MAX_DISTANCE job.allowance
@@ -52,7 +53,7 @@ pub record IsJob (job : Job) : Type 0 where
   pub lift_ok : IsFrom (pos 0) MAX_DISTANCE job.lift
   pub raster_ok : IsFrom (pos 1) MAX_DISTANCE job.raster
   pub rough_raster_ok : IsFrom (pos 1) MAX_DISTANCE job.rough_raster
-  pub layer_ok : IsFrom (pos 0) (pos MAX_TEXT_COORDINATE) job.layer
+  pub layer_ok : IsFrom (pos 0) (pos (greatest_of job.unit)) job.layer
   pub rough_stock_ok : IsFrom (pos 0) MAX_DISTANCE job.rough_stock
   pub layers : HasFewLayers job
   pub levels_ok : AreLevels job.floor job.top job.levels

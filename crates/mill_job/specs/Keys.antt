@@ -7,6 +7,7 @@ use Rattle.mill_job.specs.declared.key.Key.TheVariants as key
 
 -- a key's text
 abbrev pub name_of : Key → List ℕ
+name_of key.Unit = codes "unit"
 name_of key.Cutter = codes "cutter"
 name_of key.Radius = codes "radius"
 name_of key.Rise = codes "rise"
@@ -30,7 +31,7 @@ name_of key.Snap = codes "snap"
 
 -- every key, in the format's order
 abbrev pub every_key : List Key
-every_key = key.Cutter ∷ key.Radius ∷ key.Rise ∷ key.Run ∷ key.Floor ∷ key.Top ∷ key.Clear ∷ key.Area ∷ key.Home ∷ key.Pitch ∷ key.Sample ∷ key.Allowance ∷ key.Band ∷ key.Lift ∷ key.Raster ∷ key.RoughRaster ∷ key.Layer ∷ key.RoughStock ∷ key.Levels ∷ key.Snap ∷ []
+every_key = key.Unit ∷ key.Cutter ∷ key.Radius ∷ key.Rise ∷ key.Run ∷ key.Floor ∷ key.Top ∷ key.Clear ∷ key.Area ∷ key.Home ∷ key.Pitch ∷ key.Sample ∷ key.Allowance ∷ key.Band ∷ key.Lift ∷ key.Raster ∷ key.RoughRaster ∷ key.Layer ∷ key.RoughStock ∷ key.Levels ∷ key.Snap ∷ []
 
 -- the text is one of these
 abbrev pub is_one_of : List (List ℕ) → List ℕ → Bool

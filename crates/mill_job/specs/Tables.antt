@@ -1,8 +1,9 @@
 -- What a document gives at a key, and what is wrong with it.
 use Rattle.std.specs.Prelude.{ℕ, Bool, true, false, ◌&&◌, if◌then◌else◌, ℤ, pos, neg_ℤ, ◌≤ℤ◌, int_le, int_lt, nat_le, List, [], ◌∷◌, length, Option, Some, None, option_and_then, option_map, unwrap_or, slice_index_or, Result, Ok, Err}
 use Rattle.mill_base.specs.Numbers.{Within}
-use Rattle.mill_base.specs.declared.limits.TheConstants.{MAX_TEXT_COORDINATE}
+use Rattle.mill_base.specs.Units.{greatest_of}
 use Rattle.mill_base.specs.declared.points.Box2.{Box2}
+use Rattle.mill_base.specs.declared.unit.Unit.{Unit}
 use Rattle.toml.specs.Data.{Data, Members, Items, no_items, item, get_member, as_integer, as_str, as_array}
 use Rattle.mill_job.specs.Keys.{name_of, is_one_of}
 use Rattle.mill_job.specs.declared.key.Key.{Key}
@@ -55,23 +56,23 @@ must_be_if holds key read test (Some d) = kind_fault key test (read d)
 abbrev pub is_from : ℤ → ℤ → ℤ → Bool
 is_from lo hi z = int_le lo z && int_le z hi
 
--- the magnitude is at most the greatest
-unfoldable pub is_coordinate : ℤ → Bool
-is_coordinate z = is_from (neg_ℤ (pos MAX_TEXT_COORDINATE)) (pos MAX_TEXT_COORDINATE) z
+-- the magnitude is at most the unit's greatest
+unfoldable pub is_coordinate : Unit → ℤ → Bool
+is_coordinate unit z = is_from (neg_ℤ (pos (greatest_of unit))) (pos (greatest_of unit)) z
 
-abbrev pub all_coordinates : List ℤ → Bool
-all_coordinates [] = true
-all_coordinates (z ∷ zs) = is_coordinate z && all_coordinates zs
+abbrev pub all_coordinates : Unit → List ℤ → Bool
+all_coordinates unit [] = true
+all_coordinates unit (z ∷ zs) = is_coordinate unit z && all_coordinates unit zs
 
 -- x0, y0, x1, y1 with x0 at most x1 and y0 at most y1
-abbrev pub is_area : List ℤ → Bool
-is_area (x0 ∷ y0 ∷ x1 ∷ y1 ∷ []) = all_coordinates (x0 ∷ y0 ∷ x1 ∷ y1 ∷ []) && (int_le x0 x1 && int_le y0 y1)
-is_area _ = false
+abbrev pub is_area : Unit → List ℤ → Bool
+is_area unit (x0 ∷ y0 ∷ x1 ∷ y1 ∷ []) = all_coordinates unit (x0 ∷ y0 ∷ x1 ∷ y1 ∷ []) && (int_le x0 x1 && int_le y0 y1)
+is_area unit _ = false
 
 -- x, y
-abbrev pub is_place : List ℤ → Bool
-is_place (x ∷ y ∷ []) = all_coordinates (x ∷ y ∷ [])
-is_place _ = false
+abbrev pub is_place : Unit → List ℤ → Bool
+is_place unit (x ∷ y ∷ []) = all_coordinates unit (x ∷ y ∷ [])
+is_place unit _ = false
 
 -- each number is less than the one before it, and the first less than a bound
 abbrev pub falls_from : ℤ → List ℤ → Bool
@@ -84,8 +85,8 @@ is_falling [] = true
 is_falling (z ∷ zs) = falls_from z zs
 
 -- at most 64 coordinates, each less than the one before it
-abbrev pub are_levels : List ℤ → Bool
-are_levels zs = nat_le (length zs) MAX_LEVELS && (all_coordinates zs && is_falling zs)
+abbrev pub are_levels : Unit → List ℤ → Bool
+are_levels unit zs = nat_le (length zs) MAX_LEVELS && (all_coordinates unit zs && is_falling zs)
 
 -- what is wrong with the text at a key, which must be one of these
 unfoldable pub text_fault : Key → List (List ℕ) → Members → Option JobFault
@@ -104,8 +105,8 @@ unfoldable pub number_fault_if_there : Key → ℤ → ℤ → Members → Optio
 number_fault_if_there key lo hi ms = may_be key as_integer (is_from lo hi) (get_member (name_of key) ms)
 
 -- what is wrong with the coordinate at a key
-abbrev pub coordinate_fault : Key → Members → Option JobFault
-coordinate_fault key ms = number_fault key (neg_ℤ (pos MAX_TEXT_COORDINATE)) (pos MAX_TEXT_COORDINATE) ms
+abbrev pub coordinate_fault : Unit → Key → Members → Option JobFault
+coordinate_fault unit key ms = number_fault key (neg_ℤ (pos (greatest_of unit))) (pos (greatest_of unit)) ms
 
 -- what is wrong with the array at a key, whose whole numbers must pass a test
 unfoldable pub array_fault : Key → (List ℤ → Bool) → Members → Option JobFault
@@ -146,19 +147,19 @@ place_of zs = record { x = entry zs 0; y = entry zs 1 }
 abbrev pub levels_of : Option (List ℤ) → List ℤ
 levels_of zs = unwrap_or zs []
 
--- the corners of an area are coordinates in their order
-pub record IsArea (area : Box2) : Type 0 where
-  pub x0_ok : Within MAX_TEXT_COORDINATE area.x0
-  pub y0_ok : Within MAX_TEXT_COORDINATE area.y0
-  pub x1_ok : Within MAX_TEXT_COORDINATE area.x1
-  pub y1_ok : Within MAX_TEXT_COORDINATE area.y1
+-- the corners of an area are coordinates of the unit, in their order
+pub record IsArea (unit : Unit) (area : Box2) : Type 0 where
+  pub x0_ok : Within (greatest_of unit) area.x0
+  pub y0_ok : Within (greatest_of unit) area.y0
+  pub x1_ok : Within (greatest_of unit) area.x1
+  pub y1_ok : Within (greatest_of unit) area.y1
   pub x_order : area.x0 ≤ℤ area.x1
   pub y_order : area.y0 ≤ℤ area.y1
 
--- both coordinates of a place are in range
-pub record IsPlace (place : Place) : Type 0 where
-  pub x_ok : Within MAX_TEXT_COORDINATE place.x
-  pub y_ok : Within MAX_TEXT_COORDINATE place.y
+-- both coordinates of a place are in the unit's range
+pub record IsPlace (unit : Unit) (place : Place) : Type 0 where
+  pub x_ok : Within (greatest_of unit) place.x
+  pub y_ok : Within (greatest_of unit) place.y
 
 -- what is wrong with an array of another length: its kind where a member is no whole number, else its range
 abbrev pub misfit_of : Key → Option (List ℤ) → JobFault

@@ -1,6 +1,4 @@
 ghost use Rattle.std.specs.Prelude.{◌≡◌, ◌&&◌, ◌≤ℤ◌, ◌≤◌, true, length, IsTrue, int_le, [], ◌∷◌, IfOk, IfErr, Some, None, is_some, option_map};
-ghost use Rattle.mill_base.specs.Numbers.{Within};
-ghost use Rattle.mill_base.specs.declared.limits.TheConstants.{MAX_TEXT_COORDINATE};
 ghost use Rattle.toml.specs.View.{table_view, view, items_view};
 ghost use Rattle.mill_job.specs.Tables.{IsArea, IsPlace, are_levels, area_of, array_fault, array_fault_if_there, checked, integers, is_area, is_place, kind_fault, levels_of, misfit_of, numbers_at, place_of};
 ghost use Rattle.mill_job.specs.declared.limits.TheConstants.{MAX_LEVELS};
@@ -11,8 +9,8 @@ use crate::job::Place;
 use crate::key::Key;
 use crate::levels::Levels;
 use crate::limits::MAX_LEVELS;
-use crate::values::{GREATEST, as_coordinate, find};
-use mill_base::Box2;
+use crate::values::{as_coordinate, find};
+use mill_base::{Box2, Unit};
 use toml::{Table, Value};
 
 /// Whether each value is a whole number.
@@ -48,15 +46,15 @@ fn is_ordered(area: Box2) -> bool
 }
 
 /// The rectangle with these corners.
-fn corners(x0: i64, y0: i64, x1: i64, y1: i64) -> Result<Box2, JobFault>
-    ensures value { result ≡ checked (kind_fault Key.Area is_area (Some (x0 ∷ y0 ∷ x1 ∷ y1 ∷ []))) (record { x0 = x0; y0 = y0; x1 = x1; y1 = y1 }) }
-    ensures in_range { IfOk result IsArea }
+fn corners(x0: i64, y0: i64, x1: i64, y1: i64, unit: Unit) -> Result<Box2, JobFault>
+    ensures value { result ≡ checked (kind_fault Key.Area (is_area unit) (Some (x0 ∷ y0 ∷ x1 ∷ y1 ∷ []))) (record { x0 = x0; y0 = y0; x1 = x1; y1 = y1 }) }
+    ensures in_range { IfOk result (IsArea unit) }
 {
     let area = Box2 {
-        x0: as_coordinate(x0, Key::Area)?,
-        y0: as_coordinate(y0, Key::Area)?,
-        x1: as_coordinate(x1, Key::Area)?,
-        y1: as_coordinate(y1, Key::Area)?,
+        x0: as_coordinate(x0, Key::Area, unit)?,
+        y0: as_coordinate(y0, Key::Area, unit)?,
+        x1: as_coordinate(x1, Key::Area, unit)?,
+        y1: as_coordinate(y1, Key::Area, unit)?,
     };
     if !is_ordered(area) {
         return Err(JobFault::Range(Key::Area));
@@ -77,9 +75,9 @@ fn four(a: &Value, b: &Value, c: &Value, d: &Value) -> Option<(i64, i64, i64, i6
 }
 
 /// The rectangle whose corners the values are, in the order x0, y0, x1, y1.
-fn area_in(values: &[Value]) -> Result<Box2, JobFault>
-    ensures value { result ≡ checked (kind_fault Key.Area is_area (integers (items_view values.now))) (area_of (integers (items_view values.now))) }
-    ensures in_range { IfOk result IsArea }
+fn area_in(values: &[Value], unit: Unit) -> Result<Box2, JobFault>
+    ensures value { result ≡ checked (kind_fault Key.Area (is_area unit) (integers (items_view values.now))) (area_of (integers (items_view values.now))) }
+    ensures in_range { IfOk result (IsArea unit) }
 {
     if values.len() != 4 {
         return Err(misfit(values, Key::Area));
@@ -87,15 +85,15 @@ fn area_in(values: &[Value]) -> Result<Box2, JobFault>
     let Some((x0, y0, x1, y1)) = four(&values[0], &values[1], &values[2], &values[3]) else {
         return Err(JobFault::WrongKind(Key::Area));
     };
-    corners(x0, y0, x1, y1)
+    corners(x0, y0, x1, y1, unit)
 }
 
 /// The rectangle at `area`.
 #[tactic(auto, unfolding(crate::specs::Tables::array_fault, crate::specs::Tables::numbers_at))]
-pub fn area(table: &Table) -> Result<Box2, JobFault>
-    ensures ok { IfOk result (λ area. (array_fault Key.Area is_area (table_view table.now) ≡ None) × (area ≡ area_of (numbers_at Key.Area (table_view table.now)))) }
-    ensures err { IfErr result (λ fault. array_fault Key.Area is_area (table_view table.now) ≡ Some fault) }
-    ensures in_range { IfOk result IsArea }
+pub fn area(table: &Table, unit: Unit) -> Result<Box2, JobFault>
+    ensures ok { IfOk result (λ area. (array_fault Key.Area (is_area unit) (table_view table.now) ≡ None) × (area ≡ area_of (numbers_at Key.Area (table_view table.now)))) }
+    ensures err { IfErr result (λ fault. array_fault Key.Area (is_area unit) (table_view table.now) ≡ Some fault) }
+    ensures in_range { IfOk result (IsArea unit) }
 {
     let Some(value) = find(table, Key::Area) else {
         return Err(JobFault::Missing(Key::Area));
@@ -103,22 +101,22 @@ pub fn area(table: &Table) -> Result<Box2, JobFault>
     let Some(values) = value.as_array() else {
         return Err(JobFault::WrongKind(Key::Area));
     };
-    area_in(values)
+    area_in(values, unit)
 }
 
 /// The heights that the values are, each a coordinate under the one before it.
-fn falling(values: &[Value]) -> Result<Levels, JobFault>
+fn falling(values: &[Value], unit: Unit) -> Result<Levels, JobFault>
     requires few { length values.now ≤ MAX_LEVELS }
     requires whole { is_some (integers (items_view values.now)) ≡ true }
-    ensures { result ≡ checked (kind_fault Key.Levels are_levels (integers (items_view values.now))) (levels_of (integers (items_view values.now))) }
+    ensures { result ≡ checked (kind_fault Key.Levels (are_levels unit) (integers (items_view values.now))) (levels_of (integers (items_view values.now))) }
 {
     let mut levels = Levels::NONE;
-    let mut bound = GREATEST + 1;
+    let mut bound = unit.greatest() + 1;
     for value in values {
         let Some(number) = value.as_integer() else {
             return Err(JobFault::WrongKind(Key::Levels));
         };
-        let height = as_coordinate(number, Key::Levels)?;
+        let height = as_coordinate(number, Key::Levels, unit)?;
         if bound <= height {
             return Err(JobFault::Range(Key::Levels));
         }
@@ -129,8 +127,8 @@ fn falling(values: &[Value]) -> Result<Levels, JobFault>
 }
 
 /// The levels that the values are, of which there are at most 64.
-fn levels_in(values: &[Value]) -> Result<Levels, JobFault>
-    ensures value { result ≡ checked (kind_fault Key.Levels are_levels (integers (items_view values.now))) (levels_of (integers (items_view values.now))) }
+fn levels_in(values: &[Value], unit: Unit) -> Result<Levels, JobFault>
+    ensures value { result ≡ checked (kind_fault Key.Levels (are_levels unit) (integers (items_view values.now))) (levels_of (integers (items_view values.now))) }
     ensures in_order { IfOk result AreInOrder }
 {
     if !are_integers(values) {
@@ -139,14 +137,14 @@ fn levels_in(values: &[Value]) -> Result<Levels, JobFault>
     if MAX_LEVELS < values.len() {
         return Err(JobFault::Range(Key::Levels));
     }
-    falling(values)
+    falling(values, unit)
 }
 
 /// The levels at `levels`, none where the document lacks the key.
 #[tactic(auto, unfolding(crate::specs::Tables::array_fault_if_there, crate::specs::Tables::numbers_at))]
-pub fn levels(table: &Table) -> Result<Levels, JobFault>
-    ensures ok { IfOk result (λ levels. (array_fault_if_there Key.Levels are_levels (table_view table.now) ≡ None) × (levels ≡ levels_of (numbers_at Key.Levels (table_view table.now)))) }
-    ensures err { IfErr result (λ fault. array_fault_if_there Key.Levels are_levels (table_view table.now) ≡ Some fault) }
+pub fn levels(table: &Table, unit: Unit) -> Result<Levels, JobFault>
+    ensures ok { IfOk result (λ levels. (array_fault_if_there Key.Levels (are_levels unit) (table_view table.now) ≡ None) × (levels ≡ levels_of (numbers_at Key.Levels (table_view table.now)))) }
+    ensures err { IfErr result (λ fault. array_fault_if_there Key.Levels (are_levels unit) (table_view table.now) ≡ Some fault) }
     ensures in_order { IfOk result AreInOrder }
 {
     let Some(value) = find(table, Key::Levels) else {
@@ -155,16 +153,16 @@ pub fn levels(table: &Table) -> Result<Levels, JobFault>
     let Some(values) = value.as_array() else {
         return Err(JobFault::WrongKind(Key::Levels));
     };
-    levels_in(values)
+    levels_in(values, unit)
 }
 
 /// The place with these coordinates.
-fn place(x: i64, y: i64) -> Result<Place, JobFault>
-    ensures value { result ≡ checked (kind_fault Key.Home is_place (Some (x ∷ y ∷ []))) (record { x = x; y = y }) }
-    ensures in_range { IfOk result IsPlace }
+fn place(x: i64, y: i64, unit: Unit) -> Result<Place, JobFault>
+    ensures value { result ≡ checked (kind_fault Key.Home (is_place unit) (Some (x ∷ y ∷ []))) (record { x = x; y = y }) }
+    ensures in_range { IfOk result (IsPlace unit) }
 {
-    let x = as_coordinate(x, Key::Home)?;
-    let y = as_coordinate(y, Key::Home)?;
+    let x = as_coordinate(x, Key::Home, unit)?;
+    let y = as_coordinate(y, Key::Home, unit)?;
     Ok(Place { x, y })
 }
 
@@ -176,9 +174,9 @@ fn two(a: &Value, b: &Value) -> Option<(i64, i64)>
 }
 
 /// The place whose coordinates the values are.
-fn place_in(values: &[Value]) -> Result<Place, JobFault>
-    ensures value { result ≡ checked (kind_fault Key.Home is_place (integers (items_view values.now))) (place_of (integers (items_view values.now))) }
-    ensures in_range { IfOk result IsPlace }
+fn place_in(values: &[Value], unit: Unit) -> Result<Place, JobFault>
+    ensures value { result ≡ checked (kind_fault Key.Home (is_place unit) (integers (items_view values.now))) (place_of (integers (items_view values.now))) }
+    ensures in_range { IfOk result (IsPlace unit) }
 {
     if values.len() != 2 {
         return Err(misfit(values, Key::Home));
@@ -186,15 +184,15 @@ fn place_in(values: &[Value]) -> Result<Place, JobFault>
     let Some((x, y)) = two(&values[0], &values[1]) else {
         return Err(JobFault::WrongKind(Key::Home));
     };
-    place(x, y)
+    place(x, y, unit)
 }
 
 /// The place at `home`.
 #[tactic(auto, unfolding(crate::specs::Tables::array_fault, crate::specs::Tables::numbers_at))]
-pub fn home(table: &Table) -> Result<Place, JobFault>
-    ensures ok { IfOk result (λ at. (array_fault Key.Home is_place (table_view table.now) ≡ None) × (at ≡ place_of (numbers_at Key.Home (table_view table.now)))) }
-    ensures err { IfErr result (λ fault. array_fault Key.Home is_place (table_view table.now) ≡ Some fault) }
-    ensures in_range { IfOk result IsPlace }
+pub fn home(table: &Table, unit: Unit) -> Result<Place, JobFault>
+    ensures ok { IfOk result (λ at. (array_fault Key.Home (is_place unit) (table_view table.now) ≡ None) × (at ≡ place_of (numbers_at Key.Home (table_view table.now)))) }
+    ensures err { IfErr result (λ fault. array_fault Key.Home (is_place unit) (table_view table.now) ≡ Some fault) }
+    ensures in_range { IfOk result (IsPlace unit) }
 {
     let Some(value) = find(table, Key::Home) else {
         return Err(JobFault::Missing(Key::Home));
@@ -202,5 +200,5 @@ pub fn home(table: &Table) -> Result<Place, JobFault>
     let Some(values) = value.as_array() else {
         return Err(JobFault::WrongKind(Key::Home));
     };
-    place_in(values)
+    place_in(values, unit)
 }

@@ -36,7 +36,8 @@ fn is_known(name: &str) -> bool
 {
     matches!(
         name,
-        "cutter"
+        "unit"
+            | "cutter"
             | "radius"
             | "rise"
             | "run"

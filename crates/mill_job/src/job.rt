@@ -1,23 +1,26 @@
 ghost use Rattle.std.specs.Prelude.{◌≡◌, ◌<◌, ◌≤◌, ◌*◌};
 ghost use Rattle.mill_base.specs.Numbers.{Within};
-ghost use Rattle.mill_base.specs.declared.limits.TheConstants.{MAX_COLUMNS, MAX_TEXT_COORDINATE};
-ghost use Rattle.mill_base.specs.Ranges.{IsInTextRange};
+ghost use Rattle.mill_base.specs.declared.limits.TheConstants.{MAX_COLUMNS};
+ghost use Rattle.mill_base.specs.Ranges.{IsInUnitRange};
+ghost use Rattle.mill_base.specs.Units.{greatest_of};
 
 use crate::levels::Levels;
 use crate::positions::{count, position};
-use mill_base::{Box2, Cutter, Pt3};
+use mill_base::{Box2, Cutter, Pt3, Unit};
 use mill_decimal::Snap;
 
-/// A place in x and y, in units of 0.01 mm.
+/// A place in x and y, in units.
 #[derive(Clone, Copy, Debug, PartialEq, Eq)]
 pub struct Place {
     pub x: i32,
     pub y: i32,
 }
 
-/// What is cut, with which cutter, and how exactly. Lengths and places are in units of 0.01 mm.
+/// What is cut, with which cutter, and how exactly. Lengths and places are in units.
 #[derive(Clone, Copy, Debug, PartialEq, Eq)]
 pub struct Job {
+    /// The unit of all lengths and places, and of the texts that are read and written for the job.
+    pub unit: Unit,
     pub cutter: Cutter,
     /// The height of the machine's table under the stock; no tip goes lower.
     pub floor: i32,
@@ -43,7 +46,8 @@ pub struct Job {
     pub raster: i32,
     /// The distance of neighbouring rows and places of a plan's roughing paths, from 1 to 10,000.
     pub rough_raster: i32,
-    /// How much a plan's roughing takes off at a time, from 0 to 131,071; 0 means no roughing.
+    /// How much a plan's roughing takes off at a time, from 0 to the unit's greatest
+    /// coordinate; 0 means no roughing.
     pub layer: i32,
     /// How much a plan's roughing leaves over the part, from 0 to 10,000.
     pub rough_stock: i32,
@@ -63,7 +67,7 @@ impl Job {
         requires { IsJob self.now }
         ensures value { result ≡ row_count self.now }
         ensures some { 1 ≤ result }
-        ensures bound { result ≤ 262143 }
+        ensures bound { result ≤ 1048575 }
     {
         count(self.area.y0, self.area.y1, self.pitch)
     }
@@ -73,7 +77,7 @@ impl Job {
         requires { IsJob self.now }
         ensures value { result ≡ column_count self.now }
         ensures some { 1 ≤ result }
-        ensures bound { result ≤ 262143 }
+        ensures bound { result ≤ 1048575 }
     {
         count(self.area.x0, self.area.x1, self.pitch)
     }
@@ -88,22 +92,22 @@ impl Job {
         u64::from(self.rows()) * u64::from(self.columns())
     }
 
-    /// Where the columns of number `i` in their rows stand, in units of 0.01 mm.
+    /// Where the columns of number `i` in their rows stand, in units.
     pub fn column_x(&self, i: u32) -> i32
         requires job { IsJob self.now }
         requires column { i < column_count self.now }
         ensures value { result ≡ x_of_column self.now i }
-        ensures in_range { Within MAX_TEXT_COORDINATE result }
+        ensures in_range { Within (greatest_of self.now.unit) result }
     {
         position(self.area.x0, self.area.x1, self.pitch, i)
     }
 
-    /// Where the columns of row `j` stand, in units of 0.01 mm.
+    /// Where the columns of row `j` stand, in units.
     pub fn row_y(&self, j: u32) -> i32
         requires job { IsJob self.now }
         requires row { j < row_count self.now }
         ensures value { result ≡ column_y self.now j }
-        ensures in_range { Within MAX_TEXT_COORDINATE result }
+        ensures in_range { Within (greatest_of self.now.unit) result }
     {
         position(self.area.y0, self.area.y1, self.pitch, j)
     }
@@ -112,7 +116,7 @@ impl Job {
     pub fn home(&self) -> Pt3
         requires { IsJob self.now }
         ensures value { result ≡ home_of self.now }
-        ensures in_range { IsInTextRange result }
+        ensures in_range { IsInUnitRange self.now.unit result }
     {
         Pt3 {
             x: self.home.x,

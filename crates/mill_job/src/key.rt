@@ -6,6 +6,7 @@ use std::fmt;
 /// A key of a job's document.
 #[derive(Clone, Copy, Debug, PartialEq, Eq)]
 pub enum Key {
+    Unit,
     Cutter,
     Radius,
     Rise,
@@ -34,6 +35,7 @@ impl Key {
         ensures { result.now ≡ name_of self }
     {
         match self {
+            Key::Unit => "unit",
             Key::Cutter => "cutter",
             Key::Radius => "radius",
             Key::Rise => "rise",

@@ -1,11 +1,12 @@
 ghost use Rattle.std.specs.Prelude.{◌≡◌, ◌≤◌, ◌*◌, ◌≤ℤ◌, ◌++◌, pos, false, All, IfOk, IsTrue, None};
 ghost use Rattle.std.specs.List.{list_all};
 ghost use Rattle.mill_base.specs.Numbers.{Within};
-ghost use Rattle.mill_base.specs.declared.limits.TheConstants.{MAX_TEXT_COORDINATE};
+ghost use Rattle.mill_base.specs.declared.limits.TheConstants.{MAX_COLUMNS};
+ghost use Rattle.mill_base.specs.Units.{greatest_of};
 ghost use Rattle.mill_base.specs.Sizes.{radius_of};
 ghost use Rattle.toml.specs.View.{table_view};
 ghost use Rattle.mill_job.specs.Columns.{row_count, column_count};
-ghost use Rattle.mill_job.specs.Documents.{GivesJob, cutter_faults, has_many_layers as many_layers_in, is_level, job_from, key_faults, relation_faults};
+ghost use Rattle.mill_job.specs.Documents.{GivesJob, cutter_faults, has_many_layers as many_layers_in, is_level, job_from, job_with, key_faults, key_faults_in, relation_faults};
 ghost use Rattle.mill_job.specs.Jobs.{HasFewLayers, IsFrom, IsJob, IsLevel};
 ghost use Rattle.mill_job.specs.Tables.{checked, first};
 ghost use Rattle.mill_job.specs.inner.Ranged.{IsRanged};
@@ -17,17 +18,17 @@ use crate::fault::JobFault;
 use crate::job::Job;
 use crate::key::Key;
 use crate::limits::{MAX_DISTANCE, MAX_LAYERS};
-use crate::positions::column_total;
-use crate::values::{GREATEST, coordinate, number, number_or, snap};
-use mill_base::{MAX_COLUMNS, MAX_RADIUS};
+use crate::positions::count;
+use crate::values::{coordinate, layer, number, number_or, snap, unit};
+use mill_base::{MAX_COLUMNS, MAX_RADIUS, Unit};
 use std::alloc::Global;
 use toml::Table;
 
 /// Whether roughing takes off more layers than it may.
 fn has_many_layers(job: &Job) -> bool
-    requires floor_ok { Within MAX_TEXT_COORDINATE job.now.floor }
-    requires top_ok { Within MAX_TEXT_COORDINATE job.now.top }
-    requires layer_ok { IsFrom (pos 0) (pos MAX_TEXT_COORDINATE) job.now.layer }
+    requires floor_ok { Within (greatest_of job.now.unit) job.now.floor }
+    requires top_ok { Within (greatest_of job.now.unit) job.now.top }
+    requires layer_ok { IsFrom (pos 0) (pos (greatest_of job.now.unit)) job.now.layer }
     ensures value { result ≡ many_layers_in job.now }
     ensures no { result ≡ false → HasFewLayers job.now }
 {
@@ -43,6 +44,16 @@ fn has_levels_in_stock(job: &Job) -> bool
         .as_slice()
         .iter()
         .all(|level| job.floor <= *level && *level < job.top)
+}
+
+/// How many columns stand over the job's area.
+fn column_total(job: &Job) -> u64
+    requires { IsRanged job.now }
+    ensures { result ≡ row_count job.now * column_count job.now }
+{
+    let rows = count(job.area.y0, job.area.y1, job.pitch);
+    let columns = count(job.area.x0, job.area.x1, job.pitch);
+    u64::from(rows) * u64::from(columns)
 }
 
 /// The first relation between the values of a job that fails.
@@ -62,7 +73,7 @@ fn relation_fault(job: &Job) -> Option<JobFault>
     if job.clear < job.top {
         return Some(JobFault::Relation(Key::Top, Key::Clear));
     }
-    if MAX_COLUMNS < column_total(job.area, job.pitch) {
+    if MAX_COLUMNS < column_total(job) {
         return Some(JobFault::Relation(Key::Area, Key::Pitch));
     }
     if job.cutter.radius() < job.band {
@@ -92,15 +103,23 @@ fn job(table: &Table) -> Result<Job, JobFault>
     ensures value { result ≡ checked (first (key_faults (table_view table.now) ++ cutter_faults (table_view table.now) ++ relation_faults (job_from (table_view table.now)))) (job_from (table_view table.now)) }
     ensures in_range { IfOk result IsJob }
 {
+    job_in(table, unit(table)?)
+}
+
+/// The same in a unit, whatever the document says of it.
+fn job_in(table: &Table, unit: Unit) -> Result<Job, JobFault>
+    ensures value { result ≡ checked (first (key_faults_in unit (table_view table.now) ++ cutter_faults (table_view table.now) ++ relation_faults (job_with unit (table_view table.now)))) (job_with unit (table_view table.now)) }
+    ensures in_range { IfOk result IsJob }
+{
     let shape = named_shape(table)?;
     let radius = number(table, Key::Radius, 1, MAX_RADIUS)?;
     let rise = slope(table, Key::Rise, shape)?;
     let run = slope(table, Key::Run, shape)?;
-    let floor = coordinate(table, Key::Floor)?;
-    let top = coordinate(table, Key::Top)?;
-    let clear = coordinate(table, Key::Clear)?;
-    let area = area(table)?;
-    let home = home(table)?;
+    let floor = coordinate(table, Key::Floor, unit)?;
+    let top = coordinate(table, Key::Top, unit)?;
+    let clear = coordinate(table, Key::Clear, unit)?;
+    let area = area(table, unit)?;
+    let home = home(table, unit)?;
     let pitch = number(table, Key::Pitch, 1, MAX_DISTANCE)?;
     let sample = number(table, Key::Sample, 1, MAX_DISTANCE)?;
     let allowance = number(table, Key::Allowance, 0, MAX_DISTANCE)?;
@@ -108,12 +127,13 @@ fn job(table: &Table) -> Result<Job, JobFault>
     let lift = number_or(table, Key::Lift, 0, MAX_DISTANCE, 0)?;
     let raster = number_or(table, Key::Raster, 1, MAX_DISTANCE, pitch)?;
     let rough_raster = number_or(table, Key::RoughRaster, 1, MAX_DISTANCE, raster)?;
-    let layer = number_or(table, Key::Layer, 0, GREATEST, 0)?;
+    let layer = layer(table, unit)?;
     let rough_stock = number_or(table, Key::RoughStock, 0, MAX_DISTANCE, 0)?;
-    let levels = levels(table)?;
+    let levels = levels(table, unit)?;
     let snap = snap(table)?;
     let cutter = cutter(shape, radius, rise, run)?;
     let job = Job {
+        unit,
         cutter,
         floor,
         top,
@@ -135,20 +155,21 @@ fn job(table: &Table) -> Result<Job, JobFault>
     unless(relation_fault(&job), job)
 }
 
-/// Reads a job: a TOML 1.0 document with each key of [`Key`] and no other; `snap`, `lift`,
+/// Reads a job: a TOML 1.0 document with each key of [`Key`] and no other; `unit`, `snap`, `lift`,
 /// `raster`, `rough_raster`, `layer`, `rough_stock` and `levels` may be left out, and `rise` and
 /// `run` where the cutter is no cone.
 ///
-/// Numbers are whole, in units of 0.01 mm. `cutter` is a text, `flat`, `ball` or `cone`. `radius`,
-/// `pitch`, `sample`, `raster` and `rough_raster` are from 1 to 10,000, `rise` and `run` from 1 to
-/// 100, `allowance`, `band`, `lift` and `rough_stock` from 0 to 10,000, `layer` from 0 to 131,071.
-/// `floor`, `top`, `clear` and the members of `area`, `home` and `levels` are coordinates, of a
-/// magnitude of at most 131,071. `area` has x0, y0, x1, y1, with x0 at most x1 and y0 at most y1;
-/// `home` has x, y; `levels` has at most 64 members, each less than the one before it. `snap` is a
-/// text, `nearest` or `exact`.
+/// `unit` is a text, `hundredth` for 0.01 mm or `thousandth` for 0.001 mm; numbers are whole, in
+/// that unit. `cutter` is a text, `flat`, `ball` or `cone`. `radius`, `pitch`, `sample`, `raster` and
+/// `rough_raster` are from 1 to 10,000, `rise` and `run` from 1 to 100, `allowance`, `band`, `lift`
+/// and `rough_stock` from 0 to 10,000, `layer` from 0 to the unit's greatest coordinate, which is
+/// 131,071 or 524,287. `floor`, `top`, `clear` and the members of `area`, `home` and `levels` are
+/// coordinates, of a magnitude of at most that. `area` has x0, y0, x1, y1, with x0 at most x1 and y0
+/// at most y1; `home` has x, y; `levels` has at most 64 members, each less than the one before it.
+/// `snap` is a text, `nearest` or `exact`.
 ///
-/// In a document without them `lift`, `layer` and `rough_stock` are 0, `raster` is the pitch,
-/// `rough_raster` the raster, `levels` has no member, and `snap` is `nearest`.
+/// In a document without them `unit` is `hundredth`, `lift`, `layer` and `rough_stock` are 0,
+/// `raster` is the pitch, `rough_raster` the raster, `levels` has no member, and `snap` is `nearest`.
 ///
 /// The relations are: only a cone has a rise, only a cone has a run, rise is at most 16 times run,
 /// floor at most top, top at most clear, there are at most 4,000,000 columns, band is at most

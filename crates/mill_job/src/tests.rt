@@ -1,5 +1,5 @@
 use crate::{Job, Key, Levels, Name, Place, read_job};
-use mill_base::{Box2, Cutter, Pt3};
+use mill_base::{Box2, Cutter, Pt3, Unit};
 use mill_decimal::Snap;
 use std::alloc::Global;
 use std::test::Fail;
@@ -43,6 +43,7 @@ const LADDER: &str =
     17, 16, 15, 14, 13, 12, 11, 10, 9, 8, 7, 6, 5, 4, 3, 2, 1, 0";
 
 const JOB: Job = Job {
+    unit: Unit::Hundredth,
     cutter: Cutter::Flat { radius: 150 },
     floor: 0,
     top: 300,
@@ -338,5 +339,38 @@ fn names_keep_their_bytes(rt: HostRuntime) -> Result<(), Fail> {
     assert_eq!(rt; name.as_bytes(), b"depth".as_slice());
     assert_eq!(rt; name.into_bytes().as_slice(), b"depth".as_slice());
     assert_eq!(rt; Key::Home.name(), "home");
+    Ok(())
+}
+
+#[test]
+fn reads_thousandths(rt: HostRuntime) -> Result<(), Fail> {
+    let alloc = rt.alloc();
+    let hundredths = format!(in alloc; "{EXAMPLE}unit = \"hundredth\"\n")?;
+    assert_eq!(rt; read_job(alloc, hundredths.as_bytes())?, JOB);
+    let thousandths = format!(in alloc; "{EXAMPLE}unit = \"thousandth\"\n")?;
+    let want = Job {
+        unit: Unit::Thousandth,
+        ..JOB
+    };
+    assert_eq!(rt; read_job(alloc, thousandths.as_bytes())?, want);
+    let wide = thousandths.replace(alloc, "clear = 400", "clear = 524287\nlayer = 524287")?;
+    let job = read_job(alloc, wide.as_bytes())?;
+    assert_eq!(rt; (job.clear, job.layer), (524_287, 524_287));
+    let rows = [
+        ("unit = \"thousandth\"", "unit = \"inch\"", "unit out of range"),
+        ("unit = \"thousandth\"", "unit = 3", "wrong kind of unit"),
+        ("clear = 400", "clear = 524288", "clear out of range"),
+        ("[100, 90]", "[-524288, 90]", "home out of range"),
+        ("band = 0", "band = 0\nlayer = 524288", "layer out of range"),
+        ("band = 0", "band = 0\nlevels = [524288]", "levels out of range"),
+        ("unit = \"thousandth\"", "clears = 131072", "unknown clears"),
+    ];
+    for (old, new, want) in rows {
+        let text = thousandths.replace(alloc, old, new)?;
+        assert_eq!(rt; fault_text(alloc, text.as_str())?.as_str(), want);
+    }
+    let first = thousandths.replace(alloc, "\"flat\"", "\"disc\"")?;
+    let both = first.replace(alloc, "\"thousandth\"", "\"inch\"")?;
+    assert_eq!(rt; fault_text(alloc, both.as_str())?.as_str(), "unit out of range");
     Ok(())
 }

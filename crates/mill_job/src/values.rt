@@ -1,21 +1,18 @@
 ghost use Rattle.std.specs.Prelude.{◌≡◌, codes, neg_ℤ, pos, true, false, IfOk, IfErr, None, Some, [], ◌∷◌, option_map};
 ghost use Rattle.mill_base.specs.Numbers.{Within};
-ghost use Rattle.mill_base.specs.declared.limits.TheConstants.{MAX_TEXT_COORDINATE};
+ghost use Rattle.mill_base.specs.Units.{greatest_of};
 ghost use Rattle.toml.specs.Data.{as_integer, get_member};
 ghost use Rattle.toml.specs.View.{table_view, view};
-ghost use Rattle.mill_job.specs.Documents.{snap_of};
+ghost use Rattle.mill_job.specs.Documents.{snap_of, unit_of, unit_texts};
 ghost use Rattle.mill_job.specs.Jobs.{IsFrom};
 ghost use Rattle.mill_job.specs.Keys.{name_of};
 ghost use Rattle.mill_job.specs.Tables.{coordinate_fault, is_coordinate, is_from, kind_fault, number_at, number_fault, number_fault_if_there, number_or as number_or_other, text_fault_if_there};
 
 use crate::fault::JobFault;
 use crate::key::Key;
-use mill_base::MAX_TEXT_COORDINATE;
+use mill_base::Unit;
 use mill_decimal::Snap;
 use toml::{Table, Value};
-
-/// The greatest coordinate, in units of 0.01 mm.
-pub const GREATEST: i32 = MAX_TEXT_COORDINATE as i32;
 
 /// The value at a key.
 pub fn find<'a>(table: &'a Table, key: Key) -> Option<&'a Value>
@@ -36,14 +33,21 @@ pub fn in_range(number: i64, key: Key, low: i32, high: i32) -> Result<i32, JobFa
     Ok(number as i32)
 }
 
-/// The number, which must be a coordinate.
-#[tactic(auto, unfolding(crate::specs::Tables::is_coordinate))]
-pub fn as_coordinate(number: i64, key: Key) -> Result<i32, JobFault>
-    ensures ok { IfOk result (λ z. (is_coordinate number ≡ true) × (z ≡ number)) }
-    ensures err { IfErr result (λ fault. (is_coordinate number ≡ false) × (fault ≡ JobFault.Range key)) }
-    ensures in_range { IfOk result (Within MAX_TEXT_COORDINATE) }
+/// The least coordinate of a unit.
+fn least(unit: Unit) -> i32
+    ensures { result ≡ neg_ℤ (pos (greatest_of unit)) }
 {
-    in_range(number, key, -GREATEST, GREATEST)
+    -unit.greatest()
+}
+
+/// The number, which must be a coordinate of the unit.
+#[tactic(auto, unfolding(crate::specs::Tables::is_coordinate))]
+pub fn as_coordinate(number: i64, key: Key, unit: Unit) -> Result<i32, JobFault>
+    ensures ok { IfOk result (λ z. (is_coordinate unit number ≡ true) × (z ≡ number)) }
+    ensures err { IfErr result (λ fault. (is_coordinate unit number ≡ false) × (fault ≡ JobFault.Range key)) }
+    ensures in_range { IfOk result (Within (greatest_of unit)) }
+{
+    in_range(number, key, least(unit), unit.greatest())
 }
 
 /// The whole number from `low` to `high` that a value is.
@@ -86,12 +90,38 @@ pub fn number_or(table: &Table, key: Key, low: i32, high: i32, other: i32) -> Re
 }
 
 /// The coordinate at a key.
-pub fn coordinate(table: &Table, key: Key) -> Result<i32, JobFault>
-    ensures ok { IfOk result (λ n. (coordinate_fault key (table_view table.now) ≡ None) × (n ≡ number_at key (table_view table.now))) }
-    ensures err { IfErr result (λ fault. coordinate_fault key (table_view table.now) ≡ Some fault) }
-    ensures in_range { IfOk result (Within MAX_TEXT_COORDINATE) }
+pub fn coordinate(table: &Table, key: Key, unit: Unit) -> Result<i32, JobFault>
+    ensures ok { IfOk result (λ n. (coordinate_fault unit key (table_view table.now) ≡ None) × (n ≡ number_at key (table_view table.now))) }
+    ensures err { IfErr result (λ fault. coordinate_fault unit key (table_view table.now) ≡ Some fault) }
+    ensures in_range { IfOk result (Within (greatest_of unit)) }
 {
-    number(table, key, -GREATEST, GREATEST)
+    number(table, key, least(unit), unit.greatest())
+}
+
+/// How much roughing takes off at a time: 0, which is none, where the document doesn't say.
+pub fn layer(table: &Table, unit: Unit) -> Result<i32, JobFault>
+    ensures ok { IfOk result (λ n. (number_fault_if_there Key.Layer (pos 0) (pos (greatest_of unit)) (table_view table.now) ≡ None) × (n ≡ number_or_other Key.Layer (pos 0) (table_view table.now))) }
+    ensures err { IfErr result (λ fault. number_fault_if_there Key.Layer (pos 0) (pos (greatest_of unit)) (table_view table.now) ≡ Some fault) }
+    ensures in_range { IfOk result (IsFrom (pos 0) (pos (greatest_of unit))) }
+{
+    number_or(table, Key::Layer, 0, unit.greatest(), 0)
+}
+
+/// The unit of the document's numbers.
+#[tactic(auto, unfolding(crate::specs::Tables::text_fault_if_there, crate::specs::Documents::unit_of))]
+pub fn unit(table: &Table) -> Result<Unit, JobFault>
+    ensures ok { IfOk result (λ unit. (text_fault_if_there Key.Unit unit_texts (table_view table.now) ≡ None) × (unit ≡ unit_of (table_view table.now))) }
+    ensures err { IfErr result (λ fault. text_fault_if_there Key.Unit unit_texts (table_view table.now) ≡ Some fault) }
+{
+    let Some(value) = find(table, Key::Unit) else {
+        return Ok(Unit::Hundredth);
+    };
+    match value.as_str() {
+        None => Err(JobFault::WrongKind(Key::Unit)),
+        Some("hundredth") => Ok(Unit::Hundredth),
+        Some("thousandth") => Ok(Unit::Thousandth),
+        Some(_) => Err(JobFault::Range(Key::Unit)),
+    }
 }
 
 /// How the document takes what is finer than a unit.

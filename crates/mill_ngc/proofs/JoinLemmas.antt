@@ -201,6 +201,6 @@ means_some lines some = rw some.is (means_lines some.first some.rest)
 
 pub pieces_read_program : ReadsProgram
 unfolding fed program_of
-pieces_read_program start text =
-    ap (λ (lines : List (List ℕ)). ending (after_lines (reading_at start, []) lines)) (put_before-none (lines_of text) (has_first text))
-    ∙ means_some (lines_of text) (has_first text) (start_at start) []
+pieces_read_program start unit text =
+    ap (λ (lines : List (List ℕ)). ending (after_lines (reading_at start unit, []) lines)) (put_before-none (lines_of text) (has_first text))
+    ∙ means_some (lines_of text) (has_first text) (start_at start unit) []

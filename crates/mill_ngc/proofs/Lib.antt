@@ -3,6 +3,7 @@ mod SaidLemmas
 mod PercentLemmas
 mod ProgramLemmas
 mod PieceLemmas
+mod ShownLemmas
 pub mod JoinLemmas
 pub mod WholeText
 pub mod MoveLines

@@ -4,8 +4,11 @@ use Rattle.std.specs.Prelude.{ℤ, pos, negsuc, nat_abs, int_lt, nat_lt, nat_le,
 use Rattle.std.proofs.lemmas.Bool.Decides.{nat_tests}
 use Rattle.std.proofs.lemmas.List.Elements.{Contains-append_right}
 use Rattle.mill_base.specs.Numbers.{Within}
-use Rattle.mill_base.specs.declared.limits.TheConstants.{MAX_MOVES, MAX_TEXT_COORDINATE}
-use Rattle.mill_base.specs.Ranges.{IsInTextRange, MoveInTextRange, MovesInTextRange}
+use Rattle.mill_base.specs.Units.{places_of, greatest_of}
+use Rattle.mill_base.specs.declared.limits.TheConstants.{MAX_MOVES}
+use Rattle.mill_base.specs.declared.unit.Unit.{Unit}
+use Rattle.mill_base.specs.declared.unit.Unit.TheVariants.{Hundredth, Thousandth}
+use Rattle.mill_base.specs.Ranges.{IsInUnitRange, MoveInUnitRange, MovesInUnitRange}
 use Rattle.mill_base.specs.Motion.{Follow}
 use Rattle.mill_base.specs.declared.points.Pt3.{Pt3}
 use Rattle.mill_base.specs.declared.motion.Kind.{Kind}
@@ -20,7 +23,7 @@ use Rattle.mill_ngc.specs.declared.profile.Mode.TheVariants.{Off, On}
 use Rattle.mill_ngc.specs.declared.progress.Frame.TheVariants.{Framed}
 use Rattle.mill_ngc.specs.declared.progress.Progress.{Progress}
 use Rattle.mill_ngc.specs.declared.said.Said.{Said}
-use Rattle.mill_ngc.specs.Numbers.{axis_units, whole_of}
+use Rattle.mill_ngc.specs.Numbers.{axis_units, is_on_grid, whole_units, whole_of}
 use Rattle.mill_ngc.specs.Profile.{entry_of}
 use Rattle.mill_ngc.specs.Said.{after_entry, said_from, said_by}
 use Rattle.mill_ngc.specs.Motion.{target, moved, acted}
@@ -31,60 +34,60 @@ use Rattle.mill_ngc.specs.Programs.{is_percent, lines_of, after_words, after_lin
 abbrev pub whole_num : ℕ → Num
 whole_num n = record { neg = false; mant = n; scale = 0 }
 
--- a number of units, with all its digits, two of them behind the point
-abbrev pub units_num : ℤ → Num
-units_num z = record { neg = int_lt z (pos 0); mant = nat_abs z; scale = 2 }
+-- a number of units, with all its digits, as many of them behind the point as the unit has places
+abbrev pub units_num : Unit → ℤ → Num
+units_num unit z = record { neg = int_lt z (pos 0); mant = nat_abs z; scale = places_of unit }
 
 abbrev pub motion_number : Kind → ℕ
 motion_number Rapid = 0
 motion_number Feed = 1
 
 -- G0 or G1, and X, Y and Z
-abbrev pub move_words : Move → List Word
-move_words m =
+abbrev pub move_words : Unit → Move → List Word
+move_words unit m =
     record { letter = 71; num = whole_num (motion_number m.kind) }
-    ∷ record { letter = 88; num = units_num m.to.x }
-    ∷ record { letter = 89; num = units_num m.to.y }
-    ∷ record { letter = 90; num = units_num m.to.z } ∷ []
+    ∷ record { letter = 88; num = units_num unit m.to.x }
+    ∷ record { letter = 89; num = units_num unit m.to.y }
+    ∷ record { letter = 90; num = units_num unit m.to.z } ∷ []
 
 -- the line has these words, and isn't too long, nor a `%` alone
-pub record IsMoveLine (m : Move) (line : List ℕ) : Type 0 where
-  pub words : line_of line ≡ Ok (record { slash = false; numbered = false; words = move_words m })
+pub record IsMoveLine (unit : Unit) (m : Move) (line : List ℕ) : Type 0 where
+  pub words : line_of line ≡ Ok (record { slash = false; numbered = false; words = move_words unit m })
   pub short : length line ≤ 256
   pub other : is_percent line ≡ false
 
 -- ---- what they say
 
 -- what a line says that has the words of a move
-abbrev move_said : Kind → Pt3 → Said
-move_said kind to = record {
+abbrev move_said : Unit → Kind → Pt3 → Said
+move_said unit kind to = record {
   groups = record { letter = 71; number = 1 } ∷ record { letter = 88; number = 0 } ∷ record { letter = 89; number = 0 } ∷ record { letter = 90; number = 0 } ∷ [];
   mode = Some (On kind);
   millimetres = false;
   absolute = false;
   ends = false;
-  x = Some (units_num to.x);
-  y = Some (units_num to.y);
-  z = Some (units_num to.z);
+  x = Some (units_num unit to.x);
+  y = Some (units_num unit to.y);
+  z = Some (units_num unit to.z);
 }
 
-said_by-move : (line : ℕ) (positioned : Bool) (kind : Kind) (from to : Pt3)
-    → said_by line positioned (record { slash = false; numbered = false; words = move_words (record { kind = kind; from = from; to = to }) }) ≡ Ok (move_said kind to)
+said_by-move : (unit : Unit) (line : ℕ) (positioned : Bool) (kind : Kind) (from to : Pt3)
+    → said_by line positioned (record { slash = false; numbered = false; words = move_words unit (record { kind = kind; from = from; to = to }) }) ≡ Ok (move_said unit kind to)
 unfolding said_from after_entry entry_of whole_of
-said_by-move line true Rapid from to = refl
-said_by-move line true Feed from to = refl
-said_by-move line false Rapid from to = refl
-said_by-move line false Feed from to = refl
+said_by-move unit line true Rapid from to = refl
+said_by-move unit line true Feed from to = refl
+said_by-move unit line false Rapid from to = refl
+said_by-move unit line false Feed from to = refl
 
 -- ---- what they do
 
 -- a program behind its header
-abbrev going : Pt3 → Mode → Bool → ℕ → ℕ → Progress
-going here mode positioned moves line =
-    record { here = here; mode = mode; millimetres = true; absolute = true; positioned = positioned; frame = Framed; ended = false; moves = moves; line = line }
+abbrev going : Unit → Pt3 → Mode → Bool → ℕ → ℕ → Progress
+going unit here mode positioned moves line =
+    record { unit = unit; here = here; mode = mode; millimetres = true; absolute = true; positioned = positioned; frame = Framed; ended = false; moves = moves; line = line }
 
-not_over : (n : ℕ) → n ≤ MAX_TEXT_COORDINATE → nat_lt MAX_TEXT_COORDINATE n ≡ false
-not_over n fits = grind (arith, nat_tests)
+not_over : (unit : Unit) (n : ℕ) → n ≤ greatest_of unit → nat_lt (greatest_of unit) n ≡ false
+not_over unit n fits = grind (arith, nat_tests)
 
 times_one : (n : ℕ) → n * 1 ≡ n
 times_one n = omega arith
@@ -92,30 +95,41 @@ times_one n = omega arith
 not_negative : (n : ℕ) → int_lt (pos n) (pos 0) ≡ false
 not_negative n = grind (arith, nat_tests)
 
-axis_units-num : (line : ℕ) (z : ℤ) → Within MAX_TEXT_COORDINATE z → axis_units line (units_num z) ≡ Ok z
+-- its digits are all on the grid, and stand for it
+on_grid-num : (unit : Unit) (z : ℤ) → is_on_grid unit (units_num unit z) ≡ true
+on_grid-num Hundredth z = refl
+on_grid-num Thousandth z = refl
+
+whole_units-num : (unit : Unit) (z : ℤ) → whole_units unit (units_num unit z) ≡ nat_abs z
+whole_units-num Hundredth z = times_one (nat_abs z)
+whole_units-num Thousandth z = times_one (nat_abs z)
+
+axis_units-num : (unit : Unit) (line : ℕ) (z : ℤ) → Within (greatest_of unit) z → axis_units unit line (units_num unit z) ≡ Ok z
 unfolding axis_units
-axis_units-num line (pos n) fits = rw (times_one n, not_over n fits.within, not_negative n) refl
-axis_units-num line (negsuc n) fits = rw (times_one (suc n), not_over (suc n) fits.within) refl
+axis_units-num unit line (pos n) fits =
+    rw (on_grid-num unit (pos n), whole_units-num unit (pos n), not_over unit n fits.within, not_negative n) refl
+axis_units-num unit line (negsuc n) fits =
+    rw (on_grid-num unit (negsuc n), whole_units-num unit (negsuc n), not_over unit (suc n) fits.within) refl
 
 room : (moves : ℕ) → moves < MAX_MOVES → nat_le MAX_MOVES moves ≡ false
 room moves few = grind (arith, nat_tests)
 
-acted-move : (here : Pt3) (mode : Mode) (positioned : Bool) (moves line : ℕ) (kind : Kind) (to : Pt3) → IsInTextRange to → moves < MAX_MOVES
-    → acted (going here mode positioned moves line) (move_said kind to)
-    ≡ Ok (going to (On kind) true (moves + 1) line, Some (record { kind = kind; from = here; to = to }))
+acted-move : (unit : Unit) (here : Pt3) (mode : Mode) (positioned : Bool) (moves line : ℕ) (kind : Kind) (to : Pt3) → IsInUnitRange unit to → moves < MAX_MOVES
+    → acted (going unit here mode positioned moves line) (move_said unit kind to)
+    ≡ Ok (going unit to (On kind) true (moves + 1) line, Some (record { kind = kind; from = here; to = to }))
 unfolding acted moved target
-acted-move here mode positioned moves line kind to fits few =
-    rw (axis_units-num line to.x fits.x_ok, axis_units-num line to.y fits.y_ok, axis_units-num line to.z fits.z_ok, room moves few) refl
+acted-move unit here mode positioned moves line kind to fits few =
+    rw (axis_units-num unit line to.x fits.x_ok, axis_units-num unit line to.y fits.y_ok, axis_units-num unit line to.z fits.z_ok, room moves few) refl
 
 not_long : (n : ℕ) → n ≤ 256 → nat_lt 256 n ≡ false
 not_long n short = grind (arith, nat_tests)
 
 -- behind the header, the line of a move makes this move
-after_line-move : (m : Move) (mode : Mode) (positioned : Bool) (moves number : ℕ) (line : List ℕ) → IsInTextRange m.to → moves < MAX_MOVES → IsMoveLine m line
-    → after_line (going m.from mode positioned moves number) line ≡ Ok (going m.to (On m.kind) true (moves + 1) (number + 1), Some m)
+after_line-move : (unit : Unit) (m : Move) (mode : Mode) (positioned : Bool) (moves number : ℕ) (line : List ℕ) → IsInUnitRange unit m.to → moves < MAX_MOVES → IsMoveLine unit m line
+    → after_line (going unit m.from mode positioned moves number) line ≡ Ok (going unit m.to (On m.kind) true (moves + 1) (number + 1), Some m)
 unfolding after_line after_words
-after_line-move m mode positioned moves number line fits few is_line =
-    rw (not_long (length line) is_line.short, is_line.other, is_line.words, said_by-move (number + 1) positioned m.kind m.from m.to) (acted-move m.from mode positioned moves (number + 1) m.kind m.to fits few)
+after_line-move unit m mode positioned moves number line fits few is_line =
+    rw (not_long (length line) is_line.short, is_line.other, is_line.words, said_by-move unit (number + 1) positioned m.kind m.from m.to) (acted-move unit m.from mode positioned moves (number + 1) m.kind m.to fits few)
 
 -- ---- the program
 
@@ -123,39 +137,39 @@ abbrev end_lines : List (List ℕ)
 end_lines = codes "M2" ∷ codes "%" ∷ [] ∷ []
 
 -- what a program says behind its header, up to its end
-moves_from-end : (here : Pt3) (mode : Mode) (positioned : Bool) (count number : ℕ) (done : List Move)
-    → moves_from (going here mode positioned count number) done end_lines ≡ Ok (done ++ [])
+moves_from-end : (unit : Unit) (here : Pt3) (mode : Mode) (positioned : Bool) (count number : ℕ) (done : List Move)
+    → moves_from (going unit here mode positioned count number) done end_lines ≡ Ok (done ++ [])
 unfolding moves_from after_line after_words line_of read_marks marks_from grown_word finished started said_from after_entry entry_of whole_of acted
-moves_from-end here mode true count number done = refl
-moves_from-end here mode false count number done = refl
+moves_from-end unit here mode true count number done = refl
+moves_from-end unit here mode false count number done = refl
 
-moves_from-move : (m : Move) (here : Pt3) (mode : Mode) (positioned : Bool) (count number : ℕ) (done : List Move) (line : List ℕ) (lines : List (List ℕ))
-    → m.from ≡ here → IsInTextRange m.to → count < MAX_MOVES → IsMoveLine m line
-    → moves_from (going here mode positioned count number) done (line ∷ lines) ≡ moves_from (going m.to (On m.kind) true (count + 1) (number + 1)) (done ++ m ∷ []) lines
+moves_from-move : (unit : Unit) (m : Move) (here : Pt3) (mode : Mode) (positioned : Bool) (count number : ℕ) (done : List Move) (line : List ℕ) (lines : List (List ℕ))
+    → m.from ≡ here → IsInUnitRange unit m.to → count < MAX_MOVES → IsMoveLine unit m line
+    → moves_from (going unit here mode positioned count number) done (line ∷ lines) ≡ moves_from (going unit m.to (On m.kind) true (count + 1) (number + 1)) (done ++ m ∷ []) lines
 unfolding moves_from
-moves_from-move m here mode positioned count number done line lines follow fits few is_line =
-    rw (← follow, after_line-move m mode positioned count number line fits few is_line) refl
+moves_from-move unit m here mode positioned count number done line lines follow fits few is_line =
+    rw (← follow, after_line-move unit m mode positioned count number line fits few is_line) refl
 
-moves_from-moves : (line : Move → List ℕ) → ((m : Move) → MoveInTextRange m → IsMoveLine m (line m))
+moves_from-moves : (unit : Unit) (line : Move → List ℕ) → ((m : Move) → MoveInUnitRange unit m → IsMoveLine unit m (line m))
     → (moves : List Move) (here : Pt3) (mode : Mode) (positioned : Bool) (count number : ℕ) (done : List Move)
-    → Follow here moves → MovesInTextRange moves → count + length moves ≤ MAX_MOVES
-    → moves_from (going here mode positioned count number) done (map line moves ++ end_lines) ≡ Ok (done ++ moves)
-moves_from-moves line is_line [] here mode positioned count number done follow fits few = moves_from-end here mode positioned count number done
-moves_from-moves line is_line (m ∷ moves) here mode positioned count number done follow fits few =
-    let first : MoveInTextRange m = fits m (search rules) in
-    let others : MovesInTextRange moves = λ n member. fits n (Contains-append_right (m ∷ []) moves n member) in
-    moves_from-move m here mode positioned count number done (line m) (map line moves ++ end_lines) follow.0 first.to_ok (omega arith) (is_line m first)
-    ∙ moves_from-moves line is_line moves m.to (On m.kind) true (count + 1) (number + 1) (done ++ m ∷ []) follow.1 others (omega arith)
+    → Follow here moves → MovesInUnitRange unit moves → count + length moves ≤ MAX_MOVES
+    → moves_from (going unit here mode positioned count number) done (map line moves ++ end_lines) ≡ Ok (done ++ moves)
+moves_from-moves unit line is_line [] here mode positioned count number done follow fits few = moves_from-end unit here mode positioned count number done
+moves_from-moves unit line is_line (m ∷ moves) here mode positioned count number done follow fits few =
+    let first : MoveInUnitRange unit m = fits m (search rules) in
+    let others : MovesInUnitRange unit moves = λ n member. fits n (Contains-append_right (m ∷ []) moves n member) in
+    moves_from-move unit m here mode positioned count number done (line m) (map line moves ++ end_lines) follow.0 first.to_ok (omega arith) (is_line m first)
+    ∙ moves_from-moves unit line is_line moves m.to (On m.kind) true (count + 1) (number + 1) (done ++ m ∷ []) follow.1 others (omega arith)
     ∙ ap (λ (ms : List Move). Ok ms) (append_assoc done (m ∷ []) moves)
 
-moves_from-header : (start : Pt3) (lines : List (List ℕ)) → moves_from (start_at start) [] (codes "%" ∷ codes "G17 G21 G90" ∷ lines) ≡ moves_from (going start Off false 0 2) [] lines
+moves_from-header : (unit : Unit) (start : Pt3) (lines : List (List ℕ)) → moves_from (start_at start unit) [] (codes "%" ∷ codes "G17 G21 G90" ∷ lines) ≡ moves_from (going unit start Off false 0 2) [] lines
 unfolding moves_from after_line after_words line_of read_marks marks_from grown_word finished started said_from after_entry entry_of whole_of acted
-moves_from-header start lines = refl
+moves_from-header unit start lines = refl
 
 -- a program of these lines means the moves, which follow on each other from the start
-pub program_of-moves : (line : Move → List ℕ) → ((m : Move) → MoveInTextRange m → IsMoveLine m (line m))
-    → (start : Pt3) (moves : List Move) (text : List ℕ) → Follow start moves → MovesInTextRange moves → length moves ≤ MAX_MOVES
-    → lines_of text ≡ codes "%" ∷ codes "G17 G21 G90" ∷ (map line moves ++ end_lines) → program_of start text ≡ Ok moves
+pub program_of-moves : (unit : Unit) (line : Move → List ℕ) → ((m : Move) → MoveInUnitRange unit m → IsMoveLine unit m (line m))
+    → (start : Pt3) (moves : List Move) (text : List ℕ) → Follow start moves → MovesInUnitRange unit moves → length moves ≤ MAX_MOVES
+    → lines_of text ≡ codes "%" ∷ codes "G17 G21 G90" ∷ (map line moves ++ end_lines) → program_of start unit text ≡ Ok moves
 unfolding program_of
-program_of-moves line is_line start moves text follow fits few lines =
-    rw lines (moves_from-header start (map line moves ++ end_lines) ∙ moves_from-moves line is_line moves start Off false 0 2 [] follow fits (omega arith))
+program_of-moves unit line is_line start moves text follow fits few lines =
+    rw lines (moves_from-header unit start (map line moves ++ end_lines) ∙ moves_from-moves unit line is_line moves start Off false 0 2 [] follow fits (omega arith))

@@ -1,15 +1,15 @@
 -- A text line by line, as a reader of its pieces takes it.
 use Rattle.std.proofs.Common.{◌≡◌, ℕ, ◌+◌, ◌<◌, List, [], ◌∷◌, ◌++◌, length, Option, Some, None, Result, Ok, Err, Bool, true, false, cond, eqb, refl, sym, ap, ◌∙◌, arith, rules, append_assoc}
 use Rattle.std.proofs.lemmas.Bool.Decides.{nat_tests}
-use Rattle.std.specs.Prelude.{◌≢◌, nat_lt, OnOk, IfErr}
-use Rattle.mill_base.specs.Ranges.{IsInTextRange}
+use Rattle.std.specs.Prelude.{⊤, ◌≢◌, nat_lt, OnOk, IfErr}
+use Rattle.mill_base.specs.Ranges.{IsInUnitRange}
 use Rattle.mill_base.specs.declared.motion.Move.{Move}
 use Rattle.mill_ngc.specs.declared.fault.NgcFault.{NgcFault}
 use Rattle.mill_ngc.specs.declared.fault.NgcFault.TheVariants as fault
 use Rattle.mill_ngc.specs.declared.progress.Progress.{Progress}
 use Rattle.mill_ngc.specs.Programs.{put_first, lines_of, after_line, made_list}
 use Rattle.mill_ngc.specs.Pieces.{Reading, Going, Failed, put_before, after_result, after_whole, after_begun, after_lines, fed, IsFront}
-use Rattle.mill_ngc.specs.inner.Bounds.{KeepsMove}
+use Rattle.mill_ngc.specs.inner.Bounds.{KeepsMove, Keeps}
 use Rattle.mill_ngc.specs.Texts.{shown}
 use Rattle.mill_ngc.specs.declared.text_reader.TextReader.{TextReader}
 
@@ -166,24 +166,27 @@ front-fed s piece total e = rw (← e) (front-lines s (put_before _ (lines_of pi
 
 -- ---- answers
 
-pub fault_told : (result : Result Unit NgcFault) (f : NgcFault) (total : Reading × List Move) (moves : List Move) → result ≡ Err f → total ≡ (Failed f, moves)
+pub fault_told : (result : Result ⊤ NgcFault) (f : NgcFault) (total : Reading × List Move) (moves : List Move) → result ≡ Err f → total ≡ (Failed f, moves)
     → IfErr result (λ f. f ≢ fault.WantOfMemory → total ≡ (Failed f, moves))
 fault_told result f total moves is told = rw is (λ _. told)
 
-pub begun_ok : (result : Result Unit NgcFault) (begun now : Reading) (total : Reading × List Move) (moves : List Move) → total ≡ (begun, moves) → OnOk result (begun ≡ now)
+pub begun_ok : (result : Result ⊤ NgcFault) (begun now : Reading) (total : Reading × List Move) (moves : List Move) → total ≡ (begun, moves) → OnOk result (begun ≡ now)
     → OnOk result (total ≡ (now, moves))
 begun_ok (Ok u) begun now total moves told is = told ∙ ap (λ (r : Reading). (r, moves)) is
 begun_ok (Err f) begun now total moves told is = tt
 
-pub begun_fault : (result : Result Unit NgcFault) (begun : Reading) (total : Reading × List Move) (moves : List Move) → total ≡ (begun, moves) → IfErr result (λ f. begun ≡ Failed f)
+pub begun_fault : (result : Result ⊤ NgcFault) (begun : Reading) (total : Reading × List Move) (moves : List Move) → total ≡ (begun, moves) → IfErr result (λ f. begun ≡ Failed f)
     → IfErr result (λ f. f ≢ fault.WantOfMemory → total ≡ (Failed f, moves))
 begun_fault (Ok u) begun total moves told is = tt
 begun_fault (Err f) begun total moves told is = λ _. told ∙ ap (λ (r : Reading). (r, moves)) is
 
 -- a line leaves the tool in range
-pub keeps_range : (p q : Progress) (made : Option Move) → IsInTextRange p.here → KeepsMove p made q → IsInTextRange q.here
-keeps_range p q None here keeps = rw keeps.stays here
-keeps_range p q (Some m) here keeps = keeps.in_range
+stays_in_range : (p q : Progress) (made : Option Move) → IsInUnitRange p.unit p.here → KeepsMove p made q → IsInUnitRange p.unit q.here
+stays_in_range p q None here keeps = rw keeps.stays here
+stays_in_range p q (Some m) here keeps = keeps.in_range
+
+pub keeps_range : (p q : Progress) (made : Option Move) → IsInUnitRange p.unit p.here → Keeps p made q → IsInUnitRange q.unit q.here
+keeps_range p q made here keeps = rw keeps.same_unit (stays_in_range p q made here keeps.move_is)
 
 -- a reader with a fault stays as it is
 pub fed-kept : (kept : Option NgcFault) (f : NgcFault) (t : TextReader) (r : Reading) (moves : List Move) (piece : List ℕ) → kept ≡ Some f → shown kept t ≡ r → (r, moves) ≡ fed (r, moves) piece

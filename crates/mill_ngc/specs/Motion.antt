@@ -4,6 +4,7 @@ use Rattle.mill_base.specs.declared.limits.TheConstants.{MAX_MOVES}
 use Rattle.mill_base.specs.declared.points.Pt3.{Pt3}
 use Rattle.mill_base.specs.declared.motion.Kind.{Kind}
 use Rattle.mill_base.specs.declared.motion.Move.{Move}
+use Rattle.mill_base.specs.declared.unit.Unit.{Unit}
 use Rattle.mill_words.specs.declared.word.Num.{Num}
 use Rattle.mill_ngc.specs.declared.fault.NgcFault.{NgcFault}
 use Rattle.mill_ngc.specs.declared.fault.NgcFault.TheVariants as fault
@@ -19,16 +20,16 @@ abbrev pub settled : Progress → Said → Progress
 settled p s = record p { mode = unwrap_or s.mode p.mode; millimetres = p.millimetres || s.millimetres; absolute = p.absolute || s.absolute; ended = s.ends }
 
 -- a coordinate of a move's end: the number of its axis, or that of the present point
-abbrev pub coordinate : ℕ → ℤ → Option Num → Result ℤ NgcFault
-coordinate line here None = Ok here
-coordinate line here (Some n) = axis_units line n
+abbrev pub coordinate : Unit → ℕ → ℤ → Option Num → Result ℤ NgcFault
+coordinate unit line here None = Ok here
+coordinate unit line here (Some n) = axis_units unit line n
 
 -- where a line's move ends; x is checked before y, and y before z
 unfoldable pub target : Progress → Said → Result Pt3 NgcFault
 target p s =
-    coordinate p.line p.here.x s.x >>= λ x.
-    coordinate p.line p.here.y s.y >>= λ y.
-    coordinate p.line p.here.z s.z >>= λ z.
+    coordinate p.unit p.line p.here.x s.x >>= λ x.
+    coordinate p.unit p.line p.here.y s.y >>= λ y.
+    coordinate p.unit p.line p.here.z s.z >>= λ z.
     Ok (record { x = x; y = y; z = z })
 
 -- a move to this point, unless there are 1,000,000 already

@@ -1,10 +1,11 @@
 -- What a reader has read that is given a program in pieces: the lines that are whole so far, and the bytes behind them.
-use Rattle.std.specs.Prelude.{◌≡◌, ℕ, ◌+◌, ◌≤◌, nat_lt, if◌then◌else◌, List, [], ◌∷◌, ◌++◌, length, Option, Result, Ok, Err}
+use Rattle.std.specs.Prelude.{◌≡◌, ⊤, ℕ, ◌+◌, ◌≤◌, nat_lt, if◌then◌else◌, List, [], ◌∷◌, ◌++◌, length, Option, Result, Ok, Err}
 use Rattle.mill_base.specs.declared.limits.TheConstants.{MAX_MOVES}
 use Rattle.mill_base.specs.declared.points.Pt3.{Pt3}
 use Rattle.mill_base.specs.declared.motion.Move.{Move}
+use Rattle.mill_base.specs.declared.unit.Unit.{Unit}
 use Rattle.mill_base.specs.Motion.{Follow}
-use Rattle.mill_base.specs.Ranges.{IsInTextRange, MovesInTextRange}
+use Rattle.mill_base.specs.Ranges.{IsInUnitRange, MovesInUnitRange}
 use Rattle.mill_ngc.specs.declared.fault.NgcFault.{NgcFault}
 use Rattle.mill_ngc.specs.declared.fault.NgcFault.TheVariants as fault
 use Rattle.mill_ngc.specs.declared.progress.Progress.{Progress}
@@ -17,9 +18,9 @@ pub data Reading : Type 0 where
   Going : Progress → List ℕ → Reading
   Failed : NgcFault → Reading
 
--- before the first byte, with the tool at this point
-abbrev pub reading_at : Pt3 → Reading
-reading_at start = Going (start_at start) []
+-- before the first byte, with the tool at this point and coordinates in this unit
+abbrev pub reading_at : Pt3 → Unit → Reading
+reading_at start unit = Going (start_at start unit) []
 
 -- the bytes behind the last line end
 abbrev pub line_so_far : Reading → List ℕ
@@ -72,12 +73,12 @@ abbrev pub at_end : Reading × List Move → Reading × List Move
 at_end s = after_whole s.0 s.1 (line_so_far s.0)
 
 -- the answer to a piece
-abbrev pub answer : Reading → Result Unit NgcFault
+abbrev pub answer : Reading → Result ⊤ NgcFault
 answer (Going p line) = Ok tt
 answer (Failed f) = Err f
 
 -- the answer behind the last line
-abbrev pub last_answer : Reading → Result Unit NgcFault
+abbrev pub last_answer : Reading → Result ⊤ NgcFault
 last_answer (Going p line) = if p.ended then Ok tt else Err (fault.NoEnd p.line)
 last_answer (Failed f) = Err f
 
@@ -88,9 +89,9 @@ pub record IsFront (moves all : List Move) : Type 0 where
   pub rest : List Move
   pub is : all ≡ moves ++ rest
 
--- the moves follow on each other from the start, in range and not too many
-pub record AreSound (start : Pt3) (moves : List Move) : Type 0 where
-  pub in_range : MovesInTextRange moves
+-- the moves follow on each other from the start, in the unit's range and not too many
+pub record AreSound (start : Pt3) (unit : Unit) (moves : List Move) : Type 0 where
+  pub in_range : MovesInUnitRange unit moves
   pub follow : Follow start moves
   pub few : length moves ≤ MAX_MOVES
 
@@ -100,18 +101,19 @@ end_of start [] = start
 end_of start (m ∷ moves) = end_of m.to moves
 
 -- they lead to where the whole lines have left the tool, and are as many as these have made
-pub record SoFar (start : Pt3) (p : Progress) (moves : List Move) : Type 0 where
-  pub here : IsInTextRange p.here
-  pub in_range : MovesInTextRange moves
+pub record SoFar (start : Pt3) (unit : Unit) (p : Progress) (moves : List Move) : Type 0 where
+  pub unit_is : p.unit ≡ unit
+  pub here : IsInUnitRange unit p.here
+  pub in_range : MovesInUnitRange unit moves
   pub follow : Follow start moves
   pub end : end_of start moves ≡ p.here
   pub count : length moves ≡ p.moves
   pub few : p.moves ≤ MAX_MOVES
 
 -- the moves that a reader has made so far
-abbrev pub MovesSoFar : Pt3 → Reading → List Move → Type 0
-MovesSoFar start (Going p line) moves = SoFar start p moves
-MovesSoFar start (Failed f) moves = AreSound start moves
+abbrev pub MovesSoFar : Pt3 → Unit → Reading → List Move → Type 0
+MovesSoFar start unit (Going p line) moves = SoFar start unit p moves
+MovesSoFar start unit (Failed f) moves = AreSound start unit moves
 
 -- ---- laws
 
@@ -120,11 +122,11 @@ abbrev pub PiecesJoin : Type 0
 PiecesJoin = (s : Reading × List Move) (text more : List ℕ) → fed (fed s text) more ≡ fed s (text ++ more)
 
 -- the moves and the answer behind the last line
-abbrev pub told : List Move → Result Unit NgcFault → Result (List Move) NgcFault
+abbrev pub told : List Move → Result ⊤ NgcFault → Result (List Move) NgcFault
 told moves (Ok u) = Ok moves
 told moves (Err f) = Err f
 
 -- what is read of a whole text is what it means
 abbrev pub ReadsProgram : Type 0
-ReadsProgram = (start : Pt3) (text : List ℕ) →
-    told (at_end (fed (reading_at start, []) text)).1 (last_answer (at_end (fed (reading_at start, []) text)).0) ≡ program_of start text
+ReadsProgram = (start : Pt3) (unit : Unit) (text : List ℕ) →
+    told (at_end (fed (reading_at start unit, []) text)).1 (last_answer (at_end (fed (reading_at start unit, []) text)).0) ≡ program_of start unit text

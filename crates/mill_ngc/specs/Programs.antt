@@ -3,6 +3,7 @@ use Rattle.std.specs.Prelude.{ℕ, ◌+◌, ◌==◌, nat_lt, Bool, true, false,
 use Rattle.std.specs.Str.{bytes_eq}
 use Rattle.mill_base.specs.declared.points.Pt3.{Pt3}
 use Rattle.mill_base.specs.declared.motion.Move.{Move}
+use Rattle.mill_base.specs.declared.unit.Unit.{Unit}
 use Rattle.mill_words.specs.Words.{Line, is_blank as is_blank_line}
 use Rattle.mill_words.specs.Marks.{is_blank}
 use Rattle.mill_words.specs.Lines.{line_of}
@@ -91,9 +92,9 @@ after_line p line = line_in (line_begun p) line
 
 -- ---- a text
 
--- nothing is settled yet, and the tool stands at this point
-abbrev pub start_at : Pt3 → Progress
-start_at p = record { here = p; mode = Off; millimetres = false; absolute = false; positioned = false; frame = Unknown; ended = false; moves = 0; line = 0 }
+-- nothing is settled yet, and the tool stands at this point; coordinates are in this unit
+abbrev pub start_at : Pt3 → Unit → Progress
+start_at p unit = record { unit = unit; here = p; mode = Off; millimetres = false; absolute = false; positioned = false; frame = Unknown; ended = false; moves = 0; line = 0 }
 
 abbrev pub made_list : Option Move → List Move
 made_list None = []
@@ -106,6 +107,6 @@ moves_from p moves (line ∷ lines) =
     if p.ended then Ok moves else
     (after_line p line >>= λ s. moves_from s.0 (moves ++ made_list s.1) lines)
 
--- what a program's text means from a start
-unfoldable pub program_of : Pt3 → List ℕ → Result (List Move) NgcFault
-program_of start text = moves_from (start_at start) [] (lines_of text)
+-- what a program's text means from a start, in a unit
+unfoldable pub program_of : Pt3 → Unit → List ℕ → Result (List Move) NgcFault
+program_of start unit text = moves_from (start_at start unit) [] (lines_of text)

@@ -1,6 +1,6 @@
 -- What a reader shows of its parts.
-use Rattle.std.specs.Prelude.{Option, Some, None}
-use Rattle.mill_base.specs.Ranges.{IsInTextRange}
+use Rattle.std.specs.Prelude.{⊤, Option, Some, None}
+use Rattle.mill_base.specs.Ranges.{IsInUnitRange}
 use Rattle.mill_ngc.specs.declared.fault.NgcFault.{NgcFault}
 use Rattle.mill_ngc.specs.declared.text_reader.TextReader.{TextReader}
 use Rattle.mill_ngc.specs.Pieces.{Reading, Going, Failed}
@@ -16,5 +16,5 @@ shown (Some f) t = Failed f
 
 -- while a program goes on, the tool stands in range
 abbrev pub StandsInRange : Reading → Type 0
-StandsInRange (Going p line) = IsInTextRange p.here
-StandsInRange (Failed f) = Unit {0}
+StandsInRange (Going p line) = IsInUnitRange p.unit p.here
+StandsInRange (Failed f) = ⊤

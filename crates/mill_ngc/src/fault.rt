@@ -40,11 +40,11 @@ pub enum NgcFault {
     /// An axis word, and no motion mode: neither `G0` nor `G1` so far, or `G80` behind them.
     #[error("line {line}: a move without G0 or G1")]
     NoMotion { line: u64 },
-    /// An axis word's number isn't a whole number of 0.01 mm.
-    #[error("line {line}: an axis number that is not a multiple of 0.01 mm")]
+    /// An axis word's number isn't a whole number of units.
+    #[error("line {line}: an axis number that is not a whole number of units")]
     OffGrid { line: u64 },
-    /// An axis word's number is over 1310.71 mm in magnitude.
-    #[error("line {line}: an axis number over 1310.71 mm")]
+    /// An axis word's number is over the unit's greatest coordinate in magnitude.
+    #[error("line {line}: an axis number that is out of range")]
     OutOfRange { line: u64 },
     /// The 1,000,001st move.
     #[error("line {line}: more than 1,000,000 moves")]

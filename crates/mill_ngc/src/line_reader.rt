@@ -1,7 +1,7 @@
 //! A reader that is fed a program line by line, up to its first fault.
 ghost use Rattle.std.specs.Prelude.{◌≡◌, ◌<◌, ◌^◌, length, OnOk, IfOk, IfErr, Ok, Err};
 ghost use Rattle.std.specs.Str.{bytes_eq};
-ghost use Rattle.mill_base.specs.Ranges.{IsInTextRange};
+ghost use Rattle.mill_base.specs.Ranges.{IsInUnitRange};
 ghost use Rattle.mill_words.specs.Lines.{line_of};
 ghost use Rattle.mill_words.specs.Words.{Line};
 ghost use Rattle.mill_words.specs.Marks.{is_blank as is_blank_byte};
@@ -14,7 +14,7 @@ use crate::profile::Mode;
 use crate::progress::{Frame, Progress};
 use crate::said::Said;
 use crate::unfinished::LONGEST;
-use mill_base::{Move, Pt3};
+use mill_base::{Move, Pt3, Unit};
 use mill_words::{LineWords, read_line_into};
 use std::marker::Model;
 
@@ -35,12 +35,13 @@ impl Model for LineReader {
 }
 
 impl LineReader {
-    /// A reader before the first line, with the tool at this point.
-    pub fn new(start: Pt3) -> Self
-        ensures { result ≡ start_at start }
+    /// A reader before the first line, with the tool at this point and coordinates in this unit.
+    pub fn new(start: Pt3, unit: Unit) -> Self
+        ensures { result ≡ start_at start unit }
     {
         LineReader {
             progress: Progress {
+                unit,
                 here: start,
                 mode: Mode::Off,
                 millimetres: false,
@@ -75,7 +76,7 @@ impl LineReader {
     /// After a fault the reader isn't to be fed again.
     #[tactic(auto, unfolding(crate::specs::Programs::after_line))]
     pub fn read_line(&mut self, line: &[u8]) -> Result<Option<Move>, NgcFault>
-        requires here { IsInTextRange self.old.here }
+        requires here { IsInUnitRange self.old.unit self.old.here }
         requires number { self.old.line < 2 ^ 63 }
         ensures ok { IfOk result (λ made. after_line self.old line.now ≡ Ok (self.new, made)) }
         ensures fault { IfErr result (λ f. after_line self.old line.now ≡ Err f) }
@@ -100,7 +101,7 @@ impl Progress {
     // Does what the words of the line say.
     #[tactic(auto, unfolding(crate::specs::Programs::after_words))]
     fn act_words(&mut self, words: &LineWords, said: &mut Said) -> Result<Option<Move>, NgcFault>
-        requires here { IsInTextRange self.old.here }
+        requires here { IsInUnitRange self.old.unit self.old.here }
         ensures ok { IfOk result (λ made. after_words self.old words.now ≡ Ok (self.new, made)) }
         ensures fault { IfErr result (λ f. after_words self.old words.now ≡ Err f) }
         ensures keeps { IfOk result (λ made. Keeps self.old made self.new) }

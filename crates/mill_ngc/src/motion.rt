@@ -1,8 +1,8 @@
 //! What a line does that says this.
 ghost use Rattle.std.specs.Prelude.{◌≡◌, ◌<◌, ◌≤◌, ◌+◌, OnOk, IfOk, IfErr, Ok, Err, IfSome};
 ghost use Rattle.mill_base.specs.Numbers.{Within};
-ghost use Rattle.mill_base.specs.declared.limits.TheConstants.{MAX_TEXT_COORDINATE};
-ghost use Rattle.mill_base.specs.Ranges.{IsInTextRange};
+ghost use Rattle.mill_base.specs.Units.{greatest_of};
+ghost use Rattle.mill_base.specs.Ranges.{IsInUnitRange};
 ghost use Rattle.mill_words.specs.Words.{FitsNum};
 ghost use Rattle.mill_ngc.specs.Motion.{settled, coordinate as coordinate_of, target as target_of, made_move, moved_by, moved, acted};
 ghost use Rattle.mill_ngc.specs.inner.Bounds.{FitsSaid, Keeps};
@@ -12,7 +12,7 @@ use crate::numbers::units_of;
 use crate::profile::Mode;
 use crate::progress::Progress;
 use crate::said::Said;
-use mill_base::{Kind, MAX_MOVES, Move, Pt3};
+use mill_base::{Kind, MAX_MOVES, Move, Pt3, Unit};
 use mill_words::Num;
 
 impl Progress {
@@ -20,7 +20,7 @@ impl Progress {
     #[tactic(auto, unfolding(crate::specs::Motion::acted))]
     pub fn act(&mut self, said: &Said) -> Result<Option<Move>, NgcFault>
         requires said { FitsSaid said.now }
-        requires here { IsInTextRange self.old.here }
+        requires here { IsInUnitRange self.old.unit self.old.here }
         ensures ok { IfOk result (λ made. acted self.old said.now ≡ Ok (self.new, made)) }
         ensures fault { IfErr result (λ f. acted self.old said.now ≡ Err f) }
         ensures keeps { IfOk result (λ made. Keeps self.old made self.new) }
@@ -50,7 +50,7 @@ impl Progress {
     #[tactic(auto, unfolding(crate::specs::Motion::moved))]
     fn make_move(&mut self, said: &Said) -> Result<Option<Move>, NgcFault>
         requires said { FitsSaid said.now }
-        requires here { IsInTextRange self.old.here }
+        requires here { IsInUnitRange self.old.unit self.old.here }
         ensures ok { IfOk result (λ made. moved self.old said.now ≡ Ok (self.new, made)) }
         ensures fault { IfErr result (λ f. moved self.old said.now ≡ Err f) }
         ensures keeps { IfOk result (λ made. Keeps self.old made self.new) }
@@ -74,19 +74,19 @@ impl Progress {
     #[tactic(auto, unfolding(crate::specs::Motion::target))]
     fn target(&self, said: &Said) -> Result<Pt3, NgcFault>
         requires said { FitsSaid said.now }
-        requires here { IsInTextRange self.now.here }
+        requires here { IsInUnitRange self.now.unit self.now.here }
         ensures value { result ≡ target_of self.now said.now }
-        ensures in_range { IfOk result IsInTextRange }
+        ensures in_range { IfOk result (IsInUnitRange self.now.unit) }
     {
-        let x = coordinate(self.line, self.here.x, said.x)?;
-        let y = coordinate(self.line, self.here.y, said.y)?;
-        let z = coordinate(self.line, self.here.z, said.z)?;
+        let x = coordinate(self.line, self.here.x, said.x, self.unit)?;
+        let y = coordinate(self.line, self.here.y, said.y, self.unit)?;
+        let z = coordinate(self.line, self.here.z, said.z, self.unit)?;
         Ok(Pt3 { x, y, z })
     }
 
     fn move_to(&mut self, kind: Kind, to: Pt3) -> Result<Option<Move>, NgcFault>
-        requires here { IsInTextRange self.old.here }
-        requires to { IsInTextRange to }
+        requires here { IsInUnitRange self.old.unit self.old.here }
+        requires to { IsInUnitRange self.old.unit to }
         ensures ok { IfOk result (λ made. made_move self.old kind to ≡ Ok (self.new, made)) }
         ensures fault { IfErr result (λ f. made_move self.old kind to ≡ Err f) }
         ensures keeps { IfOk result (λ made. Keeps self.old made self.new) }
@@ -107,14 +107,14 @@ impl Progress {
 }
 
 // A coordinate of the move's end: the number of its axis, or that of the present point.
-fn coordinate(line: u64, here: i32, num: Option<Num>) -> Result<i32, NgcFault>
+fn coordinate(line: u64, here: i32, num: Option<Num>, unit: Unit) -> Result<i32, NgcFault>
     requires num { IfSome num (FitsNum 18) }
-    requires here { Within MAX_TEXT_COORDINATE here }
-    ensures value { result ≡ coordinate_of line here num }
-    ensures within { IfOk result (Within MAX_TEXT_COORDINATE) }
+    requires here { Within (greatest_of unit) here }
+    ensures value { result ≡ coordinate_of unit line here num }
+    ensures within { IfOk result (Within (greatest_of unit)) }
 {
     match num {
-        Some(num) => units_of(line, num),
+        Some(num) => units_of(line, num, unit),
         None => Ok(here),
     }
 }

@@ -1,6 +1,6 @@
 //! How far a program is read.
 use crate::profile::Mode;
-use mill_base::Pt3;
+use mill_base::{Pt3, Unit};
 
 /// Whether a program is framed by `%` lines.
 #[derive(Clone, Copy)]
@@ -14,6 +14,8 @@ pub(crate) enum Frame {
 /// What the lines so far have settled.
 #[derive(Clone, Copy)]
 pub(crate) struct Progress {
+    /// The unit of its coordinates.
+    pub unit: Unit,
     /// The end of the last move, or the start.
     pub here: Pt3,
     pub mode: Mode,

@@ -1,14 +1,15 @@
 //! Reads a program that comes in pieces.
 ghost use Rattle.std.specs.Prelude.{◌≡◌, ◌≢◌, ◌<◌, ◌≤◌, ◌+◌, ◌^◌, [], length, Err};
-ghost use Rattle.mill_base.specs.Ranges.{IsInTextRange};
+ghost use Rattle.mill_base.specs.Ranges.{IsInUnitRange};
 ghost use Rattle.mill_base.specs.declared.points.Pt3.{Pt3};
+ghost use Rattle.mill_base.specs.declared.unit.Unit.{Unit};
 ghost use Rattle.mill_ngc.specs.Pieces.{Reading, reading_at, lines_read, fed, at_end, answer, last_answer, IsFront, MovesSoFar, AreSound};
 ghost use Rattle.mill_ngc.specs.Texts.{shown, StandsInRange};
 ghost use Rattle.mill_ngc.specs.declared.fault.NgcFault.TheVariants as faults;
 
 use crate::fault::NgcFault;
 use crate::text_reader::TextReader;
-use mill_base::{Move, Pt3};
+use mill_base::{Move, Pt3, Unit};
 use std::marker::Model;
 
 /// Reads a program's text, which comes in pieces, cut anywhere, as moves.
@@ -41,14 +42,15 @@ impl Model for Reader {
 }
 
 impl Reader {
-    /// A reader before the first piece. The first move begins at `start`.
-    pub fn new(start: Pt3) -> Self
-        requires { IsInTextRange start }
-        ensures reading { result ≡ reading_at start }
-        ensures moves { MovesSoFar start result [] }
+    /// A reader before the first piece. The first move begins at `start`, and coordinates are read
+    /// to whole units.
+    pub fn new(start: Pt3, unit: Unit) -> Self
+        requires { IsInUnitRange unit start }
+        ensures reading { result ≡ reading_at start unit }
+        ensures moves { MovesSoFar start unit result [] }
     {
         Reader {
-            text: TextReader::new(start),
+            text: TextReader::new(start, unit),
             fault: None,
         }
     }
@@ -69,8 +71,8 @@ impl Reader {
         ensures front { IsFront out.new.items (fed (self.old, out.old.items) piece.now).1 }
         ensures grows { IsFront out.old.items out.new.items }
         ensures lines { lines_read self.new ≤ lines_read self.old + length piece.now }
-        ensures moves { (start : Pt3) → MovesSoFar start self.old out.old.items →
-            MovesSoFar start self.new out.new.items }
+        ensures moves { (start : Pt3) (unit : Unit) → MovesSoFar start unit self.old out.old.items →
+            MovesSoFar start unit self.new out.new.items }
     {
         if let Some(fault) = self.fault {
             return Err(fault);
@@ -94,7 +96,8 @@ impl Reader {
         ensures answer { result ≢ Err faults.WantOfMemory → result ≡ last_answer (at_end (self, out.old.items)).0 }
         ensures front { IsFront out.new.items (at_end (self, out.old.items)).1 }
         ensures grows { IsFront out.old.items out.new.items }
-        ensures moves { (start : Pt3) → MovesSoFar start self out.old.items → AreSound start out.new.items }
+        ensures moves { (start : Pt3) (unit : Unit) → MovesSoFar start unit self out.old.items →
+            AreSound start unit out.new.items }
     {
         if let Some(fault) = self.fault {
             return Err(fault);

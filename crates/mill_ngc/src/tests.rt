@@ -1,10 +1,11 @@
 //! Programs and what they mean, by hand.
-ghost use Rattle.mill_base.specs.Ranges.{IsInTextRange};
+ghost use Rattle.mill_base.specs.Ranges.{IsInUnitRange};
+ghost use Rattle.mill_base.specs.declared.unit.Unit.TheVariants.{Hundredth};
 
 mod pieces;
 
 use super::*;
-use mill_base::{Kind, Move, Pt3};
+use mill_base::{Kind, Move, Pt3, Unit};
 use mill_words::{Num, WordFault};
 use std::alloc::{AllocError, Global};
 
@@ -28,12 +29,19 @@ fn number(mant: u64, scale: u8) -> Num {
     }
 }
 
-// The moves of a text, which is read in one piece.
+// The moves of a text in hundredths.
 fn moves_of(alloc: Global, text: &str, start: Pt3) -> Result<Vec<Move>, NgcFault>
-    requires { IsInTextRange start }
+    requires { IsInUnitRange Hundredth start }
+{
+    moves_in(alloc, text, start, Unit::Hundredth)
+}
+
+// The moves of a text, which is read in one piece.
+fn moves_in(alloc: Global, text: &str, start: Pt3, unit: Unit) -> Result<Vec<Move>, NgcFault>
+    requires { IsInUnitRange unit start }
 {
     let mut moves = Vec::new(alloc);
-    let mut reader = Reader::new(start);
+    let mut reader = Reader::new(start, unit);
     reader.feed(text.as_bytes(), &mut moves)?;
     reader.finish(&mut moves)?;
     Ok(moves)
@@ -109,6 +117,38 @@ fn makes_moves(rt: HostRuntime) -> Result<(), NgcFault> {
         let moves = moves_of(rt.alloc(), text.as_str(), ORIGIN)?;
         assert_eq!(rt; moves.len(), 1, "{line}");
         assert_eq!(rt; moves[0].to, to, "{line}");
+    }
+    Ok(())
+}
+
+// The same in thousandths.
+#[test]
+fn makes_moves_in_thousandths(rt: HostRuntime) -> Result<(), NgcFault> {
+    for (line, to) in [
+        ("G1 X12.345", point(12_345, 0, 0)),
+        ("X12.3450 G1", point(12_345, 0, 0)),
+        ("Z-2 G01 Y.5 X-0", point(0, 500, -2_000)),
+        ("G0 X524.287 Y-524.287", point(524_287, -524_287, 0)),
+    ] {
+        let text = format!(in rt.alloc(); "G21 G90\n{line}\nM2\n")?;
+        let moves = moves_in(rt.alloc(), text.as_str(), ORIGIN, Unit::Thousandth)?;
+        assert_eq!(rt; moves.len(), 1, "{line}");
+        assert_eq!(rt; moves[0].to, to, "{line}");
+    }
+    Ok(())
+}
+
+#[test]
+fn refuses_numbers_in_thousandths(rt: HostRuntime) -> Result<(), AllocError> {
+    for (line, fault) in [
+        ("G1 X12.3455", NgcFault::OffGrid { line: 2 }),
+        ("G1 X524.288", NgcFault::OutOfRange { line: 2 }),
+        ("G1 X524.2875", NgcFault::OffGrid { line: 2 }),
+        ("G1 X600 Y0.0001", NgcFault::OutOfRange { line: 2 }),
+    ] {
+        let text = format!(in rt.alloc(); "G21 G90\n{line}\nM2\n")?;
+        let read = moves_in(rt.alloc(), text.as_str(), ORIGIN, Unit::Thousandth);
+        assert_eq!(rt; read.err(), Some(fault), "{line}");
     }
     Ok(())
 }

@@ -1,7 +1,8 @@
 //! Reads a text piece by piece, up to its first fault.
 ghost use Rattle.std.specs.Prelude.{◌≡◌, ◌≢◌, ◌++◌, ◌<◌, ◌≤◌, ◌+◌, ◌^◌, [], false, length, OnOk, OnErr, IfOk, IfErr, Ok, Err};
-ghost use Rattle.mill_base.specs.Ranges.{IsInTextRange};
+ghost use Rattle.mill_base.specs.Ranges.{IsInUnitRange};
 ghost use Rattle.mill_base.specs.declared.points.Pt3.{Pt3};
+ghost use Rattle.mill_base.specs.declared.unit.Unit.{Unit};
 ghost use Rattle.mill_ngc.specs.Programs.{after_line, made_list, line_begun, start_at};
 ghost use Rattle.mill_ngc.specs.Pieces.{Failed, after_begun, fed, at_end, last_answer, IsFront, SoFar, AreSound};
 ghost use Rattle.mill_ngc.specs.inner.Bounds.{Keeps};
@@ -12,7 +13,7 @@ use crate::fault::NgcFault;
 use crate::line_reader::LineReader;
 use crate::lines::split_line;
 use crate::unfinished::{LONGEST, UnfinishedLine};
-use mill_base::{Move, Pt3};
+use mill_base::{Move, Pt3, Unit};
 
 /// What the whole lines of a text have settled, and the bytes of the line behind them.
 #[derive(Drop)]
@@ -22,28 +23,28 @@ pub(crate) struct TextReader {
 }
 
 impl TextReader {
-    pub fn new(start: Pt3) -> Self
-        ensures lines { result.lines ≡ start_at start }
+    pub fn new(start: Pt3, unit: Unit) -> Self
+        ensures lines { result.lines ≡ start_at start unit }
         ensures unfinished { result.unfinished ≡ [] }
     {
         TextReader {
-            lines: LineReader::new(start),
+            lines: LineReader::new(start, unit),
             unfinished: UnfinishedLine::new(),
         }
     }
 
     /// Takes the next piece, and adds the moves of the lines that are whole now.
     pub fn read_piece(&mut self, piece: &[u8], out: &mut Vec<Move>) -> Result<(), NgcFault>
-        requires here { IsInTextRange self.old.lines.here }
+        requires here { IsInUnitRange self.old.lines.unit self.old.lines.here }
         requires number { self.old.lines.line + length piece.now < 2 ^ 63 }
         ensures ok { OnOk result (fed (reading_of self.old, out.old.items) piece.now ≡ (reading_of self.new, out.new.items)) }
         ensures fault { IfErr result (λ f. f ≢ faults.WantOfMemory →
             fed (reading_of self.old, out.old.items) piece.now ≡ (Failed f, out.new.items)) }
         ensures front { IsFront out.new.items (fed (reading_of self.old, out.old.items) piece.now).1 }
         ensures grows { IsFront out.old.items out.new.items }
-        ensures sound { (start : Pt3) → SoFar start self.old.lines out.old.items → AreSound start out.new.items }
-        ensures so_far { (start : Pt3) → SoFar start self.old.lines out.old.items → OnOk result (SoFar start self.new.lines out.new.items) }
-        ensures here { OnOk result (IsInTextRange self.new.lines.here) }
+        ensures sound { (start : Pt3) (unit : Unit) → SoFar start unit self.old.lines out.old.items → AreSound start unit out.new.items }
+        ensures so_far { (start : Pt3) (unit : Unit) → SoFar start unit self.old.lines out.old.items → OnOk result (SoFar start unit self.new.lines out.new.items) }
+        ensures here { OnOk result (IsInUnitRange self.new.lines.unit self.new.lines.here) }
         ensures number { OnOk result (self.new.lines.line ≤ self.old.lines.line + length piece.now) }
     {
         let mut rest = piece;
@@ -64,7 +65,7 @@ impl TextReader {
     // Takes the bytes before a line end, and reads the line that they end. The answer is its move,
     // if it makes one.
     fn end_line(&mut self, bytes: &[u8]) -> Result<Option<Move>, NgcFault>
-        requires here { IsInTextRange self.old.lines.here }
+        requires here { IsInUnitRange self.old.lines.unit self.old.lines.here }
         requires number { self.old.lines.line < 2 ^ 63 }
         ensures ok { IfOk result (λ made. after_line self.old.lines (self.old.unfinished ++ bytes.now) ≡ Ok (self.new.lines, made)) }
         ensures fault { IfErr result (λ f. after_line self.old.lines (self.old.unfinished ++ bytes.now) ≡ Err f) }
@@ -104,7 +105,7 @@ impl TextReader {
 
     /// Reads the text's last line.
     pub fn finish(&mut self, out: &mut Vec<Move>) -> Result<(), NgcFault>
-        requires here { IsInTextRange self.old.lines.here }
+        requires here { IsInUnitRange self.old.lines.unit self.old.lines.here }
         requires number { self.old.lines.line < 2 ^ 63 }
         ensures ok { OnOk result (out.new.items ≡ (at_end (reading_of self.old, out.old.items)).1) }
         ensures ends { OnOk result (last_answer (at_end (reading_of self.old, out.old.items)).0 ≡ Ok tt) }
@@ -112,7 +113,7 @@ impl TextReader {
         ensures told { IfErr result (λ f. f ≢ faults.WantOfMemory → last_answer (at_end (reading_of self.old, out.old.items)).0 ≡ Err f) }
         ensures front { IsFront out.new.items (at_end (reading_of self.old, out.old.items)).1 }
         ensures grows { IsFront out.old.items out.new.items }
-        ensures sound { (start : Pt3) → SoFar start self.old.lines out.old.items → AreSound start out.new.items }
+        ensures sound { (start : Pt3) (unit : Unit) → SoFar start unit self.old.lines out.old.items → AreSound start unit out.new.items }
     {
         if self.lines.has_ended() {
             return Ok(());

@@ -1,15 +1,18 @@
--- The canonical decimal of a coordinate: what its bytes are not, how many they are, and what number it spells.
-use Rattle.std.proofs.Common.{◌≡◌, ℕ, ◌+◌, ◌≤◌, ◌<◌, suc, List, [], ◌∷◌, ◌++◌, length, arith, false, refl, length-append}
-use Rattle.std.specs.Prelude.{◌/◌, ◌%◌, ◌==◌, ℤ, pos, negsuc, nat_abs, int_lt, decimal, Some}
+-- The canonical decimal of a coordinate: what its bytes are not, and what number it spells.
+use Rattle.std.proofs.Common.{◌≡◌, ℕ, ◌+◌, ◌≤◌, ◌<◌, ◌^◌, suc, List, [], ◌∷◌, ◌++◌, length, arith, false, refl}
+use Rattle.std.specs.Prelude.{◌/◌, ◌==◌, ℤ, pos, negsuc, nat_abs, int_lt, decimal, Some}
 use Rattle.std.specs.Char.{digit_value}
 use Rattle.std.specs.Str.Parse.{AllDigits, digits_value}
 use Rattle.std.proofs.lemmas.Bool.Decides.{nat_tests}
-use Rattle.std.proofs.lemmas.Fmt.{digits_decimal, digits_value-decimal, length-decimal-le}
+use Rattle.std.proofs.lemmas.Fmt.{digits_decimal, decimal_nonempty, length-decimal-le}
 use Rattle.std.proofs.lemmas.Str.Parse.{IsNumeralModel, numerals_by_value, tells_digits}
 use Rattle.mill_base.specs.Numbers.{Within}
-use Rattle.mill_base.specs.declared.limits.TheConstants.{MAX_TEXT_COORDINATE}
-use Rattle.mill_decimal.specs.Decimals.{canonical}
-use Rattle.mill_decimal.proofs.DigitRuns.{digits_value-append}
+use Rattle.mill_base.specs.Units.{places_of, greatest_of}
+use Rattle.mill_base.specs.declared.unit.Unit.{Unit}
+use Rattle.mill_decimal.specs.Decimals.{last_digits, unsigned, canonical}
+use Rattle.mill_decimal.proofs.DigitRuns.{length-last_digits, last_digits-all}
+use Rattle.mill_decimal.proofs.Canonical.{canonical-pos, canonical-negsuc}
+use Rattle.mill_decimal.proofs.RoundTrip.{millimetres-le, places_of-le, value-unsigned}
 use Rattle.mill_words.proofs.Spelled.{Spelled, IsSpelled, word_of}
 use Rattle.mill_ngc.proofs.MoveLines.{units_num}
 use Rattle.mill_post.proofs.Cutting.{NoFeed, NoFeed-append}
@@ -26,80 +29,51 @@ NoFeed-digits : (ds : List ℕ) → AllDigits 10 ds → NoFeed ds
 NoFeed-digits [] all = tt
 NoFeed-digits (d ∷ ds) all = (not_feed d all.0, NoFeed-digits ds all.1)
 
-not_feed-digit : (a : ℕ) → ((48 + a) == 10) ≡ false
-not_feed-digit a = grind (arith, nat_tests)
+-- the whole millimetres are written in digits
+whole_digits : (unit : Unit) (n : ℕ) → n ≤ greatest_of unit → AllDigits 10 (decimal (n / 10 ^ places_of unit))
+whole_digits unit n fits = digits_decimal model (n / 10 ^ places_of unit) (omega (arith, millimetres-le unit n fits))
 
--- a number of units without its sign
-abbrev pub unsigned : ℕ → List ℕ
-unsigned n = decimal (n / 100) ++ 46 ∷ (48 + n / 10 % 10) ∷ (48 + n % 10) ∷ []
+NoFeed-unsigned : (unit : Unit) (n : ℕ) → n ≤ greatest_of unit → NoFeed (unsigned unit n)
+NoFeed-unsigned unit n fits =
+    NoFeed-append (decimal (n / 10 ^ places_of unit)) (46 ∷ last_digits (places_of unit) n)
+    (NoFeed-digits (decimal (n / 10 ^ places_of unit)) (whole_digits unit n fits))
+    (refl, NoFeed-digits (last_digits (places_of unit) n) (last_digits-all (places_of unit) n))
 
-NoFeed-unsigned : (n : ℕ) → n ≤ MAX_TEXT_COORDINATE → NoFeed (unsigned n)
-NoFeed-unsigned n fits =
-    NoFeed-append (decimal (n / 100)) (46 ∷ (48 + n / 10 % 10) ∷ (48 + n % 10) ∷ [])
-    (NoFeed-digits (decimal (n / 100)) (digits_decimal model (n / 100) (omega arith)))
-    (refl, (not_feed-digit (n / 10 % 10), (not_feed-digit (n % 10), tt)))
-
-length-unsigned : (n : ℕ) → n ≤ MAX_TEXT_COORDINATE → length (unsigned n) ≤ 7
-length-unsigned n fits =
-    omega (arith, length-append (decimal (n / 100)) (46 ∷ (48 + n / 10 % 10) ∷ (48 + n % 10) ∷ []), length-decimal-le 4 (n / 100) (omega arith) (omega arith) (omega arith))
-
-not_negative : (n : ℕ) → int_lt (pos n) (pos 0) ≡ false
-not_negative n = grind (arith, nat_tests)
-
-pub canonical-pos : (n : ℕ) → canonical (pos n) ≡ unsigned n
-unfolding canonical
-canonical-pos n = rw (not_negative n) refl
-
-pub canonical-negsuc : (n : ℕ) → canonical (negsuc n) ≡ 45 ∷ unsigned (suc n)
-unfolding canonical
-canonical-negsuc n = refl
-
-pub NoFeed-canonical : (z : ℤ) → Within MAX_TEXT_COORDINATE z → NoFeed (canonical z)
-NoFeed-canonical (pos n) fits = rw (canonical-pos n) (NoFeed-unsigned n fits.within)
-NoFeed-canonical (negsuc n) fits = rw (canonical-negsuc n) (refl, NoFeed-unsigned (suc n) fits.within)
-
-pub length-canonical : (z : ℤ) → Within MAX_TEXT_COORDINATE z → length (canonical z) ≤ 8
-length-canonical (pos n) fits = rw (canonical-pos n) (omega (arith, length-unsigned n fits.within))
-length-canonical (negsuc n) fits = rw (canonical-negsuc n) (omega (arith, length-unsigned (suc n) fits.within))
+pub NoFeed-canonical : (unit : Unit) (z : ℤ) → Within (greatest_of unit) z → NoFeed (canonical unit z)
+NoFeed-canonical unit (pos n) fits = rw (canonical-pos unit n) (NoFeed-unsigned unit n fits.within)
+NoFeed-canonical unit (negsuc n) fits = rw (canonical-negsuc unit n) (refl, NoFeed-unsigned unit (suc n) fits.within)
 
 -- ---- the number
 
 -- the word of an axis, as it is spelled
-abbrev pub axis_spelled : ℕ → ℤ → Spelled
-axis_spelled letter z = record {
+abbrev pub axis_spelled : Unit → ℕ → ℤ → Spelled
+axis_spelled unit letter z = record {
   letter = letter;
   neg = int_lt z (pos 0);
-  whole = decimal (nat_abs z / 100);
-  part = Some ((48 + nat_abs z / 10 % 10) ∷ (48 + nat_abs z % 10) ∷ []);
+  whole = decimal (nat_abs z / 10 ^ places_of unit);
+  part = Some (last_digits (places_of unit) (nat_abs z));
 }
 
-digit_of : (a : ℕ) → a < 10 → digit_value (48 + a) ≡ a
-digit_of a small = grind (arith, nat_tests)
+-- its digits stand for all the units, and as many stand behind the point as the unit has places
+pub word_of-axis : (unit : Unit) (letter : ℕ) (z : ℤ) → Within (greatest_of unit) z
+    → word_of (axis_spelled unit letter z) ≡ record { letter = letter; num = units_num unit z }
+word_of-axis unit letter z fits = rw (value-unsigned unit (nat_abs z) fits.within, length-last_digits (places_of unit) (nat_abs z)) refl
 
--- the digits stand for all the units
-digits_value-units : (n : ℕ) → n ≤ MAX_TEXT_COORDINATE → digits_value 10 (decimal (n / 100) ++ (48 + n / 10 % 10) ∷ (48 + n % 10) ∷ []) ≡ n
-digits_value-units n fits =
-    rw (
-      digits_value-append (decimal (n / 100)) ((48 + n / 10 % 10) ∷ (48 + n % 10) ∷ []),
-      digits_value-decimal model (n / 100) (omega arith),
-      digit_of (n / 10 % 10) (omega arith),
-      digit_of (n % 10) (omega arith),
-    ) (omega arith)
-
-pub word_of-axis : (letter : ℕ) (z : ℤ) → Within MAX_TEXT_COORDINATE z → word_of (axis_spelled letter z) ≡ record { letter = letter; num = units_num z }
-word_of-axis letter z fits = rw (digits_value-units (nat_abs z) fits.within) refl
-
-is_digit : (a : ℕ) → a < 10 → digit_value (48 + a) < 10
-is_digit a small = rw (digit_of a small) small
-
-pub IsSpelled-axis : (letter : ℕ) (z : ℤ) → 65 ≤ letter → letter ≤ 90 → (letter == 78) ≡ false → Within MAX_TEXT_COORDINATE z → IsSpelled (axis_spelled letter z)
-IsSpelled-axis letter z least most other fits =
-    let in_range : nat_abs z ≤ MAX_TEXT_COORDINATE = fits.within in record {
+pub IsSpelled-axis : (unit : Unit) (letter : ℕ) (z : ℤ) → 65 ≤ letter → letter ≤ 90 → (letter == 78) ≡ false → Within (greatest_of unit) z
+    → IsSpelled (axis_spelled unit letter z)
+IsSpelled-axis unit letter z least most other fits =
+    let small = millimetres-le unit (nat_abs z) fits.within in
+    let whole = decimal (nat_abs z / 10 ^ places_of unit) in
+    let some = decimal_nonempty (nat_abs z / 10 ^ places_of unit) (omega arith) in
+    let few = length-decimal-le 4 (nat_abs z / 10 ^ places_of unit) (omega arith) (omega arith) (omega arith) in
+    let places = length-last_digits (places_of unit) (nat_abs z) in
+    let few_places = places_of-le unit in
+    record {
       least = least;
       most = most;
       no_line_number = other;
-      whole = digits_decimal model (nat_abs z / 100) (omega arith);
-      part = (is_digit (nat_abs z / 10 % 10) (omega arith), (is_digit (nat_abs z % 10) (omega arith), tt));
+      whole = whole_digits unit (nat_abs z) fits.within;
+      part = last_digits-all (places_of unit) (nat_abs z);
       some = omega arith;
-      few = omega (arith, length-decimal-le 4 (nat_abs z / 100) (omega arith) (omega arith) (omega arith));
+      few = omega arith;
     }

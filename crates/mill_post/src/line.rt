@@ -2,17 +2,17 @@
 ghost use Rattle.std.specs.Prelude.{◌≡◌, ◌++◌, OnOk};
 ghost use Rattle.mill_post.specs.Texts.{ended, move_line, motion_word as motion_word_of, axis_word};
 
-use mill_base::{Kind, Move, WantOfMemory};
+use mill_base::{Kind, Move, Unit, WantOfMemory};
 use mill_decimal::{NumText, write_decimal};
 
 /// Adds the line of a move, with its line feed.
-pub(crate) fn add_move(text: &mut Vec<u8>, made: Move) -> Result<(), WantOfMemory>
-    ensures { OnOk result (text.new.items ≡ text.old.items ++ ended (move_line made)) }
+pub(crate) fn add_move(text: &mut Vec<u8>, made: Move, unit: Unit) -> Result<(), WantOfMemory>
+    ensures { OnOk result (text.new.items ≡ text.old.items ++ ended (move_line unit made)) }
 {
     add_text(text, motion_word(made.kind))?;
-    add_axis(text, b'X', made.to.x)?;
-    add_axis(text, b'Y', made.to.y)?;
-    add_axis(text, b'Z', made.to.z)?;
+    add_axis(text, b'X', made.to.x, unit)?;
+    add_axis(text, b'Y', made.to.y, unit)?;
+    add_axis(text, b'Z', made.to.z, unit)?;
     text.push(b'\n')?;
     Ok(())
 }
@@ -27,11 +27,11 @@ fn motion_word(kind: Kind) -> &'static [u8]
 }
 
 // Adds a space and the word of an axis.
-fn add_axis(text: &mut Vec<u8>, letter: u8, units: i32) -> Result<(), WantOfMemory>
-    ensures { OnOk result (text.new.items ≡ text.old.items ++ axis_word letter units) }
+fn add_axis(text: &mut Vec<u8>, letter: u8, units: i32, unit: Unit) -> Result<(), WantOfMemory>
+    ensures { OnOk result (text.new.items ≡ text.old.items ++ axis_word unit letter units) }
 {
     let mut number = NumText::new();
-    write_decimal(units, &mut number);
+    write_decimal(units, unit, &mut number);
     text.push(b' ')?;
     text.push(letter)?;
     add_text(text, number.as_bytes())

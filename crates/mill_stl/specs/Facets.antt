@@ -4,6 +4,7 @@ use Rattle.mill_base.specs.declared.limits.TheConstants.{MAX_TRIANGLES}
 use Rattle.std.specs.Str.{str_eq_ignore_ascii_case}
 use Rattle.mill_base.specs.declared.points.Pt3.{Pt3}
 use Rattle.mill_base.specs.declared.points.Tri.{Tri}
+use Rattle.mill_base.specs.declared.unit.Unit.{Unit}
 use Rattle.mill_decimal.specs.declared.snap.Snap.{Snap}
 use Rattle.mill_decimal.specs.declared.fault.DecFault.{DecFault}
 use Rattle.mill_decimal.specs.Decimals.{read_as, is_rounded}
@@ -78,8 +79,8 @@ coord_or_fault p line n rounded (Ok z) = Ok (with_coord p n z rounded)
 coord_or_fault p line n rounded (Err fault) = Err (Coord line fault)
 
 -- a word in the n-th coordinate's place has to be a decimal
-abbrev pub after_coord : Snap → Progress → ℕ → ℕ → List ℕ → Result Step StlFault
-after_coord snap p line n word = coord_or_fault p line n (is_rounded word) (read_as snap word)
+abbrev pub after_coord : Snap → Unit → Progress → ℕ → ℕ → List ℕ → Result Step StlFault
+after_coord snap unit p line n word = coord_or_fault p line n (is_rounded unit word) (read_as snap unit word)
 
 -- the corner whose coordinates begin with the n-th
 abbrev pub corner : List ℤ → ℕ → Pt3
@@ -99,20 +100,20 @@ after_end_facet p line word =
     if is_keyword word (codes "endfacet") then Ok (ended_facet p) else Err (Expected line what.EndFacet)
 
 -- what a word does at a stage
-abbrev pub at_stage : Snap → Stage → Progress → ℕ → List ℕ → Result Step StlFault
-at_stage snap stage.Solid p line word = after_solid p line word what.Solid
-at_stage snap stage.SolidOrEnd p line word = after_solid p line word what.SolidOrEnd
-at_stage snap stage.FacetOrEnd p line word = after_facet_or_end p line word
-at_stage snap stage.Normal p line word = after_keyword p line word (codes "normal") what.Normal (stage.Ignored 0)
-at_stage snap (stage.Ignored n) p line word = Ok (moved_to p (stage_after_ignored n))
-at_stage snap stage.Outer p line word = after_keyword p line word (codes "outer") what.Outer stage.Loop
-at_stage snap stage.Loop p line word = after_keyword p line word (codes "loop") what.Loop (stage.Vertex 0)
-at_stage snap (stage.Vertex n) p line word = after_keyword p line word (codes "vertex") what.Vertex (stage.Coord n)
-at_stage snap (stage.Coord n) p line word = after_coord snap p line n word
-at_stage snap stage.EndLoop p line word = after_keyword p line word (codes "endloop") what.EndLoop stage.EndFacet
-at_stage snap stage.EndFacet p line word = after_end_facet p line word
+abbrev pub at_stage : Snap → Unit → Stage → Progress → ℕ → List ℕ → Result Step StlFault
+at_stage snap unit stage.Solid p line word = after_solid p line word what.Solid
+at_stage snap unit stage.SolidOrEnd p line word = after_solid p line word what.SolidOrEnd
+at_stage snap unit stage.FacetOrEnd p line word = after_facet_or_end p line word
+at_stage snap unit stage.Normal p line word = after_keyword p line word (codes "normal") what.Normal (stage.Ignored 0)
+at_stage snap unit (stage.Ignored n) p line word = Ok (moved_to p (stage_after_ignored n))
+at_stage snap unit stage.Outer p line word = after_keyword p line word (codes "outer") what.Outer stage.Loop
+at_stage snap unit stage.Loop p line word = after_keyword p line word (codes "loop") what.Loop (stage.Vertex 0)
+at_stage snap unit (stage.Vertex n) p line word = after_keyword p line word (codes "vertex") what.Vertex (stage.Coord n)
+at_stage snap unit (stage.Coord n) p line word = after_coord snap unit p line n word
+at_stage snap unit stage.EndLoop p line word = after_keyword p line word (codes "endloop") what.EndLoop stage.EndFacet
+at_stage snap unit stage.EndFacet p line word = after_end_facet p line word
 
 -- what a word does: nothing on the line of a name, else what its stage says
-unfoldable pub after_word : Snap → Progress → ℕ → List ℕ → Result Step StlFault
-after_word snap p line word =
-    if line == p.name_line then Ok (record { progress = p; tri = None }) else at_stage snap p.stage p line word
+unfoldable pub after_word : Snap → Unit → Progress → ℕ → List ℕ → Result Step StlFault
+after_word snap unit p line word =
+    if line == p.name_line then Ok (record { progress = p; tri = None }) else at_stage snap unit p.stage p line word

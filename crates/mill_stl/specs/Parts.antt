@@ -1,6 +1,7 @@
 -- A part text, byte by byte: its words with their lines, its triangles, and its first fault.
-use Rattle.std.specs.Prelude.{◌≡◌, ℕ, ◌+◌, pos, List, [], ◌∷◌, ◌++◌, replicate, Option, Some, None, Result, Ok, Err, Bool, true, false, ◌&&◌, ◌||◌, ◌==◌, nat_le, if◌then◌else◌}
+use Rattle.std.specs.Prelude.{◌≡◌, ⊤, ℕ, ◌+◌, pos, List, [], ◌∷◌, ◌++◌, replicate, Option, Some, None, Result, Ok, Err, Bool, true, false, ◌&&◌, ◌||◌, ◌==◌, nat_le, if◌then◌else◌}
 use Rattle.mill_base.specs.declared.points.Tri.{Tri}
+use Rattle.mill_base.specs.declared.unit.Unit.{Unit}
 use Rattle.mill_decimal.specs.declared.snap.Snap.{Snap}
 use Rattle.mill_stl.specs.declared.fault.StlFault.{StlFault}
 use Rattle.mill_stl.specs.declared.fault.StlFault.TheVariants.{CutShort, WantOfMemory}
@@ -48,15 +49,15 @@ abbrev pub after_step : List Tri → Step → Reached
 after_step tris s = reached_at s.progress (with_tri tris s.tri)
 
 -- a word ends here, if there is one
-unfoldable pub with_word : Snap → Reached → ℕ → List ℕ → Result Reached StlFault
-with_word snap r line [] = Ok r
-with_word snap r line (c ∷ word) = and_then (after_word snap r.progress line (c ∷ word)) (λ s. Ok (after_step r.tris s))
+unfoldable pub with_word : Snap → Unit → Reached → ℕ → List ℕ → Result Reached StlFault
+with_word snap unit r line [] = Ok r
+with_word snap unit r line (c ∷ word) = and_then (after_word snap unit r.progress line (c ∷ word)) (λ s. Ok (after_step r.tris s))
 
 -- one byte more
-unfoldable pub after_byte : Snap → Scan → ℕ → Result Scan StlFault
-after_byte snap s b =
+unfoldable pub after_byte : Snap → Unit → Scan → ℕ → Result Scan StlFault
+after_byte snap unit s b =
     if is_space b
-    then and_then (with_word snap s.reached s.line s.word) (λ r. Ok (record { reached = r; line = next_line s.line b; word = [] }))
+    then and_then (with_word snap unit s.reached s.line s.word) (λ r. Ok (record { reached = r; line = next_line s.line b; word = [] }))
     else Ok (record s { word = s.word ++ b ∷ [] })
 
 -- the last solid has ended
@@ -75,25 +76,25 @@ whole_part line r =
     if is_end r.progress.stage then Ok (record { tris = r.tris; rounded = r.progress.rounded }) else Err (CutShort line)
 
 -- the text ends here
-unfoldable pub after_text : Snap → Scan → Result Part StlFault
-after_text snap s = and_then (with_word snap s.reached s.line s.word) (whole_part s.line)
+unfoldable pub after_text : Snap → Unit → Scan → Result Part StlFault
+after_text snap unit s = and_then (with_word snap unit s.reached s.line s.word) (whole_part s.line)
 
 -- the rest of the text
-unfoldable pub read_from : Snap → Scan → List ℕ → Result Part StlFault
-read_from snap s [] = after_text snap s
-read_from snap s (b ∷ bytes) = and_then (after_byte snap s b) (λ t. read_from snap t bytes)
+unfoldable pub read_from : Snap → Unit → Scan → List ℕ → Result Part StlFault
+read_from snap unit s [] = after_text snap unit s
+read_from snap unit s (b ∷ bytes) = and_then (after_byte snap unit s b) (λ t. read_from snap unit t bytes)
 
 -- before the first word; no line has the number 0
 abbrev pub start : Progress
 start = record { stage = stage.Solid; name_line = 0; coords = replicate 9 (pos 0); facets = 0; rounded = 0 }
 
 -- what a part text means, or its first fault
-unfoldable pub part_of : Snap → List ℕ → Result Part StlFault
-part_of snap text = read_from snap (record { reached = reached_at start []; line = 1; word = [] }) text
+unfoldable pub part_of : Snap → Unit → List ℕ → Result Part StlFault
+part_of snap unit text = read_from snap unit (record { reached = reached_at start []; line = 1; word = [] }) text
 
 -- the fault is the text's first, or memory ran out
 abbrev pub Fails : {Y : Type 0} → StlFault → Result Y StlFault → Type 0
-Fails WantOfMemory meaning = Unit {0}
+Fails WantOfMemory meaning = ⊤
 Fails fault meaning = meaning ≡ Err fault
 
 -- the answer is what the text means, or memory ran out

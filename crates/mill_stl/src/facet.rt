@@ -2,14 +2,16 @@
 
 ghost use Rattle.std.specs.Prelude.{◌≡◌, ◌+◌, ◌*◌, ◌^◌, ◌≤◌, ◌<◌, IfOk, IsTrue, ℕ};
 ghost use Rattle.mill_base.specs.Numbers.{Within};
-ghost use Rattle.mill_base.specs.declared.limits.TheConstants.{MAX_TEXT_COORDINATE, MAX_TRIANGLES};
-ghost use Rattle.mill_base.specs.Ranges.{TriInTextRange};
+ghost use Rattle.mill_base.specs.declared.limits.TheConstants.{MAX_TRIANGLES};
+ghost use Rattle.mill_base.specs.declared.unit.Unit.{Unit};
+ghost use Rattle.mill_base.specs.Units.{greatest_of};
+ghost use Rattle.mill_base.specs.Ranges.{TriInUnitRange};
 ghost use Rattle.mill_stl.specs.Facets.{is_keyword as is_keyword_of, moved_to, with_name, after_keyword, after_solid, begun_facet, after_facet_or_end, stage_after_ignored as stage_after_ignored_of, stage_after_coord as stage_after_coord_of, rounded_after as rounded_after_of, with_coord, after_coord, tri_of as tri_of_coords, after_end_facet, at_stage as at_stage_of, after_word};
-ghost use Rattle.mill_stl.specs.inner.Bounds.{FitsStage, CoordsInRange, FitsCursor, IsStep, stepped, Does};
+ghost use Rattle.mill_stl.specs.inner.Bounds.{FitsStage, CoordsInRange, FitsProgress, IsStep, stepped, Does};
 
 use crate::fault::{StlFault, What};
 use crate::state::{Progress, Stage};
-use mill_base::{MAX_TRIANGLES, Pt3, Tri};
+use mill_base::{MAX_TRIANGLES, Pt3, Tri, Unit};
 use mill_decimal::{Reading, Snap, read_with_rounding};
 
 // Most files spell a keyword as the form does, so that comparison is tried first.
@@ -39,19 +41,19 @@ fn is_exactly(word: &[u8], keyword: &[u8]) -> bool
 }
 
 fn move_to(progress: &mut Progress, next: Stage)
-    requires fits { FitsCursor progress.old }
+    requires fits { FitsProgress progress.old }
     requires next_fits { FitsStage next progress.old.facets progress.old.rounded }
     ensures value { stepped progress.new None ≡ moved_to progress.old next }
-    ensures step { IsStep progress.old (stepped progress.new None) }
+    ensures step { (unit : Unit) → IsStep unit progress.old (stepped progress.new None) }
 {
     progress.stage = next;
 }
 
 fn begin_name(progress: &mut Progress, line: u64, next: Stage)
-    requires fits { FitsCursor progress.old }
+    requires fits { FitsProgress progress.old }
     requires next_fits { FitsStage next progress.old.facets progress.old.rounded }
     ensures value { stepped progress.new None ≡ with_name progress.old line next }
-    ensures step { IsStep progress.old (stepped progress.new None) }
+    ensures step { (unit : Unit) → IsStep unit progress.old (stepped progress.new None) }
 {
     progress.stage = next;
     progress.name_line = line;
@@ -65,10 +67,10 @@ fn expect(
     what: What,
     next: Stage,
 ) -> Result<Option<Tri>, StlFault>
-    requires fits { FitsCursor progress.old }
+    requires fits { FitsProgress progress.old }
     requires next_fits { FitsStage next progress.old.facets progress.old.rounded }
     ensures value { Does progress.new result (after_keyword progress.old line word.now keyword.now what next) }
-    ensures step { IfOk result (λ tri. IsStep progress.old (stepped progress.new tri)) }
+    ensures step { (unit : Unit) → IfOk result (λ tri. IsStep unit progress.old (stepped progress.new tri)) }
 {
     if is_keyword(word, keyword) {
         move_to(progress, next);
@@ -83,10 +85,10 @@ fn begin_solid(
     word: &[u8],
     what: What,
 ) -> Result<Option<Tri>, StlFault>
-    requires fits { FitsCursor progress.old }
+    requires fits { FitsProgress progress.old }
     requires next_fits { FitsStage Stage.FacetOrEnd progress.old.facets progress.old.rounded }
     ensures value { Does progress.new result (after_solid progress.old line word.now what) }
-    ensures step { IfOk result (λ tri. IsStep progress.old (stepped progress.new tri)) }
+    ensures step { (unit : Unit) → IfOk result (λ tri. IsStep unit progress.old (stepped progress.new tri)) }
 {
     if is_keyword(word, b"solid") {
         begin_name(progress, line, Stage::FacetOrEnd);
@@ -96,10 +98,10 @@ fn begin_solid(
 }
 
 fn begin_facet(progress: &mut Progress, line: u64) -> Result<Option<Tri>, StlFault>
-    requires fits { FitsCursor progress.old }
+    requires fits { FitsProgress progress.old }
     requires stage { progress.old.stage ≡ Stage.FacetOrEnd }
     ensures value { Does progress.new result (begun_facet progress.old line) }
-    ensures step { IfOk result (λ tri. IsStep progress.old (stepped progress.new tri)) }
+    ensures step { (unit : Unit) → IfOk result (λ tri. IsStep unit progress.old (stepped progress.new tri)) }
 {
     if progress.facets >= MAX_TRIANGLES as u64 {
         return Err(StlFault::TooManyTriangles { line });
@@ -109,10 +111,10 @@ fn begin_facet(progress: &mut Progress, line: u64) -> Result<Option<Tri>, StlFau
 }
 
 fn facet_or_end(progress: &mut Progress, line: u64, word: &[u8]) -> Result<Option<Tri>, StlFault>
-    requires fits { FitsCursor progress.old }
+    requires fits { FitsProgress progress.old }
     requires stage { progress.old.stage ≡ Stage.FacetOrEnd }
     ensures value { Does progress.new result (after_facet_or_end progress.old line word.now) }
-    ensures step { IfOk result (λ tri. IsStep progress.old (stepped progress.new tri)) }
+    ensures step { (unit : Unit) → IfOk result (λ tri. IsStep unit progress.old (stepped progress.new tri)) }
 {
     if is_keyword(word, b"facet") {
         return begin_facet(progress, line);
@@ -166,11 +168,11 @@ fn rounded_after(count: u64, rounded: bool) -> u64
 }
 
 fn put_coord(progress: &mut Progress, number: u8, units: i32, rounded: bool)
-    requires fits { FitsCursor progress.old }
+    requires fits { FitsProgress progress.old }
     requires stage { progress.old.stage ≡ Stage.Coord number }
-    requires in_range { Within MAX_TEXT_COORDINATE units }
     ensures value { stepped progress.new None ≡ with_coord progress.old number units rounded }
-    ensures step { IsStep progress.old (stepped progress.new None) }
+    ensures step { (unit : Unit) → Within (greatest_of unit) units
+        → IsStep unit progress.old (stepped progress.new None) }
 {
     progress.coords[usize::from(number)] = units;
     progress.stage = stage_after_coord(number);
@@ -179,17 +181,18 @@ fn put_coord(progress: &mut Progress, number: u8, units: i32, rounded: bool)
 
 fn take_coord(
     snap: Snap,
+    unit: Unit,
     progress: &mut Progress,
     line: u64,
     number: u8,
     word: &[u8],
 ) -> Result<Option<Tri>, StlFault>
-    requires fits { FitsCursor progress.old }
+    requires fits { FitsProgress progress.old }
     requires stage { progress.old.stage ≡ Stage.Coord number }
-    ensures value { Does progress.new result (after_coord snap progress.old line number word.now) }
-    ensures step { IfOk result (λ tri. IsStep progress.old (stepped progress.new tri)) }
+    ensures value { Does progress.new result (after_coord snap unit progress.old line number word.now) }
+    ensures step { IfOk result (λ tri. IsStep unit progress.old (stepped progress.new tri)) }
 {
-    match read_with_rounding(word, snap) {
+    match read_with_rounding(word, snap, unit) {
         Ok(Reading { units, rounded }) => {
             put_coord(progress, number, units, rounded);
             Ok(None)
@@ -199,9 +202,8 @@ fn take_coord(
 }
 
 fn tri_of(coords: [i32; 9]) -> Tri
-    requires { CoordsInRange coords }
     ensures value { result ≡ tri_of_coords coords }
-    ensures in_range { TriInTextRange result }
+    ensures in_range { (unit : Unit) → CoordsInRange unit coords → TriInUnitRange unit result }
 {
     let [ax, ay, az, bx, by, bz, cx, cy, cz] = coords;
     Tri {
@@ -224,10 +226,10 @@ fn tri_of(coords: [i32; 9]) -> Tri
 }
 
 fn end_facet(progress: &mut Progress, line: u64, word: &[u8]) -> Result<Option<Tri>, StlFault>
-    requires fits { FitsCursor progress.old }
+    requires fits { FitsProgress progress.old }
     requires stage { progress.old.stage ≡ Stage.EndFacet }
     ensures value { Does progress.new result (after_end_facet progress.old line word.now) }
-    ensures step { IfOk result (λ tri. IsStep progress.old (stepped progress.new tri)) }
+    ensures step { (unit : Unit) → IfOk result (λ tri. IsStep unit progress.old (stepped progress.new tri)) }
 {
     if !is_keyword(word, b"endfacet") {
         return Err(StlFault::Expected {
@@ -242,15 +244,16 @@ fn end_facet(progress: &mut Progress, line: u64, word: &[u8]) -> Result<Option<T
 
 fn at_stage(
     snap: Snap,
+    unit: Unit,
     stage: Stage,
     progress: &mut Progress,
     line: u64,
     word: &[u8],
 ) -> Result<Option<Tri>, StlFault>
-    requires fits { FitsCursor progress.old }
+    requires fits { FitsProgress progress.old }
     requires stage { stage ≡ progress.old.stage }
-    ensures value { Does progress.new result (at_stage_of snap stage progress.old line word.now) }
-    ensures step { IfOk result (λ tri. IsStep progress.old (stepped progress.new tri)) }
+    ensures value { Does progress.new result (at_stage_of snap unit stage progress.old line word.now) }
+    ensures step { IfOk result (λ tri. IsStep unit progress.old (stepped progress.new tri)) }
 {
     match stage {
         Stage::Solid => begin_solid(progress, line, word, What::Solid),
@@ -270,7 +273,7 @@ fn at_stage(
             let next = Stage::Coord(number);
             expect(progress, line, word, b"vertex", What::Vertex, next)
         }
-        Stage::Coord(number) => take_coord(snap, progress, line, number, word),
+        Stage::Coord(number) => take_coord(snap, unit, progress, line, number, word),
         Stage::EndLoop => {
             let next = Stage::EndFacet;
             expect(progress, line, word, b"endloop", What::EndLoop, next)
@@ -283,16 +286,17 @@ fn at_stage(
 #[tactic(auto, unfolding(crate::specs::Facets::after_word))]
 pub(crate) fn take_word(
     snap: Snap,
+    unit: Unit,
     progress: &mut Progress,
     line: u64,
     word: &[u8],
 ) -> Result<Option<Tri>, StlFault>
-    requires { FitsCursor progress.old }
-    ensures value { Does progress.new result (after_word snap progress.old line word.now) }
-    ensures step { IfOk result (λ tri. IsStep progress.old (stepped progress.new tri)) }
+    requires { FitsProgress progress.old }
+    ensures value { Does progress.new result (after_word snap unit progress.old line word.now) }
+    ensures step { IfOk result (λ tri. IsStep unit progress.old (stepped progress.new tri)) }
 {
     if line == progress.name_line {
         return Ok(None);
     }
-    at_stage(snap, progress.stage, progress, line, word)
+    at_stage(snap, unit, progress.stage, progress, line, word)
 }

@@ -1,4 +1,4 @@
-//! Reads a part from an ASCII STL text, as its triangles in units of 0.01 mm.
+//! Reads a part from an ASCII STL text, as its triangles in whole units.
 //!
 //! It stands on `mill_base` for the triangles and on `mill_decimal` for the coordinates. It
 //! promises exactly the triangles that the text means, or its first bad place with the line, in

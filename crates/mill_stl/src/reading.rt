@@ -2,15 +2,16 @@
 
 ghost use Rattle.std.specs.Prelude.{◌≡◌, ◌≤◌, ◌<◌, ◌*◌, [], length, IfOk, OnOk, IfErr, Ok};
 ghost use Rattle.mill_base.specs.declared.limits.TheConstants.{MAX_TRIANGLES};
-ghost use Rattle.mill_base.specs.Ranges.{TrisInTextRange};
+ghost use Rattle.mill_base.specs.declared.unit.Unit.{Unit};
+ghost use Rattle.mill_base.specs.Ranges.{TrisInUnitRange};
 ghost use Rattle.mill_stl.specs.Parts.{is_end as is_end_stage, start, reached_at, with_tri, with_word, whole_part, part_of, Fails, GivesPart};
-ghost use Rattle.mill_stl.specs.inner.Bounds.{IsSound, IsBeforeWord, meaning_from};
+ghost use Rattle.mill_stl.specs.inner.Bounds.{FitsProgress, IsSound, IsBeforeWord, meaning_from};
 
 use crate::facet::take_word;
 use crate::fault::StlFault;
 use crate::scan::{behind_spaces, word_end};
 use crate::state::{Cursor, Progress, Stage, StlRead};
-use mill_base::Tri;
+use mill_base::{Tri, Unit};
 use mill_decimal::Snap;
 use std::alloc::Global;
 
@@ -25,7 +26,7 @@ fn is_end(stage: Stage) -> bool
 
 fn at_start() -> Progress
     ensures value { result ≡ start }
-    ensures sound { IsSound result [] }
+    ensures sound { (unit : Unit) → IsSound unit result [] }
 {
     Progress {
         stage: Stage::Solid,
@@ -51,21 +52,22 @@ fn add(tris: &mut Vec<Tri>, tri: Option<Tri>) -> Result<(), StlFault>
 #[tactic(auto, using(crate::proofs::Steps::with_word_some))]
 fn end_word(
     snap: Snap,
+    unit: Unit,
     progress: &mut Progress,
     tris: &mut Vec<Tri>,
     line: u64,
     word: &[u8],
 ) -> Result<(), StlFault>
     requires some { 0 < length word.now }
-    requires sound { IsSound progress.old tris.old.items }
+    requires sound { IsSound unit progress.old tris.old.items }
     ensures ok { OnOk result (
-        with_word snap (reached_at progress.old tris.old.items) line word.now
+        with_word snap unit (reached_at progress.old tris.old.items) line word.now
         ≡ Ok (reached_at progress.new tris.new.items)) }
-    ensures sound { OnOk result (IsSound progress.new tris.new.items) }
+    ensures sound { OnOk result (IsSound unit progress.new tris.new.items) }
     ensures fault { IfErr result (λ f.
-        Fails f (with_word snap (reached_at progress.old tris.old.items) line word.now)) }
+        Fails f (with_word snap unit (reached_at progress.old tris.old.items) line word.now)) }
 {
-    let tri = take_word(snap, progress, line, word)?;
+    let tri = take_word(snap, unit, progress, line, word)?;
     add(tris, tri)?;
     Ok(())
 }
@@ -73,6 +75,7 @@ fn end_word(
 // Takes the word at the cursor, and passes over the white space behind it.
 fn take_next(
     snap: Snap,
+    unit: Unit,
     text: &[u8],
     cursor: Cursor,
     progress: &mut Progress,
@@ -80,19 +83,19 @@ fn take_next(
 ) -> Result<Cursor, StlFault>
     requires some { cursor.from < length text.now }
     requires placed { IsBeforeWord text.now cursor }
-    requires sound { IsSound progress.old tris.old.items }
+    requires sound { IsSound unit progress.old tris.old.items }
     ensures meaning { IfOk result (λ next.
-        meaning_from snap text.now next progress.new tris.new.items
-        ≡ meaning_from snap text.now cursor progress.old tris.old.items) }
+        meaning_from snap unit text.now next progress.new tris.new.items
+        ≡ meaning_from snap unit text.now cursor progress.old tris.old.items) }
     ensures forward { IfOk result (λ next. cursor.from < next.from) }
     ensures placed { IfOk result (λ next. IsBeforeWord text.now next) }
-    ensures sound { OnOk result (IsSound progress.new tris.new.items) }
+    ensures sound { OnOk result (IsSound unit progress.new tris.new.items) }
     ensures fault { IfErr result (λ f.
-        Fails f (meaning_from snap text.now cursor progress.old tris.old.items)) }
+        Fails f (meaning_from snap unit text.now cursor progress.old tris.old.items)) }
 {
     let end = word_end(text, cursor.from);
     let word = &text[cursor.from..end];
-    end_word(snap, progress, tris, cursor.line, word)?;
+    end_word(snap, unit, progress, tris, cursor.line, word)?;
     Ok(behind_spaces(
         text,
         Cursor {
@@ -104,9 +107,10 @@ fn take_next(
 
 // The text ends.
 fn end_text(line: u64, progress: Progress, tris: Vec<Tri>) -> Result<StlRead, StlFault>
-    requires { IsSound progress tris.items }
+    requires fits { FitsProgress progress }
+    requires count { length tris.items ≡ progress.facets }
     ensures gives { GivesPart result (whole_part line (reached_at progress tris.items)) }
-    ensures in_range { IfOk result (λ read. TrisInTextRange read.tris.items) }
+    ensures same { IfOk result (λ read. read.tris ≡ tris) }
     ensures few { IfOk result (λ read. length read.tris.items ≤ MAX_TRIANGLES) }
     ensures few_rounded { IfOk result (λ read. read.rounded ≤ 9 * length read.tris.items) }
 {
@@ -125,13 +129,13 @@ fn end_text(line: u64, progress: Progress, tris: Vec<Tri>) -> Result<StlRead, St
 /// The text is one solid or several, read as words that white space parts: `solid` and a name,
 /// facets, `endsolid` and a name. A name is the rest of its line, whatever it is. Keywords are in
 /// any letter case, and a normal's three words may be any words. Coordinates are decimals of
-/// millimetres, read by `snap` to units of 0.01 mm.
+/// millimetres, read by `snap` to whole units.
 ///
 /// A text of another form is refused for its first bad place; [`StlFault`] says which there are.
 #[tactic(auto, unfolding(crate::specs::Parts::part_of))]
-pub fn read_stl(alloc: Global, text: &[u8], snap: Snap) -> Result<StlRead, StlFault>
-    ensures gives { GivesPart result (part_of snap text.now) }
-    ensures in_range { IfOk result (λ read. TrisInTextRange read.tris.items) }
+pub fn read_stl(alloc: Global, text: &[u8], snap: Snap, unit: Unit) -> Result<StlRead, StlFault>
+    ensures gives { GivesPart result (part_of snap unit text.now) }
+    ensures in_range { IfOk result (λ read. TrisInUnitRange unit read.tris.items) }
     ensures few { IfOk result (λ read. length read.tris.items ≤ MAX_TRIANGLES) }
     ensures few_rounded { IfOk result (λ read. read.rounded ≤ 9 * length read.tris.items) }
 {
@@ -139,7 +143,7 @@ pub fn read_stl(alloc: Global, text: &[u8], snap: Snap) -> Result<StlRead, StlFa
     let mut progress = at_start();
     let mut cursor = behind_spaces(text, Cursor { line: 1, from: 0 });
     while cursor.from < text.len() {
-        cursor = take_next(snap, text, cursor, &mut progress, &mut tris)?;
+        cursor = take_next(snap, unit, text, cursor, &mut progress, &mut tris)?;
     }
     end_text(cursor.line, progress, tris)
 }

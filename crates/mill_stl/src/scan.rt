@@ -2,6 +2,7 @@
 
 ghost use Rattle.std.specs.Prelude.{◌≡◌, ℕ, ◌≤◌, ◌<◌, ◌^◌, ◌+◌, ◌-◌, List, length, slice_index, true, false, IsTrue};
 ghost use Rattle.mill_base.specs.declared.points.Tri.{Tri};
+ghost use Rattle.mill_base.specs.declared.unit.Unit.{Unit};
 ghost use Rattle.mill_decimal.specs.declared.snap.Snap.{Snap};
 ghost use Rattle.mill_stl.specs.declared.state.Progress.{Progress};
 ghost use Rattle.mill_stl.specs.Parts.{is_space as is_space_byte, next_line as next_line_of};
@@ -86,8 +87,8 @@ fn run_at(text: &[u8], place: usize) -> usize
 pub(crate) fn behind_spaces(text: &[u8], cursor: Cursor) -> Cursor
     requires within { cursor.from ≤ length text.now }
     requires line { cursor.line ≤ cursor.from + 1 }
-    ensures meaning { (snap : Snap) (p : Progress) (tris : List Tri) →
-        meaning_from snap text.now result p tris ≡ meaning_from snap text.now cursor p tris }
+    ensures meaning { (snap : Snap) (unit : Unit) (p : Progress) (tris : List Tri) →
+        meaning_from snap unit text.now result p tris ≡ meaning_from snap unit text.now cursor p tris }
     ensures forward { cursor.from ≤ result.from }
     ensures placed { IsBeforeWord text.now result }
 {
@@ -115,8 +116,8 @@ fn is_lone_blank(text: &[u8], place: usize) -> bool
 fn behind_run(text: &[u8], cursor: Cursor) -> Cursor
     requires within { cursor.from ≤ length text.now }
     requires line { cursor.line ≤ cursor.from + 1 }
-    ensures meaning { (snap : Snap) (p : Progress) (tris : List Tri) →
-        meaning_from snap text.now result p tris ≡ meaning_from snap text.now cursor p tris }
+    ensures meaning { (snap : Snap) (unit : Unit) (p : Progress) (tris : List Tri) →
+        meaning_from snap unit text.now result p tris ≡ meaning_from snap unit text.now cursor p tris }
     ensures forward { cursor.from ≤ result.from }
     ensures placed { IsBeforeWord text.now result }
 {

@@ -43,7 +43,7 @@ pub(crate) struct Progress {
     pub stage: Stage,
     /// The line of the last `solid` or `endsolid`, 0 before the first: a further word on it is its name's.
     pub name_line: u64,
-    /// The coordinates of the facet so far, in 0.01 mm.
+    /// The coordinates of the facet so far, in units.
     pub coords: [i32; 9],
     /// How many facets have ended.
     pub facets: u64,

@@ -1,7 +1,7 @@
 -- What is known of a job's values before its relations are.
 use Rattle.std.specs.Prelude.{◌≤◌, ℤ, pos, ◌<ℤ◌, List, length, AllPairs}
 use Rattle.mill_base.specs.Numbers.{Within}
-use Rattle.mill_base.specs.declared.limits.TheConstants.{MAX_TEXT_COORDINATE}
+use Rattle.mill_base.specs.Units.{greatest_of}
 use Rattle.mill_job.specs.Jobs.{IsFrom}
 use Rattle.mill_job.specs.Tables.{IsArea}
 use Rattle.mill_job.specs.declared.job.Job.{Job}
@@ -9,11 +9,11 @@ use Rattle.mill_job.specs.declared.limits.TheConstants.{MAX_DISTANCE, MAX_LEVELS
 
 -- the numbers with which the relations are reckoned are in their ranges
 pub record IsRanged (job : Job) : Type 0 where
-  pub floor_ok : Within MAX_TEXT_COORDINATE job.floor
-  pub top_ok : Within MAX_TEXT_COORDINATE job.top
-  pub area_ok : IsArea job.area
+  pub floor_ok : Within (greatest_of job.unit) job.floor
+  pub top_ok : Within (greatest_of job.unit) job.top
+  pub area_ok : IsArea job.unit job.area
   pub pitch_ok : IsFrom (pos 1) MAX_DISTANCE job.pitch
-  pub layer_ok : IsFrom (pos 0) (pos MAX_TEXT_COORDINATE) job.layer
+  pub layer_ok : IsFrom (pos 0) (pos (greatest_of job.unit)) job.layer
 
 -- at most 64 heights, each under all before it
 pub record AreInOrder (heights : List ℤ) : Type 0 where

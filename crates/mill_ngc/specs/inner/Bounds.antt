@@ -1,7 +1,7 @@
 -- What stays true while a program is read.
 use Rattle.std.specs.Prelude.{◌≡◌, ◌+◌, ◌≤◌, Option, Some, None, IfSome}
 use Rattle.mill_base.specs.declared.limits.TheConstants.{MAX_MOVES}
-use Rattle.mill_base.specs.Ranges.{IsInTextRange}
+use Rattle.mill_base.specs.Ranges.{IsInUnitRange}
 use Rattle.mill_base.specs.declared.motion.Move.{Move}
 use Rattle.mill_words.specs.Words.{FitsNum}
 use Rattle.mill_ngc.specs.declared.said.Said.{Said}
@@ -17,7 +17,7 @@ pub record FitsSaid (s : Said) : Type 0 where
 pub record MakesMove (old : Progress) (m : Move) (new : Progress) : Type 0 where
   pub from_here : m.from ≡ old.here
   pub to_here : m.to ≡ new.here
-  pub in_range : IsInTextRange new.here
+  pub in_range : IsInUnitRange old.unit new.here
   pub one_more : new.moves ≡ old.moves + 1
   pub few : new.moves ≤ MAX_MOVES
 
@@ -33,4 +33,5 @@ KeepsMove old None new = MakesNone old new
 
 pub record Keeps (old : Progress) (made : Option Move) (new : Progress) : Type 0 where
   pub move_is : KeepsMove old made new
+  pub same_unit : new.unit ≡ old.unit
   pub same_line : new.line ≡ old.line

@@ -2,9 +2,11 @@
 use Rattle.std.specs.Prelude.{◌≡◌, ℕ, ◌+◌, ◌*◌, ◌≤◌, ◌<◌, ℤ, List, [], length, drop, Option, Some, None, IfSome, Result, Ok, Err, false, slice_index}
 use Rattle.std.specs.List.{All}
 use Rattle.mill_base.specs.Numbers.{Within}
-use Rattle.mill_base.specs.declared.limits.TheConstants.{MAX_TEXT_COORDINATE, MAX_TRIANGLES}
-use Rattle.mill_base.specs.Ranges.{TriInTextRange}
+use Rattle.mill_base.specs.declared.limits.TheConstants.{MAX_TRIANGLES}
+use Rattle.mill_base.specs.Units.{greatest_of}
+use Rattle.mill_base.specs.Ranges.{TriInUnitRange}
 use Rattle.mill_base.specs.declared.points.Tri.{Tri}
+use Rattle.mill_base.specs.declared.unit.Unit.{Unit}
 use Rattle.mill_decimal.specs.declared.snap.Snap.{Snap}
 use Rattle.mill_stl.specs.declared.fault.StlFault.{StlFault}
 use Rattle.mill_stl.specs.declared.state.Stage.{Stage}
@@ -37,31 +39,32 @@ pub record FitsStage (s : Stage) (facets rounded : ℕ) : Type 0 where
   pub room : HasRoom s facets
   pub counted : rounded ≤ 9 * facets + coords_before s
 
--- the coordinates are in range
-abbrev pub CoordsInRange : List ℤ → Type 0
-CoordsInRange coords = All (λ z. Within MAX_TEXT_COORDINATE z) coords
+-- the stage fits the counts
+abbrev pub FitsProgress : Progress → Type 0
+FitsProgress p = FitsStage p.stage p.facets p.rounded
 
--- the stage and the coordinates fit
-pub record FitsCursor (p : Progress) : Type 0 where
-  pub stage_ok : FitsStage p.stage p.facets p.rounded
-  pub coords_ok : CoordsInRange p.coords
+-- the coordinates are in the unit's range
+abbrev pub CoordsInRange : Unit → List ℤ → Type 0
+CoordsInRange unit coords = All (λ z. Within (greatest_of unit) z) coords
 
 -- the facets and one more, if a triangle has ended
 abbrev pub count_after : ℕ → Option Tri → ℕ
 count_after facets None = facets
 count_after facets (Some tri) = facets + 1
 
--- a step keeps what fits, counts its triangle, and has it in range
-pub record IsStep (p : Progress) (s : Step) : Type 0 where
-  pub fits : FitsCursor s.progress
+-- a step keeps what fits and counts its triangle; from coordinates in range it has these and its triangle in range
+pub record IsStep (unit : Unit) (p : Progress) (s : Step) : Type 0 where
+  pub fits : FitsProgress s.progress
   pub count : s.progress.facets ≡ count_after p.facets s.tri
-  pub tri_ok : IfSome s.tri TriInTextRange
+  pub coords_ok : CoordsInRange unit p.coords → CoordsInRange unit s.progress.coords
+  pub tri_ok : CoordsInRange unit p.coords → IfSome s.tri (TriInUnitRange unit)
 
--- the progress fits, and the triangles so far are as many as the facets and in range
-pub record IsSound (p : Progress) (tris : List Tri) : Type 0 where
-  pub fits : FitsCursor p
+-- the progress fits, the triangles so far are as many as the facets, and all coordinates are in the unit's range
+pub record IsSound (unit : Unit) (p : Progress) (tris : List Tri) : Type 0 where
+  pub fits : FitsProgress p
+  pub coords_ok : CoordsInRange unit p.coords
   pub count : length tris ≡ p.facets
-  pub tris_ok : All TriInTextRange tris
+  pub tris_ok : All (TriInUnitRange unit) tris
 
 -- the progress and the triangle that a word has ended, as a step
 abbrev pub stepped : Progress → Option Tri → Step
@@ -77,8 +80,8 @@ abbrev pub scan_at : Reached → ℕ → List ℕ → Scan
 scan_at r line word = record { reached = r; line = line; word = word }
 
 -- what the text means, read on from the cursor, where no word goes on
-abbrev pub meaning_from : Snap → List ℕ → Cursor → Progress → List Tri → Result Part StlFault
-meaning_from snap text c p tris = read_from snap (scan_at (reached_at p tris) c.line []) (drop c.from text)
+abbrev pub meaning_from : Snap → Unit → List ℕ → Cursor → Progress → List Tri → Result Part StlFault
+meaning_from snap unit text c p tris = read_from snap unit (scan_at (reached_at p tris) c.line []) (drop c.from text)
 
 -- the cursor is within the text, on a line that there can be, and no white space follows it
 pub record IsBeforeWord (text : List ℕ) (c : Cursor) : Type 0 where

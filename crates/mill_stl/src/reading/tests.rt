@@ -27,7 +27,12 @@ fn expected(line: u64, what: What) -> StlFault {
 
 #[test]
 fn reads_two_solids(rt: HostRuntime) -> Result<(), StlFault> {
-    let read = read_stl(rt.alloc(), TWO_SOLIDS.as_bytes(), Snap::Exact)?;
+    let read = read_stl(
+        rt.alloc(),
+        TWO_SOLIDS.as_bytes(),
+        Snap::Exact,
+        Unit::Hundredth,
+    )?;
     let want = Tri {
         a: point(0, 0, 200),
         b: point(1000, 0, 200),
@@ -40,7 +45,7 @@ fn reads_two_solids(rt: HostRuntime) -> Result<(), StlFault> {
 
 #[test]
 fn counts_what_it_rounds(rt: HostRuntime) -> Result<(), StlFault> {
-    let read = read_stl(rt.alloc(), PLATE.as_bytes(), Snap::Nearest)?;
+    let read = read_stl(rt.alloc(), PLATE.as_bytes(), Snap::Nearest, Unit::Hundredth)?;
     let want = [
         Tri {
             a: point(0, 0, 200),
@@ -58,6 +63,31 @@ fn counts_what_it_rounds(rt: HostRuntime) -> Result<(), StlFault> {
     Ok(())
 }
 
+#[test]
+fn reads_thousandths(rt: HostRuntime) -> Result<(), StlFault> {
+    let read = read_stl(
+        rt.alloc(),
+        PLATE.as_bytes(),
+        Snap::Nearest,
+        Unit::Thousandth,
+    )?;
+    let want = [
+        Tri {
+            a: point(0, 0, 2000),
+            b: point(40000, 0, 2000),
+            c: point(40000, 20000, 2000),
+        },
+        Tri {
+            a: point(0, 0, -500),
+            b: point(40004, 20000, 2000),
+            c: point(0, 20000, 2000),
+        },
+    ];
+    assert_eq!(rt; read.tris.as_slice(), want.as_slice());
+    assert_eq!(rt; read.rounded, 1);
+    Ok(())
+}
+
 // Words and white space that are longer than what is looked at together, with bytes below a blank.
 #[test]
 fn reads_long_words(rt: HostRuntime) -> Result<(), StlFault> {
@@ -66,7 +96,7 @@ fn reads_long_words(rt: HostRuntime) -> Result<(), StlFault> {
                   outer\u{c}loop\tvertex 0000000000000000000000.5 -00.10 +5.0e-1
         vertex 1 0 0\u{b}vertex 0\r1 0000000000000000 endloop endfacet
     endsolid of_more_than_sixteen_bytes\u{1}\u{1f}";
-    let read = read_stl(rt.alloc(), text.as_bytes(), Snap::Exact)?;
+    let read = read_stl(rt.alloc(), text.as_bytes(), Snap::Exact, Unit::Hundredth)?;
     let want = Tri {
         a: point(50, -10, 50),
         b: point(100, 0, 0),
@@ -117,7 +147,7 @@ fn names_the_first_bad_place(rt: HostRuntime) {
         ),
     ] {
         assert_eq!(rt;
-            read_stl(rt.alloc(), text.as_bytes(), Snap::Exact).err(),
+            read_stl(rt.alloc(), text.as_bytes(), Snap::Exact, Unit::Hundredth).err(),
             Some(fault),
             "at {text}"
         );
@@ -141,7 +171,7 @@ fn no_prefix_reads(rt: HostRuntime) {
             || prefix.ends_with(b"endsolid ")
             || prefix.ends_with(b"endsolid b")
             || prefix.ends_with(b"endsolid b\r");
-        let fault = read_stl(rt.alloc(), prefix, Snap::Exact).err();
+        let fault = read_stl(rt.alloc(), prefix, Snap::Exact, Unit::Hundredth).err();
         assert_eq!(rt; fault.is_none(), ended, "at {length}");
         match fault {
             Some(StlFault::Expected { line: at, .. })

@@ -10,5 +10,5 @@ pub returns-clause-err : goal.returns-clause-err
 unfolding array_fault
 returns-clause-err c =
     let numbers = integers (items_view c.deref.result.now) in
-    let same : array_fault Area is_area (table_view c.args.table.now) ≡ kind_fault Area is_area numbers = search rules in
-    rw (c.area_in.ensures.value, same) (if_err (kind_fault Area is_area numbers) (area_of numbers))
+    let same : array_fault Area (is_area c.args.unit) (table_view c.args.table.now) ≡ kind_fault Area (is_area c.args.unit) numbers = search rules in
+    rw (c.area_in.ensures.value, same) (if_err (kind_fault Area (is_area c.args.unit) numbers) (area_of numbers))

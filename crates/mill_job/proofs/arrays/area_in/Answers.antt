@@ -12,7 +12,7 @@ use Rattle.mill_job.proofs.arrays.area_in.Goals as goal
 pub returns-then-values-ne4-clause-value : goal.returns-then-values-ne4-clause-value
 returns-then-values-ne4-clause-value c =
     let other : length c.args.values.now ≢ 4 = λ same. omega arith in
-    rw c.misfit.ensures (misfits Area is_area 4 is_area-other c.args.values.now other (area_of (integers (items_view c.args.values.now))))
+    rw c.misfit.ensures (misfits Area (is_area c.args.unit) 4 (is_area-other c.args.unit) c.args.values.now other (area_of (integers (items_view c.args.values.now))))
 
 pub returns-clause-value : goal.returns-clause-value
 returns-clause-value c =

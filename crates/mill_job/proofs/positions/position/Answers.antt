@@ -8,5 +8,8 @@ pub returns-clause-value : goal.returns-clause-value
 returns-clause-value c =
     omega (arith, ints) ∙ ap (λ (t : ℤ). c.args.first +ℤ t) (c.steps.ensures.value ∙ ap (λ (t : ℤ). pos c.args.index *ℤ t) (omega (arith, ints)))
 
-pub returns-clause-in_range : goal.returns-clause-in_range
-returns-clause-in_range c = record { within = omega (arith, ints) }
+pub returns-clause-low : goal.returns-clause-low
+returns-clause-low c = omega (arith, ints)
+
+pub returns-clause-high : goal.returns-clause-high
+returns-clause-high c = omega (arith, ints)

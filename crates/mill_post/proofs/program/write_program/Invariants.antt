@@ -5,4 +5,4 @@ use Rattle.mill_post.proofs.TextLemmas.{front}
 use Rattle.mill_post.proofs.program.write_program.Given as goal
 
 abbrev pub invariant-loop-made : goal.invariant-loop-made
-invariant-loop-made l = l.text.items ≡ front ++ flat_map (λ m. ended (move_line m)) (take l.made-index l.moves)
+invariant-loop-made l = l.text.items ≡ front ++ flat_map (λ m. ended (move_line l.unit m)) (take l.made-index l.moves)

@@ -8,5 +8,5 @@ use Rattle.mill_stl.proofs.reading.read_stl.Goals as goal
 pub returns-clause-gives : goal.returns-clause-gives
 returns-clause-gives c =
     subst (λ (meaning : Result Part StlFault). GivesPart c.end_text.result meaning)
-    (sym (meaning-end c.args.snap c.args.text.now c.loop-cursor.cursor c.loop-cursor.progress c.loop-cursor.tris.items (omega arith)) ∙ c.loop-cursor.invariant.meaning)
+    (sym (meaning-end c.args.snap c.args.unit c.args.text.now c.loop-cursor.cursor c.loop-cursor.progress c.loop-cursor.tris.items (omega arith)) ∙ c.loop-cursor.invariant.meaning)
     c.end_text.ensures.gives

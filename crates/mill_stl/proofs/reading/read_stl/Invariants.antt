@@ -5,9 +5,9 @@ use Rattle.mill_stl.proofs.reading.read_stl.Given as goal
 
 abbrev pub invariant-loop-cursor : goal.invariant-loop-cursor
 invariant-loop-cursor l = record {
-  meaning : meaning_from l.snap l.text l.cursor l.progress l.tris.items ≡ part_of l.snap l.text;
+  meaning : meaning_from l.snap l.unit l.text l.cursor l.progress l.tris.items ≡ part_of l.snap l.unit l.text;
   placed : IsBeforeWord l.text l.cursor;
-  sound : IsSound l.progress l.tris.items;
+  sound : IsSound l.unit l.progress l.tris.items;
 }
 
 abbrev pub decreases-loop-cursor : goal.decreases-loop-cursor

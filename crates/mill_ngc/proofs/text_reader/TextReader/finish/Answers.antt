@@ -9,8 +9,8 @@ returns-then-has_ended-2-clause-sound c =
     let q = c.read_line.new.self in
     let moves = c.args.out.now.items in
     let made = c.in_ok-last.last in
-    rw c.in_ok-add.ensures.ok (λ start s. are_sound start q (moves ++ made_list made)
-    (so_far-line start (line_begun p) q moves made (so_far-begun start p moves s) c.in_ok-last.ensures.keeps.move_is))
+    rw c.in_ok-add.ensures.ok (λ start unit s. are_sound start unit q (moves ++ made_list made)
+    (so_far-line start unit (line_begun p) q moves made (so_far-begun start unit p moves s) c.in_ok-last.ensures.keeps))
 
 pub returns-clause-sound : goal.returns-clause-sound
 returns-clause-sound c =
@@ -18,5 +18,5 @@ returns-clause-sound c =
     let q = c.read_line.new.self in
     let moves = c.args.out.now.items in
     let made = c.in_ok-last.last in
-    rw c.in_ok-add.ensures.ok (λ start s. are_sound start q (moves ++ made_list made)
-    (so_far-line start (line_begun p) q moves made (so_far-begun start p moves s) c.in_ok-last.ensures.keeps.move_is))
+    rw c.in_ok-add.ensures.ok (λ start unit s. are_sound start unit q (moves ++ made_list made)
+    (so_far-line start unit (line_begun p) q moves made (so_far-begun start unit p moves s) c.in_ok-last.ensures.keeps))

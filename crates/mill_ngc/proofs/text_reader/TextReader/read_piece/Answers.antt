@@ -2,7 +2,7 @@ use Rattle.std.proofs.Common.{◌<◌, ◌++◌, ◌∙◌, length, sym, rules, 
 use Rattle.mill_ngc.specs.Programs.{line_begun, made_list}
 use Rattle.mill_ngc.specs.Pieces.{fed}
 use Rattle.mill_ngc.specs.Texts.{reading_of}
-use Rattle.mill_ngc.proofs.ProgramLemmas.{so_far-begun, so_far-line}
+use Rattle.mill_ngc.proofs.ProgramLemmas.{so_far-begun, so_far-line, are_sound}
 use Rattle.mill_ngc.proofs.PieceLemmas.{fed-next, fed-fault, fed-last, fed-ended, front-add, front-more, front-fed, fault_told, begun_ok, begun_fault, keeps_range}
 use Rattle.mill_ngc.proofs.text_reader.TextReader.read_piece.Goals as goal
 
@@ -38,9 +38,9 @@ loop-rest-preserved c =
           (fed (reading_of c.args.self.now, c.args.out.now.items) c.args.piece.now)
           (search rules) lines c.in_ok-made-in-Some.ensures.ok c.in_ok-made-in-Some.ensures.begins c.loop-rest.invariant.so_far;
       lines = omega (arith, shorter, keeps.same_line, c.loop-rest.invariant.lines);
-      here = keeps_range (line_begun p) q made c.loop-rest.invariant.here keeps.move_is;
+      here = keeps_range (line_begun p) q made c.loop-rest.invariant.here keeps;
       grows = front-more c.args.out.now.items moves (moves ++ made_list made) c.loop-rest.invariant.grows (front-add moves (made_list made));
-      moves = λ start s. so_far-line start (line_begun p) q moves made (so_far-begun start p moves (c.loop-rest.invariant.moves start s)) keeps.move_is;
+      moves = λ start unit s. so_far-line start unit (line_begun p) q moves made (so_far-begun start unit p moves (c.loop-rest.invariant.moves start unit s)) keeps;
     })
 
 pub returns-in-None-clause-ok : goal.returns-in-None-clause-ok
@@ -68,3 +68,22 @@ returns-clause-ok c =
 pub returns-clause-front : goal.returns-clause-front
 returns-clause-front c =
     front-fed (reading_of c.loop-rest.self, c.loop-rest.out.items) c.loop-rest.rest.now _ c.loop-rest.invariant.so_far
+
+-- ---- the moves of the lines that are read are sound, where those before them were
+
+pub returns-in_err-made-in-Some-clause-sound : goal.returns-in_err-made-in-Some-clause-sound
+returns-in_err-made-in-Some-clause-sound c start unit s =
+    are_sound start unit c.loop-rest.self.lines c.loop-rest.out.items (c.loop-rest.invariant.moves start unit s)
+
+pub returns-in_err-add-in-Some-clause-sound : goal.returns-in_err-add-in-Some-clause-sound
+returns-in_err-add-in-Some-clause-sound c =
+    rw c.in_err-add-in-Some.ensures.kept
+    (λ start unit s. are_sound start unit c.loop-rest.self.lines c.loop-rest.out.items (c.loop-rest.invariant.moves start unit s))
+
+pub returns-in-None-clause-sound : goal.returns-in-None-clause-sound
+returns-in-None-clause-sound c start unit s =
+    are_sound start unit c.loop-rest.self.lines c.loop-rest.out.items (c.loop-rest.invariant.moves start unit s)
+
+pub returns-clause-sound : goal.returns-clause-sound
+returns-clause-sound c start unit s =
+    are_sound start unit c.loop-rest.self.lines c.loop-rest.out.items (c.loop-rest.invariant.moves start unit s)

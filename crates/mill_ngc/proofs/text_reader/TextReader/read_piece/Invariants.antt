@@ -1,6 +1,7 @@
 use Rattle.std.proofs.Common.{◌≡◌, ◌≤◌, ◌+◌, length}
-use Rattle.mill_base.specs.Ranges.{IsInTextRange}
+use Rattle.mill_base.specs.Ranges.{IsInUnitRange}
 use Rattle.mill_base.specs.declared.points.Pt3.{Pt3}
+use Rattle.mill_base.specs.declared.unit.Unit.{Unit}
 use Rattle.mill_ngc.specs.Pieces.{fed, IsFront, SoFar}
 use Rattle.mill_ngc.specs.Texts.{reading_of}
 use Rattle.mill_ngc.proofs.text_reader.TextReader.read_piece.Given as goal
@@ -9,9 +10,9 @@ abbrev pub invariant-loop-rest : goal.invariant-loop-rest
 invariant-loop-rest l = record {
   so_far : fed (reading_of l.self, l.out.items) l.rest ≡ fed (reading_of l.fn.self, l.fn.out.items) l.fn.piece;
   lines : l.self.lines.line + length l.rest ≤ l.fn.self.lines.line + length l.fn.piece;
-  here : IsInTextRange l.self.lines.here;
+  here : IsInUnitRange l.self.lines.unit l.self.lines.here;
   grows : IsFront l.fn.out.items l.out.items;
-  moves : (start : Pt3) → SoFar start l.fn.self.lines l.fn.out.items → SoFar start l.self.lines l.out.items;
+  moves : (start : Pt3) (unit : Unit) → SoFar start unit l.fn.self.lines l.fn.out.items → SoFar start unit l.self.lines l.out.items;
 }
 
 abbrev pub decreases-loop-rest : goal.decreases-loop-rest
