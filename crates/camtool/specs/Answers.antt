@@ -2,6 +2,7 @@
 use Rattle.std.specs.Prelude.{◌≡◌, ℕ, ℤ, List, Option, None, Some}
 use Rattle.mill_base.specs.declared.points.Tri.{Tri}
 use Rattle.mill_base.specs.declared.motion.Move.{Move}
+use Rattle.mill_base.specs.declared.unit.Unit.{Unit}
 use Rattle.mill_command.specs.Requests.{Request, verify, plan, drop, level, sample}
 use Rattle.mill_decimal.specs.declared.fault.DecFault.{DecFault}
 use Rattle.mill_job.specs.declared.job.Job.{Job}
@@ -10,23 +11,23 @@ use Rattle.mill_verify.specs.declared.verdict.Verdict.{Verdict}
 use Rattle.camtool.specs.declared.load.Unfit.{Unfit}
 use Rattle.camtool.specs.declared.place.Coordinate.{Coordinate}
 use Rattle.camtool.specs.Calls.{NamedText}
-use Rattle.camtool.specs.Drop.{HasPlace, RefusesWord, Drops, height_line}
+use Rattle.camtool.specs.Drop.{HasPlace, RefusesPlace, Drops, height_line}
 use Rattle.camtool.specs.Faults.{word_line, unfit_line}
 use Rattle.camtool.specs.Level.{HasHeight, RefusesHeight, LevelAnswer, Levels, level_status, level_line}
 use Rattle.camtool.specs.Plan.{Plans, plan_status, plan_line}
 use Rattle.camtool.specs.Sample.{Samples, sample_status, sample_line}
-use Rattle.camtool.specs.Setup.{setup_texts, IsUnfit}
+use Rattle.camtool.specs.Setup.{setup_texts, IsUnfit, IsUnfitWith}
 use Rattle.camtool.specs.Verify.{texts_of, IsUnfitProgram, Judges, verdict_status, verdict_line}
 
 -- what can be answered: a word is refused; a file is refused or too long, or the part is too high; a verdict on a job, a part and moves;
--- the planner's answer, with the name that a program is stored under; a drop height; the answer at a height; the planner's answer to the sample part of a size
+-- the planner's answer, with the name that a program is stored under; a drop height; the answer at a height; each with the unit of its lengths; the planner's answer to the sample part of a size
 pub data Answer : Type 0 where
   refused_word : Coordinate → DecFault → Answer
   unfit : Unfit → Answer
   judged : Job → List Tri → List Move → Verdict → Answer
-  planned : List ℕ → PlanAnswer → Answer
-  dropped : ℤ → Answer
-  leveled : LevelAnswer → Answer
+  planned : Unit → List ℕ → PlanAnswer → Answer
+  dropped : Unit → ℤ → Answer
+  leveled : Unit → LevelAnswer → Answer
   sampled : ℕ → PlanAnswer → Answer
 
 -- its exit status
@@ -34,9 +35,9 @@ abbrev pub answer_status : Answer → ℕ
 answer_status (refused_word coordinate fault) = 4
 answer_status (unfit fault) = 4
 answer_status (judged job part moves verdict) = verdict_status verdict
-answer_status (planned name answer) = plan_status answer
-answer_status (dropped height) = 0
-answer_status (leveled answer) = level_status answer
+answer_status (planned unit name answer) = plan_status answer
+answer_status (dropped unit height) = 0
+answer_status (leveled unit answer) = level_status answer
 answer_status (sampled n answer) = sample_status answer
 
 -- its line
@@ -44,14 +45,14 @@ abbrev pub answer_line : Answer → List ℕ
 answer_line (refused_word coordinate fault) = word_line coordinate fault
 answer_line (unfit fault) = unfit_line fault
 answer_line (judged job part moves verdict) = verdict_line job moves verdict
-answer_line (planned name answer) = plan_line answer
-answer_line (dropped height) = height_line height
-answer_line (leveled answer) = level_line answer
+answer_line (planned unit name answer) = plan_line unit answer
+answer_line (dropped unit height) = height_line unit height
+answer_line (leveled unit answer) = level_line unit answer
 answer_line (sampled n answer) = sample_line n answer
 
 -- the text that is stored with it, and under which name
 abbrev pub answer_file : Answer → Option NamedText
-answer_file (planned name (done text moves columns left)) = Some (record { name = name; text = text })
+answer_file (planned unit name (done text moves columns left)) = Some (record { name = name; text = text })
 answer_file _ = None
 
 -- this is the command's answer, by each file that the store tells: the first check that fails, in the order of work, else the command's own answer
@@ -59,12 +60,12 @@ abbrev pub IsAnswer : (List ℕ → Option (List ℕ)) → Request → Answer �
 IsAnswer contents (verify job part program workers) (unfit fault) = IsUnfitProgram (texts_of contents (record { job = job; part = part; program = program })) fault
 IsAnswer contents (verify job part program workers) (judged j p m verdict) = Judges (texts_of contents (record { job = job; part = part; program = program })) j p m verdict
 IsAnswer contents (plan job part out workers) (unfit fault) = IsUnfit (setup_texts contents job part) fault
-IsAnswer contents (plan job part out workers) (planned name answer) = (name ≡ out) × Plans (setup_texts contents job part) answer
-IsAnswer contents (drop job part x y) (refused_word coordinate fault) = RefusesWord x y coordinate fault
-IsAnswer contents (drop job part x y) (unfit fault) = HasPlace x y × IsUnfit (setup_texts contents job part) fault
-IsAnswer contents (drop job part x y) (dropped height) = Drops x y (setup_texts contents job part) height
-IsAnswer contents (level job part z) (refused_word coordinate fault) = RefusesHeight z coordinate fault
-IsAnswer contents (level job part z) (unfit fault) = HasHeight z × IsUnfit (setup_texts contents job part) fault
-IsAnswer contents (level job part z) (leveled answer) = Levels z (setup_texts contents job part) answer
+IsAnswer contents (plan job part out workers) (planned unit name answer) = (name ≡ out) × Plans (setup_texts contents job part) unit answer
+IsAnswer contents (drop job part x y) (refused_word coordinate fault) = RefusesPlace (setup_texts contents job part) x y coordinate fault
+IsAnswer contents (drop job part x y) (unfit fault) = IsUnfitWith (HasPlace (setup_texts contents job part) x y) (setup_texts contents job part) fault
+IsAnswer contents (drop job part x y) (dropped unit height) = Drops x y (setup_texts contents job part) unit height
+IsAnswer contents (level job part z) (refused_word coordinate fault) = RefusesHeight (setup_texts contents job part) z coordinate fault
+IsAnswer contents (level job part z) (unfit fault) = IsUnfitWith (HasHeight (setup_texts contents job part) z) (setup_texts contents job part) fault
+IsAnswer contents (level job part z) (leveled unit answer) = Levels z (setup_texts contents job part) unit answer
 IsAnswer contents (sample n workers) (sampled size answer) = (size ≡ n) × Samples n answer
 IsAnswer contents asked answer = ⊥

@@ -121,4 +121,4 @@ unfit_line (TooLong file) = line (codes "refused" ∷ codes "too-long" ∷ file_
 unfit_line (JobRefused fault) = line (codes "refused" ∷ codes "job" ∷ job_fault_words fault)
 unfit_line (PartRefused fault) = line (codes "refused" ∷ codes "part" ∷ codes "line" ∷ decimal (part_fault_line fault) ∷ part_fault_code fault ∷ [])
 unfit_line (ProgramRefused fault) = line (codes "refused" ∷ codes "program" ∷ codes "line" ∷ decimal (program_fault_line fault) ∷ program_fault_code fault ∷ [])
-unfit_line (PartTop height top) = line (codes "refused" ∷ codes "part-top" ∷ canonical height ∷ codes "top" ∷ canonical top ∷ [])
+unfit_line (PartTop height top unit) = line (codes "refused" ∷ codes "part-top" ∷ canonical unit height ∷ codes "top" ∷ canonical unit top ∷ [])

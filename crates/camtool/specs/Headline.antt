@@ -44,10 +44,10 @@ pub record Completes (words : List (List ℕ)) (call : Call) : Type 0 where
   pub plans : (files : PlanFiles) (job : Job) (part : List Tri) → AsksPlan words files → AreSetupTold (setup_texts call.store.contents files.job files.part)
       → ReadsSetup (setup_texts call.store.contents files.job files.part) job part → NoFault call
       → (call.status ≡ 0) ⊎ ((call.status ≡ 8) ⊎ ((call.status ≡ 9) ⊎ (call.status ≡ 5)))
-  pub drops : (given : DropWords) (place : Place) (job : Job) (part : List Tri) → AsksDrop words given → ReadsPlace given.x given.y place
+  pub drops : (given : DropWords) (place : Place) (job : Job) (part : List Tri) → AsksDrop words given → ReadsPlace job.unit given.x given.y place
       → AreSetupTold (setup_texts call.store.contents given.job given.part) → ReadsSetup (setup_texts call.store.contents given.job given.part) job part
       → NoFault call → (call.status ≡ 0) ⊎ (call.status ≡ 5)
-  pub levels : (given : LevelWords) (height : ℤ) (job : Job) (part : List Tri) → AsksLevel words given → ReadsHeight given.z height
+  pub levels : (given : LevelWords) (height : ℤ) (job : Job) (part : List Tri) → AsksLevel words given → ReadsHeight job.unit given.z height
       → AreSetupTold (setup_texts call.store.contents given.job given.part) → ReadsSetup (setup_texts call.store.contents given.job given.part) job part
       → NoFault call → (call.status ≡ 0) ⊎ ((call.status ≡ 9) ⊎ (call.status ≡ 5))
   pub samples : (n : ℕ) → AsksSample words n → NoFault call → (call.status ≡ 0) ⊎ ((call.status ≡ 8) ⊎ ((call.status ≡ 9) ⊎ (call.status ≡ 5)))
@@ -102,7 +102,7 @@ pub record StoresSafely (call : Call) (files : PlanFiles) : Type 0 where
   pub stored : IsStored files.out text call.store call.store_after
   pub accepted : Judges (record { setup = setup_texts call.store.contents files.job files.part; program = Some text }) job part moves (Accept (length moves) columns left)
   pub safe : CutsSafely job part moves
-  pub printed : IsWritten (plan_line (done text (length moves) columns left)) call.sink call.sink_after
+  pub printed : IsWritten (plan_line job.unit (done text (length moves) columns left)) call.sink call.sink_after
 
 -- when `plan` answers 0, the program that it stored is accepted and cuts safely
 abbrev pub PlanHeadline : List (List ℕ) → Call → Type 0

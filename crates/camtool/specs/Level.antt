@@ -1,10 +1,11 @@
--- The command `level`: its word for a height, and the chains of points along which the cutter goes round the part there.
+-- The command `level`: its word for a height, read in the job's unit, and the chains of points along which the cutter goes round the part there.
 use Rattle.std.specs.Prelude.{◌≡◌, ◌≤◌, ℕ, ℤ, codes, decimal, Bool, if◌then◌else◌, List, [], ◌∷◌, ◌++◌, length, Ok, Err}
 use Rattle.std.specs.List.{flat_map}
 use Rattle.mill_base.specs.Lattices.{node_count}
 use Rattle.mill_base.specs.declared.limits.TheConstants.{MAX_NODES}
 use Rattle.mill_base.specs.declared.points.Pt3.{Pt3}
 use Rattle.mill_base.specs.declared.points.Tri.{Tri}
+use Rattle.mill_base.specs.declared.unit.Unit.{Unit}
 use Rattle.mill_decimal.specs.Decimals.{canonical, read_as}
 use Rattle.mill_decimal.specs.declared.fault.DecFault.{DecFault}
 use Rattle.mill_decimal.specs.declared.snap.Snap.TheVariants.{Exact}
@@ -14,22 +15,31 @@ use Rattle.mill_paths.specs.Lattices.{finish_lattice}
 use Rattle.camtool.specs.declared.place.Coordinate.{Coordinate}
 use Rattle.camtool.specs.declared.place.Coordinate.TheVariants.{Z}
 use Rattle.camtool.specs.Printed.{line, nodes_line}
-use Rattle.camtool.specs.Setup.{SetupTexts, ReadsSetup}
+use Rattle.camtool.specs.Setup.{SetupTexts, ReadsJob, ReadsSetup}
 
 -- ---- the word
 
--- the word for z reads as this height, and isn't finer than a unit
-abbrev pub ReadsHeight : List ℕ → ℤ → Type 0
-ReadsHeight z height = read_as Exact z ≡ Ok height
+-- in this unit the word for z reads as this height, and isn't finer than it
+abbrev pub ReadsHeight : Unit → List ℕ → ℤ → Type 0
+ReadsHeight unit z height = read_as Exact unit z ≡ Ok height
 
--- it reads as some height
-abbrev pub HasHeight : List ℕ → Type 0
-HasHeight z = (height : ℤ) × ReadsHeight z height
+-- the job is read, and in its unit the word reads as some height
+pub record HasHeight (texts : SetupTexts) (z : List ℕ) : Type 0 where
+  pub job : Job
+  pub height : ℤ
+  pub job_is : ReadsJob texts job
+  pub height_is : ReadsHeight job.unit z height
 
--- the word for z is refused, and this is its first fault
-abbrev pub RefusesHeight : List ℕ → Coordinate → DecFault → Type 0
-RefusesHeight z Z fault = read_as Exact z ≡ Err fault
-RefusesHeight z coordinate fault = ⊥
+-- in this unit the word for z is refused, and this is its first fault
+abbrev pub RefusesZ : Unit → List ℕ → Coordinate → DecFault → Type 0
+RefusesZ unit z Z fault = read_as Exact unit z ≡ Err fault
+RefusesZ unit z coordinate fault = ⊥
+
+-- the job is read, and in its unit the word is refused
+pub record RefusesHeight (texts : SetupTexts) (z : List ℕ) (coordinate : Coordinate) (fault : DecFault) : Type 0 where
+  pub job : Job
+  pub job_is : ReadsJob texts job
+  pub refused : RefusesZ job.unit z coordinate fault
 
 -- ---- the answers
 
@@ -44,12 +54,13 @@ abbrev pub IsLevelAnswer : Job → List Tri → ℤ → LevelAnswer → Type 0
 IsLevelAnswer job part height (outlines found) = IsWaterline job.cutter part height (finish_lattice job) found × (node_count (finish_lattice job) ≤ MAX_NODES)
 IsLevelAnswer job part height (too_many_nodes nodes) = HasManyNodes (finish_lattice job) nodes
 
--- word, job and part are read, and this is the answer at the height
-pub record Levels (z : List ℕ) (texts : SetupTexts) (answer : LevelAnswer) : Type 0 where
+-- job, word and part are read, and this is the answer at the height, in the job's unit
+pub record Levels (z : List ℕ) (texts : SetupTexts) (unit : Unit) (answer : LevelAnswer) : Type 0 where
   pub height : ℤ
   pub job : Job
   pub part : List Tri
-  pub height_is : ReadsHeight z height
+  pub unit_is : unit ≡ job.unit
+  pub height_is : ReadsHeight job.unit z height
   pub setup_is : ReadsSetup texts job part
   pub is : IsLevelAnswer job part height answer
 
@@ -61,22 +72,22 @@ level_status (outlines found) = 0
 level_status (too_many_nodes nodes) = 9
 
 -- the line of a point: its x and y
-abbrev pub point_line : Pt3 → List ℕ
-point_line p = line (canonical p.x ∷ canonical p.y ∷ [])
+abbrev pub point_line : Unit → Pt3 → List ℕ
+point_line unit p = line (canonical unit p.x ∷ canonical unit p.y ∷ [])
 
 -- whether a chain's last point is joined to its first
 abbrev pub closed_word : Bool → List ℕ
 closed_word closed = if closed then codes "closed" else codes "open"
 
 -- the lines of a chain: whether it is closed and how many points it has, and then each of them
-abbrev pub outline_text : Outline → List ℕ
-outline_text o = line (closed_word o.closed ∷ decimal (length o.points) ∷ []) ++ flat_map point_line o.points
+abbrev pub outline_text : Unit → Outline → List ℕ
+outline_text unit o = line (closed_word o.closed ∷ decimal (length o.points) ∷ []) ++ flat_map (point_line unit) o.points
 
 -- those of each chain in its order, and then how many chains there are
-abbrev pub outlines_text : List Outline → List ℕ
-outlines_text found = flat_map outline_text found ++ line (codes "chains" ∷ decimal (length found) ∷ [])
+abbrev pub outlines_text : Unit → List Outline → List ℕ
+outlines_text unit found = flat_map (outline_text unit) found ++ line (codes "chains" ∷ decimal (length found) ∷ [])
 
 -- the text of an answer
-abbrev pub level_line : LevelAnswer → List ℕ
-level_line (outlines found) = outlines_text found
-level_line (too_many_nodes nodes) = nodes_line nodes
+abbrev pub level_line : Unit → LevelAnswer → List ℕ
+level_line unit (outlines found) = outlines_text unit found
+level_line unit (too_many_nodes nodes) = nodes_line nodes

@@ -10,7 +10,7 @@ use Rattle.camtool.specs.Drop.{HasPlace}
 use Rattle.camtool.specs.Faults.{file_name}
 use Rattle.camtool.specs.Level.{HasHeight}
 use Rattle.camtool.specs.Printed.{line}
-use Rattle.camtool.specs.Setup.{setup_texts, IsReadBefore}
+use Rattle.camtool.specs.Setup.{setup_texts, IsReadBefore, IsReadBeforeWith}
 use Rattle.camtool.specs.Verify.{texts_of, IsReadBeforeProgram}
 
 -- what a call comes to before it prints: clap's text of help or of a mistake in the words; or no answer; or one
@@ -48,8 +48,8 @@ outcome_file _ = None
 abbrev pub ReadsBefore : (List ℕ → Option (List ℕ)) → Request → File → Type 0
 ReadsBefore contents (verify job part program workers) file = IsReadBeforeProgram (texts_of contents (record { job = job; part = part; program = program })) file
 ReadsBefore contents (plan job part out workers) file = IsReadBefore (setup_texts contents job part) file
-ReadsBefore contents (drop job part x y) file = HasPlace x y × IsReadBefore (setup_texts contents job part) file
-ReadsBefore contents (level job part z) file = HasHeight z × IsReadBefore (setup_texts contents job part) file
+ReadsBefore contents (drop job part x y) file = IsReadBeforeWith (HasPlace (setup_texts contents job part) x y) file
+ReadsBefore contents (level job part z) file = IsReadBeforeWith (HasHeight (setup_texts contents job part) z) file
 ReadsBefore contents (sample n workers) file = ⊥
 
 -- the work on a request comes to this: memory was short; or a file couldn't be read, and all before it could; or this is the answer

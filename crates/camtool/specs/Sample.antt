@@ -4,6 +4,7 @@ use Rattle.std.specs.List.{flat_map, range_with_len}
 use Rattle.mill_base.specs.declared.cutter.Cutter.TheVariants.{Ball}
 use Rattle.mill_base.specs.declared.points.Pt3.{Pt3}
 use Rattle.mill_base.specs.declared.points.Tri.{Tri}
+use Rattle.mill_base.specs.declared.unit.Unit.TheVariants.{Hundredth}
 use Rattle.mill_decimal.specs.Decimals.{canonical}
 use Rattle.mill_decimal.specs.declared.snap.Snap.TheVariants.{Nearest}
 use Rattle.mill_job.specs.declared.job.Job.{Job}
@@ -34,9 +35,10 @@ sample_part n = flat_map (sample_row n) (range_with_len 0 n)
 
 -- ---- the job
 
--- the job over that part: a ball of 1.00 mm, over all of the part, with columns 0.50 mm apart, of which 0.40 mm may be left
+-- the job over that part, in hundredths: a ball of 1.00 mm, over all of the part, with columns 0.50 mm apart, of which 0.40 mm may be left
 abbrev pub sample_job : ℕ → Job
 sample_job n = record {
+  unit = Hundredth;
   cutter = Ball (pos 100);
   floor = pos 0;
   top = pos 200;
@@ -68,5 +70,5 @@ sample_status answer = plan_status answer
 
 -- the line of an answer: of a program the size, and how many triangles, columns and moves there are and how much is left at most; of another, the line of `plan`
 abbrev pub sample_line : ℕ → PlanAnswer → List ℕ
-sample_line n (done text moves columns left) = line (codes "sample" ∷ decimal n ∷ codes "triangles" ∷ decimal (2 * n * n) ∷ codes "columns" ∷ decimal columns ∷ codes "moves" ∷ decimal moves ∷ codes "left" ∷ canonical left ∷ [])
-sample_line n answer = plan_line answer
+sample_line n (done text moves columns left) = line (codes "sample" ∷ decimal n ∷ codes "triangles" ∷ decimal (2 * n * n) ∷ codes "columns" ∷ decimal columns ∷ codes "moves" ∷ decimal moves ∷ codes "left" ∷ canonical Hundredth left ∷ [])
+sample_line n answer = plan_line Hundredth answer

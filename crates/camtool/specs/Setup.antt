@@ -2,8 +2,8 @@
 use Rattle.std.specs.Prelude.{◌≡◌, ℕ, ◌≤◌, ◌<◌, ℤ, ◌<ℤ◌, List, length, Option, IsSome, IfSome, Ok, Err}
 use Rattle.mill_base.specs.declared.limits.TheConstants.{MAX_FILE_BYTES}
 use Rattle.mill_base.specs.declared.points.Tri.{Tri}
+use Rattle.mill_base.specs.declared.unit.Unit.{Unit as LengthUnit}
 use Rattle.mill_base.specs.Covers.{IsUnder}
-use Rattle.mill_decimal.specs.declared.snap.Snap.{Snap}
 use Rattle.mill_part.specs.Tops.{IsTop}
 use Rattle.mill_stl.specs.Parts.{part_of}
 use Rattle.mill_stl.specs.declared.fault.StlFault.{StlFault}
@@ -53,20 +53,20 @@ ReadsJob texts job = IfSome texts.job (λ text. IsJobText text job)
 
 -- ---- the part
 
--- a text within the limit that reads, under this snap, as these triangles
-pub record IsPartText (snap : Snap) (text : List ℕ) (part : List Tri) : Type 0 where
+-- a text within the limit that reads, in the job's unit and under its snap, as these triangles
+pub record IsPartText (job : Job) (text : List ℕ) (part : List Tri) : Type 0 where
   pub fits : Fits text
   pub rounded : ℕ
-  pub reads : part_of snap text ≡ Ok (record { tris = part; rounded = rounded })
+  pub reads : part_of job.snap job.unit text ≡ Ok (record { tris = part; rounded = rounded })
 
--- a text within the limit that is refused under this snap, with its first fault
-pub record IsRefusedPart (snap : Snap) (text : List ℕ) (fault : StlFault) : Type 0 where
+-- a text within the limit that is refused in that unit and under that snap, with its first fault
+pub record IsRefusedPart (job : Job) (text : List ℕ) (fault : StlFault) : Type 0 where
   pub fits : Fits text
-  pub refused : part_of snap text ≡ Err fault
+  pub refused : part_of job.snap job.unit text ≡ Err fault
 
--- where the part's file is told, it reads, under the job's snap, as these triangles
+-- where the part's file is told, it reads, for the job, as these triangles
 abbrev pub ReadsPart : SetupTexts → Job → List Tri → Type 0
-ReadsPart texts job part = IfSome texts.part (λ text. IsPartText job.snap text part)
+ReadsPart texts job part = IfSome texts.part (λ text. IsPartText job text part)
 
 -- each of the two files, where it is told, reads as this job and as this part, and the part isn't over the job's top
 pub record ReadsSetup (texts : SetupTexts) (job : Job) (part : List Tri) : Type 0 where
@@ -86,16 +86,17 @@ pub record LongPart (texts : SetupTexts) : Type 0 where
 pub record RefusesPart (texts : SetupTexts) (fault : StlFault) : Type 0 where
   pub job : Job
   pub job_is : ReadsJob texts job
-  pub refused : IfSome texts.part (λ text. IsRefusedPart job.snap text fault)
+  pub refused : IfSome texts.part (λ text. IsRefusedPart job text fault)
 
--- job and part are read, and the part's greatest height is over the job's top
-pub record HighPart (texts : SetupTexts) (height top : ℤ) : Type 0 where
+-- job and part are read, and the part's greatest height is over the job's top; both are in the job's unit
+pub record HighPart (texts : SetupTexts) (height top : ℤ) (unit : LengthUnit) : Type 0 where
   pub job : Job
   pub part : List Tri
   pub job_is : ReadsJob texts job
   pub part_is : ReadsPart texts job part
   pub greatest : IsTop part height
   pub limit : top ≡ job.top
+  pub unit_is : unit ≡ job.unit
   pub over : top <ℤ height
 
 -- the first check of the two files that fails
@@ -106,10 +107,24 @@ IsUnfit texts (TooLong ProgramFile) = ⊥
 IsUnfit texts (JobRefused fault) = IfSome texts.job (λ text. IsRefusedJob text fault)
 IsUnfit texts (PartRefused fault) = RefusesPart texts fault
 IsUnfit texts (ProgramRefused fault) = ⊥
-IsUnfit texts (PartTop height top) = HighPart texts height top
+IsUnfit texts (PartTop height top unit) = HighPart texts height top unit
 
 -- all that is read and checked before the job's or the part's file holds
 abbrev pub IsReadBefore : SetupTexts → File → Type 0
 IsReadBefore texts JobFile = Unit {0}
 IsReadBefore texts PartFile = (job : Job) × ReadsJob texts job
 IsReadBefore texts ProgramFile = ⊥
+
+-- ---- where a command reads words behind the job
+
+-- all that is read and checked before the job's or the part's file, where a command reads words between the two
+abbrev pub IsReadBeforeWith : Type 0 → File → Type 0
+IsReadBeforeWith ReadsWords JobFile = Unit {0}
+IsReadBeforeWith ReadsWords PartFile = ReadsWords
+IsReadBeforeWith ReadsWords ProgramFile = ⊥
+
+-- the first check of the two files that fails, where a command reads words between the two
+abbrev pub IsUnfitWith : Type 0 → SetupTexts → Unfit → Type 0
+IsUnfitWith ReadsWords texts (TooLong JobFile) = IsUnfit texts (TooLong JobFile)
+IsUnfitWith ReadsWords texts (JobRefused fault) = IsUnfit texts (JobRefused fault)
+IsUnfitWith ReadsWords texts unfit = ReadsWords × IsUnfit texts unfit

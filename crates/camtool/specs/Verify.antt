@@ -2,6 +2,7 @@
 use Rattle.std.specs.Prelude.{◌≡◌, ℕ, ◌<◌, codes, decimal, List, [], ◌∷◌, length, Option, IsSome, IfSome, Ok, Err}
 use Rattle.mill_base.specs.declared.points.Tri.{Tri}
 use Rattle.mill_base.specs.declared.motion.Move.{Move}
+use Rattle.mill_base.specs.declared.unit.Unit.{Unit as LengthUnit}
 use Rattle.mill_decimal.specs.Decimals.{canonical}
 use Rattle.mill_sweep.specs.declared.leaf.Leaf.{Leaf}
 use Rattle.mill_ngc.specs.Programs.{program_of}
@@ -38,17 +39,17 @@ pub record AreTold (texts : Texts) : Type 0 where
 
 -- ---- the program
 
--- a text within the limit that reads, from the job's home, as these moves
+-- a text within the limit that reads, from the job's home and in its unit, as these moves
 pub record IsProgramText (job : Job) (text : List ℕ) (moves : List Move) : Type 0 where
   pub fits : Fits text
-  pub reads : program_of (home job) text ≡ Ok moves
+  pub reads : program_of (home job) job.unit text ≡ Ok moves
 
 -- a text within the limit that is refused, with its first fault
 pub record IsRefusedProgram (job : Job) (text : List ℕ) (fault : NgcFault) : Type 0 where
   pub fits : Fits text
-  pub refused : program_of (home job) text ≡ Err fault
+  pub refused : program_of (home job) job.unit text ≡ Err fault
 
--- where the program's file is told, it reads, from the job's home, as these moves
+-- where the program's file is told, it reads, for the job, as these moves
 abbrev pub ReadsProgram : Texts → Job → List Move → Type 0
 ReadsProgram texts job moves = IfSome texts.program (λ text. IsProgramText job text moves)
 
@@ -119,12 +120,19 @@ verdict_status (Reject reason) = 3
 abbrev pub leaf_words : Leaf → List (List ℕ)
 leaf_words leaf = codes "leaf" ∷ decimal leaf.d ∷ decimal leaf.k ∷ []
 
--- the line of a rejection; a floor's has the height of the move's end
-abbrev pub rejection_line : List Move → Reason → List ℕ
-rejection_line moves (Floor k) = line (codes "rejected" ∷ codes "floor" ∷ codes "move" ∷ decimal k ∷ codes "z" ∷ canonical (move_at moves k).to.z ∷ [])
-rejection_line moves (Gouge k t leaf) = line (codes "rejected" ∷ codes "gouge" ∷ codes "move" ∷ decimal k ∷ codes "triangle" ∷ decimal t ∷ leaf_words leaf)
-rejection_line moves (RapidCut k j i leaf) = line (codes "rejected" ∷ codes "rapid" ∷ codes "move" ∷ decimal k ∷ codes "row" ∷ decimal j ∷ codes "column" ∷ decimal i ∷ leaf_words leaf)
-rejection_line moves (Left j i top) = line (codes "rejected" ∷ codes "left" ∷ column_words j i top)
+-- the line of a move that gouges, and of a rapid that removes a column's top
+abbrev pub gouge_line : ℕ → ℕ → Leaf → List ℕ
+gouge_line k t leaf = line (codes "rejected" ∷ codes "gouge" ∷ codes "move" ∷ decimal k ∷ codes "triangle" ∷ decimal t ∷ leaf_words leaf)
+
+abbrev pub rapid_line : ℕ → ℕ → ℕ → Leaf → List ℕ
+rapid_line k j i leaf = line (codes "rejected" ∷ codes "rapid" ∷ codes "move" ∷ decimal k ∷ codes "row" ∷ decimal j ∷ codes "column" ∷ decimal i ∷ leaf_words leaf)
+
+-- the line of a rejection, with lengths in this unit; a floor's has the height of the move's end
+abbrev pub rejection_line : LengthUnit → List Move → Reason → List ℕ
+rejection_line unit moves (Floor k) = line (codes "rejected" ∷ codes "floor" ∷ codes "move" ∷ decimal k ∷ codes "z" ∷ canonical unit (move_at moves k).to.z ∷ [])
+rejection_line unit moves (Gouge k t leaf) = gouge_line k t leaf
+rejection_line unit moves (RapidCut k j i leaf) = rapid_line k j i leaf
+rejection_line unit moves (Left j i top) = line (codes "rejected" ∷ codes "left" ∷ column_words unit j i top)
 
 -- the end of a line that names a segment of a move
 abbrev pub leaf_end : Leaf → List ℕ
@@ -132,7 +140,7 @@ leaf_end leaf = 32 ∷ line (leaf_words leaf)
 
 -- the end of an acceptance's line
 abbrev pub tolerances_end : Job → List ℕ
-tolerances_end job = 32 ∷ line (codes "band" ∷ canonical job.band ∷ codes "allowance" ∷ canonical job.allowance ∷ [])
+tolerances_end job = 32 ∷ line (codes "band" ∷ canonical job.unit job.band ∷ codes "allowance" ∷ canonical job.unit job.allowance ∷ [])
 
 -- the move that a verdict's line shows the height of is there
 abbrev pub NamesMove : List Move → Verdict → Type 0
@@ -141,5 +149,5 @@ NamesMove moves _ = Unit {0}
 
 -- the line of a verdict
 abbrev pub verdict_line : Job → List Move → Verdict → List ℕ
-verdict_line job moves (Accept count columns left) = line (codes "accepted" ∷ codes "moves" ∷ decimal count ∷ codes "columns" ∷ decimal columns ∷ codes "left" ∷ canonical left ∷ codes "band" ∷ canonical job.band ∷ codes "allowance" ∷ canonical job.allowance ∷ [])
-verdict_line job moves (Reject reason) = rejection_line moves reason
+verdict_line job moves (Accept count columns left) = line (codes "accepted" ∷ codes "moves" ∷ decimal count ∷ codes "columns" ∷ decimal columns ∷ codes "left" ∷ canonical job.unit left ∷ codes "band" ∷ canonical job.unit job.band ∷ codes "allowance" ∷ canonical job.unit job.allowance ∷ [])
+verdict_line job moves (Reject reason) = rejection_line job.unit moves reason

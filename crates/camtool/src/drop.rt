@@ -10,19 +10,19 @@ ghost use Rattle.camtool.specs.inner.Prints.{PrintsHeight};
 ghost use Rattle.camtool.specs.Statuses.{status_code};
 
 use crate::faults::line_of_word_fault;
-use crate::load::{Setup, load_setup};
+use crate::load::{Setup, load_job, load_under};
 use crate::place::read_place;
 use crate::print::{add_length, add_text};
 use crate::status::Status;
 use crate::tell::{tell_fault, tell_made};
-use mill_base::WantOfMemory;
+use mill_base::{Unit, WantOfMemory};
 use mill_drop::drop_once;
 use mill_io::{Shelf, Sink};
 use mill_job::Place;
 use std::alloc::Global;
 
-/// The work of `drop`: reads the place, then the job and the part, and prints the drop height there
-/// or what keeps it from one.
+/// The work of `drop`: reads the job, then the place in the job's unit, then the part, and prints
+/// the drop height there or what keeps it from one.
 pub fn drop_cutter<S: Shelf, O: Sink>(
     alloc: Global,
     shelf: &mut S,
@@ -36,11 +36,15 @@ pub fn drop_cutter<S: Shelf, O: Sink>(
     ensures { Serves (asks_drop job.now part.now x.now y.now)
         (call_of result (S.shows shelf.old) (S.shows shelf.new) (O.shows out.old) (O.shows out.new)) }
 {
-    let place = match read_place(x, y) {
+    let job = match load_job(alloc, shelf, job) {
+        Ok(job) => job,
+        Err(fault) => return tell_fault(alloc, fault, out),
+    };
+    let place = match read_place(x, y, job.unit) {
         Ok(place) => place,
         Err(fault) => return tell_made(line_of_word_fault(alloc, fault), Status::Refused, out),
     };
-    match load_setup(alloc, shelf, job, part) {
+    match load_under(alloc, shelf, job, part) {
         Ok(setup) => tell_drop(alloc, &setup, place, out),
         Err(fault) => tell_fault(alloc, fault, out),
     }
@@ -49,23 +53,23 @@ pub fn drop_cutter<S: Shelf, O: Sink>(
 /// Prints the drop height at a place.
 fn tell_drop<O: Sink>(alloc: Global, setup: &Setup, place: Place, out: &mut O) -> Status
     requires ready { IsSetup setup.now }
-    requires place_ok { IsPlace place }
+    requires place_ok { IsPlace setup.now.job.unit place }
     requires prints { (O.shows out.old).faults < 2 ^ 64 - 1 }
     ensures { PrintsHeight setup.now place (status_code result)
         (O.shows out.old) (O.shows out.new) }
 {
     let job = &setup.job;
     let height = drop_once(&setup.part, job.cutter, place.x, place.y, job.floor);
-    tell_made(line_of_height(alloc, height), Status::Done, out)
+    tell_made(line_of_height(alloc, height, job.unit), Status::Done, out)
 }
 
 /// The line of a drop height.
-fn line_of_height(alloc: Global, height: i32) -> Result<Vec<u8>, WantOfMemory>
-    ensures { IfOk result (λ line. line.items ≡ height_line height) }
+fn line_of_height(alloc: Global, height: i32, unit: Unit) -> Result<Vec<u8>, WantOfMemory>
+    ensures { IfOk result (λ line. line.items ≡ height_line unit height) }
 {
     let mut line = Vec::new(alloc);
     add_text(&mut line, b"drop ")?;
-    add_length(&mut line, height)?;
+    add_length(&mut line, height, unit)?;
     add_text(&mut line, b"\n")?;
     Ok(line)
 }

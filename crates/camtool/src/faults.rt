@@ -7,7 +7,7 @@ use crate::file::File;
 use crate::load::Unfit;
 use crate::place::{Coordinate, WordFault};
 use crate::print::{add_length, add_number, add_text};
-use mill_base::WantOfMemory;
+use mill_base::{Unit, WantOfMemory};
 use mill_decimal::DecFault;
 use mill_job::{JobFault, Key};
 use mill_ngc::NgcFault;
@@ -46,7 +46,7 @@ pub fn line_of_unfit(alloc: Global, fault: &Unfit) -> Result<Vec<u8>, WantOfMemo
         Unfit::JobRefused(fault) => line_of_job_fault(alloc, fault),
         Unfit::PartRefused(fault) => line_of_part_fault(alloc, *fault),
         Unfit::ProgramRefused(fault) => line_of_program_fault(alloc, *fault),
-        Unfit::PartTop { height, top } => line_of_high_part(alloc, *height, *top),
+        Unfit::PartTop { height, top, unit } => line_of_high_part(alloc, *height, *top, *unit),
     }
 }
 
@@ -218,14 +218,19 @@ fn code_of_program(fault: NgcFault) -> &'static [u8]
 }
 
 /// The line of a part whose greatest height is over the job's top.
-fn line_of_high_part(alloc: Global, height: i32, top: i32) -> Result<Vec<u8>, WantOfMemory>
-    ensures { IfOk result (λ line. line.items ≡ unfit_line (Unfit.PartTop height top)) }
+fn line_of_high_part(
+    alloc: Global,
+    height: i32,
+    top: i32,
+    unit: Unit,
+) -> Result<Vec<u8>, WantOfMemory>
+    ensures { IfOk result (λ line. line.items ≡ unfit_line (Unfit.PartTop height top unit)) }
 {
     let mut line = Vec::new(alloc);
     add_text(&mut line, b"refused part-top ")?;
-    add_length(&mut line, height)?;
+    add_length(&mut line, height, unit)?;
     add_text(&mut line, b" top ")?;
-    add_length(&mut line, top)?;
+    add_length(&mut line, top, unit)?;
     add_text(&mut line, b"\n")?;
     Ok(line)
 }

@@ -2,7 +2,7 @@
 //! height.
 ghost use Rattle.std.specs.Prelude.{◌≡◌, ◌++◌, ◌-◌, ◌^◌, ◌<◌, ◌≤◌, ℕ, IfOk, IsErrOf, OnOk, map as map_list};
 ghost use Rattle.mill_base.specs.Numbers.{Within};
-ghost use Rattle.mill_base.specs.declared.limits.TheConstants.{MAX_NODES, MAX_TEXT_COORDINATE};
+ghost use Rattle.mill_base.specs.declared.limits.TheConstants.{MAX_COORDINATE, MAX_NODES};
 ghost use Rattle.mill_base.specs.Lattices.{node_count};
 ghost use Rattle.mill_command.specs.Requests.{level as asks_level};
 ghost use Rattle.mill_level.specs.Waterlines.{HasManyNodes, IsWaterline, seen};
@@ -16,20 +16,20 @@ ghost use Rattle.camtool.specs.inner.Prints.{TriesLevel};
 ghost use Rattle.camtool.specs.Statuses.{status_code};
 
 use crate::faults::line_of_word_fault;
-use crate::load::{Setup, load_setup};
+use crate::load::{Setup, load_job, load_under};
 use crate::place::read_height;
 use crate::print::{add_length, add_number, add_text, line_of_nodes};
 use crate::status::Status;
 use crate::tell::{tell, tell_fault, tell_made};
-use mill_base::{Pt3, WantOfMemory};
+use mill_base::{Pt3, Unit, WantOfMemory};
 use mill_io::{Shelf, Sink};
 use mill_level::{Chain, LevelFault, waterline};
 use mill_part::SortedPart;
 use mill_paths::finish_lattice;
 use std::alloc::Global;
 
-/// The work of `level`: reads the height, then the job and the part, and prints the chains along
-/// which the cutter goes round the part there, or what keeps it from them.
+/// The work of `level`: reads the job, then the height in the job's unit, then the part, and prints
+/// the chains along which the cutter goes round the part there, or what keeps it from them.
 pub fn level_part<S: Shelf, O: Sink>(
     alloc: Global,
     shelf: &mut S,
@@ -42,11 +42,15 @@ pub fn level_part<S: Shelf, O: Sink>(
     ensures { Serves (asks_level job.now part.now z.now)
         (call_of result (S.shows shelf.old) (S.shows shelf.new) (O.shows out.old) (O.shows out.new)) }
 {
-    let height = match read_height(z) {
+    let job = match load_job(alloc, shelf, job) {
+        Ok(job) => job,
+        Err(fault) => return tell_fault(alloc, fault, out),
+    };
+    let height = match read_height(z, job.unit) {
         Ok(height) => height,
         Err(fault) => return tell_made(line_of_word_fault(alloc, fault), Status::Refused, out),
     };
-    match load_setup(alloc, shelf, job, part) {
+    match load_under(alloc, shelf, job, part) {
         Ok(setup) => tell_level(alloc, &setup, height, out),
         Err(fault) => tell_fault(alloc, fault, out),
     }
@@ -55,12 +59,12 @@ pub fn level_part<S: Shelf, O: Sink>(
 /// Prints the chains at a height, or why there are none.
 fn tell_level<O: Sink>(alloc: Global, setup: &Setup, height: i32, out: &mut O) -> Status
     requires ready { IsSetup setup.now }
-    requires height_ok { Within MAX_TEXT_COORDINATE height }
+    requires height_ok { Within MAX_COORDINATE height }
     requires prints { (O.shows out.old).faults < 2 ^ 64 - 1 }
     ensures { TriesLevel setup.now height (status_code result) (O.shows out.old) (O.shows out.new) }
 {
     match chains_at(alloc, setup, height) {
-        Ok(chains) => tell_made(text_of_chains(alloc, &chains), Status::Done, out),
+        Ok(chains) => tell_made(text_of_chains(alloc, &chains, setup.job.unit), Status::Done, out),
         Err(LevelFault::TooManyNodes { nodes }) => {
             tell_made(line_of_nodes(alloc, nodes), Status::TooLarge, out)
         }
@@ -71,7 +75,7 @@ fn tell_level<O: Sink>(alloc: Global, setup: &Setup, height: i32, out: &mut O) -
 /// The chains at a height, over the job's area by steps of its raster.
 fn chains_at(alloc: Global, setup: &Setup, height: i32) -> Result<Vec<Chain>, LevelFault>
     requires ready { IsSetup setup.now }
-    requires height_ok { Within MAX_TEXT_COORDINATE height }
+    requires height_ok { Within MAX_COORDINATE height }
     ensures chains { IfOk result (λ chains. IsWaterline setup.now.job.cutter setup.now.part height
         (finish_lattice_of setup.now.job) (map_list seen chains.items)) }
     ensures few { IfOk result (λ _. node_count (finish_lattice_of setup.now.job) ≤ MAX_NODES) }
@@ -86,12 +90,12 @@ fn chains_at(alloc: Global, setup: &Setup, height: i32) -> Result<Vec<Chain>, Le
 }
 
 /// The text of all chains.
-fn text_of_chains(alloc: Global, chains: &[Chain]) -> Result<Vec<u8>, WantOfMemory>
-    ensures { IfOk result (λ text. text.items ≡ outlines_text (map_list seen chains.now)) }
+fn text_of_chains(alloc: Global, chains: &[Chain], unit: Unit) -> Result<Vec<u8>, WantOfMemory>
+    ensures { IfOk result (λ text. text.items ≡ outlines_text unit (map_list seen chains.now)) }
 {
     let mut text = Vec::new(alloc);
     for chain in chains {
-        add_chain(&mut text, chain)?;
+        add_chain(&mut text, chain, unit)?;
     }
     add_text(&mut text, b"chains ")?;
     add_number(&mut text, chains.len() as u64)?;
@@ -100,15 +104,15 @@ fn text_of_chains(alloc: Global, chains: &[Chain]) -> Result<Vec<u8>, WantOfMemo
 }
 
 // One chain: whether it is closed, how many points it has, and the points.
-fn add_chain(text: &mut Vec<u8>, chain: &Chain) -> Result<(), WantOfMemory>
-    ensures { OnOk result (text.new.items ≡ text.old.items ++ outline_text (seen chain.now)) }
+fn add_chain(text: &mut Vec<u8>, chain: &Chain, unit: Unit) -> Result<(), WantOfMemory>
+    ensures { OnOk result (text.new.items ≡ text.old.items ++ outline_text unit (seen chain.now)) }
 {
     add_text(text, word_of_closed(chain.closed))?;
     add_text(text, b" ")?;
     add_number(text, chain.points.len() as u64)?;
     add_text(text, b"\n")?;
     for point in &chain.points {
-        add_point(text, *point)?;
+        add_point(text, *point, unit)?;
     }
     Ok(())
 }
@@ -119,12 +123,12 @@ fn word_of_closed(closed: bool) -> &'static [u8]
     if closed { b"closed" } else { b"open" }
 }
 
-fn add_point(text: &mut Vec<u8>, point: Pt3) -> Result<(), WantOfMemory>
-    ensures { OnOk result (text.new.items ≡ text.old.items ++ point_line point) }
+fn add_point(text: &mut Vec<u8>, point: Pt3, unit: Unit) -> Result<(), WantOfMemory>
+    ensures { OnOk result (text.new.items ≡ text.old.items ++ point_line unit point) }
 {
-    add_length(text, point.x)?;
+    add_length(text, point.x, unit)?;
     add_text(text, b" ")?;
-    add_length(text, point.y)?;
+    add_length(text, point.y, unit)?;
     add_text(text, b"\n")?;
     Ok(())
 }

@@ -1,13 +1,12 @@
 //! Reading the job and the part of a command.
 ghost use Rattle.std.specs.Prelude.{◌≡◌, IfOk, Some};
 ghost use Rattle.mill_job.specs.Jobs.{IsJob};
-ghost use Rattle.camtool.specs.inner.Loads.{ReadsFile, LoadsJob, LoadsPart, LoadsSetup, OnlyLoads, CountsFault, IsSetup, IsLow};
+ghost use Rattle.camtool.specs.inner.Loads.{ReadsFile, LoadsJob, LoadsPart, LoadsUnder, LoadsSetup, OnlyLoads, CountsFault, IsSetup, IsLow};
 ghost use Rattle.camtool.specs.Setup.{setup_texts, Fits};
 ghost use Rattle.camtool.specs.declared.load.LoadFault.TheVariants as load_fault;
 
 use crate::file::File;
-use mill_base::{MAX_FILE_BYTES, WantOfMemory};
-use mill_decimal::Snap;
+use mill_base::{MAX_FILE_BYTES, Unit, WantOfMemory};
 use mill_io::{ReadEnd, Shelf, read_whole};
 use mill_job::{Job, JobFault, read_job};
 use mill_ngc::NgcFault;
@@ -26,8 +25,8 @@ pub enum Unfit {
     PartRefused(StlFault),
     /// The program's text is refused.
     ProgramRefused(NgcFault),
-    /// The part's greatest height is over the job's top.
-    PartTop { height: i32, top: i32 },
+    /// The part's greatest height is over the job's top; both are in the job's unit.
+    PartTop { height: i32, top: i32, unit: Unit },
 }
 
 /// What keeps a command from its files.
@@ -75,11 +74,25 @@ pub fn load_setup<S: Shelf>(
     ensures ready { IfOk result IsSetup }
     ensures store { OnlyLoads (S.shows shelf.old) (S.shows shelf.new) result }
 {
-    let job = match load_job(alloc, shelf, job) {
-        Ok(job) => job,
-        Err(fault) => return Err(fault),
-    };
-    let part = match load_part(alloc, shelf, part, job.snap) {
+    match load_job(alloc, shelf, job) {
+        Ok(job) => load_under(alloc, shelf, job, part),
+        Err(fault) => Err(fault),
+    }
+}
+
+/// Reads the part for a job, and checks its top.
+pub fn load_under<S: Shelf>(
+    alloc: Global,
+    shelf: &mut S,
+    job: Job,
+    name: &str,
+) -> Result<Setup, LoadFault>
+    requires { IsJob job }
+    ensures told { LoadsUnder job ((S.shows shelf.old).contents name.now) result }
+    ensures ready { IfOk result IsSetup }
+    ensures store { OnlyLoads (S.shows shelf.old) (S.shows shelf.new) result }
+{
+    let part = match load_part(alloc, shelf, name, &job) {
         Ok(part) => part,
         Err(fault) => return Err(fault),
     };
@@ -87,6 +100,7 @@ pub fn load_setup<S: Shelf>(
         return Err(LoadFault::Unfit(Unfit::PartTop {
             height,
             top: job.top,
+            unit: job.unit,
         }));
     }
     Ok(Setup { job, part })
@@ -102,7 +116,8 @@ fn height_over(job: &Job, part: &Part) -> Option<i32>
     }
 }
 
-fn load_job<S: Shelf>(alloc: Global, shelf: &mut S, name: &str) -> Result<Job, LoadFault>
+/// Reads the job.
+pub fn load_job<S: Shelf>(alloc: Global, shelf: &mut S, name: &str) -> Result<Job, LoadFault>
     ensures told { LoadsJob ((S.shows shelf.old).contents name.now) result }
     ensures in_range { IfOk result IsJob }
     ensures store { OnlyLoads (S.shows shelf.old) (S.shows shelf.new) result }
@@ -117,13 +132,13 @@ fn load_part<S: Shelf>(
     alloc: Global,
     shelf: &mut S,
     name: &str,
-    snap: Snap,
+    job: &Job,
 ) -> Result<Part, LoadFault>
-    ensures told { LoadsPart snap ((S.shows shelf.old).contents name.now) result }
+    ensures told { LoadsPart job.now ((S.shows shelf.old).contents name.now) result }
     ensures store { OnlyLoads (S.shows shelf.old) (S.shows shelf.new) result }
 {
     match read_file(alloc, shelf, name, File::Part) {
-        Ok(text) => part_from(alloc, &text, snap),
+        Ok(text) => part_from(alloc, &text, job),
         Err(fault) => Err(fault),
     }
 }
@@ -160,12 +175,12 @@ fn job_from(alloc: Global, text: &[u8]) -> Result<Job, LoadFault>
     }
 }
 
-fn part_from(alloc: Global, text: &[u8], snap: Snap) -> Result<Part, LoadFault>
+fn part_from(alloc: Global, text: &[u8], job: &Job) -> Result<Part, LoadFault>
     requires { Fits text.now }
-    ensures told { LoadsPart snap (Some text.now) result }
+    ensures told { LoadsPart job.now (Some text.now) result }
     ensures cause { CountsFault 0 0 result }
 {
-    match read_stl(alloc, text, snap) {
+    match read_stl(alloc, text, job.snap, job.unit) {
         Ok(read) => Ok(Part::new(read.tris)),
         Err(StlFault::WantOfMemory) => Err(LoadFault::Memory),
         Err(fault) => Err(LoadFault::Unfit(Unfit::PartRefused(fault))),

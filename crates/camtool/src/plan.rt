@@ -14,7 +14,7 @@ use crate::load::{Setup, load_setup};
 use crate::print::{add_column, add_length, add_number, add_text, line_of_nodes};
 use crate::status::Status;
 use crate::tell::{tell, tell_fault, tell_made};
-use mill_base::WantOfMemory;
+use mill_base::{Unit, WantOfMemory};
 use mill_io::{Failed, Shelf, Sink, store};
 use mill_plan::{PlanFault, Planned, plan};
 use std::alloc::Global;
@@ -60,8 +60,8 @@ fn tell_plan<R: Threads + Sync, S: Shelf, O: Sink>(
         (call_of result (S.shows shelf.old) (S.shows shelf.new) (O.shows out.old) (O.shows out.new)) }
 {
     match plan(rt, alloc, &setup.job, &setup.part, workers) {
-        Ok(planned) => store_plan(alloc, shelf, name, &planned, out),
-        Err(fault) => tell_plan_fault(alloc, fault, out),
+        Ok(planned) => store_plan(alloc, shelf, setup.job.unit, name, &planned, out),
+        Err(fault) => tell_plan_fault(alloc, fault, setup.job.unit, out),
     }
 }
 
@@ -72,15 +72,16 @@ fn tell_plan<R: Threads + Sync, S: Shelf, O: Sink>(
 fn store_plan<S: Shelf, O: Sink>(
     alloc: Global,
     shelf: &mut S,
+    unit: Unit,
     name: &str,
     planned: &Planned,
     out: &mut O,
 ) -> Status
     requires counts { CanCount (S.shows shelf.old) (O.shows out.old) }
-    ensures { ShowsOr (answered (planned_answer name.now (answer_of planned.now)))
+    ensures { ShowsOr (answered (planned_answer unit name.now (answer_of planned.now)))
         (call_of result (S.shows shelf.old) (S.shows shelf.new) (O.shows out.old) (O.shows out.new)) }
 {
-    let line = match line_of_plan(alloc, planned) {
+    let line = match line_of_plan(alloc, planned, unit) {
         Ok(line) => line,
         Err(WantOfMemory) => return tell(out, b"out of memory\n", Status::Memory),
     };
@@ -91,9 +92,14 @@ fn store_plan<S: Shelf, O: Sink>(
 }
 
 /// Prints why there is no program.
-pub fn tell_plan_fault<O: Sink>(alloc: Global, fault: PlanFault, out: &mut O) -> Status
+pub fn tell_plan_fault<O: Sink>(
+    alloc: Global,
+    fault: PlanFault,
+    unit: Unit,
+    out: &mut O,
+) -> Status
     requires { (O.shows out.old).faults < 2 ^ 64 - 1 }
-    ensures { PrintsPlanFault fault (status_code result) (O.shows out.old) (O.shows out.new) }
+    ensures { PrintsPlanFault unit fault (status_code result) (O.shows out.old) (O.shows out.new) }
 {
     match fault {
         PlanFault::TooManyNodes { nodes } => {
@@ -101,15 +107,15 @@ pub fn tell_plan_fault<O: Sink>(alloc: Global, fault: PlanFault, out: &mut O) ->
         }
         PlanFault::TooManyMoves => tell(out, b"over moves\n", Status::TooLarge),
         PlanFault::Uncut { row, col, top } => {
-            tell_made(line_of_uncut(alloc, row, col, top), Status::Uncut, out)
+            tell_made(line_of_uncut(alloc, row, col, top, unit), Status::Uncut, out)
         }
         PlanFault::WantOfMemory => tell(out, b"out of memory\n", Status::Memory),
     }
 }
 
 /// The line of a program that was planned.
-fn line_of_plan(alloc: Global, planned: &Planned) -> Result<Vec<u8>, WantOfMemory>
-    ensures { IfOk result (λ line. line.items ≡ plan_line (answer_of planned.now)) }
+fn line_of_plan(alloc: Global, planned: &Planned, unit: Unit) -> Result<Vec<u8>, WantOfMemory>
+    ensures { IfOk result (λ line. line.items ≡ plan_line unit (answer_of planned.now)) }
 {
     let mut line = Vec::new(alloc);
     add_text(&mut line, b"planned moves ")?;
@@ -117,17 +123,23 @@ fn line_of_plan(alloc: Global, planned: &Planned) -> Result<Vec<u8>, WantOfMemor
     add_text(&mut line, b" columns ")?;
     add_number(&mut line, planned.columns)?;
     add_text(&mut line, b" left ")?;
-    add_length(&mut line, planned.most_left)?;
+    add_length(&mut line, planned.most_left, unit)?;
     add_text(&mut line, b"\n")?;
     Ok(line)
 }
 
 /// The line of a plan that leaves this column's top uncut.
-fn line_of_uncut(alloc: Global, row: u32, col: u32, top: i32) -> Result<Vec<u8>, WantOfMemory>
-    ensures { IfOk result (λ line. line.items ≡ plan_line (uncut row col top)) }
+fn line_of_uncut(
+    alloc: Global,
+    row: u32,
+    col: u32,
+    top: i32,
+    unit: Unit,
+) -> Result<Vec<u8>, WantOfMemory>
+    ensures { IfOk result (λ line. line.items ≡ plan_line unit (uncut row col top)) }
 {
     let mut line = Vec::new(alloc);
     add_text(&mut line, b"uncut")?;
-    add_column(&mut line, row, col, top)?;
+    add_column(&mut line, row, col, top, unit)?;
     Ok(line)
 }

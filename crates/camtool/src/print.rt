@@ -4,7 +4,7 @@ ghost use Rattle.mill_decimal.specs.Decimals.{canonical};
 ghost use Rattle.camtool.specs.Printed.{column_end, nodes_line};
 
 use itoa::Buffer;
-use mill_base::WantOfMemory;
+use mill_base::{Unit, WantOfMemory};
 use mill_decimal::{NumText, write_decimal};
 use std::alloc::Global;
 
@@ -24,25 +24,31 @@ pub fn add_number(line: &mut Vec<u8>, number: u64) -> Result<(), WantOfMemory>
     add_text(line, buffer.format(number).as_bytes())
 }
 
-/// Adds a length in millimetres to a line.
-pub fn add_length(line: &mut Vec<u8>, units: i32) -> Result<(), WantOfMemory>
-    ensures { OnOk result (line.new.items ≡ line.old.items ++ canonical units) }
+/// Adds a length, of so many units, to a line, in millimetres.
+pub fn add_length(line: &mut Vec<u8>, units: i32, unit: Unit) -> Result<(), WantOfMemory>
+    ensures { OnOk result (line.new.items ≡ line.old.items ++ canonical unit units) }
 {
     let mut text = NumText::new();
-    write_decimal(units, &mut text);
+    write_decimal(units, unit, &mut text);
     add_text(line, text.as_bytes())
 }
 
 /// Adds a column of the stock that is left with this top, and the line's end.
-pub fn add_column(line: &mut Vec<u8>, row: u32, column: u32, top: i32) -> Result<(), WantOfMemory>
-    ensures { OnOk result (line.new.items ≡ line.old.items ++ column_end row column top) }
+pub fn add_column(
+    line: &mut Vec<u8>,
+    row: u32,
+    column: u32,
+    top: i32,
+    unit: Unit,
+) -> Result<(), WantOfMemory>
+    ensures { OnOk result (line.new.items ≡ line.old.items ++ column_end unit row column top) }
 {
     add_text(line, b" row ")?;
     add_number(line, u64::from(row))?;
     add_text(line, b" column ")?;
     add_number(line, u64::from(column))?;
     add_text(line, b" top ")?;
-    add_length(line, top)?;
+    add_length(line, top, unit)?;
     add_text(line, b"\n")
 }
 

@@ -1,14 +1,15 @@
 //! Reading a program, in pieces.
 ghost use Rattle.std.specs.Prelude.{◌≡◌, ◌+◌, ◌<◌, ◌^◌, ◌++◌, ℕ, List, [], length, IfOk, IfErr, OnOk};
-ghost use Rattle.mill_base.specs.Ranges.{IsInTextRange};
+ghost use Rattle.mill_base.specs.Ranges.{IsInUnitRange};
 ghost use Rattle.mill_base.specs.declared.points.Pt3.{Pt3 as Point};
+ghost use Rattle.mill_base.specs.declared.unit.Unit.{Unit as LengthUnit};
 ghost use Rattle.mill_job.specs.Jobs.{IsJob};
 ghost use Rattle.mill_ngc.specs.Pieces.{lines_read};
 ghost use Rattle.camtool.specs.inner.Loads.{LoadsProgram, OnlyLoads, AreMoves, HasTaken, TakesFile, LoadsNone, IsFirst};
 
 use crate::file::File;
 use crate::load::{LoadFault, Unfit};
-use mill_base::{MAX_FILE_BYTES, Move, Pt3, WantOfMemory};
+use mill_base::{MAX_FILE_BYTES, Move, Pt3, Unit, WantOfMemory};
 use mill_io::{PieceEnd, Pieces, Shelf};
 use mill_job::Job;
 use mill_ngc::{NgcFault, Reader};
@@ -17,7 +18,7 @@ use std::alloc::Global;
 /// How many bytes of a program are read at once.
 const PIECE: usize = 65_536;
 
-/// Reads a program, from the job's home.
+/// Reads a program, from the job's home and in the job's unit.
 ///
 /// Its text is never held whole. It is read to the file's end, also behind its first fault and
 /// behind the program's end, so that a failed read and a file that is too long are told before a
@@ -35,7 +36,7 @@ pub fn load_program<S: Shelf>(
 {
     let mut buf = vec![in alloc; 0u8; PIECE]?;
     let mut moves = Vec::new(alloc);
-    let reader = match take_file(shelf, name, job.home(), &mut buf, &mut moves) {
+    let reader = match take_file(shelf, name, job.home(), job.unit, &mut buf, &mut moves) {
         Ok(reader) => reader,
         Err(fault) => return Err(fault),
     };
@@ -51,39 +52,41 @@ fn take_file<S: Shelf>(
     shelf: &mut S,
     name: &str,
     start: Pt3,
+    unit: Unit,
     buf: &mut [u8],
     moves: &mut Vec<Move>,
 ) -> Result<Reader, LoadFault>
-    requires start { IsInTextRange start }
+    requires start { IsInUnitRange unit start }
     requires buf { 0 < length buf.old }
     requires moves { moves.old.items ≡ [] }
     ensures takes { IfOk result (λ reader.
-        TakesFile start ((S.shows shelf.old).contents name.now) reader moves.new.items) }
+        TakesFile start unit ((S.shows shelf.old).contents name.now) reader moves.new.items) }
     ensures fault { IfErr result (LoadsNone ((S.shows shelf.old).contents name.now)) }
     ensures store { OnlyLoads (S.shows shelf.old) (S.shows shelf.new) result }
 {
     let mut pieces = Pieces::new(shelf, name, MAX_FILE_BYTES);
-    take_pieces(&mut pieces, start, buf, moves)
+    take_pieces(&mut pieces, start, unit, buf, moves)
 }
 
 // The same, piece by piece.
 fn take_pieces<S: Shelf>(
     pieces: &mut Pieces<'_, S>,
     start: Pt3,
+    unit: Unit,
     buf: &mut [u8],
     moves: &mut Vec<Move>,
 ) -> Result<Reader, LoadFault>
-    requires start { IsInTextRange start }
+    requires start { IsInUnitRange unit start }
     requires buf { 0 < length buf.old }
     requires moves { moves.old.items ≡ [] }
     requires first { IsFirst pieces.old.limit pieces.old.given pieces.old.end }
     ensures takes { IfOk result (λ reader.
-        TakesFile start ((S.shows pieces.old.shelf.now).contents pieces.old.name.now) reader moves.new.items) }
+        TakesFile start unit ((S.shows pieces.old.shelf.now).contents pieces.old.name.now) reader moves.new.items) }
     ensures fault { IfErr result (LoadsNone ((S.shows pieces.old.shelf.now).contents pieces.old.name.now)) }
     ensures store { OnlyLoads (S.shows pieces.old.shelf.now) (S.shows pieces.new.shelf.now) result }
     ensures same_reference { pieces.new.shelf.ghost_name ≡ pieces.old.shelf.ghost_name }
 {
-    let mut reader = Reader::new(start);
+    let mut reader = Reader::new(start, unit);
     loop {
         let count = match pieces.next(buf) {
             Ok(0) => return Ok(reader),
@@ -103,8 +106,8 @@ pub fn take_piece(
     moves: &mut Vec<Move>,
 ) -> Result<(), WantOfMemory>
     requires { lines_read reader.old + length piece.now < 2 ^ 63 }
-    ensures { (start : Point) (text : List ℕ) → HasTaken start reader.old moves.old.items text →
-        OnOk result (HasTaken start reader.new moves.new.items (text ++ piece.now)) }
+    ensures { (start : Point) (unit : LengthUnit) (text : List ℕ) → HasTaken start unit reader.old moves.old.items text →
+        OnOk result (HasTaken start unit reader.new moves.new.items (text ++ piece.now)) }
 {
     match reader.feed(piece, moves) {
         Ok(()) => Ok(()),

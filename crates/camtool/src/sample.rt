@@ -20,7 +20,7 @@ use crate::print::{add_length, add_number, add_text};
 use crate::program::take_piece;
 use crate::status::Status;
 use crate::tell::{tell, tell_made};
-use mill_base::{Box2, Cutter, Move, Pt3, Tri, WantOfMemory};
+use mill_base::{Box2, Cutter, Move, Pt3, Tri, Unit, WantOfMemory};
 use mill_decimal::Snap;
 use mill_io::Sink;
 use mill_job::{Job, Levels, Place};
@@ -70,7 +70,7 @@ fn tell_sample<R: Threads + Sync, O: Sink>(
 {
     match plan(rt, alloc, &setup.job, &setup.part, workers) {
         Ok(planned) => tell_planned(rt, alloc, size, setup, &planned, workers, out),
-        Err(fault) => tell_plan_fault(alloc, fault, out),
+        Err(fault) => tell_plan_fault(alloc, fault, Unit::Hundredth, out),
     }
 }
 
@@ -133,12 +133,12 @@ fn verified<R: Threads + Sync>(
 /// The moves of a program's text, which has some.
 fn read_back(alloc: Global, job: &Job, program: &[u8]) -> Result<Vec<Move>, WantOfMemory>
     requires job_ok { IsJob job.now }
-    requires reads { (moves : List OneMove) × (program_of (home job.now) program.now ≡ Ok moves) }
-    ensures told { IfOk result (λ moves. program_of (home job.now) program.now ≡ Ok moves.items) }
+    requires reads { (moves : List OneMove) × (program_of (home job.now) job.now.unit program.now ≡ Ok moves) }
+    ensures told { IfOk result (λ moves. program_of (home job.now) job.now.unit program.now ≡ Ok moves.items) }
     ensures ready { IfOk result (λ moves. AreMoves job.now moves.items) }
 {
     let mut moves = Vec::new(alloc);
-    let mut reader = Reader::new(job.home());
+    let mut reader = Reader::new(job.home(), job.unit);
     take_piece(&mut reader, program, &mut moves)?;
     match reader.finish(&mut moves) {
         Ok(()) => Ok(moves),
@@ -167,7 +167,7 @@ fn line_of_sample(
     add_text(&mut line, b" moves ")?;
     add_number(&mut line, moves)?;
     add_text(&mut line, b" left ")?;
-    add_length(&mut line, most_left)?;
+    add_length(&mut line, most_left, Unit::Hundredth)?;
     add_text(&mut line, b"\n")?;
     Ok(line)
 }
@@ -201,6 +201,7 @@ fn sample_job(size: u32) -> Job
 {
     let side = (100 * size) as i32;
     Job {
+        unit: Unit::Hundredth,
         cutter: Cutter::Ball { radius: 100 },
         floor: 0,
         top: 200,

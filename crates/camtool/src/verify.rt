@@ -7,14 +7,14 @@ ghost use Rattle.camtool.specs.inner.Loads.{Loads, OnlyLoads, AreWorkers, IsRead
 ghost use Rattle.camtool.specs.Outcomes.{Serves, answered};
 ghost use Rattle.camtool.specs.inner.Prints.{PrintsOr, TriesVerdict};
 ghost use Rattle.camtool.specs.Statuses.{status_code};
-ghost use Rattle.camtool.specs.Verify.{texts_of, verdict_status, verdict_line, rejection_line, leaf_end, tolerances_end, NamesMove};
+ghost use Rattle.camtool.specs.Verify.{texts_of, verdict_status, verdict_line, rejection_line, gouge_line, rapid_line, leaf_end, tolerances_end, NamesMove};
 
 use crate::load::{LoadFault, load_setup};
 use crate::print::{add_column, add_length, add_number, add_text};
 use crate::program::load_program;
 use crate::status::Status;
 use crate::tell::{tell, tell_fault};
-use mill_base::{Move, WantOfMemory};
+use mill_base::{Move, Unit, WantOfMemory};
 use mill_io::{Shelf, Sink};
 use mill_job::Job;
 use mill_part::Part;
@@ -142,15 +142,15 @@ fn line_of_verdict(
             columns,
             most_left,
         } => line_of_acceptance(alloc, job, moves, count, columns, most_left),
-        Verdict::Reject(Reason::Floor { at }) => line_of_floor(alloc, moves, at),
+        Verdict::Reject(Reason::Floor { at }) => line_of_floor(alloc, moves, at, job.unit),
         Verdict::Reject(Reason::Gouge { at, tri, leaf }) => {
-            line_of_gouge(alloc, moves, at, tri, leaf)
+            line_of_gouge(alloc, at, tri, leaf)
         }
         Verdict::Reject(Reason::Rapid { at, row, col, leaf }) => {
-            line_of_rapid(alloc, moves, at, row, col, leaf)
+            line_of_rapid(alloc, at, row, col, leaf)
         }
         Verdict::Reject(Reason::Left { row, col, top }) => {
-            line_of_left(alloc, moves, row, col, top)
+            line_of_left(alloc, moves, row, col, top, job.unit)
         }
     }
 }
@@ -171,7 +171,7 @@ fn line_of_acceptance(
     add_text(&mut line, b" columns ")?;
     add_number(&mut line, columns)?;
     add_text(&mut line, b" left ")?;
-    add_length(&mut line, most_left)?;
+    add_length(&mut line, most_left, job.unit)?;
     add_tolerances(&mut line, job)?;
     Ok(line)
 }
@@ -181,34 +181,38 @@ fn add_tolerances(line: &mut Vec<u8>, job: &Job) -> Result<(), WantOfMemory>
     ensures { OnOk result (line.new.items ≡ line.old.items ++ tolerances_end job.now) }
 {
     add_text(line, b" band ")?;
-    add_length(line, job.band)?;
+    add_length(line, job.band, job.unit)?;
     add_text(line, b" allowance ")?;
-    add_length(line, job.allowance)?;
+    add_length(line, job.allowance, job.unit)?;
     add_text(line, b"\n")?;
     Ok(())
 }
 
-fn line_of_floor(alloc: Global, moves: &[Move], at: u64) -> Result<Vec<u8>, WantOfMemory>
+fn line_of_floor(
+    alloc: Global,
+    moves: &[Move],
+    at: u64,
+    unit: Unit,
+) -> Result<Vec<u8>, WantOfMemory>
     requires { at < length moves.now }
-    ensures { IfOk result (λ line. line.items ≡ rejection_line moves.now (Reason.Floor at)) }
+    ensures { IfOk result (λ line. line.items ≡ rejection_line unit moves.now (Reason.Floor at)) }
 {
     let mut line = Vec::new(alloc);
     add_text(&mut line, b"rejected floor move ")?;
     add_number(&mut line, at)?;
     add_text(&mut line, b" z ")?;
-    add_length(&mut line, moves[at as usize].to.z)?;
+    add_length(&mut line, moves[at as usize].to.z, unit)?;
     add_text(&mut line, b"\n")?;
     Ok(line)
 }
 
 fn line_of_gouge(
     alloc: Global,
-    moves: &[Move],
     at: u64,
     tri: u32,
     leaf: Leaf,
 ) -> Result<Vec<u8>, WantOfMemory>
-    ensures { IfOk result (λ line. line.items ≡ rejection_line moves.now (Reason.Gouge at tri leaf)) }
+    ensures { IfOk result (λ line. line.items ≡ gouge_line at tri leaf) }
 {
     let mut line = Vec::new(alloc);
     add_text(&mut line, b"rejected gouge move ")?;
@@ -221,13 +225,12 @@ fn line_of_gouge(
 
 fn line_of_rapid(
     alloc: Global,
-    moves: &[Move],
     at: u64,
     row: u32,
     col: u32,
     leaf: Leaf,
 ) -> Result<Vec<u8>, WantOfMemory>
-    ensures { IfOk result (λ line. line.items ≡ rejection_line moves.now (Reason.Rapid at row col leaf)) }
+    ensures { IfOk result (λ line. line.items ≡ rapid_line at row col leaf) }
 {
     let mut line = Vec::new(alloc);
     add_text(&mut line, b"rejected rapid move ")?;
@@ -246,12 +249,13 @@ fn line_of_left(
     row: u32,
     col: u32,
     top: i32,
+    unit: Unit,
 ) -> Result<Vec<u8>, WantOfMemory>
-    ensures { IfOk result (λ line. line.items ≡ rejection_line moves.now (Reason.Left row col top)) }
+    ensures { IfOk result (λ line. line.items ≡ rejection_line unit moves.now (Reason.Left row col top)) }
 {
     let mut line = Vec::new(alloc);
     add_text(&mut line, b"rejected left")?;
-    add_column(&mut line, row, col, top)?;
+    add_column(&mut line, row, col, top, unit)?;
     Ok(line)
 }
 

@@ -1,16 +1,15 @@
 -- What reading a file or a word comes to, and what reading all that a command needs comes to.
 use Rattle.std.specs.Prelude.{◌≡◌, ◌≤◌, ℕ, ℤ, ◌<ℤ◌, List, [], length, take, Option, Some, None, IfSome, Result, Ok, Err}
 use Rattle.std.specs.Global.{Vec}
-use Rattle.mill_base.specs.declared.limits.TheConstants.{MAX_FILE_BYTES, MAX_TEXT_COORDINATE, MAX_MOVES, MAX_WORKERS}
+use Rattle.mill_base.specs.declared.limits.TheConstants.{MAX_FILE_BYTES, MAX_MOVES, MAX_WORKERS}
 use Rattle.mill_base.specs.declared.points.Pt3.{Pt3}
 use Rattle.mill_base.specs.declared.points.Tri.{Tri}
 use Rattle.mill_base.specs.declared.motion.Move.{Move}
+use Rattle.mill_base.specs.declared.unit.Unit.{Unit as LengthUnit}
 use Rattle.mill_base.specs.Motion.{Follow}
-use Rattle.mill_base.specs.Ranges.{MovesInTextRange}
+use Rattle.mill_base.specs.Ranges.{MovesInUnitRange}
 use Rattle.mill_base.specs.Covers.{IsUnder}
-use Rattle.mill_base.specs.Numbers.{Within}
 use Rattle.mill_decimal.specs.Decimals.{read_as}
-use Rattle.mill_decimal.specs.declared.snap.Snap.{Snap}
 use Rattle.mill_decimal.specs.declared.snap.Snap.TheVariants.{Exact}
 use Rattle.mill_io.specs.Causes.{Rose}
 use Rattle.mill_io.specs.Views.{StoreView, ReadsOnly}
@@ -25,14 +24,14 @@ use Rattle.camtool.specs.declared.file.File.{File}
 use Rattle.camtool.specs.declared.file.File.TheVariants.{Job as JobFile, Part as PartFile, Program as ProgramFile}
 use Rattle.camtool.specs.declared.load.LoadFault.{LoadFault}
 use Rattle.camtool.specs.declared.load.LoadFault.TheVariants.{Memory, ReadFault, Unfit}
-use Rattle.camtool.specs.declared.load.Unfit.TheVariants.{TooLong, JobRefused, PartRefused, ProgramRefused}
+use Rattle.camtool.specs.declared.load.Unfit.TheVariants.{TooLong, JobRefused, PartRefused, ProgramRefused, PartTop}
 use Rattle.camtool.specs.declared.load.Setup.{Setup}
 use Rattle.camtool.specs.declared.verify.Loaded.{Loaded}
 use Rattle.camtool.specs.declared.place.Coordinate.{Coordinate}
 use Rattle.mill_job.specs.declared.job.Place.{Place}
 use Rattle.camtool.specs.declared.place.WordFault.{WordFault}
 use Rattle.camtool.specs.Drop.{ReadsPlace, RefusesWord}
-use Rattle.camtool.specs.Level.{ReadsHeight, RefusesHeight}
+use Rattle.camtool.specs.Level.{ReadsHeight, RefusesZ}
 use Rattle.camtool.specs.Sample.{sample_job, sample_part}
 use Rattle.camtool.specs.Setup.{SetupTexts, Fits, IsTooLong, IsJobText, IsRefusedJob, IsPartText, IsRefusedPart, ReadsSetup, IsUnfit, IsReadBefore}
 use Rattle.camtool.specs.Verify.{Texts, IsProgramText, IsRefusedProgram, Reads, IsUnfitProgram, IsReadBeforeProgram}
@@ -57,13 +56,13 @@ LoadsJob told (Err (Unfit (JobRefused fault))) = IfSome told (λ text. IsRefused
 LoadsJob told (Err _) = ⊥
 
 -- the part of a file, or why there is none
-abbrev pub LoadsPart : Snap → Option (List ℕ) → Result Part LoadFault → Type 0
-LoadsPart snap told (Ok part) = IfSome told (λ text. IsPartText snap text part)
-LoadsPart snap told (Err Memory) = Unit {0}
-LoadsPart snap told (Err (ReadFault PartFile)) = Unit {0}
-LoadsPart snap told (Err (Unfit (TooLong PartFile))) = IfSome told IsTooLong
-LoadsPart snap told (Err (Unfit (PartRefused fault))) = IfSome told (λ text. IsRefusedPart snap text fault)
-LoadsPart snap told (Err _) = ⊥
+abbrev pub LoadsPart : Job → Option (List ℕ) → Result Part LoadFault → Type 0
+LoadsPart job told (Ok part) = IfSome told (λ text. IsPartText job text part)
+LoadsPart job told (Err Memory) = Unit {0}
+LoadsPart job told (Err (ReadFault PartFile)) = Unit {0}
+LoadsPart job told (Err (Unfit (TooLong PartFile))) = IfSome told IsTooLong
+LoadsPart job told (Err (Unfit (PartRefused fault))) = IfSome told (λ text. IsRefusedPart job text fault)
+LoadsPart job told (Err _) = ⊥
 
 -- the moves of a file, or why there are none
 abbrev pub LoadsProgram : Job → Option (List ℕ) → Result (Vec Move) LoadFault → Type 0
@@ -76,25 +75,25 @@ LoadsProgram job told (Err _) = ⊥
 
 -- ---- a program's file, in pieces
 
--- a reader has taken this text from this start, and made these moves
-pub record HasTaken (start : Pt3) (reader : Reading) (moves : List Move) (text : List ℕ) : Type 0 where
-  pub all : (reader, moves) ≡ fed (reading_at start, []) text
+-- a reader has taken this text from this start and in this unit, and made these moves
+pub record HasTaken (start : Pt3) (unit : LengthUnit) (reader : Reading) (moves : List Move) (text : List ℕ) : Type 0 where
+  pub all : (reader, moves) ≡ fed (reading_at start unit, []) text
   pub lines : lines_read reader ≤ length text
-  pub moves_ok : MovesSoFar start reader moves
+  pub moves_ok : MovesSoFar start unit reader moves
 
 -- it has taken the whole text of a file, within the limit; where the file is told, this is it
-pub record TakesFile (start : Pt3) (told : Option (List ℕ)) (reader : Reading) (moves : List Move) : Type 0 where
+pub record TakesFile (start : Pt3) (unit : LengthUnit) (told : Option (List ℕ)) (reader : Reading) (moves : List Move) : Type 0 where
   pub text : List ℕ
   pub whole : IfSome told (λ bytes. text ≡ bytes)
   pub fits : Fits text
-  pub taken : HasTaken start reader moves text
+  pub taken : HasTaken start unit reader moves text
 
 -- it has taken the front of a file
-pub record TakesFront (start : Pt3) (told : Option (List ℕ)) (given : ℕ) (reader : Reading) (moves : List Move) : Type 0 where
+pub record TakesFront (start : Pt3) (unit : LengthUnit) (told : Option (List ℕ)) (given : ℕ) (reader : Reading) (moves : List Move) : Type 0 where
   pub text : List ℕ
   pub front : IfSome told (λ bytes. text ≡ take (length text) bytes)
   pub size : length text ≡ given
-  pub taken : HasTaken start reader moves text
+  pub taken : HasTaken start unit reader moves text
 
 -- the pieces of a file within its limit, before the first
 pub record IsFirst (limit given : ℕ) (end : Option (Result Unit PieceEnd)) : Type 0 where
@@ -110,6 +109,21 @@ LoadsNone told (Unfit (TooLong f)) = (f ≡ ProgramFile) × IfSome told IsTooLon
 LoadsNone told (Unfit _) = ⊥
 
 -- ---- all that a command needs
+
+-- where the part's file is told, it reads as a part whose greatest height is over the job's top
+pub record HasHighPart (job : Job) (told : Option (List ℕ)) (height top : ℤ) (unit : LengthUnit) : Type 0 where
+  pub part : List Tri
+  pub part_is : IfSome told (λ text. IsPartText job text part)
+  pub greatest : IsTop part height
+  pub limit : top ≡ job.top
+  pub unit_is : unit ≡ job.unit
+  pub over : top <ℤ height
+
+-- this job with a part, or why there is none, by what the store tells of the part's file
+abbrev pub LoadsUnder : Job → Option (List ℕ) → Result Setup LoadFault → Type 0
+LoadsUnder job told (Ok s) = (s.job ≡ job) × IfSome told (λ text. IsPartText job text s.part) × IsUnder s.part job.top
+LoadsUnder job told (Err (Unfit (PartTop height top unit))) = HasHighPart job told height top unit
+LoadsUnder job told (Err fault) = LoadsPart job told (Err fault)
 
 -- job and part, or why there are none
 abbrev pub LoadsSetup : SetupTexts → Result Setup LoadFault → Type 0
@@ -148,7 +162,7 @@ pub record IsSetup (s : Setup) : Type 0 where
 
 -- moves within the ranges that the verifier asks for
 pub record AreMoves (job : Job) (moves : List Move) : Type 0 where
-  pub in_range : MovesInTextRange moves
+  pub in_range : MovesInUnitRange job.unit moves
   pub follow : Follow (home job) moves
   pub few : length moves ≤ MAX_MOVES
 
@@ -182,17 +196,17 @@ IsLow job part (Some height) = IsTop part height × (job.top <ℤ height)
 
 -- ---- words
 
--- what the word of this coordinate comes to
-abbrev pub CoordinateFrom : List ℕ → Coordinate → Result ℤ WordFault → Type 0
-CoordinateFrom word coordinate (Ok units) = read_as Exact word ≡ Ok units
-CoordinateFrom word coordinate (Err f) = (f.coordinate ≡ coordinate) × (read_as Exact word ≡ Err f.fault)
+-- what the word of this coordinate comes to in this unit
+abbrev pub CoordinateFrom : LengthUnit → List ℕ → Coordinate → Result ℤ WordFault → Type 0
+CoordinateFrom unit word coordinate (Ok units) = read_as Exact unit word ≡ Ok units
+CoordinateFrom unit word coordinate (Err f) = (f.coordinate ≡ coordinate) × (read_as Exact unit word ≡ Err f.fault)
 
 -- what the words for x and y come to
-abbrev pub PlaceFrom : List ℕ → List ℕ → Result Place WordFault → Type 0
-PlaceFrom x y (Ok place) = ReadsPlace x y place
-PlaceFrom x y (Err f) = RefusesWord x y f.coordinate f.fault
+abbrev pub PlaceFrom : LengthUnit → List ℕ → List ℕ → Result Place WordFault → Type 0
+PlaceFrom unit x y (Ok place) = ReadsPlace unit x y place
+PlaceFrom unit x y (Err f) = RefusesWord unit x y f.coordinate f.fault
 
 -- what the word for z comes to
-abbrev pub HeightFrom : List ℕ → Result ℤ WordFault → Type 0
-HeightFrom z (Ok height) = ReadsHeight z height
-HeightFrom z (Err f) = RefusesHeight z f.coordinate f.fault
+abbrev pub HeightFrom : LengthUnit → List ℕ → Result ℤ WordFault → Type 0
+HeightFrom unit z (Ok height) = ReadsHeight unit z height
+HeightFrom unit z (Err f) = RefusesZ unit z f.coordinate f.fault

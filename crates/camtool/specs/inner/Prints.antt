@@ -2,6 +2,7 @@
 use Rattle.std.specs.Prelude.{◌⊎◌, ◌≡◌, ◌<◌, ◌*◌, ◌++◌, ℕ, ℤ, codes, decimal, List, Result, Ok, Err, string_bytes}
 use Rattle.std.specs.Global.{Vec}
 use Rattle.mill_base.specs.declared.memory.WantOfMemory.{WantOfMemory}
+use Rattle.mill_base.specs.declared.unit.Unit.{Unit as LengthUnit}
 use Rattle.mill_command.specs.declared.refusal.Refusal.{Refusal}
 use Rattle.mill_command.specs.declared.refusal.Refusal.TheVariants as refusal
 use Rattle.mill_drop.specs.Drops.{IsDropHeight}
@@ -71,15 +72,15 @@ refusal_outcome (refusal.NotTaken text) = bad_words (string_bytes text)
 refusal_outcome refusal.WantOfMemory = no_memory
 
 -- the line and the status of the planner's answer, or that memory was short
-abbrev pub PrintsPlan : PlanAnswer → ℕ → SinkView → SinkView → Type 0
-PrintsPlan answer status sink sink_after = Prints (plan_line answer) (plan_status answer) status sink sink_after ⊎ PrintsOutcome no_memory status sink sink_after
+abbrev pub PrintsPlan : LengthUnit → PlanAnswer → ℕ → SinkView → SinkView → Type 0
+PrintsPlan unit answer status sink sink_after = Prints (plan_line unit answer) (plan_status answer) status sink sink_after ⊎ PrintsOutcome no_memory status sink sink_after
 
 -- those of a plan that didn't come to a program
-abbrev pub PrintsPlanFault : PlanFault → ℕ → SinkView → SinkView → Type 0
-PrintsPlanFault (plan_fault.TooManyNodes nodes) status sink sink_after = PrintsPlan (too_many_nodes nodes) status sink sink_after
-PrintsPlanFault plan_fault.TooManyMoves status sink sink_after = PrintsPlan too_many_moves status sink sink_after
-PrintsPlanFault (plan_fault.Uncut row col top) status sink sink_after = PrintsPlan (uncut row col top) status sink sink_after
-PrintsPlanFault plan_fault.WantOfMemory status sink sink_after = PrintsOutcome no_memory status sink sink_after
+abbrev pub PrintsPlanFault : LengthUnit → PlanFault → ℕ → SinkView → SinkView → Type 0
+PrintsPlanFault unit (plan_fault.TooManyNodes nodes) status sink sink_after = PrintsPlan unit (too_many_nodes nodes) status sink sink_after
+PrintsPlanFault unit plan_fault.TooManyMoves status sink sink_after = PrintsPlan unit too_many_moves status sink sink_after
+PrintsPlanFault unit (plan_fault.Uncut row col top) status sink sink_after = PrintsPlan unit (uncut row col top) status sink sink_after
+PrintsPlanFault unit plan_fault.WantOfMemory status sink sink_after = PrintsOutcome no_memory status sink sink_after
 
 -- ---- the work of a command on what was read
 
@@ -98,13 +99,13 @@ TriesVerdict l status sink sink_after = PrintsVerdict l status sink sink_after �
 pub record PrintsHeight (s : Setup) (place : Place) (status : ℕ) (sink sink_after : SinkView) : Type 0 where
   pub height : ℤ
   pub is : IsDropHeight s.job.cutter s.part place.x place.y s.job.floor height
-  pub printed : PrintsOr (answered (dropped height)) status sink sink_after
+  pub printed : PrintsOr (answered (dropped s.job.unit height)) status sink sink_after
 
 -- the answer at a height is printed, or that memory was short
 pub record PrintsLevel (s : Setup) (height : ℤ) (status : ℕ) (sink sink_after : SinkView) : Type 0 where
   pub answer : LevelAnswer
   pub is : IsLevelAnswer s.job s.part height answer
-  pub printed : PrintsOr (answered (leveled answer)) status sink sink_after
+  pub printed : PrintsOr (answered (leveled s.job.unit answer)) status sink sink_after
 
 abbrev pub TriesLevel : Setup → ℤ → ℕ → SinkView → SinkView → Type 0
 TriesLevel s height status sink sink_after = PrintsLevel s height status sink sink_after ⊎ PrintsOutcome no_memory status sink sink_after
@@ -113,7 +114,7 @@ TriesLevel s height status sink sink_after = PrintsLevel s height status sink si
 pub record ShowsPlan (s : Setup) (name : List ℕ) (call : Call) : Type 0 where
   pub answer : PlanAnswer
   pub is : IsPlanAnswer s.job s.part answer
-  pub shows : Shows call (answered (planned name answer))
+  pub shows : Shows call (answered (planned s.job.unit name answer))
 
 -- so it is, or it is shown that memory was short
 abbrev pub ShowsPlanOr : Setup → List ℕ → Call → Type 0
