@@ -5,9 +5,11 @@ use Rattle.std.proofs.lemmas.Int.{ints}
 use mir.Val.{of_z, to_z}
 use Rattle.mill_base.specs.Lattices.{node_count, IsMapLattice}
 use Rattle.mill_base.specs.Numbers.{Within}
-use Rattle.mill_base.specs.declared.limits.TheConstants.{MAX_NODES, MAX_TEXT_COORDINATE}
+use Rattle.mill_base.specs.Units.{greatest_of}
+use Rattle.mill_base.specs.declared.limits.TheConstants.{MAX_NODES}
 use Rattle.mill_base.specs.declared.lattice.Lattice.{Lattice}
-use Rattle.mill_paths.proofs.Kept.{text_coordinate}
+use Rattle.mill_base.specs.declared.unit.Unit.{Unit}
+use Rattle.mill_paths.proofs.Kept.{unit_coordinate}
 use Rattle.mill_paths.specs.Limits.{change_count, most_changes, HasManyNodes, IsHeightsFault, IsListFault}
 use Rattle.mill_paths.specs.declared.fault.PathFault.{PathFault}
 use Rattle.mill_paths.specs.declared.fault.PathFault.TheVariants.{TooManyNodes, TooManyVisits, WantOfMemory}
@@ -88,8 +90,8 @@ pub list_without_layer : {T : Type 0} (v : T) (lattice : Lattice) (layer : ℤ) 
 list_without_layer v lattice layer none n = (λ e. absurd (ok_apart v (TooManyNodes n) e), λ many. absurd (no_layer layer none many.0))
 
 -- a layer whose stored form is 0 is 0, and another is over 0
-pub layer_none : (layer : ℤ) → Within MAX_TEXT_COORDINATE layer → of_z w32 layer ≡ 0 → layer ≡ pos 0
-layer_none layer within e = sym (text_coordinate layer within) ∙ ap (λ (n : ℕ). to_z w32 n) e
+pub layer_none : (unit : Unit) (layer : ℤ) → Within (greatest_of unit) layer → of_z w32 layer ≡ 0 → layer ≡ pos 0
+layer_none unit layer within e = sym (unit_coordinate unit layer within) ∙ ap (λ (n : ℕ). to_z w32 n) e
 
 pub layer_some : (layer : ℤ) → (pos 0) ≤ℤ layer → (of_z w32 layer ≡ 0 → ⊥) → (pos 0) <ℤ layer
 layer_some (pos zero) least apart = absurd (apart refl)

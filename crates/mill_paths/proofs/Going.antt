@@ -8,9 +8,9 @@ use Rattle.std.proofs.lemmas.List.{append_assoc, append-nil}
 use Rattle.std.proofs.lemmas.List.Elements.{All-head, All-tail, Contains-get_or, Contains-append_right}
 use Rattle.mill_base.specs.Covers.{IsUnder}
 use Rattle.mill_base.specs.Numbers.{Within, greater}
-use Rattle.mill_base.specs.declared.limits.TheConstants.{MAX_TEXT_COORDINATE}
+use Rattle.mill_base.specs.Units.{greatest_of}
 use Rattle.mill_base.specs.Points.{highest, point_at, point_tri, tri_at}
-use Rattle.mill_base.specs.Ranges.{IsInTextRange, MoveInTextRange}
+use Rattle.mill_base.specs.Ranges.{IsInUnitRange, MoveInUnitRange}
 use Rattle.mill_base.specs.declared.points.Pt3.{Pt3}
 use Rattle.mill_base.specs.declared.points.Tri.{Tri}
 use Rattle.mill_base.specs.declared.motion.Move.{Move}
@@ -75,7 +75,7 @@ module _ (job : Job) (part : List Tri) where
 -- the moves themselves
 module _ (job : Job) (part : List Tri) (ok : IsJob job) (under : IsUnder part job.top) where
   -- a move over the stock
-  over_safe : (done : List Move) (m : Move) → MoveInTextRange m → job.top ≤ℤ m.from.z → job.top ≤ℤ m.to.z → IsSafeMove job part done m
+  over_safe : (done : List Move) (m : Move) → MoveInUnitRange job.unit m → job.top ≤ℤ m.from.z → job.top ≤ℤ m.to.z → IsSafeMove job part done m
   over_safe done m ranged from to = record {
     ranged = ranged;
     floor_from = through _ _ _ ok.stock from;
@@ -99,10 +99,10 @@ module _ (job : Job) (part : List Tri) (ok : IsJob job) (under : IsUnder part jo
   passes_over m p at over t inside =
       vertical_passes job.cutter m (tri_at part t) p over (λ touches. at.free (record { tri = tri_at part t; member = Contains-get_or part t _ inside; touches = touches }))
 
-  raised_range : (p : Pt3) (z : ℤ) → IsInTextRange p → Within MAX_TEXT_COORDINATE z → IsInTextRange (at_height p z)
+  raised_range : (p : Pt3) (z : ℤ) → IsInUnitRange job.unit p → Within (greatest_of job.unit) z → IsInUnitRange job.unit (at_height p z)
   raised_range p z ranged high = record { x_ok = ranged.x_ok; y_ok = ranged.y_ok; z_ok = high }
 
-  at_clear : (done : List Move) (p : Pt3) → IsInTextRange p → IsReached job part done (at_height p job.clear)
+  at_clear : (done : List Move) (p : Pt3) → IsInUnitRange job.unit p → IsReached job part done (at_height p job.clear)
   at_clear done p ranged = record {
     ranged = raised_range p job.clear ranged ok.clear_ok;
     floor = through _ _ _ ok.stock ok.over_stock;
@@ -164,7 +164,7 @@ module _ (job : Job) (part : List Tri) (ok : IsJob job) (under : IsUnder part jo
       by false high = go_nowhere job part done from (at_height from job.clear) (same high) at
 
   -- across
-  cross_goes : (done : List Move) (from at : Pt3) → IsInTextRange from → IsInTextRange at
+  cross_goes : (done : List Move) (from at : Pt3) → IsInUnitRange job.unit from → IsInUnitRange job.unit at
       → GoSafely job part done (at_height from job.clear) (cross job from at) (at_height at job.clear)
   cross_goes done from at ranged at_ok = by (is_over_place from at) refl
     where

@@ -6,7 +6,9 @@ use Rattle.std.proofs.Math.Nat.{mul-le-mul_right, div-mul-le_self}
 use Rattle.std.proofs.lemmas.Int.{ints, fits_signed_from_abs}
 use Rattle.std.proofs.lemmas.List.FromFn.{length-map-range_with_len, get_or-map-range_with_len}
 use Rattle.mill_base.specs.Numbers.{Within}
-use Rattle.mill_base.specs.declared.limits.TheConstants.{MAX_TEXT_COORDINATE}
+use Rattle.mill_base.specs.Units.{greatest_of}
+use Rattle.mill_base.specs.declared.limits.TheConstants.{MAX_COORDINATE}
+use Rattle.mill_base.proofs.Ranges.{within_of_unit}
 use Rattle.mill_job.specs.Jobs.{IsJob}
 use Rattle.mill_job.specs.declared.job.Job.{Job}
 use Rattle.mill_paths.specs.Visits.{level_count, rough_levels}
@@ -24,7 +26,7 @@ lowering job k = (k + 1) * nat_abs job.layer
 pub record IsLowered (job : Job) (k : ℕ) : Type 0 where
   pub counted : k + 1 ≤ lowering job k
   pub most : lowering job k < nat_abs (job.top -ℤ job.floor)
-  pub small : lowering job k ≤ 262142
+  pub small : lowering job k ≤ 1048574
 
 layered : (job : Job) → (pos 0) <ℤ job.layer → int_lt (pos 0) job.layer ≡ true
 layered job some = by (int_lt (pos 0) job.layer) refl
@@ -50,7 +52,7 @@ get_or-rough_levels job k some inside =
     turned : (n : ℕ) → 1 + n ≡ n + 1
     turned n = omega arith
 
-lowered : (k d l : ℕ) → 0 < l → d ≤ 262142 → k < (d - 1) / l → (k + 1 ≤ (k + 1) * l) × (((k + 1) * l < d) × ((k + 1) * l ≤ 262142))
+lowered : (k d l : ℕ) → 0 < l → d ≤ 1048574 → k < (d - 1) / l → (k + 1 ≤ (k + 1) * l) × (((k + 1) * l < d) × ((k + 1) * l ≤ 1048574))
 lowered k d l some small inside =
     let low : k + 1 ≤ (k + 1) * l = subst (λ n. k + 1 ≤ n) (mul_comm l (k + 1)) (least l (k + 1) some) in
     let high : (k + 1) * l ≤ (d - 1) / l * l = mul-le-mul_right l (omega arith) in
@@ -63,18 +65,18 @@ lowered k d l some small inside =
         plain : (n : ℕ) → 1 * n ≡ n
         plain n = omega arith
 
-    within : (k p q d : ℕ) → k + 1 ≤ p → p ≤ q → q ≤ d - 1 → d ≤ 262142 → (p < d) × (p ≤ 262142)
+    within : (k p q d : ℕ) → k + 1 ≤ p → p ≤ q → q ≤ d - 1 → d ≤ 1048574 → (p < d) × (p ≤ 1048574)
     within k p q d low high all small = (omega arith, omega arith)
 
 pub is_lowered : (job : Job) (k : ℕ) → IsJob job → (pos 0) <ℤ job.layer → k < length (rough_levels job) → IsLowered job k
 is_lowered job k ok some inside =
-    let h = lowered k (nat_abs (job.top -ℤ job.floor)) (nat_abs job.layer) (least job.layer some) (height job.floor job.top ok.floor_ok ok.top_ok) (subst (λ n. k < n) (length-rough_levels job some) inside) in
+    let h = lowered k (nat_abs (job.top -ℤ job.floor)) (nat_abs job.layer) (least job.layer some) (height job.floor job.top (within_of_unit job.unit job.floor ok.floor_ok) (within_of_unit job.unit job.top ok.top_ok)) (subst (λ n. k < n) (length-rough_levels job some) inside) in
     record { counted = h.0; most = h.1.0; small = h.1.1 }
   where
     least : (l : ℤ) → (pos 0) <ℤ l → 0 < nat_abs l
     least l h = omega (arith, ints)
 
-    height : (a b : ℤ) → Within MAX_TEXT_COORDINATE a → Within MAX_TEXT_COORDINATE b → nat_abs (b -ℤ a) ≤ 262142
+    height : (a b : ℤ) → Within MAX_COORDINATE a → Within MAX_COORDINATE b → nat_abs (b -ℤ a) ≤ 1048574
     height a b h e = let low = h.within in let high = e.within in omega (arith, ints)
 
 -- a product with the layer
@@ -89,16 +91,16 @@ pub level_is : (job : Job) (k : ℕ) → (pos 0) <ℤ job.layer → k < length (
 level_is job k some inside = get_or-rough_levels job k some inside ∙ ap (λ z. job.top -ℤ z) (layers (k + 1) job.layer some)
 
 pub level_fits : (job : Job) (k : ℕ) → IsJob job → IsLowered job k → FitsSigned w32 (job.top -ℤ pos (lowering job k))
-level_fits job k ok h = fits_signed_from_abs w32 (job.top -ℤ pos (lowering job k)) (small job.top (lowering job k) ok.top_ok h.small)
+level_fits job k ok h = fits_signed_from_abs w32 (job.top -ℤ pos (lowering job k)) (small job.top (lowering job k) (within_of_unit job.unit job.top ok.top_ok) h.small)
   where
-    small : (t : ℤ) (n : ℕ) → Within MAX_TEXT_COORDINATE t → n ≤ 262142 → nat_abs (t -ℤ pos n) < 2147483648
+    small : (t : ℤ) (n : ℕ) → Within MAX_COORDINATE t → n ≤ 1048574 → nat_abs (t -ℤ pos n) < 2147483648
     small t n top h = let high = top.within in omega (arith, ints)
 
-pub layer_within : (job : Job) → IsJob job → Within MAX_TEXT_COORDINATE job.layer
-layer_within job ok = within job.layer ok.layer_ok.low ok.layer_ok.high
+pub layer_within : (job : Job) → IsJob job → Within (greatest_of job.unit) job.layer
+layer_within job ok = within (greatest_of job.unit) job.layer ok.layer_ok.low ok.layer_ok.high
   where
-    within : (l : ℤ) → (pos 0) ≤ℤ l → l ≤ℤ pos MAX_TEXT_COORDINATE → Within MAX_TEXT_COORDINATE l
-    within l low high = record { within = omega (arith, ints) }
+    within : (most : ℕ) (l : ℤ) → (pos 0) ≤ℤ l → l ≤ℤ pos most → Within most l
+    within most l low high = record { within = omega (arith, ints) }
 
 -- each level is over the floor and under the top
 pub is_level : (job : Job) (k : ℕ) → IsJob job → (pos 0) <ℤ job.layer → k < length (rough_levels job) → IsLevel job (get_or (rough_levels job) k (pos 0))

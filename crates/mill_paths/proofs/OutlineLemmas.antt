@@ -9,11 +9,12 @@ use Rattle.mill_base.specs.Contact.{Gouges}
 use Rattle.mill_base.specs.Lattices.{lattice_xs, lattice_ys}
 use Rattle.mill_base.specs.Numbers.{Within}
 use Rattle.mill_base.specs.Points.{point_at}
+use Rattle.mill_base.specs.Units.{greatest_of}
 use Rattle.mill_base.specs.declared.cutter.Cutter.{Cutter}
 use Rattle.mill_base.specs.declared.lattice.Lattice.{Lattice}
-use Rattle.mill_base.specs.declared.limits.TheConstants.{MAX_TEXT_COORDINATE}
 use Rattle.mill_base.specs.declared.points.Pt3.{Pt3}
 use Rattle.mill_base.specs.declared.points.Tri.{Tri}
+use Rattle.mill_base.specs.declared.unit.Unit.{Unit}
 use Rattle.mill_drop.proofs.Heights.{lowered}
 use Rattle.mill_geom.specs.declared.touch.Axis.{Axis}
 use Rattle.mill_geom.specs.declared.touch.Axis.TheVariants.{X, Y}
@@ -56,9 +57,8 @@ crosses grid chains chain c are there on = by (is_crossing grid c.edge) (are.onc
 sooner : (Free : ℕ → Type 0) (k d : ℕ) → ((n : ℕ) → n ≤ k → Free n) → ¬ Free d → k < d
 sooner Free k d free blocked = elim (cases_lt k d) [ inl less ↦ less | inr past ↦ absurd (blocked (free d past)) ]
 
-between : (a b : ℤ) (k : ℕ) → Within MAX_TEXT_COORDINATE a → Within MAX_TEXT_COORDINATE b → a ≤ℤ b → k < nat_abs (b -ℤ a)
-    → Within MAX_TEXT_COORDINATE (a +ℤ pos k) × Within MAX_TEXT_COORDINATE (b +ℤ (pos 0 -ℤ pos k))
-between a b k a_ok b_ok order less = let p = a_ok.within in let q = b_ok.within in (record { within = omega (arith, ints) }, record { within = omega (arith, ints) })
+between : (most : ℕ) (a b : ℤ) (k : ℕ) → Within most a → Within most b → a ≤ℤ b → k < nat_abs (b -ℤ a) → Within most (a +ℤ pos k) × Within most (b +ℤ (pos 0 -ℤ pos k))
+between most a b k a_ok b_ok order less = let p = a_ok.within in let q = b_ok.within in (record { within = omega (arith, ints) }, record { within = omega (arith, ints) })
 
 up_to : (a b : ℤ) → a ≤ℤ b → a +ℤ pos (nat_abs (b -ℤ a)) ≡ b
 up_to a b order = omega (arith, ints)
@@ -67,13 +67,13 @@ down_to : (a b : ℤ) → a ≤ℤ b → b +ℤ (pos 0 -ℤ pos (nat_abs (b -ℤ
 down_to a b order = omega (arith, ints)
 
 -- on the way from the free one of two places to the blocked one, the last free position is in range
-module _ (Gouged : Pt3 → Type 0) (place : ℤ → Pt3) (a b : ℤ) (a_ok : Within MAX_TEXT_COORDINATE a) (b_ok : Within MAX_TEXT_COORDINATE b) (order : a ≤ℤ b) where
+module _ (Gouged : Pt3 → Type 0) (place : ℤ → Pt3) (most : ℕ) (a b : ℤ) (a_ok : Within most a) (b_ok : Within most b) (order : a ≤ℤ b) where
   abbrev way : Bool → ℕ → Pt3
   way low k = if low then place (b +ℤ (pos 0 -ℤ pos k)) else place (a +ℤ pos k)
 
   record IsPosition (p : Pt3) : Type 0 where
     pub at : ℤ
-    pub at_ok : Within MAX_TEXT_COORDINATE at
+    pub at_ok : Within most at
     pub is : p ≡ place at
 
   on_way : (low high : Bool) (k : ℕ) → differ low high ≡ true → MatchBool low (Gouged (place a)) (¬ Gouged (place a)) → MatchBool high (Gouged (place b)) (¬ Gouged (place b))
@@ -83,18 +83,18 @@ module _ (Gouged : Pt3 → Type 0) (place : ℤ → Pt3) (a b : ℤ) (a_ok : Wit
   on_way true false k apart at_low at_high free =
       let less : k < nat_abs (b -ℤ a) =
       sooner (λ n. ¬ Gouged (way true n)) k (nat_abs (b -ℤ a)) free (λ none. none (subst (λ z. Gouged (place z)) (sym (down_to a b order)) at_low)) in
-      record { at = b +ℤ (pos 0 -ℤ pos k); at_ok = (between a b k a_ok b_ok order less).1; is = refl }
+      record { at = b +ℤ (pos 0 -ℤ pos k); at_ok = (between most a b k a_ok b_ok order less).1; is = refl }
   on_way false true k apart at_low at_high free =
       let less : k < nat_abs (b -ℤ a) =
       sooner (λ n. ¬ Gouged (way false n)) k (nat_abs (b -ℤ a)) free (λ none. none (subst (λ z. Gouged (place z)) (sym (up_to a b order)) at_high)) in
-      record { at = a +ℤ pos k; at_ok = (between a b k a_ok b_ok order less).0; is = refl }
+      record { at = a +ℤ pos k; at_ok = (between most a b k a_ok b_ok order less).0; is = refl }
 
--- a place in range in x and y
-record IsNear (p : Pt3) : Type 0 where
-  pub x_ok : Within MAX_TEXT_COORDINATE p.x
-  pub y_ok : Within MAX_TEXT_COORDINATE p.y
+-- a place in the unit's range in x and y
+record IsNear (unit : Unit) (p : Pt3) : Type 0 where
+  pub x_ok : Within (greatest_of unit) p.x
+  pub y_ok : Within (greatest_of unit) p.y
 
-module _ (cutter : Cutter) (part : List Tri) (z : ℤ) (lattice : Lattice) (ok : IsJobLattice lattice) (grid : Grid) (tells : TellsBlocked cutter part z lattice grid) where
+module _ (cutter : Cutter) (part : List Tri) (z : ℤ) (unit : Unit) (lattice : Lattice) (ok : IsJobLattice unit lattice) (grid : Grid) (tells : TellsBlocked cutter part z lattice grid) where
   abbrev Gouged : Pt3 → Type 0
   Gouged p = Gouges cutter (pos 1) p part
 
@@ -104,13 +104,13 @@ module _ (cutter : Cutter) (part : List Tri) (z : ℤ) (lattice : Lattice) (ok :
   abbrev node_y : ℕ → ℤ
   node_y j = get_or (lattice_ys lattice) j (pos 0)
 
-  x_within : (i : ℕ) → i < grid.columns → Within MAX_TEXT_COORDINATE (node_x i)
+  x_within : (i : ℕ) → i < grid.columns → Within (greatest_of unit) (node_x i)
   x_within i inside =
-      positions_within lattice.area.x0 lattice.area.x1 lattice.step i ok.area_ok.x0_ok ok.area_ok.x1_ok ok.area_ok.x_order ok.step_ok.low (subst (λ n. i < n) tells.columns inside)
+      positions_within (greatest_of unit) lattice.area.x0 lattice.area.x1 lattice.step i ok.area_ok.x0_ok ok.area_ok.x1_ok ok.area_ok.x_order ok.step_ok.low (subst (λ n. i < n) tells.columns inside)
 
-  y_within : (j : ℕ) → j < grid.rows → Within MAX_TEXT_COORDINATE (node_y j)
+  y_within : (j : ℕ) → j < grid.rows → Within (greatest_of unit) (node_y j)
   y_within j inside =
-      positions_within lattice.area.y0 lattice.area.y1 lattice.step j ok.area_ok.y0_ok ok.area_ok.y1_ok ok.area_ok.y_order ok.step_ok.low (subst (λ n. j < n) tells.rows inside)
+      positions_within (greatest_of unit) lattice.area.y0 lattice.area.y1 lattice.step j ok.area_ok.y0_ok ok.area_ok.y1_ok ok.area_ok.y_order ok.step_ok.low (subst (λ n. j < n) tells.rows inside)
 
   weak : (a b : ℤ) → a <ℤ b → a ≤ℤ b
   weak a b h = omega (h, arith, ints)
@@ -129,22 +129,22 @@ module _ (cutter : Cutter) (part : List Tri) (z : ℤ) (lattice : Lattice) (ok :
   -- the last free position between two neighbouring nodes is in range
   on_edge : (axis : Axis) (i j k : ℕ) → upper_column (edge i j axis) < grid.columns → upper_row (edge i j axis) < grid.rows
       → differ (is_blocked grid i j) (is_blocked grid (upper_column (edge i j axis)) (upper_row (edge i j axis))) ≡ true
-      → ((n : ℕ) → n ≤ k → ¬ Gouged (on_the_way lattice z grid (edge i j axis) n)) → IsNear (on_the_way lattice z grid (edge i j axis) k)
+      → ((n : ℕ) → n ≤ k → ¬ Gouged (on_the_way lattice z grid (edge i j axis) n)) → IsNear unit (on_the_way lattice z grid (edge i j axis) k)
   on_edge X i j k column row apart free =
-      let found = on_way Gouged (λ v. point_at v (node_y j) z) (node_x i) (node_x (i + 1)) (x_within i (before i grid.columns column)) (x_within (i + 1) column) (x_rises i column)
+      let found = on_way Gouged (λ v. point_at v (node_y j) z) (greatest_of unit) (node_x i) (node_x (i + 1)) (x_within i (before i grid.columns column)) (x_within (i + 1) column) (x_rises i column)
       (is_blocked grid i j) (is_blocked grid (i + 1) j) k apart (tells.tells i j (before i grid.columns column) row) (tells.tells (i + 1) j column row) free in
-      subst (λ p. IsNear p) (sym found.is) (record { x_ok = found.at_ok; y_ok = y_within j row })
+      subst (λ p. IsNear unit p) (sym found.is) (record { x_ok = found.at_ok; y_ok = y_within j row })
   on_edge Y i j k column row apart free =
-      let found = on_way Gouged (λ v. point_at (node_x i) v z) (node_y j) (node_y (j + 1)) (y_within j (before j grid.rows row)) (y_within (j + 1) row) (y_rises j row)
+      let found = on_way Gouged (λ v. point_at (node_x i) v z) (greatest_of unit) (node_y j) (node_y (j + 1)) (y_within j (before j grid.rows row)) (y_within (j + 1) row) (y_rises j row)
       (is_blocked grid i j) (is_blocked grid i (j + 1)) k apart (tells.tells i j column (before j grid.rows row)) (tells.tells i (j + 1) column row) free in
-      subst (λ p. IsNear p) (sym found.is) (record { x_ok = x_within i column; y_ok = found.at_ok })
+      subst (λ p. IsNear unit p) (sym found.is) (record { x_ok = x_within i column; y_ok = found.at_ok })
 
   -- so is the place of a crossing
-  crossing_within : (c : Crossing) → is_crossing grid c.edge ≡ true → HasLastFree cutter part z lattice grid c → IsNear (point_at c.x c.y z)
+  crossing_within : (c : Crossing) → is_crossing grid c.edge ≡ true → HasLastFree cutter part z lattice grid c → IsNear unit (point_at c.x c.y z)
   crossing_within c crosses last =
       let parts = and_parts _ _ crosses in
       let ends = and_parts _ _ parts.0 in
-      subst (λ p. IsNear p) (sym last.place)
+      subst (λ p. IsNear unit p) (sym last.place)
       (on_edge c.edge.axis c.edge.column c.edge.row last.k (ltb-true (upper_column c.edge) grid.columns ends.0) (ltb-true (upper_row c.edge) grid.rows ends.1) parts.1 last.free)
 
   -- and the cutter doesn't gouge there, nor higher
@@ -179,26 +179,26 @@ module _ (job : Job) (part : List Tri) (ok : IsJob job) (z : ℤ) (low : job.flo
   abbrev visit_of : Pt3 → Visit
   visit_of p = record { at = p; step = job.raster }
 
-  lattice_ok : IsJobLattice (finish_lattice job)
+  lattice_ok : IsJobLattice job.unit (finish_lattice job)
   lattice_ok = record { area_ok = area_in_range job ok; step_ok = ok.raster_ok }
 
-  z_within : Within MAX_TEXT_COORDINATE z
-  z_within = by job.floor job.top ok.floor_ok ok.top_ok low high
+  z_within : Within (greatest_of job.unit) z
+  z_within = by (greatest_of job.unit) job.floor job.top ok.floor_ok ok.top_ok low high
     where
-      by : (a b : ℤ) → Within MAX_TEXT_COORDINATE a → Within MAX_TEXT_COORDINATE b → a ≤ℤ z → z <ℤ b → Within MAX_TEXT_COORDINATE z
-      by a b a_ok b_ok h g = let p = a_ok.within in let q = b_ok.within in record { within = omega (arith, ints) }
+      by : (most : ℕ) (a b : ℤ) → Within most a → Within most b → a ≤ℤ z → z <ℤ b → Within most z
+      by most a b a_ok b_ok h g = let p = a_ok.within in let q = b_ok.within in record { within = omega (arith, ints) }
 
   -- a visit at a crossing of a waterline
   crossing_ok : (outlines : List Outline) (line : IsWaterline job.cutter part z (finish_lattice job) outlines) (chain : Chain) (c : Crossing) → Contains line.chains chain
       → Contains (crossings_of chain) c → IsVisit job part (visit_of (point_at c.x c.y z))
   crossing_ok outlines line chain c there on =
       let last = line.places chain c there on in
-      let near = crossing_within job.cutter part z (finish_lattice job) lattice_ok line.grid line.tells c (crosses line.grid line.chains chain c line.are_chains there on) last in
+      let near = crossing_within job.cutter part z job.unit (finish_lattice job) lattice_ok line.grid line.tells c (crosses line.grid line.chains chain c line.are_chains there on) last in
       record {
         in_range = record { x_ok = near.x_ok; y_ok = near.y_ok; z_ok = z_within };
         kept = low;
         under_top = high;
-        free = crossing_free job.cutter part z (finish_lattice job) lattice_ok line.grid line.tells c last;
+        free = crossing_free job.cutter part z job.unit (finish_lattice job) lattice_ok line.grid line.tells c last;
         step_ok = ok.raster_ok;
       }
 

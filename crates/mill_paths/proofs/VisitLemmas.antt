@@ -1,4 +1,4 @@
--- Each visit of a plan is in range, between floor and top, and free of the part.
+-- Each visit of a plan is in the unit's range, between floor and top, and free of the part.
 use Rattle.std.proofs.Common.{◌≡◌, ◌⊎◌, inl, inr, negsuc, ℕ, zero, suc, ◌+◌, ◌*◌, ◌/◌, ◌%◌, ◌<◌, Bool, true, false, List, [], ◌∷◌, length, get_or, min, refl, sym, ◌∙◌, subst, mod-lt, arith}
 use Rattle.std.specs.Prelude.{nat_abs, int_lt, int_le, ℤ, pos, ◌+ℤ◌, ◌-ℤ◌, ◌<ℤ◌, ◌≤ℤ◌, All}
 use Rattle.std.specs.List.{AllZip, flat_map, range_with_len}
@@ -7,10 +7,11 @@ use Rattle.std.proofs.lemmas.Int.{ints}
 use Rattle.std.proofs.lemmas.List.Elements.{All-append, All-cons, All-nil}
 use Rattle.std.proofs.lemmas.List.FromFn.{length-range_with_len, get_or-range_with_len}
 use Rattle.mill_base.specs.Numbers.{Within}
-use Rattle.mill_base.specs.declared.limits.TheConstants.{MAX_TEXT_COORDINATE}
+use Rattle.mill_base.specs.Units.{greatest_of}
 use Rattle.mill_base.specs.Lattices.{lattice_positions, lattice_xs, lattice_ys, nodes_of, node_at}
 use Rattle.mill_base.specs.declared.lattice.Lattice.{Lattice}
 use Rattle.mill_base.specs.declared.points.Tri.{Tri}
+use Rattle.mill_base.specs.declared.unit.Unit.{Unit}
 use Rattle.mill_drop.specs.Drops.{IsDropHeight}
 use Rattle.mill_drop.specs.Maps.{AreDropHeights, IsHeightAt}
 use Rattle.mill_base.proofs.NodeLemmas.{length-rows, get_or-rows, row_within, length-positions, get_or-positions}
@@ -45,54 +46,54 @@ some_positions lo hi step =
     more : (n : ℕ) → 0 < n + 1
     more n = omega arith
 
-between_ends : (lo hi : ℤ) (n : ℕ) → Within MAX_TEXT_COORDINATE lo → Within MAX_TEXT_COORDINATE hi → lo ≤ℤ hi → Within MAX_TEXT_COORDINATE (lo +ℤ pos (min n (nat_abs (hi -ℤ lo))))
-between_ends lo hi n l h order =
+between_ends : (most : ℕ) (lo hi : ℤ) (n : ℕ) → Within most lo → Within most hi → lo ≤ℤ hi → Within most (lo +ℤ pos (min n (nat_abs (hi -ℤ lo))))
+between_ends most lo hi n l h order =
     let a = l.within in
     let b = h.within in
     record { within = omega (arith, ints) }
 
-pub positions_within : (lo hi step : ℤ) (k : ℕ) → Within MAX_TEXT_COORDINATE lo → Within MAX_TEXT_COORDINATE hi → lo ≤ℤ hi → (pos 1) ≤ℤ step → k < length (lattice_positions lo hi step)
-    → Within MAX_TEXT_COORDINATE (get_or (lattice_positions lo hi step) k (pos 0))
-positions_within lo hi step k low high order some inside =
-    subst (λ z. Within MAX_TEXT_COORDINATE z) (sym (get_or-positions lo hi step k order some inside)) (between_ends lo hi (k * nat_abs step) low high order)
+pub positions_within : (most : ℕ) (lo hi step : ℤ) (k : ℕ) → Within most lo → Within most hi → lo ≤ℤ hi → (pos 1) ≤ℤ step → k < length (lattice_positions lo hi step)
+    → Within most (get_or (lattice_positions lo hi step) k (pos 0))
+positions_within most lo hi step k low high order some inside =
+    subst (λ z. Within most z) (sym (get_or-positions lo hi step k order some inside)) (between_ends most lo hi (k * nat_abs step) low high order)
 
--- the node of each number is in range
-record IsPlace (node : ℤ × ℤ) : Type 0 where
-  pub x_ok : Within MAX_TEXT_COORDINATE node.0
-  pub y_ok : Within MAX_TEXT_COORDINATE node.1
+-- the node of each number is in the unit's range
+record IsPlace (unit : Unit) (node : ℤ × ℤ) : Type 0 where
+  pub x_ok : Within (greatest_of unit) node.0
+  pub y_ok : Within (greatest_of unit) node.1
 
--- a lattice over a job's area
-pub record IsJobLattice (lattice : Lattice) : Type 0 where
-  pub area_ok : IsArea lattice.area
+-- a lattice over the area of a job in this unit
+pub record IsJobLattice (unit : Unit) (lattice : Lattice) : Type 0 where
+  pub area_ok : IsArea unit lattice.area
   pub step_ok : IsFrom (pos 1) (pos 10000) lattice.step
 
-pub area_in_range : (job : Job) → IsJob job → IsArea job.area
+pub area_in_range : (job : Job) → IsJob job → IsArea job.unit job.area
 area_in_range job ok = record { x0_ok = ok.x0_ok; y0_ok = ok.y0_ok; x1_ok = ok.x1_ok; y1_ok = ok.y1_ok; x_order = ok.x_order; y_order = ok.y_order }
 
-node_within : (lattice : Lattice) (number : ℕ) → IsJobLattice lattice → number < length (nodes_of lattice) → IsPlace (node_at lattice number)
-node_within lattice number ok inside =
+node_within : (unit : Unit) (lattice : Lattice) (number : ℕ) → IsJobLattice unit lattice → number < length (nodes_of lattice) → IsPlace unit (node_at lattice number)
+node_within unit lattice number ok inside =
     let xs : List ℤ = lattice_xs lattice in
     let ys : List ℤ = lattice_ys lattice in
     let some : 0 < length xs = some_positions lattice.area.x0 lattice.area.x1 lattice.step in
     let product : number < length xs * length ys = subst (λ n. number < n) (length-rows xs ys) inside in
     let is : node_at lattice number ≡ (get_or xs (number % length xs) (pos 0), get_or ys (number / length xs) (pos 0)) = get_or-rows xs ys number (pos 0, pos 0) some product in
-    subst (λ node. IsPlace node) (sym is) (record {
-      x_ok = positions_within lattice.area.x0 lattice.area.x1 lattice.step (number % length xs) ok.area_ok.x0_ok ok.area_ok.x1_ok ok.area_ok.x_order ok.step_ok.low (mod-lt number some);
-      y_ok = positions_within lattice.area.y0 lattice.area.y1 lattice.step (number / length xs) ok.area_ok.y0_ok ok.area_ok.y1_ok ok.area_ok.y_order ok.step_ok.low (row_within xs ys (length xs) number refl some inside);
+    subst (λ node. IsPlace unit node) (sym is) (record {
+      x_ok = positions_within (greatest_of unit) lattice.area.x0 lattice.area.x1 lattice.step (number % length xs) ok.area_ok.x0_ok ok.area_ok.x1_ok ok.area_ok.x_order ok.step_ok.low (mod-lt number some);
+      y_ok = positions_within (greatest_of unit) lattice.area.y0 lattice.area.y1 lattice.step (number / length xs) ok.area_ok.y0_ok ok.area_ok.y1_ok ok.area_ok.y_order ok.step_ok.low (row_within xs ys (length xs) number refl some inside);
     })
 
 -- a visit of a job over a node, from its drop height on and under the top
-visit_ok : (job : Job) (part : List Tri) (lattice : Lattice) (heights : List ℤ) (number : ℕ) (z : ℤ) → IsJob job → IsJobLattice lattice
+visit_ok : (job : Job) (part : List Tri) (lattice : Lattice) (heights : List ℤ) (number : ℕ) (z : ℤ) → IsJob job → IsJobLattice job.unit lattice
     → AreDropHeights job.cutter part job.floor lattice heights → number < length (nodes_of lattice) → height_at heights number ≤ℤ z → z <ℤ job.top
     → IsVisit job part (visit_at lattice number z)
 visit_ok job part lattice heights number z ok lattice_ok are inside free under =
     let node : ℤ × ℤ = node_at lattice number in
-    let place : IsPlace node = node_within lattice number lattice_ok inside in
+    let place : IsPlace job.unit node = node_within job.unit lattice number lattice_ok inside in
     let drop : IsDropHeight job.cutter part node.0 node.1 job.floor (height_at heights number) =
     AllZip-at (IsHeightAt job.cutter part job.floor) (nodes_of lattice) heights number (pos 0, pos 0) (pos 0) are inside in
     let kept : job.floor ≤ℤ z = upto job.floor (height_at heights number) z drop.kept free in
     record {
-      in_range = record { x_ok = place.x_ok; y_ok = place.y_ok; z_ok = between job.floor z job.top ok.floor_ok ok.top_ok kept under };
+      in_range = record { x_ok = place.x_ok; y_ok = place.y_ok; z_ok = between (greatest_of job.unit) job.floor z job.top ok.floor_ok ok.top_ok kept under };
       kept = kept;
       under_top = under;
       free = λ higher h. drop.free higher (upto (height_at heights number) z higher free h);
@@ -102,8 +103,8 @@ visit_ok job part lattice heights number z ok lattice_ok are inside free under =
     upto : (a b c : ℤ) → a ≤ℤ b → b ≤ℤ c → a ≤ℤ c
     upto a b c h e = omega (arith, ints)
 
-    between : (a b c : ℤ) → Within MAX_TEXT_COORDINATE a → Within MAX_TEXT_COORDINATE c → a ≤ℤ b → b <ℤ c → Within MAX_TEXT_COORDINATE b
-    between a b c h e low high = let low_ok = h.within in let high_ok = e.within in record { within = omega (arith, ints) }
+    between : (most : ℕ) (a b c : ℤ) → Within most a → Within most c → a ≤ℤ b → b <ℤ c → Within most b
+    between most a b c h e low high = let low_ok = h.within in let high_ok = e.within in record { within = omega (arith, ints) }
 
 -- what holds of the one visit where there is one holds of all of it
 if_ok : (P : Visit → Type 0) (holds : Bool) (lattice : Lattice) (number : ℕ) (z : ℤ) → (holds ≡ true → P (visit_at lattice number z)) → All P (visit_if holds lattice number z)

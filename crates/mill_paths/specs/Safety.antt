@@ -1,9 +1,9 @@
--- What every move of a plan keeps: it is in range and over the floor, it passes the part, and as a rapid it passes what is left of the stock.
+-- What every move of a plan keeps: it is in the range of the job's unit and over the floor, it passes the part, and as a rapid it passes what is left of the stock.
 use Rattle.std.specs.Prelude.{◌≡◌, ◌⊎◌, ℤ, pos, ◌≤ℤ◌, List, [], ◌∷◌, ◌++◌, All, Contains}
 use Rattle.mill_base.specs.Contact.{Gouges}
 use Rattle.mill_base.specs.Covers.{IsUnder}
 use Rattle.mill_base.specs.Points.{point_at}
-use Rattle.mill_base.specs.Ranges.{IsInTextRange, MoveInTextRange}
+use Rattle.mill_base.specs.Ranges.{IsInUnitRange, MoveInUnitRange}
 use Rattle.mill_base.specs.declared.points.Pt3.{Pt3}
 use Rattle.mill_base.specs.declared.points.Tri.{Tri}
 use Rattle.mill_base.specs.declared.motion.Move.{Move}
@@ -20,7 +20,7 @@ use Rattle.mill_paths.specs.declared.visit.Visit.{Visit}
 
 -- after the moves done so far, this one is safe
 pub record IsSafeMove (job : Job) (part : List Tri) (done : List Move) (m : Move) : Type 0 where
-  pub ranged : MoveInTextRange m
+  pub ranged : MoveInUnitRange job.unit m
   pub floor_from : job.floor ≤ℤ m.from.z
   pub floor_to : job.floor ≤ℤ m.to.z
   pub passes : PassesPart job.cutter m part
@@ -36,9 +36,9 @@ abbrev pub Connect : Pt3 → List Move → Pt3 → Type 0
 Connect from [] to = to ≡ from
 Connect from (m ∷ ms) to = (m.from ≡ from) × Connect m.to ms to
 
--- the cutter may stand here: the place is in range, from the floor to the top of the stock, and no part point is strictly inside the cutter
+-- the cutter may stand here: the place is in the unit's range, from the floor to the top of the stock, and no part point is strictly inside the cutter
 pub record IsFreePlace (job : Job) (part : List Tri) (p : Pt3) : Type 0 where
-  pub ranged : IsInTextRange p
+  pub ranged : IsInUnitRange job.unit p
   pub floor : job.floor ≤ℤ p.z
   pub top : p.z ≤ℤ job.top
   pub free : ¬ Gouges job.cutter (pos 1) p part
@@ -51,7 +51,7 @@ pub record IsEndOf (moves : List Move) (p : Pt3) : Type 0 where
 
 -- after these moves the cutter may be here: at the clear height, or at a free place where one of them ends
 pub record IsReached (job : Job) (part : List Tri) (done : List Move) (p : Pt3) : Type 0 where
-  pub ranged : IsInTextRange p
+  pub ranged : IsInUnitRange job.unit p
   pub floor : job.floor ≤ℤ p.z
   pub low : p.z ≤ℤ job.clear
   pub place : (job.clear ≤ℤ p.z) ⊎ (IsFreePlace job part p × IsEndOf done p)

@@ -2,7 +2,7 @@
 use Rattle.std.specs.Prelude.{◌≡◌, ℕ, ◌-◌, ◌/◌, ◌<◌, nat_abs, Bool, if◌then◌else◌, ℤ, pos, ◌+ℤ◌, ◌-ℤ◌, ◌*ℤ◌, ◌<ℤ◌, ◌≤ℤ◌, int_lt, int_le, List, [], ◌∷◌, ◌++◌, take, map, slice_index_or, All}
 use Rattle.std.specs.List.{AllZip, flat_map, range_with_len}
 use Rattle.mill_base.specs.Points.{point_at}
-use Rattle.mill_base.specs.Ranges.{IsInTextRange}
+use Rattle.mill_base.specs.Ranges.{IsInUnitRange}
 use Rattle.mill_base.specs.declared.lattice.Lattice.{Lattice}
 use Rattle.mill_base.specs.declared.points.Pt3.{Pt3}
 use Rattle.mill_base.specs.declared.points.Tri.{Tri}
@@ -104,9 +104,9 @@ pub record HaveManyFinishVisits (job : Job) (part : List Tri) : Type 0 where
   pub are : AreDropHeights job.cutter part job.floor (finish_lattice job) heights
   pub many : most_changes < change_count (finish_visits_of job heights)
 
--- a place that a plan may come to: in range, from the floor on and under the top, with the step of a job's path; there and at every greater height the cutter doesn't gouge
+-- a place that a plan may come to: in the unit's range, from the floor on and under the top, with the step of a job's path; there and at every greater height the cutter doesn't gouge
 pub record IsVisit (job : Job) (part : List Tri) (visit : Visit) : Type 0 where
-  pub in_range : IsInTextRange visit.at
+  pub in_range : IsInUnitRange job.unit visit.at
   pub kept : job.floor ≤ℤ visit.at.z
   pub under_top : visit.at.z <ℤ job.top
   pub free : (higher : ℤ) → visit.at.z ≤ℤ higher → ¬ GougesAt job.cutter part visit.at.x visit.at.y higher

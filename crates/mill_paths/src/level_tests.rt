@@ -3,7 +3,7 @@ ghost use Rattle.mill_job.specs.Jobs.{AreLevels, IsJob};
 
 use crate::test_shape::{Shape, at, shape_of};
 use crate::{PathFault, Visit, level_visits};
-use mill_base::{Box2, Cutter, Pt3, Tri};
+use mill_base::{Box2, Cutter, Pt3, Tri, Unit};
 use mill_decimal::Snap;
 use mill_job::{Job, Levels, Place};
 use std::test::Fail;
@@ -18,6 +18,7 @@ fn job(radius: i32, raster: i32, levels: Levels) -> Job
     ensures { IsJob result }
 {
     Job {
+        unit: Unit::Hundredth,
         cutter: Cutter::Flat { radius },
         floor: 0,
         top: 400,

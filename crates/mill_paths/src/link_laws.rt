@@ -1,7 +1,8 @@
 ghost use Rattle.mill_paths.specs.Safety.{LinkIsSafe, TourIsSafe, WayHomeIsSafe};
 
 /// From where the cutter is, a link to a free place goes there safely: its moves lead on from each
-/// other, stay in range and over the floor, and pass the part, and its rapids pass every column.
+/// other, stay in the unit's range and over the floor, and pass the part, and its rapids pass every
+/// column.
 pub fn link_is_safe()
     ensures { LinkIsSafe }
 {}

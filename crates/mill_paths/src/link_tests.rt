@@ -1,9 +1,9 @@
-ghost use Rattle.mill_base.specs.Ranges.{IsInTextRange, TriInTextRange};
+ghost use Rattle.mill_base.specs.Ranges.{IsInRange, TriInRange};
 ghost use Rattle.mill_job.specs.Jobs.{IsJob};
 
 use crate::test_shape::{Shape, at, shape_of};
 use crate::{Visit, home, link};
-use mill_base::{Box2, Cutter, Kind, Move, Pt3, Tri};
+use mill_base::{Box2, Cutter, Kind, Move, Pt3, Tri, Unit};
 use mill_decimal::Snap;
 use mill_job::{Job, Levels, Place};
 use std::test::Fail;
@@ -13,6 +13,7 @@ fn job() -> Job
     ensures { IsJob result }
 {
     Job {
+        unit: Unit::Hundredth,
         cutter: Cutter::Flat { radius: 100 },
         floor: 0,
         top: 400,
@@ -40,7 +41,7 @@ fn job() -> Job
 
 /// A visit at the height 200.
 fn visit(x: i16, y: i16, step: i16) -> Visit
-    ensures { IsInTextRange result.at }
+    ensures { IsInRange result.at }
 {
     Visit {
         at: at(x, y, 200),
@@ -50,7 +51,7 @@ fn visit(x: i16, y: i16, step: i16) -> Visit
 
 /// A post of no width at the origin, 300 high.
 fn post() -> Tri
-    ensures { TriInTextRange result }
+    ensures { TriInRange result }
 {
     let top = at(0, 0, 300);
     Tri {

@@ -19,7 +19,7 @@ use mill_part::Part;
 /// other the cutter goes round: up to the clear height, across, down to the top of the stock, and
 /// then by a feed down to the visit. The cells are those of the part's triangles.
 ///
-/// Coordinates are in units of 0.01 mm, of at most 524,287 in magnitude.
+/// Coordinates are in the job's units, of at most 524,287 in magnitude.
 ///
 /// # Errors
 ///
@@ -50,7 +50,7 @@ pub fn link(
 /// Whether the link from the place `from`, where the cutter is, to the visit needs no way round: it is
 /// one straight feed, or no move. The cells are those of the part's triangles.
 ///
-/// Coordinates are in units of 0.01 mm, of at most 524,287 in magnitude.
+/// Coordinates are in the job's units, of at most 524,287 in magnitude.
 pub fn goes_straight(job: &Job, part: &Part, cells: &Cells, from: Pt3, to: Visit) -> bool
     requires job_ok { IsJob job.now }
     requires cells_ok { cells.now ≡ sorted_of part.now }

@@ -11,7 +11,7 @@ use mill_job::Job;
 /// A path over a lattice.
 #[derive(Clone, Copy, Debug, PartialEq, Eq)]
 pub(crate) enum Path {
-    /// Roughing at this height, in units of 0.01 mm.
+    /// Roughing at this height, in units.
     Level { z: i32 },
     /// The finishing path.
     Finish,

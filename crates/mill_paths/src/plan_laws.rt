@@ -24,8 +24,8 @@ pub fn round_is_safe()
     ensures { RoundIsSafe }
 {}
 
-/// Each visit of a plan is a place that it may come to: in range, from the floor on and under the top,
-/// and the cutter doesn't gouge there nor at any greater height.
+/// Each visit of a plan is a place that it may come to: in the unit's range, from the floor on and under
+/// the top, and the cutter doesn't gouge there nor at any greater height.
 pub fn visits_are_free()
     ensures rough { RoughVisitsAreFree }
     ensures level { LevelVisitsAreFree }

@@ -1,6 +1,6 @@
 //! A part with its cells, for the tests.
 ghost use Rattle.std.specs.Prelude.{◌≡◌, ◌<◌, ◌^◌, length};
-ghost use Rattle.mill_base.specs.Ranges.{IsInTextRange, TrisInTextRange};
+ghost use Rattle.mill_base.specs.Ranges.{IsInRange, TrisInRange};
 ghost use Rattle.mill_cells.specs.Sorted.{sorted_of};
 
 use mill_base::{Pt3, Tri};
@@ -8,9 +8,9 @@ use mill_cells::Cells;
 use mill_part::Part;
 use std::test::Fail;
 
-/// A place by its coordinates, in units of 0.01 mm.
+/// A place by its coordinates, in units.
 pub(crate) fn at(x: i16, y: i16, z: i16) -> Pt3
-    ensures { IsInTextRange result }
+    ensures { IsInRange result }
 {
     Pt3 {
         x: i32::from(x),
@@ -29,7 +29,7 @@ pub(crate) struct Shape {
 
 /// The part of these triangles.
 pub(crate) fn shape_of<R: AllocGlobal>(rt: &R, tris: Vec<Tri>) -> Result<Shape, Fail>
-    requires in_range { TrisInTextRange tris.items }
+    requires in_range { TrisInRange tris.items }
     requires count { length tris.items < 2 ^ 32 }
 {
     let part = Part::new(tris);

@@ -1,10 +1,10 @@
 ghost use Rattle.std.specs.Prelude.{◌≤ℤ◌, pos};
-ghost use Rattle.mill_base.specs.Ranges.{IsInTextRange};
+ghost use Rattle.mill_base.specs.Ranges.{IsInRange};
 ghost use Rattle.mill_job.specs.Jobs.{IsJob};
 
 use crate::test_shape::{Shape, at, shape_of};
 use crate::{PathFault, Visit, finish_visits, rough_visits};
-use mill_base::{Box2, Cutter, Pt3, Tri};
+use mill_base::{Box2, Cutter, Pt3, Tri, Unit};
 use mill_decimal::Snap;
 use mill_job::{Job, Levels, Place};
 use std::test::Fail;
@@ -18,6 +18,7 @@ fn block_job(layer: i32, lift: i32) -> Job
     ensures { IsJob result }
 {
     Job {
+        unit: Unit::Hundredth,
         cutter: Cutter::Flat { radius: 150 },
         floor: 0,
         top: 300,
@@ -48,6 +49,7 @@ fn wide_job() -> Job
     ensures { IsJob result }
 {
     Job {
+        unit: Unit::Hundredth,
         cutter: Cutter::Flat { radius: 100 },
         floor: 0,
         top: 400,
@@ -84,6 +86,7 @@ fn fine_job(raster: i32, rough_raster: i32, layer: i32) -> Job
     ensures { IsJob result }
 {
     Job {
+        unit: Unit::Hundredth,
         cutter: Cutter::Flat { radius: 100 },
         floor: 0,
         top: 300,
@@ -111,10 +114,10 @@ fn fine_job(raster: i32, rough_raster: i32, layer: i32) -> Job
 
 /// The part of two triangles, from `a` over `b` to `c`, and from `a` over `c` to `d`.
 fn two_triangles<R: AllocGlobal>(rt: &R, a: Pt3, b: Pt3, c: Pt3, d: Pt3) -> Result<Shape, Fail>
-    requires a_ok { IsInTextRange a }
-    requires b_ok { IsInTextRange b }
-    requires c_ok { IsInTextRange c }
-    requires d_ok { IsInTextRange d }
+    requires a_ok { IsInRange a }
+    requires b_ok { IsInRange b }
+    requires c_ok { IsInRange c }
+    requires d_ok { IsInRange d }
 {
     let mut tris = Vec::new(rt.alloc());
     tris.push(Tri { a, b, c })?;

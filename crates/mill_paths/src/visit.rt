@@ -1,6 +1,6 @@
 use mill_base::Pt3;
 
-/// A place that the cutter comes to with its tip. Lengths are in units of 0.01 mm.
+/// A place that the cutter comes to with its tip. Lengths are in the job's units.
 #[derive(Clone, Copy, Debug, PartialEq, Eq)]
 pub struct Visit {
     /// Where the tip is then.

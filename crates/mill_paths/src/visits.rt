@@ -148,7 +148,7 @@ fn level_count(job: &Job) -> u32
     job.top.abs_diff(job.floor).saturating_sub(1) / job.layer.unsigned_abs()
 }
 
-/// The height of the level of this number, counted from 0, in units of 0.01 mm.
+/// The height of the level of this number, counted from 0, in units.
 fn level(job: &Job, number: u32) -> i32
     requires job_ok { IsJob job.now }
     requires layer_ok { (pos 0) <ℤ job.now.layer }

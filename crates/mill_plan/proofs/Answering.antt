@@ -40,7 +40,7 @@ module _ (one : OnePlan) (verdict : OneVerdict) (job : Job) (part : List Tri) wh
   both_done : (t u : List ℕ) (n m c d : ℕ) (x y : ℤ) → IsDone job part t n c x → IsDone job part u m d y → done t n c x ≡ done u m d y
   both_done t u n m c d x y a b =
       same_done t u n m c d x y
-      (a.written ∙ ap program_text (one job part a.moves b.moves a.plan.is b.plan.is) ∙ sym b.written)
+      (a.written ∙ ap (program_text job.unit) (one job part a.moves b.moves a.plan.is b.plan.is) ∙ sym b.written)
       (on_plan (Accept n c x) (Accept m d y) a.moves b.moves a.plan b.plan a.accepted b.accepted)
 
   done_or_uncut : (t : List ℕ) (n c j i : ℕ) (x s : ℤ) → IsDone job part t n c x → IsUncut job part j i s → ⊥

@@ -3,7 +3,7 @@ use Rattle.std.specs.Prelude.{◌≡◌, ℕ, zero, suc, ◌<◌, ℤ, ◌≤ℤ
 use Rattle.std.proofs.Common.{refl, sym, ◌∙◌, subst, arith}
 use Rattle.std.proofs.lemmas.List.{append_assoc, append-nil, get_or_default}
 use Rattle.mill_base.specs.Motion.{Follow}
-use Rattle.mill_base.specs.Ranges.{MoveInTextRange, MovesInTextRange}
+use Rattle.mill_base.specs.Ranges.{MoveInUnitRange, MovesInUnitRange}
 use Rattle.mill_base.specs.declared.motion.Move.{Move}
 use Rattle.mill_base.specs.declared.points.Pt3.{Pt3}
 use Rattle.mill_base.specs.declared.points.Tri.{Tri}
@@ -34,9 +34,9 @@ module _ (job : Job) (part : List Tri) where
         stock = λ rapid j i column. safe.stock rapid (column_x job i) (column_y job j);
       }
 
-  pub in_range : (from to : Pt3) (moves : List Move) → GoSafely job part [] from moves to → MovesInTextRange moves
+  pub in_range : (from to : Pt3) (moves : List Move) → GoSafely job part [] from moves to → MovesInUnitRange job.unit moves
   in_range from to moves go m member =
-      subst MoveInTextRange (get_or_default moves member.0 _ m member.1 ∙ member.2) (safe_at [] moves member.0 go.safe member.1).ranged
+      subst (λ (n : Move). MoveInUnitRange job.unit n) (get_or_default moves member.0 _ m member.1 ∙ member.2) (safe_at [] moves member.0 go.safe member.1).ranged
 
   connected : (from to : Pt3) (ms : List Move) → Connect from ms to → Follow from ms
   connected from to [] connect = tt

@@ -19,7 +19,7 @@ use Rattle.mill_plan.proofs.Reach.{out_of_reach}
 
 module _ (job : Job) (part : List Tri) (moves : List Move) (plan : HasPlan job part moves) where
   -- an acceptance and the text of the moves are an answer
-  pub done_told : (text : List ℕ) (count columns : ℕ) (left : ℤ) → GoSafely job part [] (home job) moves (home job) → text ≡ program_text moves → ReadsBack moves text
+  pub done_told : (text : List ℕ) (count columns : ℕ) (left : ℤ) → GoSafely job part [] (home job) moves (home job) → text ≡ program_text job.unit moves → ReadsBack job.unit moves text
       → IsVerdict job part moves (Accept count columns left) → CutsSafely job part moves → IsDone job part text count columns left
   done_told text count columns left go written reads accepted safe = record {
     moves = moves;

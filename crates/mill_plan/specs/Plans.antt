@@ -5,7 +5,7 @@ use Rattle.mill_base.specs.Contact.{Holds}
 use Rattle.mill_base.specs.Covers.{IsHighestCovered}
 use Rattle.mill_base.specs.Lattices.{node_count}
 use Rattle.mill_base.specs.Points.{point_at}
-use Rattle.mill_base.specs.Ranges.{MovesInTextRange}
+use Rattle.mill_base.specs.Ranges.{MovesInUnitRange}
 use Rattle.mill_base.specs.declared.points.Tri.{Tri}
 use Rattle.mill_base.specs.declared.motion.Move.{Move}
 use Rattle.mill_job.specs.Columns.{home, column_x, column_y}
@@ -63,13 +63,13 @@ pub record HasPlan (job : Job) (part : List Tri) (moves : List Move) : Type 0 wh
 
 -- ---- the answers
 
--- the text is the plan's and reads back as its moves, which are in range, from the job's home; the verdict on them is acceptance, with these numbers, and they cut safely
+-- the text is the plan's in the job's unit, and reads back in that unit as its moves, which are in its range, from the job's home; the verdict on them is acceptance, with these numbers, and they cut safely
 pub record IsDone (job : Job) (part : List Tri) (text : List ℕ) (count columns : ℕ) (left : ℤ) : Type 0 where
   pub moves : List Move
   pub plan : HasPlan job part moves
-  pub written : text ≡ program_text moves
-  pub reads : program_of (home job) text ≡ Ok moves
-  pub in_range : MovesInTextRange moves
+  pub written : text ≡ program_text job.unit moves
+  pub reads : program_of (home job) job.unit text ≡ Ok moves
+  pub in_range : MovesInUnitRange job.unit moves
   pub accepted : IsVerdict job part moves (Accept count columns left)
   pub safe : CutsSafely job part moves
 

@@ -19,7 +19,7 @@ pub enum PlanFault {
     /// The plan has more than 1,000,000 moves.
     #[error("more than 1,000,000 moves")]
     TooManyMoves,
-    /// The plan leaves a column's top, in units of 0.01 mm, more than the allowance over what covers it.
+    /// The plan leaves a column's top, in units, more than the allowance over what covers it.
     #[error("row {row}, column {col} stays uncut")]
     Uncut {
         row: u32,

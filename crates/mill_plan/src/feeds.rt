@@ -1,6 +1,6 @@
 //! Which of a plan's links need no way round, tried side by side.
 ghost use Rattle.std.specs.Prelude.{◌≡◌, ◌<◌, length, All, IfOk};
-ghost use Rattle.mill_base.specs.Ranges.{IsInTextRange};
+ghost use Rattle.mill_base.specs.Ranges.{IsInUnitRange};
 ghost use Rattle.mill_cells.specs.Sorted.{sorted_of};
 ghost use Rattle.mill_job.specs.Jobs.{IsJob};
 ghost use Rattle.mill_paths.specs.Visits.{IsVisit};
@@ -58,10 +58,10 @@ fn is_straight_to(job: &Job, part: &Part, cells: &Cells, visits: &[Visit], numbe
 /// Where the cutter is before it comes to the visit of this number.
 fn place_before(job: &Job, visits: &[Visit], number: usize) -> Pt3
     requires job_ok { IsJob job.now }
-    requires visits_ok { All (λ visit. IsInTextRange visit.at) visits.now }
+    requires visits_ok { All (λ visit. IsInUnitRange job.now.unit visit.at) visits.now }
     requires number_ok { number < length visits.now }
     ensures value { result ≡ place_before_of job.now visits.now number }
-    ensures in_range { IsInTextRange result }
+    ensures in_range { IsInUnitRange job.now.unit result }
 {
     if number == 0 {
         return job.home();

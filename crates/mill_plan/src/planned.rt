@@ -7,6 +7,6 @@ pub struct Planned {
     pub moves: u64,
     /// How many columns the job has.
     pub columns: u64,
-    /// The most that any column's top stands over its greatest covered height, in units of 0.01 mm.
+    /// The most that any column's top stands over its greatest covered height, in units.
     pub most_left: i32,
 }

@@ -24,12 +24,12 @@ use std::thread::Threads;
 ///
 /// The cutter starts at the job's home, comes to the visits of its roughing, then to those along the
 /// waterlines at its levels, each closed one round to its first point again, and then to those of its
-/// finishing path (mill_paths), each by its link, and goes home. The text is that of `mill_post`; it
-/// reads back as these moves, which the verifier accepts, with the numbers that are told.
+/// finishing path (mill_paths), each by its link, and goes home. The text is that of `mill_post` in the
+/// job's unit; it reads back as these moves, which the verifier accepts, with the numbers that are told.
 ///
 /// The verifying is handed to `workers` threads, from 1 to 64; the drop heights, the waterlines and the
 /// straight feeds to as many as the machine has; the answer doesn't depend on their number. The part
-/// is nowhere higher than the uncut stock. Lengths are in units of 0.01 mm.
+/// is nowhere higher than the uncut stock. Lengths are in the job's units.
 ///
 /// # Errors
 ///
@@ -88,7 +88,7 @@ fn verified<R: Threads + Sync>(
             columns,
             most_left,
         } => {
-            let program = write_program(alloc, moves)?;
+            let program = write_program(alloc, moves, job.unit)?;
             Ok(Planned {
                 program,
                 moves: count,

@@ -6,9 +6,10 @@ ghost use Rattle.mill_base.specs.Points.{point_at};
 ghost use Rattle.mill_job.specs.Jobs.{AreLevels, IsJob};
 
 use crate::{PlanFault, plan};
-use mill_base::{Box2, Cutter, Pt3, Tri, WantOfMemory};
+use mill_base::{Box2, Cutter, Kind, Move, Pt3, Tri, Unit, WantOfMemory};
 use mill_decimal::Snap;
 use mill_job::{Job, Levels, Place};
+use mill_ngc::{NgcFault, Reader};
 use mill_part::Part;
 use std::alloc::Global;
 use std::test::Fail;
@@ -23,6 +24,7 @@ fn block_job(layer: i32, lift: i32) -> Job
     ensures top { result.top ≡ pos 300 }
 {
     Job {
+        unit: Unit::Hundredth,
         cutter: Cutter::Flat { radius: 100 },
         floor: 0,
         top: 300,
@@ -60,6 +62,7 @@ fn fine_job(raster: i32, rough_raster: i32, layer: i32) -> Job
     ensures top { result.top ≡ pos 300 }
 {
     Job {
+        unit: Unit::Hundredth,
         cutter: Cutter::Flat { radius: 100 },
         floor: 0,
         top: 300,
@@ -92,6 +95,7 @@ fn wide_job(levels: Levels) -> Job
     ensures top { result.top ≡ pos 400 }
 {
     Job {
+        unit: Unit::Hundredth,
         cutter: Cutter::Flat { radius: 100 },
         floor: 0,
         top: 400,
@@ -113,6 +117,39 @@ fn wide_job(levels: Levels) -> Job
         layer: 0,
         rough_stock: 0,
         levels,
+        snap: Snap::Nearest,
+    }
+}
+
+/// A block of 0.3 mm over a square of 0.005 mm, in thousandths, farther out than hundredths reach, and
+/// four columns and finishing nodes in it.
+fn thousandths_job() -> Job
+    ensures job { IsJob result }
+    ensures top { result.top ≡ pos 300 }
+{
+    Job {
+        unit: Unit::Thousandth,
+        cutter: Cutter::Flat { radius: 100 },
+        floor: 0,
+        top: 300,
+        clear: 405,
+        area: Box2 {
+            x0: 200_000,
+            y0: 0,
+            x1: 200_005,
+            y1: 5,
+        },
+        home: Place { x: 200_000, y: 0 },
+        pitch: 5,
+        sample: 5,
+        allowance: 0,
+        band: 0,
+        lift: 0,
+        raster: 5,
+        rough_raster: 5,
+        layer: 0,
+        rough_stock: 0,
+        levels: Levels::NONE,
         snap: Snap::Nearest,
     }
 }
@@ -144,6 +181,36 @@ fn peak(alloc: Global) -> Result<Part, WantOfMemory>
         c: place,
     })?;
     Ok(Part::new(tris))
+}
+
+/// The part of one triangle at the height 201, which covers the square of `thousandths_job`.
+fn far_plate(alloc: Global) -> Result<Part, WantOfMemory>
+    ensures { IfOk result (λ part. IsUnder part (pos 300)) }
+{
+    let mut tris = Vec::new(alloc);
+    tris.push(Tri {
+        a: place(199_900, -100, 201),
+        b: place(200_200, -100, 201),
+        c: place(199_900, 200, 201),
+    })?;
+    Ok(Part::new(tris))
+}
+
+fn place(x: i32, y: i32, z: i32) -> Pt3
+    ensures { result ≡ point_at x y z }
+{
+    Pt3 { x, y, z }
+}
+
+/// The moves that a program's text reads as, from home.
+fn read_back(alloc: Global, job: &Job, text: &[u8]) -> Result<Vec<Move>, NgcFault>
+    requires { IsJob job.now }
+{
+    let mut moves = Vec::new(alloc);
+    let mut reader = Reader::new(job.home(), job.unit);
+    reader.feed(text, &mut moves)?;
+    reader.finish(&mut moves)?;
+    Ok(moves)
 }
 
 fn corner(x: i32, y: i32) -> Pt3
@@ -192,6 +259,33 @@ fn plans_a_plate(rt: HostRuntime) -> Result<(), Fail> {
         assert_eq!(rt; planned.columns, 16);
         assert_eq!(rt; planned.most_left, 0);
     }
+    Ok(())
+}
+
+// Straight down from home, along the four nodes, and two rapids home.
+#[test]
+fn plans_in_thousandths(rt: HostRuntime) -> Result<(), Fail> {
+    let job = thousandths_job();
+    let planned = plan(&rt, rt.alloc(), &job, &far_plate(rt.alloc())?, 2)?;
+    let text: &[u8] =
+        b"%\nG17 G21 G90\nG1 X200.000 Y0.000 Z0.201\nG1 X200.005 Y0.000 Z0.201\nG1 X200.005 Y0.005 Z0.201\nG1 X200.000 Y0.005 Z0.201\nG0 X200.000 Y0.005 Z0.405\nG0 X200.000 Y0.000 Z0.405\nM2\n%\n";
+    assert_eq!(rt; planned.program.as_slice(), text);
+    assert_eq!(rt; planned.columns, 4);
+    assert_eq!(rt; planned.most_left, 0);
+    let moves = read_back(rt.alloc(), &job, &planned.program)?;
+    assert_eq!(rt; moves.len(), 6);
+    let first = Move {
+        kind: Kind::Feed,
+        from: place(200_000, 0, 405),
+        to: place(200_000, 0, 201),
+    };
+    assert_eq!(rt; moves.first(), Some(&first));
+    let last = Move {
+        kind: Kind::Rapid,
+        from: place(200_000, 5, 405),
+        to: place(200_000, 0, 405),
+    };
+    assert_eq!(rt; moves.last(), Some(&last));
     Ok(())
 }
 

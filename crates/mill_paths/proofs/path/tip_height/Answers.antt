@@ -2,7 +2,7 @@ use Rattle.std.proofs.Common.{◌≡◌, ◌∙◌, false, FitsSigned, rules, w3
 use Rattle.std.specs.Prelude.{ℤ, ◌+ℤ◌, ◌-ℤ◌, ◌<ℤ◌, ◌≤ℤ◌}
 use Rattle.std.proofs.lemmas.Int.{ints, to_z-of_z}
 use lib.Signed.{le_z}
-use Rattle.mill_base.proofs.Ranges.{within_of_text}
+use Rattle.mill_base.proofs.Ranges.{within_of_unit}
 use Rattle.mill_part.proofs.Stored.{band_kept, less_band}
 use Rattle.mill_paths.proofs.PathLemmas.{finish_height, level_height, no_finish_height, no_level_height}
 use Rattle.mill_paths.proofs.path.tip_height.Goals as goal
@@ -14,7 +14,7 @@ pub overflow_add-result : goal.overflow_add-result
 overflow_add-result c =
     let drop = to_z-of_z w32 c.args.drop c.ranges.drop in
     let lift = band_kept c.args.job.now.lift c.requires.lift_ok.low c.requires.lift_ok.high in
-    let less = less_band c.args.job.now.top c.args.job.now.lift (within_of_text c.args.job.now.top c.requires.top_ok) c.requires.lift_ok.low c.requires.lift_ok.high in
+    let less = less_band c.args.job.now.top c.args.job.now.lift (within_of_unit c.args.job.now.unit c.args.job.now.top c.requires.top_ok) c.requires.lift_ok.low c.requires.lift_ok.high in
     let under = rw (less, drop) at c.if-drop-job.true in
     rw (drop, lift) (omega (arith, ints))
 
@@ -50,7 +50,7 @@ pub returns-then-drop-job : goal.returns-then-drop-job
 returns-then-drop-job c =
     let drop = to_z-of_z w32 c.args.drop c.ranges.drop in
     let lift = band_kept c.args.job.now.lift c.requires.lift_ok.low c.requires.lift_ok.high in
-    let less = less_band c.args.job.now.top c.args.job.now.lift (within_of_text c.args.job.now.top c.requires.top_ok) c.requires.lift_ok.low c.requires.lift_ok.high in
+    let less = less_band c.args.job.now.top c.args.job.now.lift (within_of_unit c.args.job.now.unit c.args.job.now.top c.requires.top_ok) c.requires.lift_ok.low c.requires.lift_ok.high in
     let under = rw (less, drop) at c.if-drop-job.true in
     let low : c.args.drop <ℤ (c.args.job.now.top -ℤ c.args.job.now.lift) = omega (arith, ints) in
     let fits : FitsSigned w32 (c.args.drop +ℤ c.args.job.now.lift) = omega (arith, ints) in
@@ -59,7 +59,7 @@ returns-then-drop-job c =
 pub returns-else-drop-job : goal.returns-else-drop-job
 returns-else-drop-job c =
     let drop = to_z-of_z w32 c.args.drop c.ranges.drop in
-    let less = less_band c.args.job.now.top c.args.job.now.lift (within_of_text c.args.job.now.top c.requires.top_ok) c.requires.lift_ok.low c.requires.lift_ok.high in
+    let less = less_band c.args.job.now.top c.args.job.now.lift (within_of_unit c.args.job.now.unit c.args.job.now.top c.requires.top_ok) c.requires.lift_ok.low c.requires.lift_ok.high in
     let over = rw (less, drop) at c.if-drop-job.false in
     let high : (c.args.job.now.top -ℤ c.args.job.now.lift) ≤ℤ c.args.drop = omega (arith, ints) in
     rw c.in-Finish.is (no_finish_height c.args.job.now c.args.drop high)

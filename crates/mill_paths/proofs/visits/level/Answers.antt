@@ -2,7 +2,7 @@ use Rattle.std.proofs.Common.{◌≡◌, ℕ, ◌<◌, ◌≤◌, sym, w32, arit
 use Rattle.std.specs.Prelude.{nat_abs, pos, ◌-ℤ◌}
 use Rattle.std.proofs.lemmas.Int.{ints, to_z-of_z, to_z_pos}
 use mir.Val.{to_z}
-use Rattle.mill_paths.proofs.Kept.{text_coordinate}
+use Rattle.mill_paths.proofs.Kept.{unit_coordinate}
 use Rattle.mill_paths.proofs.LevelLemmas.{IsLowered, is_lowered, layer_within, level_fits, level_is, lowering}
 use Rattle.mill_paths.proofs.visits.level.Goals as goal
 
@@ -16,7 +16,7 @@ overflow_add-lowered c =
 pub overflow_mul-lowered : goal.overflow_mul-lowered
 overflow_mul-lowered c =
     let h : IsLowered c.args.job.now c.args.number = is_lowered c.args.job.now c.args.number c.requires.job_ok c.requires.layer_ok c.requires.number_ok in
-    let layer = text_coordinate c.args.job.now.layer (layer_within c.args.job.now c.requires.job_ok) in
+    let layer = unit_coordinate c.args.job.now.unit c.args.job.now.layer (layer_within c.args.job.now c.requires.job_ok) in
     let thick : c.unsigned_abs.result ≡ nat_abs c.args.job.now.layer = rw layer at c.unsigned_abs.ensures.value in
     let small = h.small in
     rw thick (omega arith)
@@ -24,29 +24,29 @@ overflow_mul-lowered c =
 pub overflow_cast-result : goal.overflow_cast-result
 overflow_cast-result c =
     let h : IsLowered c.args.job.now c.args.number = is_lowered c.args.job.now c.args.number c.requires.job_ok c.requires.layer_ok c.requires.number_ok in
-    let layer = text_coordinate c.args.job.now.layer (layer_within c.args.job.now c.requires.job_ok) in
+    let layer = unit_coordinate c.args.job.now.unit c.args.job.now.layer (layer_within c.args.job.now c.requires.job_ok) in
     let thick : c.unsigned_abs.result ≡ nat_abs c.args.job.now.layer = rw layer at c.unsigned_abs.ensures.value in
     let small = h.small in
     rw thick (omega (arith, ints))
 
-small_number : (n : ℕ) → n ≤ 262142 → n < 2147483648
+small_number : (n : ℕ) → n ≤ 1048574 → n < 2147483648
 small_number n h = omega arith
 
 pub overflow_sub-result : goal.overflow_sub-result
 overflow_sub-result c =
     let h : IsLowered c.args.job.now c.args.number = is_lowered c.args.job.now c.args.number c.requires.job_ok c.requires.layer_ok c.requires.number_ok in
-    let layer = text_coordinate c.args.job.now.layer (layer_within c.args.job.now c.requires.job_ok) in
+    let layer = unit_coordinate c.args.job.now.unit c.args.job.now.layer (layer_within c.args.job.now c.requires.job_ok) in
     let thick : c.unsigned_abs.result ≡ nat_abs c.args.job.now.layer = rw layer at c.unsigned_abs.ensures.value in
-    let top = text_coordinate c.args.job.now.top c.requires.job_ok.top_ok in
+    let top = unit_coordinate c.args.job.now.unit c.args.job.now.top c.requires.job_ok.top_ok in
     let down : to_z w32 (lowering c.args.job.now c.args.number) ≡ pos (lowering c.args.job.now c.args.number) = to_z_pos w32 _ (small_number _ h.small) in
     rw (thick, top, down) (level_fits c.args.job.now c.args.number c.requires.job_ok h)
 
 pub returns : goal.returns
 returns c =
     let h : IsLowered c.args.job.now c.args.number = is_lowered c.args.job.now c.args.number c.requires.job_ok c.requires.layer_ok c.requires.number_ok in
-    let layer = text_coordinate c.args.job.now.layer (layer_within c.args.job.now c.requires.job_ok) in
+    let layer = unit_coordinate c.args.job.now.unit c.args.job.now.layer (layer_within c.args.job.now c.requires.job_ok) in
     let thick : c.unsigned_abs.result ≡ nat_abs c.args.job.now.layer = rw layer at c.unsigned_abs.ensures.value in
-    let top = text_coordinate c.args.job.now.top c.requires.job_ok.top_ok in
+    let top = unit_coordinate c.args.job.now.unit c.args.job.now.top c.requires.job_ok.top_ok in
     let down : to_z w32 (lowering c.args.job.now c.args.number) ≡ pos (lowering c.args.job.now c.args.number) = to_z_pos w32 _ (small_number _ h.small) in
     rw (thick, top, down, to_z-of_z w32 (c.args.job.now.top -ℤ pos (lowering c.args.job.now c.args.number)) (level_fits c.args.job.now c.args.number c.requires.job_ok h))
     (sym (level_is c.args.job.now c.args.number c.requires.layer_ok c.requires.number_ok))

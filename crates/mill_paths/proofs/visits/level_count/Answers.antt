@@ -1,14 +1,14 @@
 use Rattle.std.proofs.Common.{◌≡◌, ◌-◌, sym}
 use Rattle.std.specs.Prelude.{nat_abs, ◌-ℤ◌}
-use Rattle.mill_paths.proofs.Kept.{text_coordinate}
+use Rattle.mill_paths.proofs.Kept.{unit_coordinate}
 use Rattle.mill_paths.proofs.LevelLemmas.{layer_within, length-rough_levels}
 use Rattle.mill_paths.proofs.visits.level_count.Goals as goal
 
 pub returns : goal.returns
 returns c =
-    let top = text_coordinate c.args.job.now.top c.requires.job_ok.top_ok in
-    let floor = text_coordinate c.args.job.now.floor c.requires.job_ok.floor_ok in
-    let layer = text_coordinate c.args.job.now.layer (layer_within c.args.job.now c.requires.job_ok) in
+    let top = unit_coordinate c.args.job.now.unit c.args.job.now.top c.requires.job_ok.top_ok in
+    let floor = unit_coordinate c.args.job.now.unit c.args.job.now.floor c.requires.job_ok.floor_ok in
+    let layer = unit_coordinate c.args.job.now.unit c.args.job.now.layer (layer_within c.args.job.now c.requires.job_ok) in
     let height : c.abs_diff.result ≡ nat_abs (c.args.job.now.top -ℤ c.args.job.now.floor) = rw (top, floor) at c.abs_diff.ensures in
     let thick : c.unsigned_abs.result ≡ nat_abs c.args.job.now.layer = rw layer at c.unsigned_abs.ensures.value in
     let less : c.saturating_sub.result ≡ c.abs_diff.result - 1 = c.saturating_sub.ensures in

@@ -19,7 +19,7 @@ use Rattle.mill_paths.proofs.visits.rough_visits.Goals as goal
 
 pub returns-then-job-eq0-clause-list : goal.returns-then-job-eq0-clause-list
 returns-then-job-eq0-clause-list g c =
-    let none = layer_none c.args.job.now.layer (layer_within c.args.job.now c.requires.job_ok) c.if-job-eq0.true in
+    let none = layer_none c.args.job.now.unit c.args.job.now.layer (layer_within c.args.job.now c.requires.job_ok) c.if-job-eq0.true in
     record {
       heights = [];
       are = λ some. absurd (no_layer c.args.job.now.layer none some);
@@ -32,7 +32,7 @@ returns-then-job-eq0-clause-each g c =
 
 pub returns-then-job-eq0-clause-nodes : goal.returns-then-job-eq0-clause-nodes
 returns-then-job-eq0-clause-nodes g c =
-    let none = layer_none c.args.job.now.layer (layer_within c.args.job.now c.requires.job_ok) c.if-job-eq0.true in
+    let none = layer_none c.args.job.now.unit c.args.job.now.layer (layer_within c.args.job.now c.requires.job_ok) c.if-job-eq0.true in
     λ nodes. list_without_layer c.new.result (rough_lattice c.args.job.now) c.args.job.now.layer none nodes
 
 pub returns-in_err-heights-clause-nodes : goal.returns-in_err-heights-clause-nodes
@@ -117,7 +117,7 @@ returns-clause-nodes g c =
 
 pub returns-then-job-eq0-clause-many : goal.returns-then-job-eq0-clause-many
 returns-then-job-eq0-clause-many g c =
-    none_rough c.args.job.now c.args.part.now (layer_none c.args.job.now.layer (layer_within c.args.job.now c.requires.job_ok) c.if-job-eq0.true)
+    none_rough c.args.job.now c.args.part.now (layer_none c.args.job.now.unit c.args.job.now.layer (layer_within c.args.job.now c.requires.job_ok) c.if-job-eq0.true)
 
 pub returns-clause-many : goal.returns-clause-many
 returns-clause-many g c =

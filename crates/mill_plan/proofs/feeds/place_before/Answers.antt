@@ -1,6 +1,6 @@
 use Rattle.std.proofs.Common.{◌≡◌, ◌+◌, ◌-◌, ◌<◌, length, arith}
 use Rattle.std.proofs.lemmas.List.Elements.{All-get_or}
-use Rattle.mill_base.specs.Ranges.{IsInTextRange}
+use Rattle.mill_base.specs.Ranges.{IsInUnitRange}
 use Rattle.mill_plan.proofs.Touring.{place_at}
 use Rattle.mill_plan.proofs.feeds.place_before.Goals as goal
 
@@ -12,4 +12,4 @@ returns-clause-value c =
 pub returns-clause-in_range : goal.returns-clause-in_range
 returns-clause-in_range c =
     let inside : (c.args.number - 1) < length c.args.visits.now = omega arith in
-    All-get_or (λ v. IsInTextRange v.at) c.args.visits.now (c.args.number - 1) _ inside c.requires.visits_ok
+    All-get_or (λ v. IsInUnitRange c.args.job.now.unit v.at) c.args.visits.now (c.args.number - 1) _ inside c.requires.visits_ok

@@ -1,6 +1,6 @@
 use Rattle.std.proofs.Common.{◌≡◌, ◌∙◌, ap, rules, subst, to_z, of_z, w32, Ok}
 use Rattle.std.proofs.lemmas.Int.{to_z-of_z}
-use Rattle.mill_base.proofs.Ranges.{moves_of_text}
+use Rattle.mill_base.proofs.Ranges.{moves_of_unit}
 use Rattle.mill_job.specs.Columns.{home}
 use Rattle.mill_verify.specs.Verdicts.{IsVerdict}
 use Rattle.mill_verify.specs.declared.verdict.Reason.{Reason}
@@ -11,7 +11,7 @@ use Rattle.mill_plan.proofs.Telling.{done_told, no_other, uncut_told}
 use Rattle.mill_plan.proofs.program.verified.Goals as goal
 
 pub verify_with_cells-requires-clause-moves_ok : goal.verify_with_cells-requires-clause-moves_ok
-verify_with_cells-requires-clause-moves_ok g c κs within = moves_of_text _ (in_range c.args.job.now c.args.part.now (home c.args.job.now) (home c.args.job.now) c.args.moves.now c.requires.safe)
+verify_with_cells-requires-clause-moves_ok g c κs within = moves_of_unit c.args.job.now.unit _ (in_range c.args.job.now c.args.part.now (home c.args.job.now) (home c.args.job.now) c.args.moves.now c.requires.safe)
 
 pub verify_with_cells-requires-clause-follow : goal.verify_with_cells-requires-clause-follow
 verify_with_cells-requires-clause-follow g c κs within = follow c.args.job.now c.args.part.now (home c.args.job.now) (home c.args.job.now) c.args.moves.now c.requires.safe
