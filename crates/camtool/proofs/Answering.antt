@@ -4,6 +4,7 @@ use Rattle.std.specs.Prelude.{◌<◌, ◌≤◌, ℤ, ◌≤ℤ◌, ◌<ℤ◌,
 use Rattle.std.proofs.lemmas.Int.{ints}
 use Rattle.mill_base.specs.declared.points.Tri.{Tri}
 use Rattle.mill_base.specs.declared.motion.Move.{Move}
+use Rattle.mill_base.specs.declared.unit.Unit.{Unit as LengthUnit}
 use Rattle.mill_base.specs.Covers.{IsUnder}
 use Rattle.mill_part.specs.Tops.{IsTop, HasCornerAt}
 use Rattle.mill_stl.specs.Parts.{Part}
@@ -24,9 +25,9 @@ use Rattle.camtool.specs.declared.place.Coordinate.TheVariants.{X, Y, Z}
 use Rattle.mill_job.specs.declared.job.Place.{Place}
 use Rattle.mill_decimal.specs.declared.fault.DecFault.{DecFault}
 use Rattle.camtool.specs.Answers.{Answer, refused_word, unfit, judged, planned, dropped, leveled, sampled, answer_status, IsAnswer}
-use Rattle.camtool.specs.Drop.{ReadsPlace, RefusesWord}
-use Rattle.camtool.specs.Level.{ReadsHeight, RefusesHeight, outlines, too_many_nodes as too_fine}
-use Rattle.camtool.specs.Setup.{SetupTexts, setup_texts, AreSetupTold, IsTooLong, IsJobText, IsRefusedJob, ReadsJob, IsPartText, IsRefusedPart, ReadsPart, ReadsSetup, LongPart, RefusesPart, HighPart, IsUnfit}
+use Rattle.camtool.specs.Drop.{ReadsPlace, RefusesWord, RefusesPlace}
+use Rattle.camtool.specs.Level.{ReadsHeight, RefusesZ, RefusesHeight, outlines, too_many_nodes as too_fine}
+use Rattle.camtool.specs.Setup.{SetupTexts, setup_texts, AreSetupTold, IsTooLong, IsJobText, IsRefusedJob, ReadsJob, IsPartText, IsRefusedPart, ReadsPart, ReadsSetup, LongPart, RefusesPart, HighPart, IsUnfit, IsUnfitWith}
 use Rattle.camtool.specs.Verify.{Texts, texts_of, AreTold, IsProgramText, IsRefusedProgram, ReadsProgram, Reads, LongProgram, RefusesProgram, IsUnfitProgram, Judges, verdict_status}
 use Rattle.camtool.specs.Words.{Files, PlanFiles, DropWords, LevelWords}
 use Rattle.camtool.proofs.Told.{told_both}
@@ -48,11 +49,11 @@ job_text text a b r s = ok_is a b (one_answer text (Ok a) (Ok b) r.reads s.reads
 no_job_text : (text : List ℕ) (job : Job) (fault : JobFault) → IsJobText text job → IsRefusedJob text fault → ⊥
 no_job_text text job fault r refused = ok_err job fault (one_answer text (Ok job) (Err fault) r.reads refused.refused)
 
-part_text : (job : Job) (text : List ℕ) (a b : List Tri) → IsPartText job.snap text a → IsPartText job.snap text b → a ≡ b
+part_text : (job : Job) (text : List ℕ) (a b : List Tri) → IsPartText job text a → IsPartText job text b → a ≡ b
 part_text job text a b r s =
     ap (λ (p : Part). p.tris) (ok_is (record { tris = a; rounded = r.rounded }) (record { tris = b; rounded = s.rounded }) (sym r.reads ∙ s.reads))
 
-no_part_text : (job : Job) (text : List ℕ) (part : List Tri) (fault : StlFault) → IsPartText job.snap text part → IsRefusedPart job.snap text fault → ⊥
+no_part_text : (job : Job) (text : List ℕ) (part : List Tri) (fault : StlFault) → IsPartText job text part → IsRefusedPart job text fault → ⊥
 no_part_text job text part fault r refused = ok_err (record { tris = part; rounded = r.rounded }) fault (sym r.reads ∙ refused.refused)
 
 program_text : (job : Job) (text : List ℕ) (a b : List Move) → IsProgramText job text a → IsProgramText job text b → a ≡ b
@@ -70,7 +71,7 @@ same_job texts a b told r s =
 
 same_part : (texts : SetupTexts) (job : Job) (a b : List Tri) → IsSome texts.part → ReadsPart texts job a → ReadsPart texts job b → a ≡ b
 same_part texts job a b told r s =
-    let both = told_both (λ text. IsPartText job.snap text a) (λ text. IsPartText job.snap text b) texts.part told r s in
+    let both = told_both (λ text. IsPartText job text a) (λ text. IsPartText job text b) texts.part told r s in
     part_text job both.0 a b both.1 both.2
 
 same_moves : (texts : Texts) (job : Job) (a b : List Move) → IsSome texts.program → ReadsProgram texts job a → ReadsProgram texts job b → a ≡ b
@@ -95,17 +96,17 @@ not_high part top height limit under is_top same over =
 
 fit_long_part : (texts : SetupTexts) (job : Job) (part : List Tri) → AreSetupTold texts → ReadsSetup texts job part → LongPart texts → ⊥
 fit_long_part texts job part told r h =
-    let both = told_both IsTooLong (λ text. IsPartText job.snap text part) texts.part told.part h.long r.part_is in
+    let both = told_both IsTooLong (λ text. IsPartText job text part) texts.part told.part h.long r.part_is in
     too_long _ _ both.1 both.2.fits
 
 fit_part : (texts : SetupTexts) (job : Job) (part : List Tri) (fault : StlFault) → AreSetupTold texts → ReadsSetup texts job part → RefusesPart texts fault → ⊥
 fit_part texts job part fault told r h =
     let same : h.job ≡ job = same_job texts h.job job told.job h.job_is r.job_is in
-    let both = told_both (λ text. IsRefusedPart h.job.snap text fault) (λ text. IsPartText job.snap text part) texts.part told.part h.refused r.part_is in
-    no_part_text job both.0 part fault both.2 (subst (λ (j : Job). IsRefusedPart j.snap both.0 fault) same both.1)
+    let both = told_both (λ text. IsRefusedPart h.job text fault) (λ text. IsPartText job text part) texts.part told.part h.refused r.part_is in
+    no_part_text job both.0 part fault both.2 (subst (λ (j : Job). IsRefusedPart j both.0 fault) same both.1)
 
-fit_top : (texts : SetupTexts) (job : Job) (part : List Tri) (height top : ℤ) → AreSetupTold texts → ReadsSetup texts job part → HighPart texts height top → ⊥
-fit_top texts job part height top told r h =
+fit_top : (texts : SetupTexts) (job : Job) (part : List Tri) (height top : ℤ) (unit : LengthUnit) → AreSetupTold texts → ReadsSetup texts job part → HighPart texts height top unit → ⊥
+fit_top texts job part height top unit told r h =
     let same : h.job ≡ job = same_job texts h.job job told.job h.job_is r.job_is in
     let same_p : h.part ≡ part = same_part texts job h.part part told.part (subst (λ (j : Job). ReadsPart texts j h.part) same h.part_is) r.part_is in
     not_high part job.top height top r.under (subst (λ (q : List Tri). IsTop q height) same_p h.greatest) (h.limit ∙ ap (λ (j : Job). j.top) same) h.over
@@ -121,7 +122,7 @@ fit_setup texts job part (JobRefused fault) told r h =
     no_job_text both.0 job fault both.2 both.1
 fit_setup texts job part (PartRefused fault) told r h = fit_part texts job part fault told r h
 fit_setup texts job part (ProgramRefused fault) told r h = h
-fit_setup texts job part (PartTop height top) told r h = fit_top texts job part height top told r h
+fit_setup texts job part (PartTop height top unit) told r h = fit_top texts job part height top unit told r h
 
 fit_long_program : (texts : Texts) (job : Job) (part : List Tri) (moves : List Move) → AreTold texts → Reads texts job part moves → LongProgram texts → ⊥
 fit_long_program texts job part moves told r h =
@@ -141,7 +142,17 @@ fit_program texts job part moves (TooLong ProgramFile) told r h = fit_long_progr
 fit_program texts job part moves (JobRefused fault) told r h = fit_setup texts.setup job part (JobRefused fault) told.setup r.setup_is h
 fit_program texts job part moves (PartRefused fault) told r h = fit_part texts.setup job part fault told.setup r.setup_is h
 fit_program texts job part moves (ProgramRefused fault) told r h = fit_moves texts job part moves fault told r h
-fit_program texts job part moves (PartTop height top) told r h = fit_top texts.setup job part height top told.setup r.setup_is h
+fit_program texts job part moves (PartTop height top unit) told r h = fit_top texts.setup job part height top unit told.setup r.setup_is h
+
+-- what is unfit where words are read between the files is so anyway
+unfit_of : (ReadsWords : Type 0) (texts : SetupTexts) (u : Unfit) → IsUnfitWith ReadsWords texts u → IsUnfit texts u
+unfit_of W texts (TooLong JobFile) h = h
+unfit_of W texts (TooLong PartFile) h = h.1
+unfit_of W texts (TooLong ProgramFile) h = h.1
+unfit_of W texts (JobRefused fault) h = h
+unfit_of W texts (PartRefused fault) h = h.1
+unfit_of W texts (ProgramRefused fault) h = h.1
+unfit_of W texts (PartTop height top unit) h = h.1
 
 -- ---- `verify`
 
@@ -168,9 +179,9 @@ is_judged contents files workers job part moves (refused_word coordinate fault) 
 is_judged contents files workers job part moves (unfit u) told r h = absurd (fit_program (texts_of contents files) job part moves u told r h)
 is_judged contents files workers job part moves (judged j p m v) told r h =
     record { verdict = v; is = judged_is (texts_of contents files) job j part p moves m v told r h; same = refl }
-is_judged contents files workers job part moves (planned name answer) told r h = absurd h
-is_judged contents files workers job part moves (dropped height) told r h = absurd h
-is_judged contents files workers job part moves (leveled answer) told r h = absurd h
+is_judged contents files workers job part moves (planned unit name answer) told r h = absurd h
+is_judged contents files workers job part moves (dropped unit height) told r h = absurd h
+is_judged contents files workers job part moves (leveled unit answer) told r h = absurd h
 is_judged contents files workers job part moves (sampled n answer) told r h = absurd h
 
 -- ---- `plan`
@@ -182,51 +193,65 @@ pub is_planned : (contents : List ℕ → Option (List ℕ)) (files : PlanFiles)
 is_planned contents files workers job part (refused_word coordinate fault) told r h = absurd h
 is_planned contents files workers job part (unfit u) told r h = absurd (fit_setup (setup_texts contents files.job files.part) job part u told r h)
 is_planned contents files workers job part (judged j p m v) told r h = absurd h
-is_planned contents files workers job part (planned name (done text count columns left)) told r h = inl refl
-is_planned contents files workers job part (planned name (uncut row col top)) told r h = inr (inl refl)
-is_planned contents files workers job part (planned name (too_many_nodes nodes)) told r h = inr (inr refl)
-is_planned contents files workers job part (planned name too_many_moves) told r h = inr (inr refl)
-is_planned contents files workers job part (dropped height) told r h = absurd h
-is_planned contents files workers job part (leveled answer) told r h = absurd h
+is_planned contents files workers job part (planned unit name (done text count columns left)) told r h = inl refl
+is_planned contents files workers job part (planned unit name (uncut row col top)) told r h = inr (inl refl)
+is_planned contents files workers job part (planned unit name (too_many_nodes nodes)) told r h = inr (inr refl)
+is_planned contents files workers job part (planned unit name too_many_moves) told r h = inr (inr refl)
+is_planned contents files workers job part (dropped unit height) told r h = absurd h
+is_planned contents files workers job part (leveled unit answer) told r h = absurd h
 is_planned contents files workers job part (sampled n answer) told r h = absurd h
 
 -- ---- `drop`
 
-reads_word : (x y : List ℕ) (place : Place) (coordinate : Coordinate) (fault : DecFault) → ReadsPlace x y place → RefusesWord x y coordinate fault → ⊥
-reads_word x y place X fault r e = ok_err place.x fault (sym r.x_is ∙ e)
-reads_word x y place Y fault r e = ok_err place.y fault (sym r.y_is ∙ e.2)
-reads_word x y place Z fault r e = e
+reads_word : (unit : LengthUnit) (x y : List ℕ) (place : Place) (coordinate : Coordinate) (fault : DecFault) → ReadsPlace unit x y place → RefusesWord unit x y coordinate fault → ⊥
+reads_word unit x y place X fault r e = ok_err place.x fault (sym r.x_is ∙ e)
+reads_word unit x y place Y fault r e = ok_err place.y fault (sym r.y_is ∙ e.2)
+reads_word unit x y place Z fault r e = e
+
+place_read : (contents : List ℕ → Option (List ℕ)) (given : DropWords) (place : Place) (job : Job) (coordinate : Coordinate) (fault : DecFault) → ReadsPlace job.unit given.x given.y place
+    → IsSome (contents given.job) → ReadsJob (setup_texts contents given.job given.part) job
+    → RefusesPlace (setup_texts contents given.job given.part) given.x given.y coordinate fault → ⊥
+place_read contents given place job coordinate fault reads told r h =
+    let same : h.job ≡ job = same_job (setup_texts contents given.job given.part) h.job job told h.job_is r in
+    reads_word job.unit given.x given.y place coordinate fault reads (subst (λ (j : Job). RefusesWord j.unit given.x given.y coordinate fault) same h.refused)
 
 -- words that read, and files that are told and read, give a drop height, and nothing is refused
-pub is_dropped : (contents : List ℕ → Option (List ℕ)) (given : DropWords) (place : Place) (job : Job) (part : List Tri) (a : Answer) → ReadsPlace given.x given.y place
+pub is_dropped : (contents : List ℕ → Option (List ℕ)) (given : DropWords) (place : Place) (job : Job) (part : List Tri) (a : Answer) → ReadsPlace job.unit given.x given.y place
     → AreSetupTold (setup_texts contents given.job given.part) → ReadsSetup (setup_texts contents given.job given.part) job part
     → IsAnswer contents (drop given.job given.part given.x given.y) a → answer_status a ≡ 0
-is_dropped contents given place job part (refused_word coordinate fault) p told r h = absurd (reads_word given.x given.y place coordinate fault p h)
-is_dropped contents given place job part (unfit u) p told r h = absurd (fit_setup (setup_texts contents given.job given.part) job part u told r h.1)
+is_dropped contents given place job part (refused_word coordinate fault) p told r h = absurd (place_read contents given place job coordinate fault p told.job r.job_is h)
+is_dropped contents given place job part (unfit u) p told r h = absurd (fit_setup (setup_texts contents given.job given.part) job part u told r (unfit_of _ _ u h))
 is_dropped contents given place job part (judged j q m v) p told r h = absurd h
-is_dropped contents given place job part (planned name answer) p told r h = absurd h
-is_dropped contents given place job part (dropped height) p told r h = refl
-is_dropped contents given place job part (leveled answer) p told r h = absurd h
+is_dropped contents given place job part (planned unit name answer) p told r h = absurd h
+is_dropped contents given place job part (dropped unit height) p told r h = refl
+is_dropped contents given place job part (leveled unit answer) p told r h = absurd h
 is_dropped contents given place job part (sampled n answer) p told r h = absurd h
 
 -- ---- `level`
 
-reads_height : (z : List ℕ) (height : ℤ) (coordinate : Coordinate) (fault : DecFault) → ReadsHeight z height → RefusesHeight z coordinate fault → ⊥
-reads_height z height X fault r e = e
-reads_height z height Y fault r e = e
-reads_height z height Z fault r e = ok_err height fault (sym r ∙ e)
+reads_height : (unit : LengthUnit) (z : List ℕ) (height : ℤ) (coordinate : Coordinate) (fault : DecFault) → ReadsHeight unit z height → RefusesZ unit z coordinate fault → ⊥
+reads_height unit z height X fault r e = e
+reads_height unit z height Y fault r e = e
+reads_height unit z height Z fault r e = ok_err height fault (sym r ∙ e)
+
+height_read : (contents : List ℕ → Option (List ℕ)) (given : LevelWords) (height : ℤ) (job : Job) (coordinate : Coordinate) (fault : DecFault) → ReadsHeight job.unit given.z height
+    → IsSome (contents given.job) → ReadsJob (setup_texts contents given.job given.part) job
+    → RefusesHeight (setup_texts contents given.job given.part) given.z coordinate fault → ⊥
+height_read contents given height job coordinate fault reads told r h =
+    let same : h.job ≡ job = same_job (setup_texts contents given.job given.part) h.job job told h.job_is r in
+    reads_height job.unit given.z height coordinate fault reads (subst (λ (j : Job). RefusesZ j.unit given.z coordinate fault) same h.refused)
 
 -- a word that reads, and files that are told and read, give the chains or too many nodes, and nothing is refused
-pub is_leveled : (contents : List ℕ → Option (List ℕ)) (given : LevelWords) (height : ℤ) (job : Job) (part : List Tri) (a : Answer) → ReadsHeight given.z height
+pub is_leveled : (contents : List ℕ → Option (List ℕ)) (given : LevelWords) (height : ℤ) (job : Job) (part : List Tri) (a : Answer) → ReadsHeight job.unit given.z height
     → AreSetupTold (setup_texts contents given.job given.part) → ReadsSetup (setup_texts contents given.job given.part) job part
     → IsAnswer contents (level given.job given.part given.z) a → (answer_status a ≡ 0) ⊎ (answer_status a ≡ 9)
-is_leveled contents given height job part (refused_word coordinate fault) z told r h = absurd (reads_height given.z height coordinate fault z h)
-is_leveled contents given height job part (unfit u) z told r h = absurd (fit_setup (setup_texts contents given.job given.part) job part u told r h.1)
+is_leveled contents given height job part (refused_word coordinate fault) z told r h = absurd (height_read contents given height job coordinate fault z told.job r.job_is h)
+is_leveled contents given height job part (unfit u) z told r h = absurd (fit_setup (setup_texts contents given.job given.part) job part u told r (unfit_of _ _ u h))
 is_leveled contents given height job part (judged j q m v) z told r h = absurd h
-is_leveled contents given height job part (planned name answer) z told r h = absurd h
-is_leveled contents given height job part (dropped place) z told r h = absurd h
-is_leveled contents given height job part (leveled (outlines found)) z told r h = inl refl
-is_leveled contents given height job part (leveled (too_fine nodes)) z told r h = inr refl
+is_leveled contents given height job part (planned unit name answer) z told r h = absurd h
+is_leveled contents given height job part (dropped unit place) z told r h = absurd h
+is_leveled contents given height job part (leveled unit (outlines found)) z told r h = inl refl
+is_leveled contents given height job part (leveled unit (too_fine nodes)) z told r h = inr refl
 is_leveled contents given height job part (sampled n answer) z told r h = absurd h
 
 -- ---- `sample`
@@ -237,9 +262,9 @@ pub is_sampled : (contents : List ℕ → Option (List ℕ)) (n workers : ℕ) (
 is_sampled contents n workers (refused_word coordinate fault) h = absurd h
 is_sampled contents n workers (unfit u) h = absurd h
 is_sampled contents n workers (judged j p m v) h = absurd h
-is_sampled contents n workers (planned name answer) h = absurd h
-is_sampled contents n workers (dropped height) h = absurd h
-is_sampled contents n workers (leveled answer) h = absurd h
+is_sampled contents n workers (planned unit name answer) h = absurd h
+is_sampled contents n workers (dropped unit height) h = absurd h
+is_sampled contents n workers (leveled unit answer) h = absurd h
 is_sampled contents n workers (sampled size (done text count columns left)) h = inl refl
 is_sampled contents n workers (sampled size (uncut row col top)) h = inr (inl refl)
 is_sampled contents n workers (sampled size (too_many_nodes nodes)) h = inr (inr refl)

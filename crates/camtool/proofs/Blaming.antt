@@ -25,13 +25,13 @@ status_not n n0 n3 n4 n8 n9 (refused_word coordinate fault) e = n4 e
 status_not n n0 n3 n4 n8 n9 (unfit fault) e = n4 e
 status_not n n0 n3 n4 n8 n9 (judged job part moves (Accept count columns left)) e = n0 e
 status_not n n0 n3 n4 n8 n9 (judged job part moves (Reject reason)) e = n3 e
-status_not n n0 n3 n4 n8 n9 (planned name (done text moves columns left)) e = n0 e
-status_not n n0 n3 n4 n8 n9 (planned name (uncut row column top)) e = n8 e
-status_not n n0 n3 n4 n8 n9 (planned name (too_many_nodes nodes)) e = n9 e
-status_not n n0 n3 n4 n8 n9 (planned name too_many_moves) e = n9 e
-status_not n n0 n3 n4 n8 n9 (dropped height) e = n0 e
-status_not n n0 n3 n4 n8 n9 (leveled (outlines found)) e = n0 e
-status_not n n0 n3 n4 n8 n9 (leveled (too_fine nodes)) e = n9 e
+status_not n n0 n3 n4 n8 n9 (planned unit name (done text moves columns left)) e = n0 e
+status_not n n0 n3 n4 n8 n9 (planned unit name (uncut row column top)) e = n8 e
+status_not n n0 n3 n4 n8 n9 (planned unit name (too_many_nodes nodes)) e = n9 e
+status_not n n0 n3 n4 n8 n9 (planned unit name too_many_moves) e = n9 e
+status_not n n0 n3 n4 n8 n9 (dropped unit height) e = n0 e
+status_not n n0 n3 n4 n8 n9 (leveled unit (outlines found)) e = n0 e
+status_not n n0 n3 n4 n8 n9 (leveled unit (too_fine nodes)) e = n9 e
 status_not n n0 n3 n4 n8 n9 (sampled size (done text moves columns left)) e = n0 e
 status_not n n0 n3 n4 n8 n9 (sampled size (uncut row column top)) e = n8 e
 status_not n n0 n3 n4 n8 n9 (sampled size (too_many_nodes nodes)) e = n9 e
@@ -148,13 +148,13 @@ answer_stores : (contents : List ℕ → Option (List ℕ)) (words : List (List 
 answer_stores contents words asked (refused_word coordinate fault) taken no_plan h = refl
 answer_stores contents words asked (unfit fault) taken no_plan h = refl
 answer_stores contents words asked (judged job part moves verdict) taken no_plan h = refl
-answer_stores contents words (verify job part program workers) (planned name answer) taken no_plan h = absurd h
-answer_stores contents words (plan job part out workers) (planned name answer) taken no_plan h = absurd (no_plan (record { job = job; part = part; out = out }) (workers, taken))
-answer_stores contents words (drop job part x y) (planned name answer) taken no_plan h = absurd h
-answer_stores contents words (level job part z) (planned name answer) taken no_plan h = absurd h
-answer_stores contents words (sample n workers) (planned name answer) taken no_plan h = absurd h
-answer_stores contents words asked (dropped height) taken no_plan h = refl
-answer_stores contents words asked (leveled answer) taken no_plan h = refl
+answer_stores contents words (verify job part program workers) (planned unit name answer) taken no_plan h = absurd h
+answer_stores contents words (plan job part out workers) (planned unit name answer) taken no_plan h = absurd (no_plan (record { job = job; part = part; out = out }) (workers, taken))
+answer_stores contents words (drop job part x y) (planned unit name answer) taken no_plan h = absurd h
+answer_stores contents words (level job part z) (planned unit name answer) taken no_plan h = absurd h
+answer_stores contents words (sample n workers) (planned unit name answer) taken no_plan h = absurd h
+answer_stores contents words asked (dropped unit height) taken no_plan h = refl
+answer_stores contents words asked (leveled unit answer) taken no_plan h = refl
 answer_stores contents words asked (sampled n answer) taken no_plan h = refl
 
 outcome_stores : (contents : List ℕ → Option (List ℕ)) (words : List (List ℕ)) (o : Outcome) → AsksNoPlan words → IsOutcomeOf words contents o → outcome_file o ≡ None

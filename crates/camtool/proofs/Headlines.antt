@@ -1,6 +1,7 @@
 -- What status 0 and status 3 mean.
 use Rattle.std.proofs.Common.{◌≡◌, ◌≢◌, ℕ, List, Option, sym, ap, subst, ◌∙◌, arith}
 use Rattle.std.specs.Prelude.{ℤ}
+use Rattle.mill_base.specs.declared.unit.Unit.{Unit as LengthUnit}
 use Rattle.mill_command.specs.Requests.{verify, plan}
 use Rattle.mill_io.specs.Views.{IsStored, IsWritten}
 use Rattle.mill_plan.specs.Plans.{done, too_many_nodes, too_many_moves, uncut}
@@ -32,9 +33,9 @@ accepts_by contents files workers (unfit fault) is e = absurd (on 4 0 (omega ari
 accepts_by contents files workers (judged job part moves (Accept count columns left)) is e =
     record { job = job; part = part; moves = moves; all_read = is.all_read; safe = is.safe }
 accepts_by contents files workers (judged job part moves (Reject reason)) is e = absurd (on 3 0 (omega arith) e)
-accepts_by contents files workers (planned name answer) is e = absurd is
-accepts_by contents files workers (dropped height) is e = absurd is
-accepts_by contents files workers (leveled answer) is e = absurd is
+accepts_by contents files workers (planned unit name answer) is e = absurd is
+accepts_by contents files workers (dropped unit height) is e = absurd is
+accepts_by contents files workers (leveled unit answer) is e = absurd is
 accepts_by contents files workers (sampled n answer) is e = absurd is
 
 rejects_by : (call : Call) (files : Files) (workers : ℕ) (a : Answer) → IsAnswer call.store.contents (verify files.job files.part files.program workers) a
@@ -44,9 +45,9 @@ rejects_by call files workers (unfit fault) is e printed = absurd (on 4 3 (omega
 rejects_by call files workers (judged job part moves (Accept count columns left)) is e printed = absurd (no 0 3 (omega arith) e)
 rejects_by call files workers (judged job part moves (Reject reason)) is e printed =
     record { job = job; part = part; moves = moves; reason = reason; all_read = is.all_read; first = is.is; named = is.named; printed = printed }
-rejects_by call files workers (planned name answer) is e printed = absurd is
-rejects_by call files workers (dropped height) is e printed = absurd is
-rejects_by call files workers (leveled answer) is e printed = absurd is
+rejects_by call files workers (planned unit name answer) is e printed = absurd is
+rejects_by call files workers (dropped unit height) is e printed = absurd is
+rejects_by call files workers (leveled unit answer) is e printed = absurd is
 rejects_by call files workers (sampled n answer) is e printed = absurd is
 
 pub headline_of : OneVerdict → (words : List (List ℕ)) (call : Call) → HasOutcome words call → Headline words call
@@ -67,9 +68,9 @@ headline_of one words call has = record {
 
 -- ---- `plan`
 
-done_safely : (call : Call) (files : PlanFiles) (text : List ℕ) (count columns : ℕ) (left : ℤ) → Plans (setup_texts call.store.contents files.job files.part) (done text count columns left)
-    → IsStored files.out text call.store call.store_after → IsWritten (plan_line (done text count columns left)) call.sink call.sink_after → StoresSafely call files
-done_safely call files text count columns left p stored printed = record {
+done_safely : (call : Call) (files : PlanFiles) (unit : LengthUnit) (text : List ℕ) (count columns : ℕ) (left : ℤ) → Plans (setup_texts call.store.contents files.job files.part) unit (done text count columns left)
+    → IsStored files.out text call.store call.store_after → IsWritten (plan_line unit (done text count columns left)) call.sink call.sink_after → StoresSafely call files
+done_safely call files unit text count columns left p stored printed = record {
   job = p.job;
   part = p.part;
   moves = p.is.moves;
@@ -80,14 +81,15 @@ done_safely call files text count columns left p stored printed = record {
   accepted = record {
     all_read = record {
       setup_is = p.setup_is;
-      moves_are = record { fits = plan_fits p.is.moves text p.is.in_range p.is.plan.few p.is.written; reads = p.is.reads };
+      moves_are = record { fits = plan_fits p.job.unit p.is.moves text p.is.in_range p.is.plan.few p.is.written; reads = p.is.reads };
     };
     is = subst (λ (n : ℕ). IsVerdict p.job p.part p.is.moves (Accept n columns left)) p.is.accepted.all_moves p.is.accepted;
     safe = p.is.safe;
     named = tt;
   };
   safe = p.is.safe;
-  printed = subst (λ (n : ℕ). IsWritten (plan_line (done text n columns left)) call.sink call.sink_after) p.is.accepted.all_moves printed;
+  printed = subst (λ (n : ℕ). IsWritten (plan_line p.job.unit (done text n columns left)) call.sink call.sink_after) p.is.accepted.all_moves
+      (subst (λ (u : LengthUnit). IsWritten (plan_line u (done text count columns left)) call.sink call.sink_after) p.unit_is printed);
 }
 
 plans_by : (call : Call) (files : PlanFiles) (workers : ℕ) (a : Answer) → IsAnswer call.store.contents (plan files.job files.part files.out workers) a
@@ -95,13 +97,13 @@ plans_by : (call : Call) (files : PlanFiles) (workers : ℕ) (a : Answer) → Is
 plans_by call files workers (refused_word coordinate fault) is e printed stored = absurd is
 plans_by call files workers (unfit fault) is e printed stored = absurd (on 4 0 (omega arith) e)
 plans_by call files workers (judged job part moves verdict) is e printed stored = absurd is
-plans_by call files workers (planned name (done text count columns left)) is e printed stored =
-    done_safely call files text count columns left is.1 (subst (λ (n : List ℕ). IsStored n text call.store call.store_after) is.0 stored) printed
-plans_by call files workers (planned name (uncut row col top)) is e printed stored = absurd (on 8 0 (omega arith) e)
-plans_by call files workers (planned name (too_many_nodes nodes)) is e printed stored = absurd (on 9 0 (omega arith) e)
-plans_by call files workers (planned name too_many_moves) is e printed stored = absurd (on 9 0 (omega arith) e)
-plans_by call files workers (dropped height) is e printed stored = absurd is
-plans_by call files workers (leveled answer) is e printed stored = absurd is
+plans_by call files workers (planned unit name (done text count columns left)) is e printed stored =
+    done_safely call files unit text count columns left is.1 (subst (λ (n : List ℕ). IsStored n text call.store call.store_after) is.0 stored) printed
+plans_by call files workers (planned unit name (uncut row col top)) is e printed stored = absurd (on 8 0 (omega arith) e)
+plans_by call files workers (planned unit name (too_many_nodes nodes)) is e printed stored = absurd (on 9 0 (omega arith) e)
+plans_by call files workers (planned unit name too_many_moves) is e printed stored = absurd (on 9 0 (omega arith) e)
+plans_by call files workers (dropped unit height) is e printed stored = absurd is
+plans_by call files workers (leveled unit answer) is e printed stored = absurd is
 plans_by call files workers (sampled n answer) is e printed stored = absurd is
 
 pub plan_headline_of : (words : List (List ℕ)) (call : Call) → HasOutcome words call → PlanHeadline words call

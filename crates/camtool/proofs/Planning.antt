@@ -2,6 +2,7 @@
 use Rattle.std.proofs.Common.{◌≡◌, ℕ, List, Option, Result, Ok, Err, refl, sym, ap, subst, inl, inr}
 use Rattle.std.proofs.Math.Path.{fun_ext}
 use Rattle.std.specs.Prelude.{ℤ}
+use Rattle.mill_base.specs.declared.unit.Unit.{Unit as LengthUnit}
 use Rattle.mill_command.specs.Requests.{plan}
 use Rattle.mill_io.specs.Views.{StoreView, ReadsOnly, IsStored, IsPartStored}
 use Rattle.mill_plan.specs.Plans.{PlanAnswer, done, too_many_nodes, too_many_moves, uncut, IsPlanAnswer, IsPlanFault}
@@ -41,7 +42,7 @@ pub plan_serves : (job part name : List ℕ) (workers : ℕ) (call : Call) (stor
 plan_serves job part name workers call store s read loads shown = whole (subst (λ (view : StoreView). ShowsPlanOr s name (from call view)) (same_view call.store store loads.only loads.reads) shown)
   where
     whole : ShowsPlanOr s name (from call call.store) → Serves (plan job part name workers) call
-    whole (inl p) = record { outcome = answered (planned name p.answer); is = (refl, record { job = s.job; part = s.part; setup_is = read; is = p.is }); shows = p.shows }
+    whole (inl p) = record { outcome = answered (planned s.job.unit name p.answer); is = (refl, record { job = s.job; part = s.part; unit_is = refl; setup_is = read; is = p.is }); shows = p.shows }
     whole (inr m) = record { outcome = no_memory; is = tt; shows = m }
 
 pub plan_load_fault : (contents : List ℕ → Option (List ℕ)) (job part name : List ℕ) (workers : ℕ) (f : LoadFault) → LoadsSetup (setup_texts contents job part) (Err f)
@@ -53,18 +54,18 @@ plan_load_fault contents job part name workers (load_fault.Unfit fault) h = h
 -- ---- storing and printing
 
 -- the text is stored, and then its line printed
-pub stored_shows : (call : Call) (name line text : List ℕ) (moves columns : ℕ) (left : ℤ) → line ≡ plan_line (done text moves columns left)
-    → IsStored name text call.store call.store_after → Prints line 0 call.status call.sink call.sink_after → Shows call (answered (planned name (done text moves columns left)))
-stored_shows call name line text moves columns left same stored p = which (subst (λ (l : List ℕ). Prints l 0 call.status call.sink call.sink_after) same p)
+pub stored_shows : (call : Call) (unit : LengthUnit) (name line text : List ℕ) (moves columns : ℕ) (left : ℤ) → line ≡ plan_line unit (done text moves columns left)
+    → IsStored name text call.store call.store_after → Prints line 0 call.status call.sink call.sink_after → Shows call (answered (planned unit name (done text moves columns left)))
+stored_shows call unit name line text moves columns left same stored p = which (subst (λ (l : List ℕ). Prints l 0 call.status call.sink call.sink_after) same p)
   where
-    which : Prints (plan_line (done text moves columns left)) 0 call.status call.sink call.sink_after → Shows call (answered (planned name (done text moves columns left)))
+    which : Prints (plan_line unit (done text moves columns left)) 0 call.status call.sink call.sink_after → Shows call (answered (planned unit name (done text moves columns left)))
     which (inl w) = record { reads = stored.only.read_faults; way = inl (record { status = w.wanted_is; printed = w.written; stored = stored }) }
     which (inr f) = record { reads = stored.only.read_faults; way = inr (inr (record { status = f.failed; printed = f.written; risen = f.risen; stored = stored })) }
 
 -- the storing failed, and nothing is printed
-pub unstored_shows : (call : Call) (name text : List ℕ) (moves columns : ℕ) (left : ℤ) → call.status ≡ 7 → call.sink_after ≡ call.sink → CanCount call.store call.sink
-    → IsPartStored name text call.store call.store_after → Shows call (answered (planned name (done text moves columns left)))
-unstored_shows call name text moves columns left status silent room stored = record {
+pub unstored_shows : (call : Call) (unit : LengthUnit) (name text : List ℕ) (moves columns : ℕ) (left : ℤ) → call.status ≡ 7 → call.sink_after ≡ call.sink → CanCount call.store call.sink
+    → IsPartStored name text call.store call.store_after → Shows call (answered (planned unit name (done text moves columns left)))
+unstored_shows call unit name text moves columns left status silent room stored = record {
   reads = stored.only.read_faults;
   way = inr (inl (record {
     file = record { name = name; text = text };
@@ -80,7 +81,7 @@ unstored_shows call name text moves columns left status silent room stored = rec
 pub same_store : (store : StoreView) → ReadsOnly store store
 same_store store = record { contents = λ name. refl; tells = refl; write_faults = refl }
 
-pub made_shows : (s : Setup) (name : List ℕ) (call : Call) (a : PlanAnswer) → IsPlanAnswer s.job s.part a → ShowsOr (answered (planned name a)) call → ShowsPlanOr s name call
+pub made_shows : (s : Setup) (name : List ℕ) (call : Call) (a : PlanAnswer) → IsPlanAnswer s.job s.part a → ShowsOr (answered (planned s.job.unit name a)) call → ShowsPlanOr s name call
 made_shows s name call a is (inl shown) = inl (record { answer = a; is = is; shows = shown })
 made_shows s name call a is (inr m) = inr m
 
@@ -95,11 +96,11 @@ short_shows call same p = printed_shows call no_memory refl (untouched call same
 
 -- there is no program, and that is printed
 pub fault_shows : (s : Setup) (name : List ℕ) (call : Call) (f : PlanFault) → IsPlanFault s.job s.part f → call.store_after ≡ call.store
-    → PrintsPlanFault f call.status call.sink call.sink_after → ShowsPlanOr s name call
+    → PrintsPlanFault s.job.unit f call.status call.sink call.sink_after → ShowsPlanOr s name call
 fault_shows s name call (plan_fault.TooManyNodes nodes) is same p =
-    made_shows s name call (too_many_nodes nodes) is (answer_shows call (planned name (too_many_nodes nodes)) refl (untouched call same) (unread call same) p)
+    made_shows s name call (too_many_nodes nodes) is (answer_shows call (planned s.job.unit name (too_many_nodes nodes)) refl (untouched call same) (unread call same) p)
 fault_shows s name call plan_fault.TooManyMoves is same p =
-    made_shows s name call too_many_moves is (answer_shows call (planned name too_many_moves) refl (untouched call same) (unread call same) p)
+    made_shows s name call too_many_moves is (answer_shows call (planned s.job.unit name too_many_moves) refl (untouched call same) (unread call same) p)
 fault_shows s name call (plan_fault.Uncut row col top) is same p =
-    made_shows s name call (uncut row col top) is (answer_shows call (planned name (uncut row col top)) refl (untouched call same) (unread call same) p)
+    made_shows s name call (uncut row col top) is (answer_shows call (planned s.job.unit name (uncut row col top)) refl (untouched call same) (unread call same) p)
 fault_shows s name call plan_fault.WantOfMemory is same p = inr (short_shows call same p)

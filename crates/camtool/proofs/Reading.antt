@@ -1,8 +1,8 @@
 -- What was read from the bytes of a file holds of what the store tells of it.
-use Rattle.std.proofs.Common.{◌≡◌, ℕ, List, Option, Some, None, Result, Ok, Err, refl, subst, arith}
+use Rattle.std.proofs.Common.{◌≡◌, ℕ, List, Option, Some, None, Result, Ok, Err, refl, sym, subst, arith}
 use Rattle.std.specs.Prelude.{◌<◌, ◌-◌, ◌^◌, ℤ, IfSome}
 use Rattle.mill_base.specs.declared.points.Tri.{Tri}
-use Rattle.mill_decimal.specs.declared.snap.Snap.{Snap}
+use Rattle.mill_base.specs.Covers.{IsUnder}
 use Rattle.mill_io.specs.Causes.{Rose}
 use Rattle.mill_job.specs.declared.job.Job.{Job}
 use Rattle.mill_part.specs.declared.part.Part.{Part}
@@ -13,8 +13,9 @@ use Rattle.camtool.specs.declared.load.Unfit.TheVariants.{TooLong, JobRefused, P
 use Rattle.mill_io.specs.Views.{StoreView}
 use Rattle.mill_io.proofs.Read.{reads_on}
 use Rattle.camtool.specs.declared.load.Unfit.{Unfit as UnfitFault}
-use Rattle.camtool.specs.inner.Loads.{LoadsJob, LoadsPart, LoadsProgram, LoadsSetup, Loads, CountsFault, OnlyLoads, IsLow}
-use Rattle.camtool.specs.Setup.{SetupTexts, ReadsSetup, ReadsJob, ReadsPart, HighPart}
+use Rattle.camtool.specs.declared.load.Setup.{Setup}
+use Rattle.camtool.specs.inner.Loads.{LoadsJob, LoadsPart, LoadsProgram, LoadsUnder, LoadsSetup, Loads, HasHighPart, CountsFault, OnlyLoads, IsLow}
+use Rattle.camtool.specs.Setup.{SetupTexts, ReadsSetup, ReadsJob, IsPartText, IsUnfitWith, IsReadBeforeWith}
 use Rattle.camtool.specs.Verify.{Texts}
 
 -- ---- nothing is said of a file that isn't told, but which faults may come
@@ -31,21 +32,21 @@ untold_job items (Err (Unfit (TooLong ProgramFile))) h = h
 untold_job items (Err (Unfit (JobRefused fault))) h = tt
 untold_job items (Err (Unfit (PartRefused fault))) h = h
 untold_job items (Err (Unfit (ProgramRefused fault))) h = h
-untold_job items (Err (Unfit (PartTop height top))) h = h
+untold_job items (Err (Unfit (PartTop height top unit))) h = h
 
-untold_part : (snap : Snap) (items : List ℕ) (r : Result Part LoadFault) → LoadsPart snap (Some items) r → LoadsPart snap None r
-untold_part snap items (Ok part) h = tt
-untold_part snap items (Err Memory) h = tt
-untold_part snap items (Err (ReadFault JobFile)) h = h
-untold_part snap items (Err (ReadFault PartFile)) h = tt
-untold_part snap items (Err (ReadFault ProgramFile)) h = h
-untold_part snap items (Err (Unfit (TooLong JobFile))) h = h
-untold_part snap items (Err (Unfit (TooLong PartFile))) h = tt
-untold_part snap items (Err (Unfit (TooLong ProgramFile))) h = h
-untold_part snap items (Err (Unfit (JobRefused fault))) h = h
-untold_part snap items (Err (Unfit (PartRefused fault))) h = tt
-untold_part snap items (Err (Unfit (ProgramRefused fault))) h = h
-untold_part snap items (Err (Unfit (PartTop height top))) h = h
+untold_part : (job : Job) (items : List ℕ) (r : Result Part LoadFault) → LoadsPart job (Some items) r → LoadsPart job None r
+untold_part job items (Ok part) h = tt
+untold_part job items (Err Memory) h = tt
+untold_part job items (Err (ReadFault JobFile)) h = h
+untold_part job items (Err (ReadFault PartFile)) h = tt
+untold_part job items (Err (ReadFault ProgramFile)) h = h
+untold_part job items (Err (Unfit (TooLong JobFile))) h = h
+untold_part job items (Err (Unfit (TooLong PartFile))) h = tt
+untold_part job items (Err (Unfit (TooLong ProgramFile))) h = h
+untold_part job items (Err (Unfit (JobRefused fault))) h = h
+untold_part job items (Err (Unfit (PartRefused fault))) h = tt
+untold_part job items (Err (Unfit (ProgramRefused fault))) h = h
+untold_part job items (Err (Unfit (PartTop height top unit))) h = h
 
 -- ---- the bytes that were read are what is told
 
@@ -53,10 +54,10 @@ pub job_told : (told : Option (List ℕ)) (items : List ℕ) (r : Result Job Loa
 job_told None items r same h = untold_job items r h
 job_told (Some text) items r same h = subst (λ (t : List ℕ). LoadsJob (Some t) r) same h
 
-pub part_told : (snap : Snap) (told : Option (List ℕ)) (items : List ℕ) (r : Result Part LoadFault) → IfSome told (λ text. items ≡ text) → LoadsPart snap (Some items) r
-    → LoadsPart snap told r
-part_told snap None items r same h = untold_part snap items r h
-part_told snap (Some text) items r same h = subst (λ (t : List ℕ). LoadsPart snap (Some t) r) same h
+pub part_told : (job : Job) (told : Option (List ℕ)) (items : List ℕ) (r : Result Part LoadFault) → IfSome told (λ text. items ≡ text) → LoadsPart job (Some items) r
+    → LoadsPart job told r
+part_told job None items r same h = untold_part job items r h
+part_told job (Some text) items r same h = subst (λ (t : List ℕ). LoadsPart job (Some t) r) same h
 
 -- ---- what kept a command from one of its files
 
@@ -72,21 +73,61 @@ job_fault texts (Unfit (TooLong ProgramFile)) h = absurd h
 job_fault texts (Unfit (JobRefused fault)) h = h
 job_fault texts (Unfit (PartRefused fault)) h = absurd h
 job_fault texts (Unfit (ProgramRefused fault)) h = absurd h
-job_fault texts (Unfit (PartTop height top)) h = absurd h
+job_fault texts (Unfit (PartTop height top unit)) h = absurd h
 
--- there was no part
-pub part_fault : (texts : SetupTexts) (job : Job) (f : LoadFault) → ReadsJob texts job → LoadsPart job.snap texts.part (Err f) → LoadsSetup texts (Err f)
-part_fault texts job Memory r h = tt
-part_fault texts job (ReadFault JobFile) r h = absurd h
-part_fault texts job (ReadFault PartFile) r h = (job, r)
-part_fault texts job (ReadFault ProgramFile) r h = absurd h
-part_fault texts job (Unfit (TooLong JobFile)) r h = absurd h
-part_fault texts job (Unfit (TooLong PartFile)) r h = record { job = job; job_is = r; long = h }
-part_fault texts job (Unfit (TooLong ProgramFile)) r h = absurd h
-part_fault texts job (Unfit (JobRefused fault)) r h = absurd h
-part_fault texts job (Unfit (PartRefused fault)) r h = record { job = job; job_is = r; refused = h }
-part_fault texts job (Unfit (ProgramRefused fault)) r h = absurd h
-part_fault texts job (Unfit (PartTop height top)) r h = absurd h
+-- the job was read, and this is what the part's file came to
+pub under_loads : (texts : SetupTexts) (job : Job) (r : Result Setup LoadFault) → ReadsJob texts job → LoadsUnder job texts.part r → LoadsSetup texts r
+under_loads texts job (Ok s) read h = record {
+  job_is = subst (λ (j : Job). ReadsJob texts j) (sym h.0) read;
+  part_is = subst (λ (j : Job). IfSome texts.part (λ text. IsPartText j text s.part)) (sym h.0) h.1;
+  under = subst (λ (j : Job). IsUnder s.part j.top) (sym h.0) h.2;
+}
+under_loads texts job (Err Memory) read h = tt
+under_loads texts job (Err (ReadFault JobFile)) read h = absurd h
+under_loads texts job (Err (ReadFault PartFile)) read h = (job, read)
+under_loads texts job (Err (ReadFault ProgramFile)) read h = absurd h
+under_loads texts job (Err (Unfit (TooLong JobFile))) read h = absurd h
+under_loads texts job (Err (Unfit (TooLong PartFile))) read h = record { job = job; job_is = read; long = h }
+under_loads texts job (Err (Unfit (TooLong ProgramFile))) read h = absurd h
+under_loads texts job (Err (Unfit (JobRefused fault))) read h = absurd h
+under_loads texts job (Err (Unfit (PartRefused fault))) read h = record { job = job; job_is = read; refused = h }
+under_loads texts job (Err (Unfit (ProgramRefused fault))) read h = absurd h
+under_loads texts job (Err (Unfit (PartTop height top unit))) read h =
+    record { job = job; part = h.part; job_is = read; part_is = h.part_is; greatest = h.greatest; limit = h.limit; unit_is = h.unit_is; over = h.over }
+
+-- what kept a command from the job or the part, where it reads words between the two
+abbrev pub HasFault : Type 0 → SetupTexts → LoadFault → Type 0
+HasFault ReadsWords texts Memory = Unit {0}
+HasFault ReadsWords texts (ReadFault file) = IsReadBeforeWith ReadsWords file
+HasFault ReadsWords texts (Unfit fault) = IsUnfitWith ReadsWords texts fault
+
+-- there was no job
+pub job_fault_with : (ReadsWords : Type 0) (texts : SetupTexts) (f : LoadFault) → LoadsJob texts.job (Err f) → HasFault ReadsWords texts f
+job_fault_with W texts Memory h = tt
+job_fault_with W texts (ReadFault JobFile) h = tt
+job_fault_with W texts (ReadFault PartFile) h = absurd h
+job_fault_with W texts (ReadFault ProgramFile) h = absurd h
+job_fault_with W texts (Unfit (TooLong JobFile)) h = h
+job_fault_with W texts (Unfit (TooLong PartFile)) h = absurd h
+job_fault_with W texts (Unfit (TooLong ProgramFile)) h = absurd h
+job_fault_with W texts (Unfit (JobRefused fault)) h = h
+job_fault_with W texts (Unfit (PartRefused fault)) h = absurd h
+job_fault_with W texts (Unfit (ProgramRefused fault)) h = absurd h
+job_fault_with W texts (Unfit (PartTop height top unit)) h = absurd h
+
+-- job and words were read, and there was no part
+pub part_fault_with : (ReadsWords : Type 0) (texts : SetupTexts) (job : Job) (f : LoadFault) → ReadsWords → ReadsJob texts job → LoadsUnder job texts.part (Err f) → HasFault ReadsWords texts f
+part_fault_with W texts job Memory w read h = tt
+part_fault_with W texts job (ReadFault JobFile) w read h = absurd h
+part_fault_with W texts job (ReadFault PartFile) w read h = w
+part_fault_with W texts job (ReadFault ProgramFile) w read h = absurd h
+part_fault_with W texts job (Unfit (TooLong JobFile)) w read h = absurd h
+part_fault_with W texts job (Unfit (TooLong PartFile)) w read h = (w, under_loads texts job (Err (Unfit (TooLong PartFile))) read h)
+part_fault_with W texts job (Unfit (TooLong ProgramFile)) w read h = absurd h
+part_fault_with W texts job (Unfit (JobRefused fault)) w read h = absurd h
+part_fault_with W texts job (Unfit (PartRefused fault)) w read h = (w, under_loads texts job (Err (Unfit (PartRefused fault))) read h)
+part_fault_with W texts job (Unfit (ProgramRefused fault)) w read h = absurd h
+part_fault_with W texts job (Unfit (PartTop height top unit)) w read h = (w, under_loads texts job (Err (Unfit (PartTop height top unit))) read h)
 
 -- there was no job or no part, and so nothing for the verifier
 pub setup_fault : (texts : Texts) (f : LoadFault) → LoadsSetup texts.setup (Err f) → Loads texts (Err f)
@@ -100,7 +141,7 @@ setup_fault texts (Unfit (TooLong ProgramFile)) h = absurd h
 setup_fault texts (Unfit (JobRefused fault)) h = h
 setup_fault texts (Unfit (PartRefused fault)) h = h
 setup_fault texts (Unfit (ProgramRefused fault)) h = absurd h
-setup_fault texts (Unfit (PartTop height top)) h = h
+setup_fault texts (Unfit (PartTop height top unit)) h = h
 
 -- there was no program
 pub program_fault : (texts : Texts) (job : Job) (part : List Tri) (f : LoadFault) → ReadsSetup texts.setup job part → LoadsProgram job texts.program (Err f) → Loads texts (Err f)
@@ -114,12 +155,12 @@ program_fault texts job part (Unfit (TooLong ProgramFile)) r h = record { job = 
 program_fault texts job part (Unfit (JobRefused fault)) r h = absurd h
 program_fault texts job part (Unfit (PartRefused fault)) r h = absurd h
 program_fault texts job part (Unfit (ProgramRefused fault)) r h = record { job = job; part = part; setup_is = r; refused = h }
-program_fault texts job part (Unfit (PartTop height top)) r h = absurd h
+program_fault texts job part (Unfit (PartTop height top unit)) r h = absurd h
 
--- job and part are read, and the part is too high
-pub high_part : (texts : SetupTexts) (job : Job) (part : List Tri) (height : ℤ) → ReadsJob texts job → ReadsPart texts job part → IsLow job part (Some height) → HighPart texts height job.top
-high_part texts job part height job_is part_is high =
-    record { job = job; part = part; job_is = job_is; part_is = part_is; greatest = high.0; limit = refl; over = high.1 }
+-- the part is read, and is too high
+pub high_part : (job : Job) (told : Option (List ℕ)) (part : List Tri) (height : ℤ) → IfSome told (λ text. IsPartText job text part) → IsLow job part (Some height)
+    → HasHighPart job told height job.top job.unit
+high_part job told part height part_is high = record { part = part; part_is = part_is; greatest = high.0; limit = refl; unit_is = refl; over = high.1 }
 
 -- ---- counts
 

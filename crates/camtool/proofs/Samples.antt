@@ -13,6 +13,7 @@ use Rattle.mill_base.specs.Ranges.{IsInRange, TriInRange, TrisInRange}
 use Rattle.mill_base.specs.declared.memory.WantOfMemory.{WantOfMemory}
 use Rattle.mill_base.specs.declared.motion.Move.{Move}
 use Rattle.mill_base.specs.declared.points.Tri.{Tri}
+use Rattle.mill_base.specs.declared.unit.Unit.TheVariants.{Hundredth}
 use Rattle.mill_base.specs.declared.limits.TheConstants.{MAX_COORDINATE, MAX_TEXT_COORDINATE}
 use Rattle.mill_decimal.specs.Decimals.{canonical}
 use Rattle.mill_job.specs.Columns.{home, positions}
@@ -180,10 +181,10 @@ joined w a x b y d z e u f t = simp append_assoc
 
 -- the pieces of a sample's line are the line
 pub line_joined : (n moves columns : ℕ) (left : ℤ) (program : List ℕ)
-    → ((((((sample_start n ++ codes " columns ") ++ decimal columns) ++ codes " moves ") ++ decimal moves) ++ codes " left ") ++ canonical left) ++ codes "\n"
+    → ((((((sample_start n ++ codes " columns ") ++ decimal columns) ++ codes " moves ") ++ decimal moves) ++ codes " left ") ++ canonical Hundredth left) ++ codes "\n"
     ≡ sample_line n (done program moves columns left)
 line_joined n moves columns left program =
-    joined (codes "sample ") (decimal n) (codes " triangles ") (decimal (2 * n * n)) (codes " columns ") (decimal columns) (codes " moves ") (decimal moves) (codes " left ") (canonical left) (codes "\n")
+    joined (codes "sample ") (decimal n) (codes " triangles ") (decimal (2 * n * n)) (codes " columns ") (decimal columns) (codes " moves ") (decimal moves) (codes " left ") (canonical Hundredth left) (codes "\n")
 
 -- ---- the work
 
@@ -192,18 +193,18 @@ ok_is a b e = cc
 
 -- the verdict on a plan's text, as it reads, is the plan's
 pub plan_verdict : OneVerdict → (job : Job) (part : List Tri) (text : List ℕ) (count columns : ℕ) (left : ℤ) (read : List Move) (r : Result Verdict WantOfMemory)
-    → IsDone job part text count columns left → program_of (home job) text ≡ Ok read → IfOk r (IsVerdict job part read) → IfOk r (λ v. v ≡ Accept count columns left)
+    → IsDone job part text count columns left → program_of (home job) job.unit text ≡ Ok read → IfOk r (IsVerdict job part read) → IfOk r (λ v. v ≡ Accept count columns left)
 plan_verdict one job part text count columns left read r made reads verdict =
     let same : read ≡ made.moves = ok_is read made.moves (sym reads ∙ made.reads) in
     IfOk-weaker r (IsVerdict job part read) (λ v. v ≡ Accept count columns left)
     (λ v is. one job part made.moves v (Accept count columns left) (subst (λ (m : List Move). IsVerdict job part m v) same is) made.accepted) verdict
 
 -- there is no program, and that is printed
-pub fault_tries : (n status : ℕ) (sink sink_after : SinkView) (s : Setup) (f : PlanFault) → IsSample n s → IsPlanFault s.job s.part f → PrintsPlanFault f status sink sink_after
+pub fault_tries : (n status : ℕ) (sink sink_after : SinkView) (s : Setup) (f : PlanFault) → IsSample n s → IsPlanFault s.job s.part f → PrintsPlanFault Hundredth f status sink sink_after
     → TriesSample n status sink sink_after
 fault_tries n status sink sink_after s f made is printed = go f (subst (λ p. IsPlanFault (sample_job n) p f) made.part_is (subst (λ j. IsPlanFault j s.part f) made.job_is is)) printed
   where
-    go : (g : PlanFault) → IsPlanFault (sample_job n) (sample_part n) g → PrintsPlanFault g status sink sink_after → TriesSample n status sink sink_after
+    go : (g : PlanFault) → IsPlanFault (sample_job n) (sample_part n) g → PrintsPlanFault Hundredth g status sink sink_after → TriesSample n status sink sink_after
     go (plan_fault.TooManyNodes nodes) here p = inl (record { answer = too_many_nodes nodes; is = here; printed = p })
     go plan_fault.TooManyMoves here p = inl (record { answer = too_many_moves; is = here; printed = p })
     go (plan_fault.Uncut row col top) here p = inl (record { answer = uncut row col top; is = here; printed = p })

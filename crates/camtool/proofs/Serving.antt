@@ -8,6 +8,7 @@ use Rattle.mill_command.specs.declared.refusal.Refusal.{Refusal}
 use Rattle.mill_command.specs.declared.refusal.Refusal.TheVariants as refusal
 use Rattle.mill_decimal.specs.declared.fault.DecFault.{DecFault}
 use Rattle.mill_io.specs.Views.{StoreView, SinkView, ReadsOnly}
+use Rattle.mill_job.specs.declared.job.Job.{Job}
 use Rattle.camtool.specs.declared.load.LoadFault.{LoadFault}
 use Rattle.camtool.specs.declared.load.LoadFault.TheVariants as load_fault
 use Rattle.camtool.specs.declared.file.File.{File}
@@ -19,15 +20,15 @@ use Rattle.mill_job.specs.declared.job.Place.{Place}
 use Rattle.camtool.specs.declared.verify.Loaded.{Loaded}
 use Rattle.camtool.specs.Answers.{Answer, refused_word, unfit, judged, dropped, leveled, answer_status, answer_line}
 use Rattle.camtool.specs.Calls.{Call, CanCount, NamedText, Stores}
-use Rattle.camtool.specs.Drop.{ReadsPlace, RefusesWord}
+use Rattle.camtool.specs.Drop.{HasPlace, ReadsPlace, RefusesWord}
 use Rattle.camtool.specs.Faults.{unfit_line}
-use Rattle.camtool.specs.Level.{ReadsHeight, RefusesHeight}
-use Rattle.camtool.specs.inner.Loads.{Loads, LoadsSetup, OnlyLoads}
+use Rattle.camtool.specs.Level.{HasHeight, ReadsHeight, RefusesZ}
+use Rattle.camtool.specs.inner.Loads.{Loads, LoadsUnder, OnlyLoads}
 use Rattle.camtool.specs.Outcomes.{Outcome, help, bad_words, no_memory, read_fault, answered, outcome_file, IsOutcome, IsOutcomeOf, CountsReads, Shows, ShowsOr, Serves, HasOutcome}
 use Rattle.camtool.specs.inner.Prints.{Prints, PrintsOutcome, PrintsOr, PrintsMade, PrintsFault, fault_outcome, refusal_outcome, TriesVerdict, PrintsHeight, TriesLevel}
-use Rattle.camtool.specs.Setup.{setup_texts}
+use Rattle.camtool.specs.Setup.{setup_texts, ReadsJob}
 use Rattle.camtool.specs.Verify.{texts_of}
-use Rattle.camtool.proofs.Reading.{rises}
+use Rattle.camtool.proofs.Reading.{rises, under_loads, HasFault}
 
 -- ---- where nothing is stored
 
@@ -98,51 +99,68 @@ verdict_serves job part program workers call l read loads (inr m) =
 
 -- ---- `drop`
 
-pub drop_load_fault : (contents : List ℕ → Option (List ℕ)) (job part x y : List ℕ) (place : Place) (f : LoadFault) → ReadsPlace x y place
-    → LoadsSetup (setup_texts contents job part) (Err f) → IsOutcome contents (drop job part x y) (fault_outcome f)
-drop_load_fault contents job part x y place load_fault.Memory read h = tt
-drop_load_fault contents job part x y place (load_fault.ReadFault file) read h = ((place, read), h)
-drop_load_fault contents job part x y place (load_fault.Unfit fault) read h = ((place, read), h)
+pub drop_fault : (contents : List ℕ → Option (List ℕ)) (job part x y : List ℕ) (f : LoadFault)
+    → HasFault (HasPlace (setup_texts contents job part) x y) (setup_texts contents job part) f → IsOutcome contents (drop job part x y) (fault_outcome f)
+drop_fault contents job part x y load_fault.Memory h = tt
+drop_fault contents job part x y (load_fault.ReadFault file) h = h
+drop_fault contents job part x y (load_fault.Unfit fault) h = h
 
-same_view : (view : StoreView) → ReadsOnly view view
-same_view view = record { contents = λ name. refl; tells = refl; write_faults = refl }
-
--- a word was refused, and the store wasn't touched
-pub word_serves : (job part x y : List ℕ) (call : Call) (coordinate : Coordinate) (fault : DecFault) → RefusesWord x y coordinate fault → call.store_after ≡ call.store
+-- the job was read, and a word refused
+pub word_serves : (job part x y : List ℕ) (call : Call) (j : Job) (coordinate : Coordinate) (fault : DecFault) → ReadsJob (setup_texts call.store.contents job part) j
+    → RefusesWord j.unit x y coordinate fault → (let r : Result Job LoadFault = Ok j in OnlyLoads call.store call.store_after r)
     → PrintsOr (answered (refused_word coordinate fault)) call.status call.sink call.sink_after → Serves (drop job part x y) call
-word_serves job part x y call coordinate fault refused same p =
-    answer_serves (drop job part x y) call (refused_word coordinate fault) refused
-    (answer_shows call (refused_word coordinate fault) refl (subst (λ (v : StoreView). ReadsOnly call.store v) (sym same) (same_view call.store))
-    (ap (λ (v : StoreView). v.read_faults) same) p)
+word_serves job part x y call j coordinate fault read refused loads p =
+    answer_serves (drop job part x y) call (refused_word coordinate fault) (record { job = j; job_is = read; refused = refused })
+    (answer_shows call (refused_word coordinate fault) refl loads.only loads.reads p)
 
-pub height_serves : (job part x y : List ℕ) (call : Call) (place : Place) (s : Setup) → ReadsPlace x y place → LoadsSetup (setup_texts call.store.contents job part) (Ok s)
-    → (let r : Result Setup LoadFault = Ok s in OnlyLoads call.store call.store_after r) → PrintsHeight s place call.status call.sink call.sink_after → Serves (drop job part x y) call
-height_serves job part x y call place s read setup loads h =
-    answer_serves (drop job part x y) call (dropped h.height) (record { place = place; job = s.job; part = s.part; place_is = read; setup_is = setup; is = h.is })
-    (answer_shows call (dropped h.height) refl loads.only loads.reads h.printed)
+pub height_serves : (job part x y : List ℕ) (call : Call) (j : Job) (place : Place) (s : Setup) → ReadsJob (setup_texts call.store.contents job part) j → ReadsPlace j.unit x y place
+    → LoadsUnder j (call.store.contents part) (Ok s) → (let r : Result Setup LoadFault = Ok s in OnlyLoads call.store call.store_after r)
+    → PrintsHeight s place call.status call.sink call.sink_after → Serves (drop job part x y) call
+height_serves job part x y call j place s read words under loads h =
+    answer_serves (drop job part x y) call (dropped s.job.unit h.height)
+    (record {
+      place = place;
+      job = s.job;
+      part = s.part;
+      unit_is = refl;
+      place_is = subst (λ (k : Job). ReadsPlace k.unit x y place) (sym under.0) words;
+      setup_is = under_loads (setup_texts call.store.contents job part) j (Ok s) read under;
+      is = h.is;
+    })
+    (answer_shows call (dropped s.job.unit h.height) refl loads.only loads.reads h.printed)
 
 -- ---- `level`
 
-pub level_load_fault : (contents : List ℕ → Option (List ℕ)) (job part z : List ℕ) (height : ℤ) (f : LoadFault) → ReadsHeight z height
-    → LoadsSetup (setup_texts contents job part) (Err f) → IsOutcome contents (level job part z) (fault_outcome f)
-level_load_fault contents job part z height load_fault.Memory read h = tt
-level_load_fault contents job part z height (load_fault.ReadFault file) read h = ((height, read), h)
-level_load_fault contents job part z height (load_fault.Unfit fault) read h = ((height, read), h)
+pub level_fault : (contents : List ℕ → Option (List ℕ)) (job part z : List ℕ) (f : LoadFault)
+    → HasFault (HasHeight (setup_texts contents job part) z) (setup_texts contents job part) f → IsOutcome contents (level job part z) (fault_outcome f)
+level_fault contents job part z load_fault.Memory h = tt
+level_fault contents job part z (load_fault.ReadFault file) h = h
+level_fault contents job part z (load_fault.Unfit fault) h = h
 
--- the word was refused, and the store wasn't touched
-pub height_word_serves : (job part z : List ℕ) (call : Call) (coordinate : Coordinate) (fault : DecFault) → RefusesHeight z coordinate fault → call.store_after ≡ call.store
+-- the job was read, and the word refused
+pub height_word_serves : (job part z : List ℕ) (call : Call) (j : Job) (coordinate : Coordinate) (fault : DecFault) → ReadsJob (setup_texts call.store.contents job part) j
+    → RefusesZ j.unit z coordinate fault → (let r : Result Job LoadFault = Ok j in OnlyLoads call.store call.store_after r)
     → PrintsOr (answered (refused_word coordinate fault)) call.status call.sink call.sink_after → Serves (level job part z) call
-height_word_serves job part z call coordinate fault refused same p =
-    answer_serves (level job part z) call (refused_word coordinate fault) refused
-    (answer_shows call (refused_word coordinate fault) refl (subst (λ (v : StoreView). ReadsOnly call.store v) (sym same) (same_view call.store))
-    (ap (λ (v : StoreView). v.read_faults) same) p)
+height_word_serves job part z call j coordinate fault read refused loads p =
+    answer_serves (level job part z) call (refused_word coordinate fault) (record { job = j; job_is = read; refused = refused })
+    (answer_shows call (refused_word coordinate fault) refl loads.only loads.reads p)
 
-pub level_serves : (job part z : List ℕ) (call : Call) (height : ℤ) (s : Setup) → ReadsHeight z height → LoadsSetup (setup_texts call.store.contents job part) (Ok s)
-    → (let r : Result Setup LoadFault = Ok s in OnlyLoads call.store call.store_after r) → TriesLevel s height call.status call.sink call.sink_after → Serves (level job part z) call
-level_serves job part z call height s read setup loads (inl p) =
-    answer_serves (level job part z) call (leveled p.answer) (record { height = height; job = s.job; part = s.part; height_is = read; setup_is = setup; is = p.is })
-    (answer_shows call (leveled p.answer) refl loads.only loads.reads p.printed)
-level_serves job part z call height s read setup loads (inr m) =
+pub level_serves : (job part z : List ℕ) (call : Call) (j : Job) (height : ℤ) (s : Setup) → ReadsJob (setup_texts call.store.contents job part) j → ReadsHeight j.unit z height
+    → LoadsUnder j (call.store.contents part) (Ok s) → (let r : Result Setup LoadFault = Ok s in OnlyLoads call.store call.store_after r)
+    → TriesLevel s height call.status call.sink call.sink_after → Serves (level job part z) call
+level_serves job part z call j height s read words under loads (inl p) =
+    answer_serves (level job part z) call (leveled s.job.unit p.answer)
+    (record {
+      height = height;
+      job = s.job;
+      part = s.part;
+      unit_is = refl;
+      height_is = subst (λ (k : Job). ReadsHeight k.unit z height) (sym under.0) words;
+      setup_is = under_loads (setup_texts call.store.contents job part) j (Ok s) read under;
+      is = p.is;
+    })
+    (answer_shows call (leveled s.job.unit p.answer) refl loads.only loads.reads p.printed)
+level_serves job part z call j height s read words under loads (inr m) =
     record { outcome = no_memory; is = tt; shows = printed_shows call no_memory refl loads.only loads.reads m }
 
 -- ---- words

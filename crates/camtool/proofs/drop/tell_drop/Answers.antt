@@ -14,9 +14,9 @@ returns g c =
     let height_fits : FitsSigned w32 c.drop_once-height.result = search rules in
     let least : IsDropHeight c.args.setup.now.job.cutter c.args.setup.now.part c.args.place.x c.args.place.y c.args.setup.now.job.floor c.drop_once-height.result =
     simp to_z-of_z at c.drop_once-height.ensures.drop in
-    let line : IfOk c.line_of_height.result (λ line. line.items ≡ answer_line (dropped c.drop_once-height.result)) = simp to_z-of_z at c.line_of_height.ensures in
+    let line : IfOk c.line_of_height.result (λ line. line.items ≡ answer_line (dropped c.args.setup.now.job.unit c.drop_once-height.result)) = simp to_z-of_z at c.line_of_height.ensures in
     record {
       height = c.drop_once-height.result;
       is = least;
-      printed = made_prints c.line_of_height.result (dropped c.drop_once-height.result) _ _ _ _ refl line c.tell_made.ensures;
+      printed = made_prints c.line_of_height.result (dropped c.args.setup.now.job.unit c.drop_once-height.result) _ _ _ _ refl line c.tell_made.ensures;
     }

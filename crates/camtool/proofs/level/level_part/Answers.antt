@@ -1,29 +1,56 @@
-use Rattle.std.proofs.Common.{refl, rules, w32}
-use Rattle.std.specs.Prelude.{FitsSigned}
+use Rattle.std.proofs.Common.{◌≡◌, ℕ, List, Option, Result, refl, rules, subst, w32}
+use Rattle.std.specs.Prelude.{Ok, Err, FitsSigned}
 use Rattle.std.proofs.lemmas.Int.{to_z-of_z}
 use Rattle.mill_command.specs.Requests.{level}
+use Rattle.camtool.specs.declared.load.LoadFault.{LoadFault}
+use Rattle.camtool.specs.declared.load.Setup.{Setup}
 use Rattle.camtool.specs.Answers.{refused_word}
 use Rattle.camtool.specs.Calls.{Call, call_of}
-use Rattle.camtool.proofs.Serving.{height_word_serves, level_serves, fault_serves, level_load_fault, made_prints}
+use Rattle.camtool.specs.Level.{HasHeight}
+use Rattle.camtool.specs.Setup.{SetupTexts, setup_texts}
+use Rattle.camtool.specs.inner.Loads.{LoadsUnder}
+use Rattle.camtool.proofs.Reading.{job_fault_with, part_fault_with, loads_on}
+use Rattle.camtool.proofs.Serving.{height_word_serves, level_serves, fault_serves, level_fault, made_prints}
 use Rattle.camtool.proofs.level.level_part.Goals as goal
 
 pub returns-in-Err : goal.returns-in-Err
 returns-in-Err g c =
-    let call : Call = call_of c.tell_made.result (g.S.Shelf.shows c.args.shelf.now) (g.S.Shelf.shows c.args.shelf.now) (g.O.Sink.shows c.args.out.now) (g.O.Sink.shows c.tell_made.new.out) in
-    let f = c.in-Err.fault in
-    height_word_serves c.args.job.now c.args.part.now c.args.z.now call f.coordinate f.fault c.in-Err.ensures.told refl
+    let job = c.args.job.now in
+    let part = c.args.part.now in
+    let call : Call = call_of c.tell_fault.result (g.S.Shelf.shows c.args.shelf.now) (g.S.Shelf.shows c.load_job.new.shelf) (g.O.Sink.shows c.args.out.now) (g.O.Sink.shows c.tell_fault.new.out) in
+    let texts : SetupTexts = setup_texts call.store.contents job part in
+    fault_serves (level job part c.args.z.now) call c.in-Err.fault
+    (level_fault call.store.contents job part c.args.z.now c.in-Err.fault
+    (job_fault_with (HasHeight texts c.args.z.now) texts c.in-Err.fault c.in-Err.ensures.told))
+    c.requires c.in-Err.ensures.store c.tell_fault.ensures
+
+pub returns-in-Err-read_height : goal.returns-in-Err-read_height
+returns-in-Err-read_height g c =
+    let call : Call = call_of c.tell_made.result (g.S.Shelf.shows c.args.shelf.now) (g.S.Shelf.shows c.load_job.new.shelf) (g.O.Sink.shows c.args.out.now) (g.O.Sink.shows c.tell_made.new.out) in
+    let f = c.in-Err-read_height.fault in
+    height_word_serves c.args.job.now c.args.part.now c.args.z.now call c.in-Ok.job f.coordinate f.fault c.in-Ok.ensures.told c.in-Err-read_height.ensures.told c.in-Ok.ensures.store
     (made_prints c.line_of_word_fault.result (refused_word f.coordinate f.fault) _ _ _ _ refl c.line_of_word_fault.ensures c.tell_made.ensures)
 
-pub returns-in-Ok-load_setup : goal.returns-in-Ok-load_setup
-returns-in-Ok-load_setup g c =
-    let call : Call = call_of c.tell_level.result (g.S.Shelf.shows c.args.shelf.now) (g.S.Shelf.shows c.load_setup.new.shelf) (g.O.Sink.shows c.args.out.now) (g.O.Sink.shows c.tell_level.new.out) in
-    let height_fits : FitsSigned w32 c.in-Ok.height = search rules in
-    level_serves c.args.job.now c.args.part.now c.args.z.now call c.in-Ok.height c.in-Ok-load_setup.setup c.in-Ok.ensures.told c.in-Ok-load_setup.ensures.told
-    c.in-Ok-load_setup.ensures.store (simp to_z-of_z at c.tell_level.ensures)
+pub returns-in-Ok-load_under : goal.returns-in-Ok-load_under
+returns-in-Ok-load_under g c =
+    let call : Call = call_of c.tell_level.result (g.S.Shelf.shows c.args.shelf.now) (g.S.Shelf.shows c.load_under.new.shelf) (g.O.Sink.shows c.args.out.now) (g.O.Sink.shows c.tell_level.new.out) in
+    let r : Result Setup LoadFault = Ok c.in-Ok-load_under.setup in
+    let height_fits : FitsSigned w32 c.in-Ok-read_height.height = search rules in
+    level_serves c.args.job.now c.args.part.now c.args.z.now call c.in-Ok.job c.in-Ok-read_height.height c.in-Ok-load_under.setup c.in-Ok.ensures.told c.in-Ok-read_height.ensures.told
+    (subst (λ (t : Option (List ℕ)). LoadsUnder c.in-Ok.job t r) (c.in-Ok.ensures.store.only.contents c.args.part.now) c.in-Ok-load_under.ensures.told)
+    (loads_on _ _ _ c.in-Ok.job r c.in-Ok.ensures.store c.in-Ok-load_under.ensures.store) (simp to_z-of_z at c.tell_level.ensures)
 
-pub returns-in-Err-load_setup : goal.returns-in-Err-load_setup
-returns-in-Err-load_setup g c =
-    let call : Call = call_of c.tell_fault.result (g.S.Shelf.shows c.args.shelf.now) (g.S.Shelf.shows c.load_setup.new.shelf) (g.O.Sink.shows c.args.out.now) (g.O.Sink.shows c.tell_fault.new.out) in
-    fault_serves (level c.args.job.now c.args.part.now c.args.z.now) call c.in-Err-load_setup.fault
-    (level_load_fault call.store.contents c.args.job.now c.args.part.now c.args.z.now c.in-Ok.height c.in-Err-load_setup.fault c.in-Ok.ensures.told c.in-Err-load_setup.ensures.told)
-    c.requires c.in-Err-load_setup.ensures.store c.tell_fault.ensures
+pub returns-in-Err-load_under : goal.returns-in-Err-load_under
+returns-in-Err-load_under g c =
+    let job = c.args.job.now in
+    let part = c.args.part.now in
+    let call : Call = call_of c.tell_fault-in-Err-load_under.result (g.S.Shelf.shows c.args.shelf.now) (g.S.Shelf.shows c.load_under.new.shelf) (g.O.Sink.shows c.args.out.now) (g.O.Sink.shows c.tell_fault-in-Err-load_under.new.out) in
+    let texts : SetupTexts = setup_texts call.store.contents job part in
+    let f = c.in-Err-load_under.fault in
+    let r : Result Setup LoadFault = Err f in
+    let height : HasHeight texts c.args.z.now = record { job = c.in-Ok.job; height = c.in-Ok-read_height.height; job_is = c.in-Ok.ensures.told; height_is = c.in-Ok-read_height.ensures.told } in
+    fault_serves (level job part c.args.z.now) call f
+    (level_fault call.store.contents job part c.args.z.now f
+    (part_fault_with (HasHeight texts c.args.z.now) texts c.in-Ok.job f height c.in-Ok.ensures.told
+    (subst (λ (t : Option (List ℕ)). LoadsUnder c.in-Ok.job t r) (c.in-Ok.ensures.store.only.contents part) c.in-Err-load_under.ensures.told)))
+    c.requires (loads_on _ _ _ c.in-Ok.job r c.in-Ok.ensures.store c.in-Err-load_under.ensures.store) c.tell_fault-in-Err-load_under.ensures

@@ -15,7 +15,7 @@ returns-in-Ok g c =
     inl (record {
       answer = answer;
       is = right;
-      printed = made_prints c.text_of_chains.result (leveled answer) _ _ _ _ refl (rw c.deref.ensures.value at c.text_of_chains.ensures) c.tell_made.ensures;
+      printed = made_prints c.text_of_chains.result (leveled c.args.setup.now.job.unit answer) _ _ _ _ refl (rw c.deref.ensures.value at c.text_of_chains.ensures) c.tell_made.ensures;
     })
 
 pub returns-in-Err-TooManyNodes : goal.returns-in-Err-TooManyNodes
@@ -24,5 +24,5 @@ returns-in-Err-TooManyNodes g c =
     inl (record {
       answer = answer;
       is = c.in-Err-TooManyNodes.ensures.nodes c.in-Err-TooManyNodes.nodes (cc);
-      printed = made_prints c.line_of_nodes.result (leveled answer) _ _ _ _ refl c.line_of_nodes.ensures c.tell_made-in-Err-TooManyNodes.ensures;
+      printed = made_prints c.line_of_nodes.result (leveled c.args.setup.now.job.unit answer) _ _ _ _ refl c.line_of_nodes.ensures c.tell_made-in-Err-TooManyNodes.ensures;
     })

@@ -9,7 +9,7 @@ returns-in-Ok-store g c =
     let made = c.args.planned.now in
     let call : Call = call_of c.tell-in-Ok-store.result (g.S.Shelf.shows c.args.shelf.now) (g.S.Shelf.shows c.store.new.shelf) (g.O.Sink.shows c.args.out.now) (g.O.Sink.shows c.tell-in-Ok-store.new.out) in
     inl
-    (stored_shows call c.args.name.now c.deref-in-Ok-store.result.now made.program.items made.moves made.columns made.most_left
+    (stored_shows call c.args.unit c.args.name.now c.deref-in-Ok-store.result.now made.program.items made.moves made.columns made.most_left
     (c.deref-in-Ok-store.ensures.value ∙ c.in-Ok.ensures) (rw c.deref.ensures.value at c.in-Ok-store.ensures.whole) c.tell-in-Ok-store.ensures)
 
 pub returns : goal.returns
@@ -17,5 +17,5 @@ returns g c =
     let made = c.args.planned.now in
     let call : Call = call_of status.WriteFault (g.S.Shelf.shows c.args.shelf.now) (g.S.Shelf.shows c.store.new.shelf) (g.O.Sink.shows c.args.out.now) (g.O.Sink.shows c.args.out.now) in
     inl
-    (unstored_shows call c.args.name.now made.program.items made.moves made.columns made.most_left refl refl c.requires.counts
+    (unstored_shows call c.args.unit c.args.name.now made.program.items made.moves made.columns made.most_left refl refl c.requires.counts
     (rw c.deref.ensures.value at c.in-Err-store.ensures.part))

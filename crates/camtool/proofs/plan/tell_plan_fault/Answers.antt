@@ -5,4 +5,4 @@ use Rattle.camtool.proofs.plan.tell_plan_fault.Goals as goal
 
 pub returns-in-TooManyNodes : goal.returns-in-TooManyNodes
 returns-in-TooManyNodes g c =
-    rw c.in-TooManyNodes.is (text_prints c.line_of_nodes.result (plan_line (too_many_nodes c.in-TooManyNodes.nodes)) 9 _ _ _ c.line_of_nodes.ensures c.tell_made.ensures)
+    rw c.in-TooManyNodes.is (text_prints c.line_of_nodes.result (plan_line c.args.unit (too_many_nodes c.in-TooManyNodes.nodes)) 9 _ _ _ c.line_of_nodes.ensures c.tell_made.ensures)

@@ -1,4 +1,4 @@
-use Rattle.std.proofs.Common.{rules, Err, sym, ◌∙◌}
+use Rattle.std.proofs.Common.{rules, Err, refl, sym, ◌∙◌}
 use Rattle.std.specs.Prelude.{◌≢◌}
 use Rattle.mill_ngc.specs.declared.fault.NgcFault.TheVariants.{WantOfMemory}
 use Rattle.camtool.proofs.Programs.{no_text, file_moves, file_fault, moves_ok}
@@ -9,19 +9,19 @@ returns-in-Err-clause-told g c = no_text c.args.job.now ((g.S.Shelf.shows c.args
 
 pub returns-in-Ok-finish-clause-told : goal.returns-in-Ok-finish-clause-told
 returns-in-Ok-finish-clause-told g c =
-    file_moves c.args.job.now c.home.result ((g.S.Shelf.shows c.args.shelf.now).contents c.args.name.now) c.in-Ok.reader c.take_file.new.moves.items c.finish.new.out.items c.in-Ok-finish.field-0
-    c.home.ensures.value c.in-Ok.ensures.takes (c.in-Ok-finish.ensures.answer (λ e. absurd cc)) (c.in-Ok-finish.ensures.moves_are (λ e. absurd cc))
+    file_moves c.args.job.now c.home.result c.args.job.now.unit ((g.S.Shelf.shows c.args.shelf.now).contents c.args.name.now) c.in-Ok.reader c.take_file.new.moves.items c.finish.new.out.items c.in-Ok-finish.field-0
+    c.home.ensures.value refl c.in-Ok.ensures.takes (c.in-Ok-finish.ensures.answer (λ e. absurd cc)) (c.in-Ok-finish.ensures.moves_are (λ e. absurd cc))
 
 pub returns-in-Ok-finish-clause-ready : goal.returns-in-Ok-finish-clause-ready
 returns-in-Ok-finish-clause-ready g c =
-    moves_ok c.args.job.now c.home.result c.finish.new.out.items c.home.ensures.value (c.finish.ensures.moves c.home.result c.in-Ok.ensures.takes.taken.moves_ok)
+    moves_ok c.args.job.now c.home.result c.args.job.now.unit c.finish.new.out.items c.home.ensures.value refl (c.finish.ensures.moves c.home.result c.args.job.now.unit c.in-Ok.ensures.takes.taken.moves_ok)
 
 pub returns : goal.returns
 returns g c =
     let other : (c.finish.result ≢ Err WantOfMemory) = search rules in
     record {
-      told = file_fault c.args.job.now c.home.result ((g.S.Shelf.shows c.args.shelf.now).contents c.args.name.now) c.in-Ok.reader c.take_file.new.moves.items c.in-Err-finish.fault
-          c.home.ensures.value c.in-Ok.ensures.takes (sym c.in-Err-finish.is ∙ c.finish.ensures.answer other);
+      told = file_fault c.args.job.now c.home.result c.args.job.now.unit ((g.S.Shelf.shows c.args.shelf.now).contents c.args.name.now) c.in-Ok.reader c.take_file.new.moves.items c.in-Err-finish.fault
+          c.home.ensures.value refl c.in-Ok.ensures.takes (sym c.in-Err-finish.is ∙ c.finish.ensures.answer other);
       ready = tt;
       store = record { only = c.in-Ok.ensures.store.only; reads = c.in-Ok.ensures.store.reads };
     }

@@ -9,7 +9,7 @@ pub loop-reader-init : goal.loop-reader-init
 loop-reader-init g c =
     let pieces = c.args.pieces.now in
     let told = (g.S.Shelf.shows pieces.shelf.now).contents pieces.name.now in
-    let none = front_first c.args.start told c.new-reader.result c.args.moves.now.items c.new-reader.ensures.reading c.new-reader.ensures.moves c.requires.moves in
+    let none = front_first c.args.start c.args.unit told c.new-reader.result c.args.moves.now.items c.new-reader.ensures.reading c.new-reader.ensures.moves c.requires.moves in
     record {
       going = c.requires.first.going;
       name = refl;
@@ -28,7 +28,7 @@ returns-in-Ok-eq0-clause-takes g c =
     let next = c.in-Ok-eq0.ensures.next c.loop-reader.invariant.going in
     let room : 0 < length c.next.new.buf = search rules in
     let fits : here.given ≤ MAX_FILE_BYTES = omega (arith, here.within, c.loop-reader.invariant.limit) in
-    front_whole c.args.start ((g.S.Shelf.shows pieces.shelf.now).contents pieces.name.now) ((g.S.Shelf.shows here.shelf.now).contents here.name.now) here.given c.next.new.buf
+    front_whole c.args.start c.args.unit ((g.S.Shelf.shows pieces.shelf.now).contents pieces.name.now) ((g.S.Shelf.shows here.shelf.now).contents here.name.now) here.given c.next.new.buf
     c.loop-reader.reader c.loop-reader.moves.items (search rules) c.loop-reader.invariant.front (search rules) room fits
 
 pub loop-reader-preserved : goal.loop-reader-preserved
@@ -37,9 +37,9 @@ loop-reader-preserved g c =
     let here = c.loop-reader.pieces in
     let next = c.in-Ok.ensures.next c.loop-reader.invariant.going in
     let text = c.loop-reader.invariant.front.text in
-    let taken : HasTaken c.args.start c.take_piece.new.reader c.take_piece.new.moves.items (text ++ take c.in-Ok.count c.next.new.buf) = c.in_ok-take_piece.ensures c.args.start text c.loop-reader.invariant.front.taken in
-    let front : TakesFront c.args.start ((g.S.Shelf.shows pieces.shelf.now).contents pieces.name.now) (here.given + c.in-Ok.count) c.take_piece.new.reader c.take_piece.new.moves.items =
-    front_more c.args.start ((g.S.Shelf.shows pieces.shelf.now).contents pieces.name.now) ((g.S.Shelf.shows here.shelf.now).contents here.name.now) here.given c.in-Ok.count c.next.new.buf
+    let taken : HasTaken c.args.start c.args.unit c.take_piece.new.reader c.take_piece.new.moves.items (text ++ take c.in-Ok.count c.next.new.buf) = c.in_ok-take_piece.ensures c.args.start c.args.unit text c.loop-reader.invariant.front.taken in
+    let front : TakesFront c.args.start c.args.unit ((g.S.Shelf.shows pieces.shelf.now).contents pieces.name.now) (here.given + c.in-Ok.count) c.take_piece.new.reader c.take_piece.new.moves.items =
+    front_more c.args.start c.args.unit ((g.S.Shelf.shows pieces.shelf.now).contents pieces.name.now) ((g.S.Shelf.shows here.shelf.now).contents here.name.now) here.given c.in-Ok.count c.next.new.buf
     c.loop-reader.reader c.take_piece.new.reader c.loop-reader.moves.items c.take_piece.new.moves.items (search rules) c.loop-reader.invariant.front next.0 c.in-Ok.ensures.within taken in
     record {
       going = search rules;

@@ -14,7 +14,7 @@ invariant-loop-reader g l = record {
   room : 0 < length l.buf;
   only : ReadsOnly (g.S.Shelf.shows l.initial.pieces.shelf.now) (g.S.Shelf.shows l.pieces.shelf.now);
   faults : (g.S.Shelf.shows l.pieces.shelf.now).read_faults ≡ (g.S.Shelf.shows l.initial.pieces.shelf.now).read_faults;
-  front : TakesFront l.fn.start ((g.S.Shelf.shows l.initial.pieces.shelf.now).contents l.initial.pieces.name.now) l.pieces.given l.reader l.moves.items;
+  front : TakesFront l.fn.start l.fn.unit ((g.S.Shelf.shows l.initial.pieces.shelf.now).contents l.initial.pieces.name.now) l.pieces.given l.reader l.moves.items;
 }
 
 abbrev pub decreases-loop-reader : goal.decreases-loop-reader

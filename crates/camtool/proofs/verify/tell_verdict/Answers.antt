@@ -1,11 +1,11 @@
 use Rattle.std.proofs.Common.{inl, ap}
 use Rattle.std.specs.Prelude.{Ok}
-use Rattle.mill_base.proofs.Ranges.{moves_of_text}
+use Rattle.mill_base.proofs.Ranges.{moves_of_unit}
 use Rattle.camtool.proofs.Named.{told}
 use Rattle.camtool.proofs.verify.tell_verdict.Goals as goal
 
 pub verify-requires-clause-moves_ok : goal.verify-requires-clause-moves_ok
-verify-requires-clause-moves_ok g c κs within = rw c.deref.ensures.value (moves_of_text c.args.loaded.now.moves.items c.requires.ready.moves_ok.in_range)
+verify-requires-clause-moves_ok g c κs within = rw c.deref.ensures.value (moves_of_unit c.args.loaded.now.job.unit c.args.loaded.now.moves.items c.requires.ready.moves_ok.in_range)
 
 pub returns-in-Ok : goal.returns-in-Ok
 returns-in-Ok g c =
