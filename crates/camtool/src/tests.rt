@@ -6,6 +6,7 @@ use std::alloc::{AllocError, Global};
 use std::test::Fail;
 
 mod drops;
+mod failures;
 mod faults;
 mod levels;
 mod missing;
@@ -16,6 +17,10 @@ mod verdicts;
 
 const JOB: &[u8] =
     b"cutter = \"flat\"\nradius = 150\nfloor = 0\ntop = 300\nclear = 400\narea = [0, 0, 200, 200]\nhome = [100, 100]\npitch = 100\nsample = 50\nallowance = 0\nband = 0\n";
+
+// The same as JOB, in thousandths.
+const THOUSANDTHS_JOB: &[u8] =
+    b"unit = \"thousandth\"\ncutter = \"flat\"\nradius = 1500\nfloor = 0\ntop = 3000\nclear = 4000\narea = [0, 0, 2000, 2000]\nhome = [1000, 1000]\npitch = 1000\nsample = 500\nallowance = 0\nband = 0\n";
 
 const BAND_50_JOB: &[u8] =
     b"cutter = \"flat\"\nradius = 150\nfloor = 0\ntop = 300\nclear = 400\narea = [0, 0, 200, 200]\nhome = [100, 100]\npitch = 100\nsample = 50\nallowance = 0\nband = 50\n";

@@ -1,7 +1,7 @@
 // `drop`: the line and the status of each answer.
 use crate::run::run;
 use crate::status::Status;
-use crate::tests::{BALL_JOB, CORNER, EMPTY, HIGH, JOB, PEAK, WIDE_JOB, store, words};
+use crate::tests::{BALL_JOB, CORNER, EMPTY, HIGH, JOB, PEAK, PLATE, THOUSANDTHS_JOB, WIDE_JOB, store, words};
 use mill_io::MemSink;
 use std::test::Fail;
 
@@ -9,7 +9,7 @@ use std::test::Fail;
 fn drops_the_cutter(rt: HostRuntime) -> Result<(), Fail> {
     let alloc = rt.alloc();
     let texts: (&[u8], &[u8], &[u8]) = (WIDE_JOB, CORNER, b"");
-    let table: [((&[u8], &[u8], &[u8]), &str, &str, Status, &[u8]); 18] = [
+    let table: [((&[u8], &[u8], &[u8]), &str, &str, Status, &[u8]); 22] = [
         (texts, "--x=-0.99", "--y=5.00", Status::Done, b"drop 2.00\n"),
         (texts, "--x=-1.00", "--y=5.00", Status::Done, b"drop 0.00\n"),
         (texts, "--x=-1", "--y=5", Status::Done, b"drop 0.00\n"),
@@ -75,10 +75,38 @@ fn drops_the_cutter(rt: HostRuntime) -> Result<(), Fail> {
         ),
         (
             (b"\xff", CORNER, b""),
-            "--x=0",
+            "--x=0.005",
             "--y=0",
             Status::Refused,
             b"refused job syntax\n",
+        ),
+        (
+            (THOUSANDTHS_JOB, PLATE, b""),
+            "--x=3.499",
+            "--y=0.005",
+            Status::Done,
+            b"drop 2.000\n",
+        ),
+        (
+            (THOUSANDTHS_JOB, PLATE, b""),
+            "--x=3.500",
+            "--y=0",
+            Status::Done,
+            b"drop 0.000\n",
+        ),
+        (
+            (THOUSANDTHS_JOB, b"solid\n", b""),
+            "--x=0.0005",
+            "--y=0",
+            Status::Refused,
+            b"refused word x off-grid\n",
+        ),
+        (
+            (THOUSANDTHS_JOB, PLATE, b""),
+            "--x=0",
+            "--y=524.288",
+            Status::Refused,
+            b"refused word y out-of-range\n",
         ),
         (
             (WIDE_JOB, b"solid\n", b""),
@@ -99,49 +127,6 @@ fn drops_the_cutter(rt: HostRuntime) -> Result<(), Fail> {
         let mut shelf = store(alloc, texts, &[])?;
         let mut sink = MemSink::new(alloc, 200, &[])?;
         let words = words(alloc, &["drop", "job", "part", x, y])?;
-        let ended = run(&rt, alloc, &words, &mut shelf, &mut sink);
-        assert_eq!(rt; sink.written(), line);
-        assert_eq!(rt; ended, status);
-    }
-    Ok(())
-}
-
-#[test]
-fn blames_what_failed_in_a_drop(rt: HostRuntime) -> Result<(), Fail> {
-    let alloc = rt.alloc();
-    let none: &[u64] = &[];
-    let table: [(&str, &[u64], &[u64], usize, Status, &[u8]); 5] = [
-        (
-            "--x=0",
-            &[0],
-            none,
-            200,
-            Status::ReadFault,
-            b"read fault job\n",
-        ),
-        (
-            "--x=0",
-            &[2],
-            none,
-            200,
-            Status::ReadFault,
-            b"read fault part\n",
-        ),
-        (
-            "--x=0.005",
-            &[0],
-            none,
-            200,
-            Status::Refused,
-            b"refused word x off-grid\n",
-        ),
-        ("--x=0", none, &[0], 200, Status::WriteFault, b""),
-        ("--x=0", none, none, 5, Status::WriteFault, b"drop "),
-    ];
-    for (x, reads, writes, room, status, line) in table {
-        let mut shelf = store(alloc, (WIDE_JOB, CORNER, b""), reads)?;
-        let mut sink = MemSink::new(alloc, room, writes)?;
-        let words = words(alloc, &["drop", "job", "part", "--y=5", x])?;
         let ended = run(&rt, alloc, &words, &mut shelf, &mut sink);
         assert_eq!(rt; sink.written(), line);
         assert_eq!(rt; ended, status);

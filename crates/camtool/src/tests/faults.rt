@@ -1,4 +1,4 @@
-// `verify` where a file or the output fails, or a file is too long.
+// `verify` where a file is too long, or its text is refused and it is read on.
 ghost use Rattle.std.specs.Prelude.{◌≡◌, ◌≤◌, IfOk};
 
 use crate::run::run;
@@ -8,32 +8,6 @@ use mill_io::{MemFile, MemShelf, MemSink, Shelf};
 use std::alloc::{AllocError, Global};
 use std::test::Fail;
 use std::thread::Threads;
-
-#[test]
-fn blames_what_failed(rt: HostRuntime) -> Result<(), Fail> {
-    let alloc = rt.alloc();
-    let none: &[u64] = &[];
-    let table: [(&[u64], &[u64], usize, Status, &[u8]); 9] = [
-        (&[0], none, 200, Status::ReadFault, b"read fault job\n"),
-        (&[1], none, 200, Status::ReadFault, b"read fault job\n"),
-        (&[2], none, 200, Status::ReadFault, b"read fault part\n"),
-        (&[3], none, 200, Status::ReadFault, b"read fault part\n"),
-        (&[4], none, 200, Status::ReadFault, b"read fault program\n"),
-        (&[5], none, 200, Status::ReadFault, b"read fault program\n"),
-        (&[6], none, 9, Status::WriteFault, b"rejected "),
-        (none, &[0], 200, Status::WriteFault, b""),
-        (none, none, 9, Status::WriteFault, b"rejected "),
-    ];
-    for (reads, writes, room, status, line) in table {
-        let mut shelf = store(alloc, (JOB, PLATE, b"M2"), reads)?;
-        let mut sink = MemSink::new(alloc, room, writes)?;
-        let words = words(alloc, &["verify", "job", "part", "program"])?;
-        let ended = run(&rt, alloc, &words, &mut shelf, &mut sink);
-        assert_eq!(rt; sink.written(), line);
-        assert_eq!(rt; ended, status);
-    }
-    Ok(())
-}
 
 // A program whose first line is refused, and then blanks.
 fn refused_program(alloc: Global, size: usize) -> Result<MemFile, AllocError>

@@ -1,16 +1,19 @@
 // `level`: the text and the status of each answer.
 use crate::run::run;
 use crate::status::Status;
-use crate::tests::{CORNER, EMPTY, FINE_JOB, HIGH, JOB, PEAK, POINT, WIDE_JOB, store, words};
+use crate::tests::{CORNER, EMPTY, FINE_JOB, HIGH, JOB, PEAK, POINT, THOUSANDTHS_JOB, WIDE_JOB, store, words};
 use mill_io::MemSink;
 use std::test::Fail;
 
 const ROUND: &[u8] = b"closed 4\n4.00 5.00\n5.00 4.00\n6.00 5.00\n5.00 6.00\nchains 1\n";
 
+const FINE: &[u8] =
+    b"open 4\n1.500 0.000\n1.119 1.000\n1.000 1.119\n0.000 1.500\nchains 1\n";
+
 #[test]
 fn goes_round_the_part(rt: HostRuntime) -> Result<(), Fail> {
     let alloc = rt.alloc();
-    let table: [((&[u8], &[u8], &[u8]), &str, &[u8]); 7] = [
+    let table: [((&[u8], &[u8], &[u8]), &str, &[u8]); 8] = [
         ((WIDE_JOB, POINT, b""), "--z=0", ROUND),
         ((WIDE_JOB, POINT, b""), "--z=2.99", ROUND),
         ((WIDE_JOB, POINT, b""), "--z=-1310.71", ROUND),
@@ -22,6 +25,7 @@ fn goes_round_the_part(rt: HostRuntime) -> Result<(), Fail> {
         ),
         ((WIDE_JOB, EMPTY, b""), "--z=0", b"chains 0\n"),
         ((JOB, EMPTY, b""), "--z=1310.71", b"chains 0\n"),
+        ((THOUSANDTHS_JOB, PEAK, b""), "--z=2.999", FINE),
     ];
     for (texts, z, text) in table {
         let mut shelf = store(alloc, texts, &[])?;
@@ -37,7 +41,7 @@ fn goes_round_the_part(rt: HostRuntime) -> Result<(), Fail> {
 #[test]
 fn tells_why_there_is_no_level(rt: HostRuntime) -> Result<(), Fail> {
     let alloc = rt.alloc();
-    let table: [((&[u8], &[u8], &[u8]), &str, Status, &[u8]); 7] = [
+    let table: [((&[u8], &[u8], &[u8]), &str, Status, &[u8]); 8] = [
         (
             (FINE_JOB, CORNER, b""),
             "--z=0",
@@ -57,14 +61,20 @@ fn tells_why_there_is_no_level(rt: HostRuntime) -> Result<(), Fail> {
             b"refused word z out-of-range\n",
         ),
         (
-            (b"\xff", POINT, b""),
+            (WIDE_JOB, b"solid\n", b""),
             "--z=",
             Status::Refused,
             b"refused word z spelling\n",
         ),
         (
+            (THOUSANDTHS_JOB, EMPTY, b""),
+            "--z=524.288",
+            Status::Refused,
+            b"refused word z out-of-range\n",
+        ),
+        (
             (b"\xff", POINT, b""),
-            "--z=0",
+            "--z=0.001",
             Status::Refused,
             b"refused job syntax\n",
         ),
@@ -84,56 +94,6 @@ fn tells_why_there_is_no_level(rt: HostRuntime) -> Result<(), Fail> {
     for (texts, z, status, line) in table {
         let mut shelf = store(alloc, texts, &[])?;
         let mut sink = MemSink::new(alloc, 200, &[])?;
-        let words = words(alloc, &["level", "job", "part", z])?;
-        let ended = run(&rt, alloc, &words, &mut shelf, &mut sink);
-        assert_eq!(rt; sink.written(), line);
-        assert_eq!(rt; ended, status);
-    }
-    Ok(())
-}
-
-#[test]
-fn blames_what_failed_at_a_level(rt: HostRuntime) -> Result<(), Fail> {
-    let alloc = rt.alloc();
-    let none: &[u64] = &[];
-    let table: [(&str, &[u64], &[u64], usize, Status, &[u8]); 5] = [
-        (
-            "--z=0",
-            &[0],
-            none,
-            200,
-            Status::ReadFault,
-            b"read fault job\n",
-        ),
-        (
-            "--z=0",
-            &[2],
-            none,
-            200,
-            Status::ReadFault,
-            b"read fault part\n",
-        ),
-        (
-            "--z=0.001",
-            &[0],
-            none,
-            200,
-            Status::Refused,
-            b"refused word z off-grid\n",
-        ),
-        ("--z=0", none, &[0], 200, Status::WriteFault, b""),
-        (
-            "--z=0",
-            none,
-            none,
-            14,
-            Status::WriteFault,
-            b"closed 4\n4.00 ",
-        ),
-    ];
-    for (z, reads, writes, room, status, line) in table {
-        let mut shelf = store(alloc, (WIDE_JOB, POINT, b""), reads)?;
-        let mut sink = MemSink::new(alloc, room, writes)?;
         let words = words(alloc, &["level", "job", "part", z])?;
         let ended = run(&rt, alloc, &words, &mut shelf, &mut sink);
         assert_eq!(rt; sink.written(), line);

@@ -12,10 +12,11 @@ fn refuses_before_a_missing_file(rt: HostRuntime) -> Result<(), Fail> {
     let no_part: &[&str] = &["verify", "job", "absent", "absent"];
     let plan: &[&str] = &["plan", "job", "absent", "out"];
     let drop: &[&str] = &["drop", "job", "absent", "--x=0", "--y=0"];
-    let off_grid: &[&str] = &["drop", "absent", "absent", "--x=0", "--y=0.005"];
+    let off_grid: &[&str] = &["drop", "job", "absent", "--x=0", "--y=0.005"];
+    let no_job: &[&str] = &["drop", "absent", "absent", "--x=0", "--y=0.005"];
     let level: &[&str] = &["level", "job", "absent", "--z=0"];
-    let fine: &[&str] = &["level", "absent", "absent", "--z=0.001"];
-    let table: [(&[u8], &[u8], &[&str], Status, &[u8]); 12] = [
+    let fine: &[&str] = &["level", "job", "absent", "--z=0.001"];
+    let table: [(&[u8], &[u8], &[&str], Status, &[u8]); 13] = [
         (
             b"\xff",
             PLATE,
@@ -73,6 +74,7 @@ fn refuses_before_a_missing_file(rt: HostRuntime) -> Result<(), Fail> {
             Status::Refused,
             b"refused word y off-grid\n",
         ),
+        (JOB, PLATE, no_job, Status::ReadFault, b"read fault job\n"),
         (
             b"\xff",
             PLATE,

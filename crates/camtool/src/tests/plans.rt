@@ -8,7 +8,7 @@ use mill_io::{MemShelf, MemSink, Shelf, read_whole};
 use std::alloc::Global;
 use std::test::Fail;
 
-const PROGRAM: &[u8] =
+pub(crate) const PROGRAM: &[u8] =
     b"%\nG17 G21 G90\nG1 X0.00 Y0.00 Z2.00\nG1 X1.00 Y0.00 Z2.00\nG1 X2.00 Y0.00 Z2.00\nG1 X2.00 Y1.00 Z2.00\nG1 X1.00 Y1.00 Z2.00\nG1 X0.00 Y1.00 Z2.00\nG1 X0.00 Y2.00 Z2.00\nG1 X1.00 Y2.00 Z2.00\nG1 X2.00 Y2.00 Z2.00\nG0 X2.00 Y2.00 Z4.00\nG0 X1.00 Y1.00 Z4.00\nM2\n%\n";
 
 const LINE: &[u8] = b"planned moves 11 columns 9 left 0.00\n";
@@ -51,31 +51,6 @@ fn stores_a_program(rt: HostRuntime) -> Result<(), Fail> {
         assert_eq!(rt; held.as_slice(), PROGRAM);
         let held = read_whole(alloc, &mut shelf, "part", 1000)?;
         assert_eq!(rt; held.as_slice(), PLATE);
-    }
-    Ok(())
-}
-
-// The store's calls 0 to 3 are the reads of job and part, 4 the create and 5 the first append.
-#[test]
-fn keeps_what_a_failed_write_left(rt: HostRuntime) -> Result<(), Fail> {
-    let alloc = rt.alloc();
-    let none: &[u64] = &[];
-    let table: [(&[u64], usize, &[u64], usize, &[u8], &[u8]); 5] = [
-        (&[4], 1000, none, 200, b"", b"before"),
-        (&[5], 1000, none, 200, b"", b""),
-        (none, 5, none, 200, b"", b"%\nG17"),
-        (none, 1000, &[0], 200, b"", PROGRAM),
-        (none, 1000, none, 8, b"planned ", PROGRAM),
-    ];
-    for (calls, room, writes, width, line, left) in table {
-        let mut shelf = shelf(alloc, (JOB, PLATE), "out", room, calls)?;
-        let mut sink = MemSink::new(alloc, width, writes)?;
-        let words = words(alloc, &["plan", "job", "part", "out"])?;
-        let ended = run(&rt, alloc, &words, &mut shelf, &mut sink);
-        assert_eq!(rt; sink.written(), line);
-        assert_eq!(rt; ended, Status::WriteFault);
-        let held = read_whole(alloc, &mut shelf, "out", 1000)?;
-        assert_eq!(rt; held.as_slice(), left);
     }
     Ok(())
 }

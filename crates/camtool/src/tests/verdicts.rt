@@ -3,7 +3,7 @@ use crate::run::run;
 use crate::status::Status;
 use crate::tests::{
     BAND_50_JOB, BAND_51_JOB, BAND_151_JOB, CORNER, EMPTY, FLAT_JOB, HIGH, JOB, LOW_CLEAR_JOB,
-    NARROW, PLATE, WIDE_JOB, store, words,
+    NARROW, PLATE, THOUSANDTHS_JOB, WIDE_JOB, store, words,
 };
 use mill_io::MemSink;
 use std::test::Fail;
@@ -11,7 +11,7 @@ use std::test::Fail;
 #[test]
 fn prints_each_answer(rt: HostRuntime) -> Result<(), Fail> {
     let alloc = rt.alloc();
-    let table: [((&[u8], &[u8], &[u8]), Status, &[u8]); 21] = [
+    let table: [((&[u8], &[u8], &[u8]), Status, &[u8]); 25] = [
         (
             (JOB, PLATE, b"G21 G90\nG1 Z2\nG0 Z4\nM2\n"),
             Status::Done,
@@ -36,6 +36,26 @@ fn prints_each_answer(rt: HostRuntime) -> Result<(), Fail> {
             (JOB, PLATE, b"G21 G90\nG1 Z-0.01\nM2"),
             Status::Rejected,
             b"rejected floor move 0 z -0.01\n",
+        ),
+        (
+            (THOUSANDTHS_JOB, PLATE, b"G21 G90\nG1 Z2\nG0 Z4\nM2\n"),
+            Status::Done,
+            b"accepted moves 2 columns 9 left 0.000 band 0.000 allowance 0.000\n",
+        ),
+        (
+            (THOUSANDTHS_JOB, PLATE, b"G21 G90\nG1 Z-0.001\nM2"),
+            Status::Rejected,
+            b"rejected floor move 0 z -0.001\n",
+        ),
+        (
+            (THOUSANDTHS_JOB, HIGH, b"M2"),
+            Status::Refused,
+            b"refused part-top 3.010 top 3.000\n",
+        ),
+        (
+            (THOUSANDTHS_JOB, PLATE, b"G21 G90\nG1 X12.3455\nM2"),
+            Status::Refused,
+            b"refused program line 2 off-grid\n",
         ),
         (
             (BAND_50_JOB, NARROW, b"G21 G90\nG1 Z2\nG0 Z4\nM2\n"),
