@@ -21,8 +21,8 @@ use mill_sweep::{Leaf, Sweep, passes_tri};
 use std::alloc::Global;
 use std::marker::Model;
 
-/// A row of the stock's columns: for each, the height up to which it is still there, in units of
-/// 0.01 mm. It goes through the moves of a program one by one, up to a rapid that would cut it.
+/// A row of the stock's columns: for each, the height up to which it is still there, in units. It goes
+/// through the moves of a program one by one, up to a rapid that would cut it.
 #[derive(Drop)]
 pub struct Row {
     number: u32,

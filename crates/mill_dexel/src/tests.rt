@@ -7,7 +7,7 @@ ghost use Rattle.mill_job.specs.Columns.{row_count};
 ghost use Rattle.mill_job.specs.Jobs.{IsJob};
 
 use crate::row::Row;
-use mill_base::{Box2, Cutter, Kind, Move, Pt3, WantOfMemory};
+use mill_base::{Box2, Cutter, Kind, Move, Pt3, Unit, WantOfMemory};
 use mill_decimal::Snap;
 use mill_job::{Job, Levels, Place};
 use mill_sweep::Leaf;
@@ -18,6 +18,7 @@ fn three_columns() -> Job
     ensures row { 0 < row_count result }
 {
     Job {
+        unit: Unit::Hundredth,
         cutter: Cutter::Flat { radius: 150 },
         floor: 0,
         top: 300,
@@ -95,6 +96,7 @@ fn long_row(cutter: Cutter) -> Job
     ensures row { 0 < row_count result }
 {
     Job {
+        unit: Unit::Hundredth,
         cutter,
         floor: 0,
         top: 300,
@@ -196,5 +198,123 @@ fn heights_are_rounded_up(rt: HostRuntime) -> Result<(), WantOfMemory> {
     assert_eq!(rt; tops[0], 0);
     assert_eq!(rt; tops[10], 2);
     assert_eq!(rt; tops[20], 3);
+    Ok(())
+}
+
+/// Stock over the whole range in thousandths: 105 rows of 105 columns, 10,000 apart.
+fn whole_range(cutter: Cutter) -> Job
+    requires { IsCutter cutter }
+    ensures job { IsJob result }
+    ensures row { 104 < row_count result }
+{
+    Job {
+        unit: Unit::Thousandth,
+        cutter,
+        floor: -524_287,
+        top: 524_287,
+        clear: 524_287,
+        area: Box2 {
+            x0: -524_287,
+            y0: -524_287,
+            x1: 524_287,
+            y1: 524_287,
+        },
+        home: Place {
+            x: -524_287,
+            y: -524_287,
+        },
+        pitch: 10_000,
+        sample: 10_000,
+        allowance: 0,
+        band: 0,
+        lift: 0,
+        raster: 10_000,
+        rough_raster: 10_000,
+        layer: 0,
+        rough_stock: 0,
+        levels: Levels::NONE,
+        snap: Snap::Nearest,
+    }
+}
+
+/// A move over the whole area, from corner to corner, and from the greatest height to this one.
+fn across(kind: Kind, z: i32) -> Move
+    requires { Within MAX_COORDINATE z }
+    ensures { MoveInRange result }
+{
+    Move {
+        kind,
+        from: Pt3 {
+            x: -524_287,
+            y: -524_287,
+            z: 524_287,
+        },
+        to: Pt3 {
+            x: 524_287,
+            y: 524_287,
+            z,
+        },
+    }
+}
+
+// The last row stands at y = 515,713, and its last columns at x = 505,713 and x = 515,713. Of the samples,
+// which stand 8,191.98 apart in x and in y, four are near them.
+#[test]
+fn stops_and_cuts_over_the_whole_range(rt: HostRuntime) -> Result<(), WantOfMemory> {
+    let table: [(Cutter, (u32, Leaf), [i32; 2]); 3] = [
+        (
+            Cutter::Flat { radius: 10_000 },
+            (
+                103,
+                Leaf {
+                    d: 20,
+                    k: 1_030_000,
+                },
+            ),
+            [-511_999, -520_191],
+        ),
+        (
+            Cutter::Ball { radius: 10_000 },
+            (
+                104,
+                Leaf {
+                    d: 20,
+                    k: 1_039_828,
+                },
+            ),
+            [-508_831, -517_929],
+        ),
+        (
+            Cutter::Cone {
+                radius: 10_000,
+                rise: 3,
+                run: 2,
+            },
+            (
+                104,
+                Leaf {
+                    d: 20,
+                    k: 1_040_000,
+                },
+            ),
+            [-501_046, -515_283],
+        ),
+    ];
+    for (cutter, stop, [before, last]) in table {
+        let job = whole_range(cutter);
+        let mut row = Row::new(rt.alloc(), &job, 104)?;
+        let level = across(Kind::Rapid, 524_287);
+        assert_eq!(rt; row.rapid_turn(&job, &level), None, "by {cutter:?}");
+        let sinking = across(Kind::Rapid, 524_286);
+        assert_eq!(rt; row.rapid_turn(&job, &sinking), Some(stop), "by {cutter:?}");
+        row.cut_turn(&job, &across(Kind::Feed, -524_287));
+        let tops = row.tops();
+        assert!(rt; tops.len() == 105);
+        assert_eq!(rt;
+            [tops[102], tops[103], tops[104]],
+            [524_287, before, last],
+            "by {cutter:?}"
+        );
+    }
     Ok(())
 }

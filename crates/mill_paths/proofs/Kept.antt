@@ -1,11 +1,39 @@
--- A coordinate that a text may give is stored as it is, in each unit.
-use Rattle.std.proofs.Common.{◌≡◌, w32}
-use Rattle.std.specs.Prelude.{ℤ}
+-- What a job gives is in the range that calls take, in each unit, and it is stored as it is.
+use Rattle.std.proofs.Common.{◌≡◌, ℕ, ◌<◌, length, get_or, w32, arith}
+use Rattle.std.specs.Prelude.{ℤ, pos, ◌<ℤ◌, ◌≤ℤ◌}
+use Rattle.std.proofs.lemmas.Int.{ints}
+use Rattle.std.proofs.lemmas.List.Elements.{All-get_or}
+use Rattle.mill_base.specs.Lattices.{IsLattice}
 use Rattle.mill_base.specs.Numbers.{Within}
 use Rattle.mill_base.specs.Units.{greatest_of}
+use Rattle.mill_base.specs.declared.limits.TheConstants.{MAX_COORDINATE}
 use Rattle.mill_base.specs.declared.unit.Unit.{Unit}
 use Rattle.mill_base.proofs.Machine.{stored}
 use Rattle.mill_base.proofs.Ranges.{within_of_unit, coordinate}
+use Rattle.mill_job.specs.Jobs.{IsJob, IsLevel}
+use Rattle.mill_job.specs.declared.job.Job.{Job}
+use Rattle.mill_paths.specs.Lattices.{lattice_by}
 
 pub unit_coordinate : (unit : Unit) (z : ℤ) → Within (greatest_of unit) z → stored w32 z ≡ z
 unit_coordinate unit z h = coordinate z (within_of_unit unit z h)
+
+-- a lattice over its area
+pub is_lattice : (job : Job) (step : ℤ) → IsJob job → (pos 1) ≤ℤ step → IsLattice (lattice_by job step)
+is_lattice job step ok least = record {
+  x0_ok = within_of_unit job.unit job.area.x0 ok.x0_ok;
+  x1_ok = within_of_unit job.unit job.area.x1 ok.x1_ok;
+  y0_ok = within_of_unit job.unit job.area.y0 ok.y0_ok;
+  y1_ok = within_of_unit job.unit job.area.y1 ok.y1_ok;
+  x_order = ok.x_order;
+  y_order = ok.y_order;
+  step_ok = least;
+}
+
+-- each of its levels
+pub level_in_range : (job : Job) (k : ℕ) (d : ℤ) → IsJob job → k < length job.levels → Within MAX_COORDINATE (get_or job.levels k d)
+level_in_range job k d ok inside =
+    let level : IsLevel job.floor job.top (get_or job.levels k d) = All-get_or (IsLevel job.floor job.top) job.levels k d inside ok.levels_ok.within in
+    between job.floor job.top (get_or job.levels k d) (within_of_unit job.unit job.floor ok.floor_ok) (within_of_unit job.unit job.top ok.top_ok) level.over_floor level.under_top
+  where
+    between : (a b z : ℤ) → Within MAX_COORDINATE a → Within MAX_COORDINATE b → a ≤ℤ z → z <ℤ b → Within MAX_COORDINATE z
+    between a b z a_ok b_ok low high = let p = a_ok.within in let q = b_ok.within in record { within = omega (arith, ints) }

@@ -4,25 +4,28 @@ use Rattle.std.proofs.Common.{arith}
 use Rattle.std.proofs.Math.Nat.{div-mul-le_self, mul-le-mul_right}
 use Rattle.std.proofs.lemmas.Int.{ints}
 use Rattle.mill_base.specs.Numbers.{Within}
-use Rattle.mill_base.specs.declared.limits.TheConstants.{MAX_TEXT_COORDINATE}
+use Rattle.mill_base.specs.declared.limits.TheConstants.{MAX_COORDINATE}
 use Rattle.mill_base.specs.Points.{point_at}
-use Rattle.mill_base.specs.Ranges.{IsInTextRange}
+use Rattle.mill_base.specs.Ranges.{IsInRange}
+use Rattle.mill_base.specs.Units.{greatest_of}
 use Rattle.mill_base.specs.declared.motion.Move.{Move}
+use Rattle.mill_base.specs.declared.unit.Unit.{Unit}
+use Rattle.mill_base.proofs.Ranges.{within_of_unit}
 use Rattle.mill_job.specs.declared.job.Job.{Job}
 use Rattle.mill_job.specs.Jobs.{IsJob, IsFrom}
 use Rattle.mill_job.specs.Columns.{row_count, column_count, column_x, column_y, IsColumn}
 use Rattle.mill_dexel.specs.Tops.{top_after}
 use Rattle.mill_dexel.proofs.TopLaws.{top_after_stays}
 
--- what lies between two numbers in range is in range
-within_between : (m : ℕ) (lo hi v : ℤ) → Within m lo → Within m hi → IsFrom lo hi v → Within m v
-within_between m lo hi v a b h = record { within = by lo hi v a.within b.within h.low h.high }
+-- what lies between two coordinates of a unit is in range
+within_between : (unit : Unit) (lo hi v : ℤ) → Within (greatest_of unit) lo → Within (greatest_of unit) hi → IsFrom lo hi v → Within MAX_COORDINATE v
+within_between unit lo hi v a b h = record { within = by lo hi v (within_of_unit unit lo a).within (within_of_unit unit hi b).within h.low h.high }
   where
-    by : (lo hi v : ℤ) → nat_abs lo ≤ m → nat_abs hi ≤ m → lo ≤ℤ v → v ≤ℤ hi → nat_abs v ≤ m
+    by : (lo hi v : ℤ) → nat_abs lo ≤ MAX_COORDINATE → nat_abs hi ≤ MAX_COORDINATE → lo ≤ℤ v → v ≤ℤ hi → nat_abs v ≤ MAX_COORDINATE
     by lo hi v p q r s = omega (arith, ints)
 
-pub top_within : {job : Job} (x y : ℤ) (moves : List Move) → IsJob job → Within MAX_TEXT_COORDINATE (top_after job x y moves)
-top_within {job} x y moves ok = within_between MAX_TEXT_COORDINATE job.floor job.top _ ok.floor_ok ok.top_ok (top_after_stays job x y moves ok.stock)
+pub top_within : {job : Job} (x y : ℤ) (moves : List Move) → IsJob job → Within MAX_COORDINATE (top_after job x y moves)
+top_within {job} x y moves ok = within_between job.unit job.floor job.top _ ok.floor_ok ok.top_ok (top_after_stays job x y moves ok.stock)
 
 -- a row has at most as many columns as the stock
 pub columns_few : {job : Job} → IsJob job → column_count job ≤ 4000000
@@ -60,9 +63,9 @@ position_from a b (pos q) i order least h = by (i * q) (pos i *ℤ pos q) refl (
 position_from a b (negsuc q) i order least h = absurd (omega (least, arith, ints))
 
 -- a point of a column of the job is in range
-pub column_within : {job : Job} {j i : ℕ} {z : ℤ} → IsJob job → IsColumn job j i → Within MAX_TEXT_COORDINATE z → IsInTextRange (point_at (column_x job i) (column_y job j) z)
+pub column_within : {job : Job} {j i : ℕ} {z : ℤ} → IsJob job → IsColumn job j i → Within MAX_COORDINATE z → IsInRange (point_at (column_x job i) (column_y job j) z)
 column_within {job} {j} {i} ok c h = record {
-  x_ok = within_between MAX_TEXT_COORDINATE job.area.x0 job.area.x1 _ ok.x0_ok ok.x1_ok (position_from job.area.x0 job.area.x1 job.pitch i ok.x_order ok.pitch_ok.low c.column);
-  y_ok = within_between MAX_TEXT_COORDINATE job.area.y0 job.area.y1 _ ok.y0_ok ok.y1_ok (position_from job.area.y0 job.area.y1 job.pitch j ok.y_order ok.pitch_ok.low c.row);
+  x_ok = within_between job.unit job.area.x0 job.area.x1 _ ok.x0_ok ok.x1_ok (position_from job.area.x0 job.area.x1 job.pitch i ok.x_order ok.pitch_ok.low c.column);
+  y_ok = within_between job.unit job.area.y0 job.area.y1 _ ok.y0_ok ok.y1_ok (position_from job.area.y0 job.area.y1 job.pitch j ok.y_order ok.pitch_ok.low c.row);
   z_ok = h;
 }

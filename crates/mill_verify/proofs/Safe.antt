@@ -12,7 +12,7 @@ use Rattle.mill_base.specs.Numbers.{square}
 use Rattle.mill_base.specs.Motion.{tip_at}
 use Rattle.mill_base.specs.Contact.{Holds, HoldsOver}
 use Rattle.mill_base.specs.Covers.{CoveredBelow}
-use Rattle.mill_base.specs.Ranges.{IsInTextRange, MovesInRange}
+use Rattle.mill_base.specs.Ranges.{IsInRange, MovesInRange}
 use Rattle.mill_sweep.specs.Halving.{Passes}
 use Rattle.mill_sweep.specs.Moments.{PassingIsClear, PassingKeepsPoint}
 use Rattle.mill_job.specs.declared.job.Job.{Job}
@@ -20,7 +20,7 @@ use Rattle.mill_job.specs.Jobs.{IsJob}
 use Rattle.mill_job.specs.Columns.{IsColumn, column_x, column_y}
 use Rattle.mill_dexel.specs.Tops.{top_after, top_point}
 use Rattle.mill_dexel.specs.Laws.{OverTopIsRemoved}
-use Rattle.mill_base.proofs.Ranges.{in_range_of_text}
+use Rattle.mill_base.proofs.Ranges.{within_of_unit}
 use Rattle.mill_verify.proofs.Ranges.{column_within, top_within}
 use Rattle.mill_verify.specs.Tests.{GoodBefore, PassesTri}
 use Rattle.mill_dexel.specs.Turns.{move_at}
@@ -71,7 +71,7 @@ module _ (job : Job) (part : List Tri) (moves : List Move) (ok : IsJob job) (all
   moves_ok k m member = all_ok m (subst (λ (v : List Move). Contains v m) (take-append-drop k moves) (Contains-append_left (take k moves) (drop k moves) m member))
 
   -- the point at a column's top is in range
-  top_ok : (ms : List Move) (j i : ℕ) → IsColumn job j i → IsInTextRange (top_point job ms j i)
+  top_ok : (ms : List Move) (j i : ℕ) → IsColumn job j i → IsInRange (top_point job ms j i)
   top_ok ms j i c = column_within ok c (top_within _ _ ms ok)
 
   passes : (k t : ℕ) (m : Move) (tri : Tri) → GoodBefore job part moves (length moves) → k < length moves → slice_index_or moves k m ≡ m → t < length part → slice_index_or part t tri ≡ tri → Passes job.cutter m tri
@@ -86,13 +86,13 @@ module _ (job : Job) (part : List Tri) (moves : List Move) (ok : IsJob job) (all
       (passes member.0 g.gouges.member.0 m g.gouges.tri good member.1 member.2 g.gouges.member.1 g.gouges.member.2) g.moment g.gouges.touches
 
   under_top : OverTopIsRemoved → (ms : List Move) → MovesInRange ms → (j i : ℕ) (h : ℤ) → IsColumnPoint job j i h → LeavesPoint job ms j i h → h ≤ℤ top_after job (column_x job i) (column_y job j) ms
-  under_top removed ms ms_ok j i h point leaves = not_over _ h (λ over. leaves (removed job ms (column_x job i) (column_y job j) h ok.cutter_ok ms_ok (in_range_of_text _ (column_within ok point.column ok.top_ok)) ok.sample_ok.low over point.top))
+  under_top removed ms ms_ok j i h point leaves = not_over _ h (λ over. leaves (removed job ms (column_x job i) (column_y job j) h ok.cutter_ok ms_ok (column_within ok point.column (within_of_unit job.unit job.top ok.top_ok)) ok.sample_ok.low over point.top))
 
   rapids_miss : PassingKeepsPoint → OverTopIsRemoved → GoodBefore job part moves (length moves) → RapidsMissStock job moves
   rapids_miss keeps removed good k j i h hk rapid point leaves removes =
       keeps job.cutter (move_at moves k) (column_x job i) (column_y job j) (top_after job (column_x job i) (column_y job j) (take k moves)) h ok.cutter_ok
       (all_ok (move_at moves k) (k, hk, any_default moves k _ _ hk))
-      (in_range_of_text _ (top_ok (take k moves) j i point.column)) ((good k hk).stock rapid j i point.column) (under_top removed (take k moves) (moves_ok k) j i h point leaves) removes
+      (top_ok (take k moves) j i point.column) ((good k hk).stock rapid j i point.column) (under_top removed (take k moves) (moves_ok k) j i h point leaves) removes
 
   left_is_covered : OverTopIsRemoved → CoveredBelow → (count columns : ℕ) (left : ℤ) → Accepts job part moves count columns left → LeftIsCovered job part moves
   left_is_covered removed below count columns left a j i h point leaves =

@@ -5,11 +5,14 @@ use Rattle.std.proofs.lemmas.Int.{ints, clamps}
 use Rattle.std.specs.Int.{int_min}
 use mir.Syntax.{w32}
 use Rattle.mill_base.specs.Numbers.{Within}
-use Rattle.mill_base.specs.declared.limits.TheConstants.{MAX_COORDINATE, MAX_TEXT_COORDINATE}
+use Rattle.mill_base.specs.declared.limits.TheConstants.{MAX_COORDINATE}
+use Rattle.mill_base.specs.Units.{greatest_of}
 use Rattle.mill_base.specs.Covers.{Covered}
 use Rattle.mill_base.specs.declared.points.Tri.{Tri}
 use Rattle.mill_base.specs.declared.motion.Move.{Move}
+use Rattle.mill_base.specs.declared.unit.Unit.{Unit}
 use Rattle.mill_base.proofs.Machine.{Read, Diff, stored, kept, exact, diff_fits}
+use Rattle.mill_base.proofs.Ranges.{coordinate, within_of_unit}
 use Rattle.mill_job.specs.declared.job.Job.{Job}
 use Rattle.mill_job.specs.Jobs.{IsJob, IsFrom}
 use Rattle.mill_job.specs.Columns.{column_x, column_y, column_count}
@@ -32,11 +35,8 @@ tops_read {job} {moves} {j} row same =
     let is = same ∙ row.after in
     record { count = ap length is ∙ length-row_after job j moves; top = λ i other h. ap (λ (v : List ℤ). slice_index_or v i other) is ∙ row_after-at job j moves i other h }
 
-kept_in : (z : ℤ) → Within MAX_TEXT_COORDINATE z → stored w32 z ≡ z
-kept_in z h = kept w32 z MAX_TEXT_COORDINATE h.within refl
-
-kept_to : (v z : ℤ) → v ≡ z → Within MAX_TEXT_COORDINATE v → stored w32 v ≡ z
-kept_to v z e h = kept_in v h ∙ e
+kept_to : (unit : Unit) (v z : ℤ) → v ≡ z → Within (greatest_of unit) v → stored w32 v ≡ z
+kept_to unit v z e h = coordinate v (within_of_unit unit v h) ∙ e
 
 -- a fact of three numbers that were stored
 at_stored : (P : ℤ → ℤ → ℤ → Type 0) (x y t a b c : ℤ) → x ≡ a → y ≡ b → t ≡ c → P x y t → P a b c
@@ -48,21 +48,24 @@ band_in z h = kept w32 z 10000 (small z h.low h.high) refl
     small : (z : ℤ) → (pos 0) ≤ℤ z → z ≤ℤ pos 10000 → nat_abs z ≤ 10000
     small z low high = omega (arith, ints)
 
-pub cover_stored : {part : List Tri} {floor band x y covered : ℤ} → Within MAX_TEXT_COORDINATE floor → IsFrom (pos 0) (pos 10000) band → Within MAX_TEXT_COORDINATE x → Within MAX_TEXT_COORDINATE y
-    → ((h : ℤ) → (Covered part (stored w32 floor) (stored w32 band) (stored w32 x) (stored w32 y) h → h ≤ℤ covered)
-    × (h ≤ℤ covered → Covered part (stored w32 floor) (stored w32 band) (stored w32 x) (stored w32 y) h))
-    → IsCover part floor band x y covered
-cover_stored {part} {floor} {band} {x} {y} {covered} f_ok b_ok x_ok y_ok h =
-    subst (λ (b : ℤ). IsCover part floor b x y covered) (band_in band b_ok)
-    (at_stored (λ (a b c : ℤ). IsCover part a (stored w32 band) b c covered) _ _ _ floor x y (kept_in floor f_ok) (kept_in x x_ok) (kept_in y y_ok) (record { height = h }))
+floor_in : {job : Job} → IsJob job → stored w32 job.floor ≡ job.floor
+floor_in {job} ok = coordinate job.floor (within_of_unit job.unit job.floor ok.floor_ok)
+
+pub cover_stored : {job : Job} {part : List Tri} {x y covered : ℤ} → IsJob job → Within MAX_COORDINATE x → Within MAX_COORDINATE y
+    → ((h : ℤ) → (Covered part (stored w32 job.floor) (stored w32 job.band) (stored w32 x) (stored w32 y) h → h ≤ℤ covered)
+    × (h ≤ℤ covered → Covered part (stored w32 job.floor) (stored w32 job.band) (stored w32 x) (stored w32 y) h))
+    → IsCover part job.floor job.band x y covered
+cover_stored {job} {part} {x} {y} {covered} ok x_ok y_ok h =
+    subst (λ (b : ℤ). IsCover part job.floor b x y covered) (band_in job.band ok.band_ok)
+    (at_stored (λ (a b c : ℤ). IsCover part a (stored w32 job.band) b c covered) _ _ _ job.floor x y (floor_in ok) (coordinate x x_ok) (coordinate y y_ok) (record { height = h }))
 
 -- what is left of a column fits
-pub left_fits : (top covered low : ℤ) → Within MAX_TEXT_COORDINATE top → Within MAX_COORDINATE covered → low ≡ int_min (stored w32 top) (stored w32 covered) → FitsSigned w32 (stored w32 top -ℤ stored w32 low)
+pub left_fits : (top covered low : ℤ) → Within MAX_COORDINATE top → Within MAX_COORDINATE covered → low ≡ int_min (stored w32 top) (stored w32 covered) → FitsSigned w32 (stored w32 top -ℤ stored w32 low)
 left_fits top covered low t_ok c_ok e =
-    diff_fits w32 (top ∷ low ∷ []) (131071 ∷ 524287 ∷ []) (Read w32 0) (Read w32 1)
-    (t_ok.within, (small top covered low t_ok.within c_ok.within (rw (kept_in top t_ok, kept w32 covered MAX_COORDINATE c_ok.within refl) at e), tt)) refl
+    diff_fits w32 (top ∷ low ∷ []) (524287 ∷ 524287 ∷ []) (Read w32 0) (Read w32 1)
+    (t_ok.within, (small top covered low t_ok.within c_ok.within (rw (coordinate top t_ok, coordinate covered c_ok) at e), tt)) refl
   where
-    small : (t c m : ℤ) → nat_abs t ≤ 131071 → nat_abs c ≤ 524287 → m ≡ int_min t c → nat_abs m ≤ 524287
+    small : (t c m : ℤ) → nat_abs t ≤ 524287 → nat_abs c ≤ 524287 → m ≡ int_min t c → nat_abs m ≤ 524287
     small t c m h k e = omega (e, h, k, arith, ints, clamps)
 
 -- the least of two numbers that a column may be left over is small
@@ -73,18 +76,18 @@ small_least most allowance low least ok e = by allowance ok.low ok.high (rw (ban
     by a h k e = omega (e, h, k, least, arith, ints, clamps)
 
 -- a top less that fits
-pub enough_fits : (top most allowance low : ℤ) → Within MAX_TEXT_COORDINATE top → (pos 0) ≤ℤ most → IsFrom (pos 0) (pos 10000) allowance → low ≡ int_min most (stored w32 allowance)
+pub enough_fits : (top most allowance low : ℤ) → Within MAX_COORDINATE top → (pos 0) ≤ℤ most → IsFrom (pos 0) (pos 10000) allowance → low ≡ int_min most (stored w32 allowance)
     → FitsSigned w32 (stored w32 top -ℤ stored w32 low)
 enough_fits top most allowance low t_ok least ok e =
-    diff_fits w32 (top ∷ low ∷ []) (131071 ∷ 10000 ∷ []) (Read w32 0) (Read w32 1) (t_ok.within, (small_least most allowance low least ok e, tt)) refl
+    diff_fits w32 (top ∷ low ∷ []) (524287 ∷ 10000 ∷ []) (Read w32 0) (Read w32 1) (t_ok.within, (small_least most allowance low least ok e, tt)) refl
 
-pub enough_stored : {job : Job} {part : List Tri} {x y top most low : ℤ} → IsJob job → Within MAX_TEXT_COORDINATE x → Within MAX_TEXT_COORDINATE y → Within MAX_TEXT_COORDINATE top → (pos 0) ≤ℤ most
+pub enough_stored : {job : Job} {part : List Tri} {x y top most low : ℤ} → IsJob job → Within MAX_COORDINATE x → Within MAX_COORDINATE y → Within MAX_COORDINATE top → (pos 0) ≤ℤ most
     → low ≡ int_min most (stored w32 job.allowance)
     → Covered part (stored w32 job.floor) (stored w32 job.band) (stored w32 x) (stored w32 y) (stored w32 (stored w32 top -ℤ stored w32 low))
     → Covered part job.floor job.band x y (top -ℤ int_min most job.allowance)
 enough_stored {job} {part} {x} {y} {top} {most} {low} ok x_ok y_ok t_ok least e h =
-    let enough = exact (top ∷ low ∷ []) (131071 ∷ 10000 ∷ []) (Diff w32 (Read w32 0) (Read w32 1)) (t_ok.within, (small_least most job.allowance low least ok.allowance_ok e, tt)) refl in
-    let covered : Covered part job.floor job.band x y (top -ℤ low) = rw (kept_in job.floor ok.floor_ok, band_in job.band ok.band_ok, kept_in x x_ok, kept_in y y_ok, enough) at h in
+    let enough = exact (top ∷ low ∷ []) (524287 ∷ 10000 ∷ []) (Diff w32 (Read w32 0) (Read w32 1)) (t_ok.within, (small_least most job.allowance low least ok.allowance_ok e, tt)) refl in
+    let covered : Covered part job.floor job.band x y (top -ℤ low) = rw (floor_in ok, band_in job.band ok.band_ok, coordinate x x_ok, coordinate y y_ok, enough) at h in
     subst (λ (z : ℤ). Covered part job.floor job.band x y (top -ℤ z)) (rw (band_in job.allowance ok.allowance_ok) at e) covered
 
 -- where and how high column i of row j stands, as the code has it
@@ -93,16 +96,16 @@ pub record IsAt (job : Job) (moves : List Move) (j i : ℕ) (x y top : ℤ) : Ty
   pub y_is : stored w32 y ≡ column_y job j
   pub top_is : stored w32 top ≡ top_after job (column_x job i) (column_y job j) moves
 
-pub is_at : {job : Job} {moves : List Move} {j i : ℕ} {x y : ℤ} {tops : List ℤ} → IsJob job → AreTops job moves j tops → i < column_count job → x ≡ column_x job i → Within MAX_TEXT_COORDINATE x → y ≡ column_y job j
-    → Within MAX_TEXT_COORDINATE y → IsAt job moves j i x y (slice_index_or tops i (pos 0))
+pub is_at : {job : Job} {moves : List Move} {j i : ℕ} {x y : ℤ} {tops : List ℤ} → IsJob job → AreTops job moves j tops → i < column_count job → x ≡ column_x job i → Within (greatest_of job.unit) x → y ≡ column_y job j
+    → Within (greatest_of job.unit) y → IsAt job moves j i x y (slice_index_or tops i (pos 0))
 is_at {job} {moves} {j} {i} {x} {y} ok tops h ex x_ok ey y_ok = record {
-  x_is = kept_to x _ ex x_ok;
-  y_is = kept_to y _ ey y_ok;
-  top_is = ap (stored w32) (tops.top i (pos 0) h) ∙ kept_in (top_after job (column_x job i) (column_y job j) moves) (top_within _ _ moves ok);
+  x_is = kept_to job.unit x _ ex x_ok;
+  y_is = kept_to job.unit y _ ey y_ok;
+  top_is = ap (stored w32) (tops.top i (pos 0) h) ∙ coordinate (top_after job (column_x job i) (column_y job j) moves) (top_within _ _ moves ok);
 }
 
-pub top_stored : {job : Job} {moves : List Move} {j i : ℕ} {x y top : ℤ} → IsJob job → IsAt job moves j i x y top → Within MAX_TEXT_COORDINATE (stored w32 top)
-top_stored {moves} ok at = subst (Within MAX_TEXT_COORDINATE) (sym at.top_is) (top_within _ _ moves ok)
+pub top_stored : {job : Job} {moves : List Move} {j i : ℕ} {x y top : ℤ} → IsJob job → IsAt job moves j i x y top → Within MAX_COORDINATE (stored w32 top)
+top_stored {moves} ok at = subst (Within MAX_COORDINATE) (sym at.top_is) (top_within _ _ moves ok)
 
 pub most_stored : {job : Job} {part : List Tri} {moves : List Move} {j i : ℕ} {x y top most next : ℤ} → IsAt job moves j i x y top
     → IsMostWith job part (stored w32 x) (stored w32 y) (stored w32 top) most next

@@ -1,6 +1,6 @@
 ghost use Rattle.std.specs.Prelude.{◌≡◌, ◌<◌, ◌≤◌, pos, ◌-ℤ◌, ◌≤ℤ◌, length, MatchOption, MatchResult};
 ghost use Rattle.mill_base.specs.Numbers.{Within};
-ghost use Rattle.mill_base.specs.declared.limits.TheConstants.{MAX_TEXT_COORDINATE, MAX_WORKERS};
+ghost use Rattle.mill_base.specs.declared.limits.TheConstants.{MAX_COORDINATE, MAX_WORKERS};
 ghost use Rattle.mill_base.specs.Covers.{Covered};
 ghost use Rattle.mill_cells.specs.Sorted.{sorted_of};
 ghost use Rattle.mill_job.specs.Jobs.{IsJob, IsFrom};
@@ -202,9 +202,9 @@ fn most_with(
 ) -> Option<i32>
     requires job_ok { IsJob job.now }
     requires cells_ok { cells.now ≡ sorted_of part.now }
-    requires x_ok { Within MAX_TEXT_COORDINATE x }
-    requires y_ok { Within MAX_TEXT_COORDINATE y }
-    requires top_ok { Within MAX_TEXT_COORDINATE top }
+    requires x_ok { Within MAX_COORDINATE x }
+    requires y_ok { Within MAX_COORDINATE y }
+    requires top_ok { Within MAX_COORDINATE top }
     requires most_ok { pos 0 ≤ℤ most }
     ensures { MatchOption
         result
@@ -224,9 +224,9 @@ fn most_with(
 fn left_over(job: &Job, part: &Part, cells: &Cells, x: i32, y: i32, top: i32) -> Option<i32>
     requires job_ok { IsJob job.now }
     requires cells_ok { cells.now ≡ sorted_of part.now }
-    requires x_ok { Within MAX_TEXT_COORDINATE x }
-    requires y_ok { Within MAX_TEXT_COORDINATE y }
-    requires top_ok { Within MAX_TEXT_COORDINATE top }
+    requires x_ok { Within MAX_COORDINATE x }
+    requires y_ok { Within MAX_COORDINATE y }
+    requires top_ok { Within MAX_COORDINATE top }
     ensures { MatchOption
         result
         (¬ Covered part.now job.now.floor job.now.band x y (top -ℤ job.now.allowance))

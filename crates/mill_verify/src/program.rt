@@ -39,7 +39,7 @@ use std::thread::Threads;
 /// column of the stock that the moves before it left; then the move cuts. After the last move, (iv)
 /// every column stands at most the allowance over what covers it. An accepted program cuts safely, at
 /// every fraction of every move. A rejection by (ii) or (iii) names a leaf whose outer cutter, which
-/// holds the cutter at each moment of the leaf and is wider by at most 0.02 mm, has some point of the
+/// holds the cutter at each moment of the leaf and is wider by at most two units, has some point of the
 /// triangle, or the column's top, strictly inside.
 ///
 /// The work is shared by `workers` threads, from 1 to 64; the verdict doesn't depend on their number, or

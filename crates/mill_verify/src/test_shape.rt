@@ -8,7 +8,7 @@ ghost use Rattle.mill_base.specs.Sizes.{IsCutter, radius_of};
 ghost use Rattle.mill_job.specs.Columns.{home};
 ghost use Rattle.mill_job.specs.Jobs.{IsJob};
 
-use mill_base::{Box2, Cutter, Pt3, Tri, WantOfMemory};
+use mill_base::{Box2, Cutter, Pt3, Tri, Unit, WantOfMemory};
 use mill_decimal::Snap;
 use mill_job::{Job, Levels, Place};
 use mill_part::Part;
@@ -26,6 +26,7 @@ pub(crate) fn block_job(cutter: Cutter, band: i32, allowance: u8) -> Job
     ensures band { result.band ≡ band }
 {
     Job {
+        unit: Unit::Hundredth,
         cutter,
         floor: 0,
         top: 300,
@@ -75,6 +76,77 @@ pub(crate) fn plate(alloc: Global, x: i32) -> Result<Part, WantOfMemory>
         a: corner(0, 0),
         b: corner(x, 200),
         c: corner(0, 200),
+    })?;
+    Ok(Part::new(tris))
+}
+
+/// Stock over the whole range in thousandths, and 105 rows of 105 columns in it, 10,000 apart.
+pub(crate) fn whole_job(cutter: Cutter) -> Job
+    requires { IsCutter cutter }
+    ensures job { IsJob result }
+    ensures top { result.top ≡ pos 524287 }
+{
+    Job {
+        unit: Unit::Thousandth,
+        cutter,
+        floor: -524_287,
+        top: 524_287,
+        clear: 524_287,
+        area: Box2 {
+            x0: -524_287,
+            y0: -524_287,
+            x1: 524_287,
+            y1: 524_287,
+        },
+        home: Place {
+            x: -524_287,
+            y: -524_287,
+        },
+        pitch: 10_000,
+        sample: 10_000,
+        allowance: 10_000,
+        band: 0,
+        lift: 0,
+        raster: 10_000,
+        rough_raster: 10_000,
+        layer: 0,
+        rough_stock: 0,
+        levels: Levels::NONE,
+        snap: Snap::Nearest,
+    }
+}
+
+/// A plate over the whole range of places.
+pub(crate) fn whole_plate(alloc: Global, height: i32) -> Result<Part, WantOfMemory>
+    requires { Within MAX_COORDINATE height }
+    ensures { IfOk result (λ part. IsUnder part (pos 524287)) }
+{
+    let first = Pt3 {
+        x: -524_287,
+        y: -524_287,
+        z: height,
+    };
+    let last = Pt3 {
+        x: 524_287,
+        y: 524_287,
+        z: height,
+    };
+    let mut tris = Vec::new(alloc);
+    tris.push(Tri {
+        a: first,
+        b: Pt3 {
+            y: -524_287,
+            ..last
+        },
+        c: last,
+    })?;
+    tris.push(Tri {
+        a: first,
+        b: last,
+        c: Pt3 {
+            y: 524_287,
+            ..first
+        },
     })?;
     Ok(Part::new(tris))
 }

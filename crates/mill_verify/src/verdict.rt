@@ -20,8 +20,7 @@ pub enum Reason {
         col: u32,
         leaf: Leaf,
     },
-    /// After all moves the column's top, in units of 0.01 mm, is more than the allowance over what
-    /// covers it.
+    /// After all moves the column's top, in units, is more than the allowance over what covers it.
     Left {
         row: u32,
         col: u32,
@@ -33,7 +32,7 @@ pub enum Reason {
 #[derive(Clone, Copy, Debug, PartialEq, Eq)]
 pub enum Verdict {
     /// Every test passes. `most_left` is the most that any column's top stands over its greatest
-    /// covered height, in units of 0.01 mm.
+    /// covered height, in units.
     Accept {
         moves: u64,
         columns: u64,

@@ -11,7 +11,7 @@ ghost use Rattle.mill_dexel.specs.Turns.{row_before};
 use super::*;
 use crate::bands::Bands;
 use crate::fail::RowFail;
-use mill_base::{Box2, Cutter, Kind, Pt3, WantOfMemory};
+use mill_base::{Box2, Cutter, Kind, Pt3, Unit, WantOfMemory};
 use mill_decimal::Snap;
 use mill_job::{Levels, Place};
 use mill_sweep::Leaf;
@@ -23,6 +23,7 @@ fn five_rows() -> Job
     ensures row { 4 < row_count result }
 {
     Job {
+        unit: Unit::Hundredth,
         cutter: Cutter::Flat { radius: 150 },
         floor: 0,
         top: 300,

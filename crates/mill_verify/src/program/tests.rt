@@ -5,11 +5,13 @@ ghost use Rattle.mill_base.specs.Points.{point_at};
 ghost use Rattle.mill_base.specs.Covers.{IsUnder};
 ghost use Rattle.mill_base.specs.Motion.{Follow};
 ghost use Rattle.mill_base.specs.Ranges.{IsInRange, MovesInRange};
+ghost use Rattle.mill_job.specs.Columns.{home as home_of};
+ghost use Rattle.mill_job.specs.Jobs.{IsJob};
 
 mod gated;
 
 use super::*;
-use crate::test_shape::{block_job, corner, plate};
+use crate::test_shape::{block_job, corner, plate, whole_job, whole_plate};
 use mill_base::{Cutter, Kind, Pt3, Tri};
 use mill_sweep::Leaf;
 
@@ -359,6 +361,97 @@ fn names_the_first_move_of_all_blocks(rt: HostRuntime) {
                 verify(&rt, alloc, &job, &part, &moves, workers),
                 Ok(want),
                 "by {workers} at {second}"
+            );
+        }
+    }
+}
+
+/// From home to the other corner of the range, at this height, and back.
+fn across_and_back(job: &Job, kind: Kind, height: i32) -> [Move; 2]
+    requires job { IsJob job.now }
+    requires height { Within MAX_COORDINATE height }
+    ensures range { MovesInRange result }
+    ensures follow { Follow (home_of job.now) result }
+{
+    let home = job.home();
+    let far = Pt3 {
+        x: 524_287,
+        y: 524_287,
+        z: height,
+    };
+    [
+        Move {
+            kind,
+            from: home,
+            to: far,
+        },
+        Move {
+            kind,
+            from: far,
+            to: home,
+        },
+    ]
+}
+
+fn accepted(most_left: i32) -> Verdict {
+    Verdict::Accept {
+        moves: 2,
+        columns: 11_025,
+        most_left,
+    }
+}
+
+/// The first column is left with this top.
+fn left_at(top: i32) -> Verdict {
+    Verdict::Reject(Reason::Left {
+        row: 0,
+        col: 0,
+        top,
+    })
+}
+
+// A plate under the whole area, at several heights, and moves over the area from corner to corner. The
+// first of the samples that come down into the stock leaves the first column at `top`.
+#[test]
+fn judges_over_the_whole_range(rt: HostRuntime) {
+    let alloc = rt.alloc();
+    let leaf = Leaf { d: 20, k: 0 };
+    let gouge = Verdict::Reject(Reason::Gouge {
+        at: 0,
+        tri: 0,
+        leaf,
+    });
+    let rapid = Verdict::Reject(Reason::Rapid {
+        at: 0,
+        row: 0,
+        col: 0,
+        leaf,
+    });
+    let cone = Cutter::Cone {
+        radius: 10_000,
+        rise: 3,
+        run: 2,
+    };
+    for (cutter, top) in [
+        (Cutter::Flat { radius: 10_000 }, 520_192),
+        (Cutter::Ball { radius: 10_000 }, 522_041),
+        (cone, 524_287),
+    ] {
+        let job = whole_job(cutter);
+        for (plate, kind, height, want) in [
+            (524_287, Kind::Rapid, 524_287, accepted(0)),
+            (514_287, Kind::Rapid, 524_287, accepted(10_000)),
+            (514_286, Kind::Rapid, 524_287, left_at(524_287)),
+            (-524_287, Kind::Feed, -524_287, left_at(top)),
+            (524_287, Kind::Feed, 524_286, gouge),
+            (514_287, Kind::Rapid, 524_286, rapid),
+        ] {
+            let part = whole_plate(alloc, plate).unwrap_or_else(|_| panic!(rt; "want of memory"));
+            let moves = across_and_back(&job, kind, height);
+            assert_eq!(rt;
+                verify(&rt, alloc, &job, &part, &moves, 2),
+                Ok(want),
+                "by {cutter:?} over {plate} at {height}"
             );
         }
     }

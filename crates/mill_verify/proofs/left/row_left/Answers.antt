@@ -1,6 +1,7 @@
 use mir.Syntax.{w32}
 use Rattle.std.proofs.Common.{◌<◌, FitsSigned, rules, refl, arith}
 use Rattle.std.proofs.lemmas.Int.{to_z-of_z}
+use Rattle.mill_base.proofs.Ranges.{within_of_unit}
 use Rattle.mill_job.specs.Columns.{column_count}
 use Rattle.mill_verify.proofs.Ranges.{columns_few, some_columns}
 use Rattle.mill_verify.proofs.Remaining.{row_left_none, row_left_more, row_left_all}
@@ -19,6 +20,12 @@ pub column_x-requires-clause-column : goal.column_x-requires-clause-column
 column_x-requires-clause-column c =
     let tops = tops_read c.requires.row_ok c.tops-tops.ensures in
     omega (arith, tops.count)
+
+pub most_with-requires-clause-x_ok : goal.most_with-requires-clause-x_ok
+most_with-requires-clause-x_ok c = within_of_unit c.args.job.now.unit _ c.column_x.ensures.in_range
+
+pub most_with-requires-clause-y_ok : goal.most_with-requires-clause-y_ok
+most_with-requires-clause-y_ok c = within_of_unit c.args.job.now.unit _ c.row_y-y.ensures.in_range
 
 pub most_with-requires-clause-top_ok : goal.most_with-requires-clause-top_ok
 most_with-requires-clause-top_ok c =
