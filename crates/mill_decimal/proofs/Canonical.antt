@@ -1,5 +1,5 @@
 -- The canonical form: its two cases, and how many bytes it has.
-use Rattle.std.proofs.Common.{◌≡◌, ℕ, ◌+◌, ◌≤◌, ◌^◌, suc, List, ◌∷◌, ◌++◌, length, arith, false, refl, length-append}
+use Rattle.std.proofs.Common.{◌≡◌, ℕ, ◌+◌, ◌≤◌, ◌^◌, suc, ◌∷◌, length, arith, false, refl, length-append}
 use Rattle.std.specs.Prelude.{◌/◌, ℤ, pos, negsuc, int_lt, decimal}
 use Rattle.std.proofs.lemmas.Bool.Decides.{nat_tests}
 use Rattle.std.proofs.lemmas.Fmt.{length-decimal-le}
