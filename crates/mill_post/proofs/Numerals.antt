@@ -1,5 +1,5 @@
 -- The canonical decimal of a coordinate: what its bytes are not, and what number it spells.
-use Rattle.std.proofs.Common.{◌≡◌, ℕ, ◌+◌, ◌≤◌, ◌<◌, ◌^◌, suc, List, [], ◌∷◌, ◌++◌, length, arith, false, refl}
+use Rattle.std.proofs.Common.{◌≡◌, ℕ, ◌≤◌, ◌<◌, ◌^◌, suc, List, [], ◌∷◌, arith, false, refl}
 use Rattle.std.specs.Prelude.{◌/◌, ◌==◌, ℤ, pos, negsuc, nat_abs, int_lt, decimal, Some}
 use Rattle.std.specs.Char.{digit_value}
 use Rattle.std.specs.Str.Parse.{AllDigits, digits_value}
