@@ -7,7 +7,7 @@ use crate::points::Box2;
 
 /// The nodes over an area: the positions in x are `x0`, `x0 + step`, `x0 + 2 * step` and so on up
 /// to `x1`, and `x1` itself where it isn't one of them; likewise in y. Each x with each y is a node.
-/// Lengths are in units of 0.01 mm.
+/// Lengths are in units.
 #[derive(Clone, Copy, Debug, PartialEq, Eq)]
 pub struct Lattice {
     pub area: Box2,

@@ -10,7 +10,7 @@ pub record Sorted : Type 0 where
   pub boxes : List Box2
   pub tops : List ℤ
 
--- a triangle's top is the greatest of its three heights, in units of 0.01 mm
+-- a triangle's top is the greatest of its three heights, in units
 abbrev pub sorted_of : List Tri → Sorted
 sorted_of tris = record { boxes = boxes_of tris; tops = map highest tris }
 

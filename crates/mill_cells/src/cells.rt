@@ -19,7 +19,7 @@ use std::marker::Model;
 /// The boxes of a list of triangles, sorted into square cells, and their greatest heights.
 ///
 /// A contract sees the list of the boxes and that of the tops, both in the order of the triangles. A
-/// triangle's top is the greatest of its three heights, in units of 0.01 mm.
+/// triangle's top is the greatest of its three heights, in units.
 #[derive(Drop)]
 pub struct Cells {
     grid: Grid,
@@ -38,7 +38,7 @@ impl Model for Cells {
 }
 
 impl Cells {
-    /// The size of cells that suits these triangles, in units of 0.01 mm: the least power of two
+    /// The size of cells that suits these triangles, in units: the least power of two
     /// at which there are at most 2^20 cells, and cells and entries in them together are at most
     /// four for each triangle and four more.
     pub fn size_for(tris: &[Tri]) -> i32
@@ -86,7 +86,7 @@ impl Cells {
     /// The numbers of the triangles whose box meets the area and whose top, the greatest of its three
     /// heights, is over `z`, each once; touching borders meet.
     ///
-    /// The area is as for `near`, and `z` in units of 0.01 mm. It doesn't look at the triangles of a
+    /// The area is as for `near`, and `z` in units. It doesn't look at the triangles of a
     /// cell in which none is over `z`.
     pub fn near_over(&self, area: Box2, z: i32) -> NearOver<'_>
         ensures each { (i : ℕ) → Contains result i ↔ IsNearOver self.now area z i }

@@ -45,7 +45,7 @@ impl<'a> NearRising<'a> {
     /// The next of the triangles whose top, the greatest of its three heights, is over this one; none
     /// if there is no such triangle any more.
     ///
-    /// The height, in units of 0.01 mm, may be another one in each call. Triangles that aren't over
+    /// The height, in units, may be another one in each call. Triangles that aren't over
     /// it are passed over and don't come in a later call, so a height that rises leaves out none.
     pub fn next_over(&mut self, height: i32) -> Option<u32>
         ensures { MatchOption result (NoneComes height self.old self.new) (λ i. Comes height self.old i self.new) }

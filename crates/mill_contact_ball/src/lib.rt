@@ -90,7 +90,7 @@ fn touch_ball(tri: &Tri, radius: i32, tip: Pt3, axis: Axis) -> Touch
 /// Whether some point of the triangle is strictly inside the ball cutter with its tip at `tip`, and
 /// if none is, at which positions of the tip along `axis` none is either.
 ///
-/// The cutter is a ball. Lengths are in units of 0.01 mm. Corners may be equal or collinear.
+/// The cutter is a ball. Lengths are in units. Corners may be equal or collinear.
 pub fn touch(tri: &Tri, cutter: Cutter, tip: Pt3, axis: Axis) -> Touch
     requires tri_ok { TriInRange tri.now }
     requires cutter_ok { IsWideCutter cutter }
@@ -139,7 +139,7 @@ fn holds_some(tri: &Tri, radius: i32, tip: Pt3) -> bool
 
 /// Whether some point of the triangle is strictly inside the ball cutter with its tip at `tip`.
 ///
-/// The cutter is a ball. Lengths are in units of 0.01 mm. Corners may be equal or collinear.
+/// The cutter is a ball. Lengths are in units. Corners may be equal or collinear.
 pub fn is_inside(tri: &Tri, cutter: Cutter, tip: Pt3) -> bool
     requires tri_ok { TriInRange tri.now }
     requires cutter_ok { IsWideCutter cutter }

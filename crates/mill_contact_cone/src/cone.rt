@@ -145,7 +145,7 @@ fn is_inside_cone(tri: &Tri, cone: Cone, tip: Pt3) -> bool
 
 /// Whether some point of the triangle is strictly inside the cone cutter with its tip at `tip`.
 ///
-/// The cutter is a cone. Lengths are in units of 0.01 mm. Corners may be equal or collinear. A few
+/// The cutter is a cone. Lengths are in units. Corners may be equal or collinear. A few
 /// 64-bit operations answer for a triangle whose box is clear of the cutter, and for one of which a
 /// corner is inside.
 pub fn is_inside(tri: &Tri, cutter: Cutter, tip: Pt3) -> bool
@@ -168,7 +168,7 @@ pub fn is_inside(tri: &Tri, cutter: Cutter, tip: Pt3) -> bool
 /// Whether some point of the triangle is strictly inside the cone cutter with its tip at `tip`, and
 /// if none is, at which positions of the tip along `axis` none is either.
 ///
-/// The cutter is a cone. Lengths are in units of 0.01 mm. Corners may be equal or collinear.
+/// The cutter is a cone. Lengths are in units. Corners may be equal or collinear.
 pub fn touch(tri: &Tri, cutter: Cutter, tip: Pt3, axis: Axis) -> Touch
     requires tri_ok { TriInRange tri.now }
     requires cutter_ok { IsWideCutter cutter }

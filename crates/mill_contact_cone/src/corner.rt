@@ -9,8 +9,7 @@ ghost use Rattle.mill_contact_cone.specs.inner.Positions.{IsAlong};
 use mill_base::Pt3;
 use mill_geom::{Axis, Offset, offset_from};
 
-/// A cone that rises by `rise` over each `run` until it reaches its radius at its rim, in units of
-/// 0.01 mm.
+/// A cone that rises by `rise` over each `run` until it reaches its radius at its rim, in units.
 #[derive(Clone, Copy, Debug, PartialEq, Eq)]
 pub struct Cone {
     pub radius: i64,

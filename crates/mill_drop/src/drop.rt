@@ -15,7 +15,7 @@ use mill_part::Part;
 /// tip there doesn't gouge. Only the triangles are tried whose boxes are near, by `cells`, which are
 /// those of the part's triangles.
 ///
-/// Lengths are in units of 0.01 mm, of at most `MAX_COORDINATE` in magnitude.
+/// Lengths are in units, of at most `MAX_COORDINATE` in magnitude.
 pub fn drop_at(part: &Part, cells: &Cells, cutter: Cutter, x: i32, y: i32, floor: i32) -> i32
     requires cells_ok { cells.now ≡ sorted_of part.now }
     requires cutter_ok { IsCutter cutter }

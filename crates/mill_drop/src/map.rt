@@ -18,7 +18,7 @@ use std::thread::Threads;
 /// along each row. They are the same whatever the number of threads.
 ///
 /// `cells` are those of the part's triangles, and the lattice has at most `MAX_NODES` nodes. Lengths
-/// are in units of 0.01 mm, of at most `MAX_COORDINATE` in magnitude.
+/// are in units, of at most `MAX_COORDINATE` in magnitude.
 pub fn drop_map<R: Threads + Sync>(
     rt: &R,
     alloc: Global,

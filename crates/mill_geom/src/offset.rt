@@ -7,7 +7,7 @@ ghost use Rattle.mill_geom.specs.Offsets.{OffsetInRange, IsOffset, IsCentre};
 
 use mill_base::Pt3;
 
-/// How far a point is from a centre, in units of 0.01 mm.
+/// How far a point is from a centre, in units.
 #[derive(Clone, Copy, Debug, PartialEq, Eq)]
 pub struct Offset {
     pub x: i64,

@@ -134,7 +134,7 @@ fn is_beside(a: Offset, b: Offset, c: Offset, radius: i64) -> bool
 }
 
 /// Whether some point of the triangle is at least as high as `centre`, and strictly nearer than
-/// `radius` to the vertical axis through it. Lengths are in units of 0.01 mm.
+/// `radius` to the vertical axis through it. Lengths are in units.
 ///
 /// Corners may be equal or collinear. The test of the boxes looks at no height.
 pub fn reaches_cylinder(tri: &Tri, radius: i32, centre: Pt3) -> bool

@@ -26,7 +26,7 @@ pub struct Gouge {
 /// part's triangles, and that come over the lower of the move's ends. No triangle is tried where the
 /// move stays over the part's highest corner.
 ///
-/// Lengths are in units of 0.01 mm, and the ends of the move of at most 524,287 in magnitude.
+/// Lengths are in units, and the ends of the move of at most 524,287 in magnitude.
 pub fn first_gouge(cutter: Cutter, part: &Part, cells: &Cells, step: &Move) -> Option<Gouge>
     requires cutter_ok { IsCutter cutter }
     requires cells_ok { cells.now ≡ sorted_of part.now }

@@ -8,6 +8,6 @@ pub struct Cut<'a> {
     pub part: &'a Part,
     pub cells: &'a Cells,
     pub cutter: Cutter,
-    /// In units of 0.01 mm.
+    /// In units.
     pub z: i32,
 }

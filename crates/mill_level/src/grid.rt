@@ -7,7 +7,7 @@ use crate::edge::Edge;
 use mill_geom::Axis;
 
 /// Which nodes of a lattice are blocked at a height, and where its crossings are. Lengths are in
-/// units of 0.01 mm.
+/// units.
 #[derive(Drop)]
 pub struct LevelMap {
     pub columns: u32,

@@ -22,7 +22,7 @@ use std::alloc::Global;
 /// which the cutter gouges and neighbours at which it doesn't, each at the last free place before
 /// the blocked ones, which are on the left of the way. They come in the order of their first points.
 ///
-/// `cells` are those of the part's triangles. Lengths are in units of 0.01 mm, of at most
+/// `cells` are those of the part's triangles. Lengths are in units, of at most
 /// `MAX_COORDINATE` in magnitude.
 ///
 /// # Errors

@@ -13,7 +13,7 @@ use std::marker::Model;
 
 /// The part to be cut: the triangles of its surface, in the order in which they were given.
 ///
-/// Each coordinate's magnitude is at most `MAX_COORDINATE` units of 0.01 mm, and there are fewer than
+/// Each coordinate's magnitude is at most `MAX_COORDINATE` units, and there are fewer than
 /// 2^32 triangles, so that a `u32` numbers them.
 #[derive(Drop)]
 pub struct Part {
@@ -60,7 +60,7 @@ impl Part {
         &self.triangles
     }
 
-    /// The greatest height of any corner, in units of 0.01 mm; none without triangles.
+    /// The greatest height of any corner, in units; none without triangles.
     ///
     /// It looks at no triangle: `new` has found it.
     pub fn top(&self) -> Option<i32>
@@ -74,7 +74,7 @@ impl Part {
     /// (x, y) at that height, exactly: a point on the column does, and one nearer to it than `band`.
     ///
     /// `height` is any; the magnitudes of `floor`, `x` and `y` are at most `MAX_COORDINATE`, and `band`
-    /// is from 0 to `MAX_RADIUS`, all in units of 0.01 mm.
+    /// is from 0 to `MAX_RADIUS`, all in units.
     pub fn covered(&self, floor: i32, x: i32, y: i32, height: i32, band: i32) -> bool
         requires floor_ok { Within MAX_COORDINATE floor }
         requires x_ok { Within MAX_COORDINATE x }
@@ -127,7 +127,7 @@ impl Part {
     }
 
     /// The greatest whole height of the column (x, y) that the floor or a point of the part covers,
-    /// exactly, in units of 0.01 mm: a point on the column does, and one nearer to it than `band`.
+    /// exactly, in units: a point on the column does, and one nearer to it than `band`.
     ///
     /// It is the floor where no point of the part does. The magnitudes of `floor`, `x` and `y` are at
     /// most `MAX_COORDINATE`, and `band` is from 0 to `MAX_RADIUS`.

@@ -13,7 +13,7 @@ use std::sync::ledger::Ledger;
 /// inside, and if none is, at which positions of the tip along `axis` none is either. That is one
 /// step.
 ///
-/// Lengths are in units of 0.01 mm.
+/// Lengths are in units.
 pub fn counted_touch<L: Ledger>(
     tri: &Tri,
     cutter: Cutter,

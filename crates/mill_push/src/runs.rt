@@ -21,7 +21,7 @@ use std::sync::ledger::Ledger;
 ///
 /// `cells` are those of the part's triangles, and `steps` counts the touches: at most 40 for each
 /// triangle, and none of one that isn't near the fiber or isn't over its height. Lengths are in
-/// units of 0.01 mm, of at most `MAX_COORDINATE` in magnitude. The only error is want of memory; the
+/// units, of at most `MAX_COORDINATE` in magnitude. The only error is want of memory; the
 /// touches made before it are counted.
 pub fn push<L: Ledger>(
     alloc: Global,

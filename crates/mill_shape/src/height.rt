@@ -11,7 +11,7 @@ use mill_base::{Cutter, Pt3, ceil_root, floor_root};
 /// whole height there that isn't strictly inside the cutter. There is none exactly where the column
 /// isn't strictly within the radius.
 ///
-/// All lengths are in units of 0.01 mm. The tip may stand up to 16 over the greatest coordinate: so
+/// All lengths are in units. The tip may stand up to 16 over the greatest coordinate: so
 /// far a narrowed cutter is raised.
 pub fn cut_height(cutter: Cutter, tip: Pt3, x: i32, y: i32) -> Option<i32>
     requires cutter_ok { IsWideCutter cutter }

@@ -6,7 +6,7 @@ ghost use Rattle.mill_base.specs.declared.limits.TheConstants.{MAX_REACH};
 use mill_base::Cutter;
 
 /// The cutter widened by `reach`, and how far it is to be lowered, so that it holds all that the
-/// cutter holds when that is moved sideways by up to `reach`. Lengths are in units of 0.01 mm.
+/// cutter holds when that is moved sideways by up to `reach`. Lengths are in units.
 pub fn widen(cutter: Cutter, reach: i32) -> (Cutter, i32)
     requires cutter_ok { IsCutter cutter }
     requires reach_least { pos 0 ≤ℤ reach }

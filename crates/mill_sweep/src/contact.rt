@@ -11,7 +11,7 @@ use mill_geom::{Axis, Touch};
 /// Whether some point of the triangle is strictly inside the cutter with its tip at `tip`.
 ///
 /// Each kind of cutter has a crate of its own, and this is the one place that chooses among them.
-/// Lengths are in units of 0.01 mm. Corners may be equal or collinear.
+/// Lengths are in units. Corners may be equal or collinear.
 pub fn holds_some(cutter: Cutter, tip: Pt3, tri: &Tri) -> bool
     requires cutter_ok { IsWideCutter cutter }
     requires tip_ok { IsCentre tip }

@@ -2,7 +2,7 @@ ghost use Rattle.std.specs.Prelude.{◌≡◌, ◌⊎◌, IsTrue, false, ◌+ℤ
 ghost use Rattle.mill_sweep.specs.Apart.{LieOver, LieUnder, LieApart};
 
 /// The coordinates of two places and of a triangle's corners in one direction, and the distance that
-/// is to lie between them, in units of 0.01 mm.
+/// is to lie between them, in units.
 #[derive(Clone, Copy)]
 pub(crate) struct Gap {
     pub distance: i32,

@@ -19,7 +19,7 @@ use mill_base::{Cutter, Move, Pt3, Tri};
 ///
 /// A move that passes holds no point of the triangle strictly inside the cutter at any moment. One
 /// that doesn't comes so near to it that the outer cutter of a leaf, which is at most 2 wider, holds
-/// a point of the triangle. Lengths are in units of 0.01 mm; coordinates go from -524,287 to 524,287.
+/// a point of the triangle. Lengths are in units; coordinates go from -524,287 to 524,287.
 pub fn passes_tri(cutter: Cutter, step: &Move, tri: &Tri) -> bool
     requires cutter_ok { IsCutter cutter }
     requires move_ok { MoveInRange step.now }

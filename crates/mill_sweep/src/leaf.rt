@@ -5,7 +5,7 @@ pub struct Leaf {
     pub k: u64,
 }
 
-/// Where a leaf of a move lies, in units of 0.01 mm.
+/// Where a leaf of a move lies, in units.
 #[derive(Clone, Copy, Debug, PartialEq, Eq)]
 pub struct Span {
     /// The middle of the leaf's two ends in x, rounded to a whole unit.

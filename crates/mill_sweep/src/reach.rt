@@ -11,7 +11,7 @@ use mill_base::{Box2, Cutter, MAX_COORDINATE, MAX_LAST_REACH, Move};
 /// move's lower end, which it must come over.
 ///
 /// The box is that of the move's two ends, wider on each side by the cutter's radius and 2, and cut
-/// off at a magnitude of 524,287, since no triangle reaches further. Lengths are in units of 0.01 mm.
+/// off at a magnitude of 524,287, since no triangle reaches further. Lengths are in units.
 pub fn reach_box(cutter: Cutter, step: &Move) -> (Box2, i32)
     requires cutter_ok { IsCutter cutter }
     requires move_ok { MoveInRange step.now }
