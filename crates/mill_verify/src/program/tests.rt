@@ -366,6 +366,18 @@ fn names_the_first_move_of_all_blocks(rt: HostRuntime) {
     }
 }
 
+/// The corner of the range that isn't home, at this height.
+fn far_corner(height: i32) -> Pt3
+    requires { Within MAX_COORDINATE height }
+    ensures { IsInRange result }
+{
+    Pt3 {
+        x: 524_287,
+        y: 524_287,
+        z: height,
+    }
+}
+
 /// From home to the other corner of the range, at this height, and back.
 fn across_and_back(job: &Job, kind: Kind, height: i32) -> [Move; 2]
     requires job { IsJob job.now }
@@ -373,22 +385,18 @@ fn across_and_back(job: &Job, kind: Kind, height: i32) -> [Move; 2]
     ensures range { MovesInRange result }
     ensures follow { Follow (home_of job.now) result }
 {
-    let home = job.home();
-    let far = Pt3 {
-        x: 524_287,
-        y: 524_287,
-        z: height,
-    };
+    let start = job.home();
+    let far = far_corner(height);
     [
         Move {
             kind,
-            from: home,
+            from: start,
             to: far,
         },
         Move {
             kind,
             from: far,
-            to: home,
+            to: start,
         },
     ]
 }
