@@ -2,6 +2,7 @@ mod Falling
 mod Faults
 mod InOrder
 mod Meaning
+mod NoUnit
 mod Numbers
 pub mod OneAnswer
 mod Stored

@@ -29,9 +29,13 @@ name_of key.RoughStock = codes "rough_stock"
 name_of key.Levels = codes "levels"
 name_of key.Snap = codes "snap"
 
+-- every key but that of the unit, in the format's order
+abbrev pub other_keys : List Key
+other_keys = key.Cutter ∷ key.Radius ∷ key.Rise ∷ key.Run ∷ key.Floor ∷ key.Top ∷ key.Clear ∷ key.Area ∷ key.Home ∷ key.Pitch ∷ key.Sample ∷ key.Allowance ∷ key.Band ∷ key.Lift ∷ key.Raster ∷ key.RoughRaster ∷ key.Layer ∷ key.RoughStock ∷ key.Levels ∷ key.Snap ∷ []
+
 -- every key, in the format's order
 abbrev pub every_key : List Key
-every_key = key.Unit ∷ key.Cutter ∷ key.Radius ∷ key.Rise ∷ key.Run ∷ key.Floor ∷ key.Top ∷ key.Clear ∷ key.Area ∷ key.Home ∷ key.Pitch ∷ key.Sample ∷ key.Allowance ∷ key.Band ∷ key.Lift ∷ key.Raster ∷ key.RoughRaster ∷ key.Layer ∷ key.RoughStock ∷ key.Levels ∷ key.Snap ∷ []
+every_key = key.Unit ∷ other_keys
 
 -- the text is one of these
 abbrev pub is_one_of : List (List ℕ) → List ℕ → Bool

@@ -4,5 +4,6 @@ pub mod Keys
 pub mod Tables
 pub mod Cutters
 pub mod Documents
+pub mod NoUnit
 pub mod Filled
 pub mod inner

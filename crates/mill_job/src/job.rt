@@ -1,4 +1,4 @@
-ghost use Rattle.std.specs.Prelude.{◌≡◌, ◌<◌, ◌≤◌, ◌*◌};
+ghost use Rattle.std.specs.Prelude.{◌≡◌, ◌+◌, ◌<◌, ◌≤◌, ◌*◌};
 ghost use Rattle.mill_base.specs.Numbers.{Within};
 ghost use Rattle.mill_base.specs.declared.limits.TheConstants.{MAX_COLUMNS};
 ghost use Rattle.mill_base.specs.Ranges.{IsInUnitRange};
@@ -68,6 +68,7 @@ impl Job {
         ensures value { result ≡ row_count self.now }
         ensures some { 1 ≤ result }
         ensures bound { result ≤ 1048575 }
+        ensures in_unit { result ≤ 2 * greatest_of self.now.unit + 1 }
     {
         count(self.area.y0, self.area.y1, self.pitch)
     }
@@ -78,6 +79,7 @@ impl Job {
         ensures value { result ≡ column_count self.now }
         ensures some { 1 ≤ result }
         ensures bound { result ≤ 1048575 }
+        ensures in_unit { result ≤ 2 * greatest_of self.now.unit + 1 }
     {
         count(self.area.x0, self.area.x1, self.pitch)
     }

@@ -4,7 +4,8 @@
 //! It promises that a text is read exactly as its definition says, down to which fault comes first,
 //! and that every job that was read is in range.
 //! Definitions: `specs/Columns` says where the columns of a job stand, `specs/Jobs` which jobs are
-//! in range, `specs/Keys`, `specs/Tables`, `specs/Cutters` and `specs/Documents` what a text means.
+//! in range, `specs/Keys`, `specs/Tables`, `specs/Cutters` and `specs/Documents` what a text means,
+//! and `specs/NoUnit` what one means that names no unit.
 //! `specs/inner` has what private functions and proofs cite alone.
 #![tactic(auto)]
 
@@ -14,6 +15,7 @@ mod document;
 mod fault;
 mod job;
 mod key;
+mod laws;
 mod levels;
 mod limits;
 mod name;
@@ -26,6 +28,7 @@ mod values;
 pub use fault::JobFault;
 pub use job::{Job, Place};
 pub use key::Key;
+pub use laws::unit_left_out;
 pub use levels::Levels;
 pub use name::Name;
 pub use reading::read_job;

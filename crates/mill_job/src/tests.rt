@@ -357,12 +357,20 @@ fn reads_thousandths(rt: HostRuntime) -> Result<(), Fail> {
     let job = read_job(alloc, wide.as_bytes())?;
     assert_eq!(rt; (job.clear, job.layer), (524_287, 524_287));
     let rows = [
-        ("unit = \"thousandth\"", "unit = \"inch\"", "unit out of range"),
+        (
+            "unit = \"thousandth\"",
+            "unit = \"inch\"",
+            "unit out of range",
+        ),
         ("unit = \"thousandth\"", "unit = 3", "wrong kind of unit"),
         ("clear = 400", "clear = 524288", "clear out of range"),
         ("[100, 90]", "[-524288, 90]", "home out of range"),
         ("band = 0", "band = 0\nlayer = 524288", "layer out of range"),
-        ("band = 0", "band = 0\nlevels = [524288]", "levels out of range"),
+        (
+            "band = 0",
+            "band = 0\nlevels = [524288]",
+            "levels out of range",
+        ),
         ("unit = \"thousandth\"", "clears = 131072", "unknown clears"),
     ];
     for (old, new, want) in rows {
@@ -371,6 +379,9 @@ fn reads_thousandths(rt: HostRuntime) -> Result<(), Fail> {
     }
     let first = thousandths.replace(alloc, "\"flat\"", "\"disc\"")?;
     let both = first.replace(alloc, "\"thousandth\"", "\"inch\"")?;
-    assert_eq!(rt; fault_text(alloc, both.as_str())?.as_str(), "unit out of range");
+    assert_eq!(rt;
+        fault_text(alloc, both.as_str())?.as_str(),
+        "unit out of range"
+    );
     Ok(())
 }

@@ -15,7 +15,7 @@ use Rattle.mill_job.proofs.arrays.falling.Goals as goal
 
 pub loop-value-init : goal.loop-value-init
 loop-value-init c =
-    let first : to_z w32 (of_z w32 (c.greatest.result +ℤ pos 1)) ≡ beyond c.args.unit = omega (arith, ints, greatest_of-le c.args.unit, c.greatest.ensures) in
+    let first : to_z w32 (of_z w32 (to_z w32 (of_z w32 c.greatest-bound.result) +ℤ pos 1)) ≡ beyond c.args.unit = omega (arith, ints, greatest_of-le c.args.unit, c.greatest-bound.ensures) in
     (refl, rw first (none_read c.args.unit (integers (items_view c.args.values.now))))
 
 pub returns-in_default : goal.returns-in_default
