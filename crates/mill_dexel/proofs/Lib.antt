@@ -22,3 +22,4 @@ pub mod Removal
 mod LastCerts
 mod Ends
 pub mod Cleared
+pub mod Ranges

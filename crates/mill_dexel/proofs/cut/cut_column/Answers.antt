@@ -3,10 +3,10 @@ use Rattle.std.specs.Prelude.{ℤ, slice_set}
 use Rattle.std.proofs.lemmas.Int.{ints}
 use mir.Syntax.{w32}
 use Rattle.mill_base.proofs.Machine.{stored}
-use Rattle.mill_base.proofs.Ranges.{within_of_unit}
 use Rattle.mill_shape.proofs.CutHeights.{cutter_is_wide}
 use Rattle.mill_dexel.specs.Rows.{top_at}
 use Rattle.mill_dexel.proofs.CutRows.{lowered_is, kept_is, free_is, clear_is}
+use Rattle.mill_dexel.proofs.Ranges.{stored_within}
 use Rattle.mill_base.specs.declared.limits.TheConstants.{MAX_RADIUS}
 use Rattle.mill_dexel.proofs.cut.cut_column.Goals as goal
 
@@ -15,16 +15,16 @@ returns-then-is_free c = free_is c.args.job.now c.args.number c.args.column c.ar
     (omega (arith, ints, c.is_free.ensures.low c.if-is_free.true)) (omega (arith, ints, c.is_free.ensures.high c.if-is_free.true))
 
 pub is_clear-requires-clause-x_ok : goal.is_clear-requires-clause-x_ok
-is_clear-requires-clause-x_ok c = within_of_unit c.args.job.now.unit _ c.column_x-x.ensures.in_range
+is_clear-requires-clause-x_ok c = stored_within c.args.job.now.unit _ c.column_x-x.ensures.in_range
 
 pub is_clear-requires-clause-y_ok : goal.is_clear-requires-clause-y_ok
-is_clear-requires-clause-y_ok c = within_of_unit c.args.job.now.unit _ c.row_y-y.ensures.in_range
+is_clear-requires-clause-y_ok c = stored_within c.args.job.now.unit _ c.row_y-y.ensures.in_range
 
 pub cut_height-requires-clause-x_ok : goal.cut_height-requires-clause-x_ok
-cut_height-requires-clause-x_ok c = within_of_unit c.args.job.now.unit _ c.column_x-x.ensures.in_range
+cut_height-requires-clause-x_ok c = stored_within c.args.job.now.unit _ c.column_x-x.ensures.in_range
 
 pub cut_height-requires-clause-y_ok : goal.cut_height-requires-clause-y_ok
-cut_height-requires-clause-y_ok c = within_of_unit c.args.job.now.unit _ c.row_y-y.ensures.in_range
+cut_height-requires-clause-y_ok c = stored_within c.args.job.now.unit _ c.row_y-y.ensures.in_range
 
 pub cut_height-requires-clause-cutter_ok : goal.cut_height-requires-clause-cutter_ok
 cut_height-requires-clause-cutter_ok c = cutter_is_wide c.args.sample.cutter MAX_RADIUS (omega (arith, ints)) c.requires.sample_ok.cutter_ok

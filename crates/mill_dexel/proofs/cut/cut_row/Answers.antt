@@ -2,15 +2,15 @@ use Rattle.std.proofs.Common.{◌+◌, sym, subst, w32, arith}
 use Rattle.std.specs.Prelude.{◌-ℤ◌}
 use Rattle.std.proofs.lemmas.Int.{ints}
 use Rattle.mill_base.proofs.Machine.{stored}
-use Rattle.mill_base.proofs.Ranges.{within_of_unit}
 use Rattle.mill_base.specs.Sizes.{radius_of}
 use Rattle.mill_job.specs.Columns.{column_y}
 use Rattle.mill_dexel.proofs.CutRows.{IsCutBefore, beyond_keeps, cut_starts, cut_goes_on, cut_ends}
+use Rattle.mill_dexel.proofs.Ranges.{stored_within}
 use Rattle.mill_dexel.proofs.Reaches.{beyond_same, half_same, reach_same}
 use Rattle.mill_dexel.proofs.cut.cut_row.Goals as goal
 
 pub half_chord-requires-clause-y_ok : goal.half_chord-requires-clause-y_ok
-half_chord-requires-clause-y_ok c = within_of_unit c.args.job.now.unit _ c.row_y.ensures.in_range
+half_chord-requires-clause-y_ok c = stored_within c.args.job.now.unit _ c.row_y.ensures.in_range
 
 pub loop-column-init : goal.loop-column-init
 loop-column-init c =

@@ -1,12 +1,12 @@
 use Rattle.std.proofs.Common.{arith}
 use Rattle.std.proofs.lemmas.Int.{ints, clamps}
-use Rattle.mill_base.proofs.Ranges.{within_of_unit}
+use Rattle.mill_dexel.proofs.Ranges.{stored_within}
 use Rattle.mill_verify.proofs.Remaining.{isnt_cut, is_cut_to}
 use Rattle.mill_verify.proofs.Stored.{cover_stored, left_fits}
 use Rattle.mill_verify.proofs.left.left_over.Goals as goal
 
 pub covered_height_near-covered-requires-clause-floor_ok : goal.covered_height_near-covered-requires-clause-floor_ok
-covered_height_near-covered-requires-clause-floor_ok c = within_of_unit c.args.job.now.unit _ c.requires.job_ok.floor_ok
+covered_height_near-covered-requires-clause-floor_ok c = stored_within c.args.job.now.unit _ c.requires.job_ok.floor_ok
 
 pub returns-then-top-job : goal.returns-then-top-job
 returns-then-top-job c =

@@ -1,7 +1,7 @@
 use mir.Syntax.{w32}
 use Rattle.std.proofs.Common.{refl, arith}
 use Rattle.std.proofs.lemmas.Int.{ints, clamps, to_z-of_z}
-use Rattle.mill_base.proofs.Ranges.{within_of_unit}
+use Rattle.mill_dexel.proofs.Ranges.{stored_within}
 use Rattle.mill_verify.proofs.Remaining.{is_most_kept, is_greater}
 use Rattle.mill_verify.proofs.Stored.{enough_fits, enough_stored}
 use Rattle.mill_verify.proofs.left.most_with.Goals as goal
@@ -12,7 +12,7 @@ overflow_sub-enough c =
     enough_fits c.args.top c.args.most c.args.job.now.allowance c.min.result c.requires.top_ok c.requires.most_ok c.requires.job_ok.allowance_ok (rw most at c.min.ensures.value)
 
 pub covered_near-requires-clause-floor_ok : goal.covered_near-requires-clause-floor_ok
-covered_near-requires-clause-floor_ok c = within_of_unit c.args.job.now.unit _ c.requires.job_ok.floor_ok
+covered_near-requires-clause-floor_ok c = stored_within c.args.job.now.unit _ c.requires.job_ok.floor_ok
 
 pub returns-then-covered_near : goal.returns-then-covered_near
 returns-then-covered_near c =

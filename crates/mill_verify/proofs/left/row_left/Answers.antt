@@ -1,8 +1,8 @@
 use mir.Syntax.{w32}
 use Rattle.std.proofs.Common.{◌<◌, FitsSigned, rules, refl, arith}
 use Rattle.std.proofs.lemmas.Int.{to_z-of_z}
-use Rattle.mill_base.proofs.Ranges.{within_of_unit}
 use Rattle.mill_job.specs.Columns.{column_count}
+use Rattle.mill_dexel.proofs.Ranges.{stored_within}
 use Rattle.mill_verify.proofs.Ranges.{columns_few, some_columns}
 use Rattle.mill_verify.proofs.Remaining.{row_left_none, row_left_more, row_left_all}
 use Rattle.mill_verify.proofs.Stored.{tops_read, is_at, top_stored, most_stored, uncut_stored}
@@ -22,10 +22,10 @@ column_x-requires-clause-column c =
     omega (arith, tops.count)
 
 pub most_with-requires-clause-x_ok : goal.most_with-requires-clause-x_ok
-most_with-requires-clause-x_ok c = within_of_unit c.args.job.now.unit _ c.column_x.ensures.in_range
+most_with-requires-clause-x_ok c = stored_within c.args.job.now.unit _ c.column_x.ensures.in_range
 
 pub most_with-requires-clause-y_ok : goal.most_with-requires-clause-y_ok
-most_with-requires-clause-y_ok c = within_of_unit c.args.job.now.unit _ c.row_y-y.ensures.in_range
+most_with-requires-clause-y_ok c = stored_within c.args.job.now.unit _ c.row_y-y.ensures.in_range
 
 pub most_with-requires-clause-top_ok : goal.most_with-requires-clause-top_ok
 most_with-requires-clause-top_ok c =
