@@ -1,6 +1,5 @@
-use Rattle.std.proofs.Common.{◌≡◌, ◌∙◌, ap, sym, subst, rules, w32}
-use Rattle.std.specs.Prelude.{ℤ, pos, slice_index_or}
-use Rattle.mill_base.proofs.Machine.{stored}
+use Rattle.std.proofs.Common.{rules}
+use Rattle.std.specs.Prelude.{pos}
 use Rattle.mill_base.proofs.Ranges.{coordinate}
 use Rattle.mill_base.specs.Numbers.{Within}
 use Rattle.mill_base.specs.declared.limits.TheConstants.{MAX_COORDINATE}
