@@ -1,9 +1,8 @@
 -- The visits along a chain: at its points, and at the first again where it is closed.
-use Rattle.std.proofs.Common.{◌≡◌, Bool, true, false, List, [], ◌∷◌, ◌++◌, map, take, refl, sym, ap, ◌∙◌, subst, append_assoc, append-nil}
+use Rattle.std.proofs.Common.{◌≡◌, Bool, true, false, List, [], ◌∷◌, ◌++◌, map, take, sym, ap, ◌∙◌, subst, append_assoc, append-nil}
 use Rattle.std.specs.Prelude.{if◌then◌else◌, ℤ, slice_get, Some, Result, Ok, Err, IfErr}
 use Rattle.std.proofs.lemmas.List.{map-append}
 use Rattle.mill_base.specs.declared.points.Pt3.{Pt3}
-use Rattle.mill_level.specs.Waterlines.{Outline}
 use Rattle.mill_paths.specs.Limits.{IsListFault}
 use Rattle.mill_paths.specs.Visits.{outline_visits}
 use Rattle.mill_paths.specs.declared.fault.PathFault.{PathFault}

@@ -208,7 +208,7 @@ module _ (job : Job) (part : List Tri) (ok : IsJob job) (under : IsUnder part jo
       same high = ap (λ z. point_at at.x at.y z) (equal job.top job.clear high ok.over_stock)
         where
           equal : (a b : ℤ) → int_lt a b ≡ false → a ≤ℤ b → a ≡ b
-          equal a b e h = grind (e, h, arith, ints)
+          equal a b e h = omega (e, h, arith, ints)
 
       by : (b : Bool) → int_lt job.top job.clear ≡ b
           → GoSafely job part done (at_height at job.clear) ((if b then down ∷ [] else []) ++ plunge job at ∷ []) at

@@ -1,5 +1,5 @@
 -- The points of a job's waterlines are places that a plan may come to.
-use Rattle.std.proofs.Common.{◌≡◌, ℕ, zero, suc, ◌+◌, ◌<◌, ◌≤◌, Bool, true, false, List, [], ◌∷◌, ◌++◌, length, map, take, get_or, inl, inr, refl, sym, ap, ◌∙◌, subst, arith}
+use Rattle.std.proofs.Common.{◌≡◌, ℕ, zero, suc, ◌+◌, ◌<◌, ◌≤◌, Bool, true, false, List, [], ◌∷◌, ◌++◌, map, take, get_or, inl, inr, refl, sym, subst, arith}
 use Rattle.std.specs.Prelude.{if◌then◌else◌, nat_abs, ℤ, pos, ◌+ℤ◌, ◌-ℤ◌, ◌<ℤ◌, ◌≤ℤ◌, All, Contains, MatchBool}
 use Rattle.std.specs.List.{AllZip, flat_map}
 use Rattle.std.proofs.lemmas.Bool.{cases_lt, and_parts, ltb-true}
@@ -20,11 +20,10 @@ use Rattle.mill_geom.specs.declared.touch.Axis.{Axis}
 use Rattle.mill_geom.specs.declared.touch.Axis.TheVariants.{X, Y}
 use Rattle.mill_job.specs.Jobs.{IsJob, IsLevel}
 use Rattle.mill_job.specs.declared.job.Job.{Job}
-use Rattle.mill_level.specs.Grids.{Grid, differ, edge, has_edge, is_blocked, is_crossing, upper_column, upper_row}
+use Rattle.mill_level.specs.Grids.{Grid, differ, edge, is_blocked, is_crossing, upper_column, upper_row}
 use Rattle.mill_level.specs.Crossings.{Crossing, HasLastFree, TellsBlocked, on_the_way}
 use Rattle.mill_level.specs.Chains.{AreChains, Chain, crossings_of, times, times_in}
 use Rattle.mill_level.specs.Waterlines.{IsWaterline, Outline, outline}
-use Rattle.mill_level.specs.declared.edge.Edge.{Edge}
 use Rattle.mill_level.proofs.Members.{IsIn, member_counts}
 use Rattle.mill_level.proofs.Positions.{positions_rise}
 use Rattle.mill_level.proofs.SameChain.{IsOn, times_from_on}

@@ -1,6 +1,6 @@
 -- The levels of the tests are levels of their job.
-use Rattle.std.proofs.Common.{◌≡◌, List, [], ◌∷◌, arith, subst, sym}
-use Rattle.std.specs.Prelude.{ℤ, pos, ◌<ℤ◌, ◌≤ℤ◌, AllPairs}
+use Rattle.std.proofs.Common.{[], ◌∷◌, arith}
+use Rattle.std.specs.Prelude.{ℤ, ◌<ℤ◌, ◌≤ℤ◌, AllPairs}
 use Rattle.std.proofs.lemmas.Int.{ints}
 use Rattle.std.proofs.lemmas.List.Elements.{All-cons, All-nil}
 use Rattle.std.proofs.lemmas.List.Kept.{AllPairs-cons}

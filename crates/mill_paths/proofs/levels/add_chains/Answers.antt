@@ -1,4 +1,4 @@
-use Rattle.std.proofs.Common.{◌≡◌, ◌++◌, ◌<◌, ◌≤◌, ◌∙◌, List, length, sym, ap, subst, arith}
+use Rattle.std.proofs.Common.{◌++◌, ◌<◌, ◌≤◌, ◌∙◌, List, length, sym, ap, subst, arith}
 use Rattle.std.proofs.lemmas.List.Folds.{flat_map-map}
 use Rattle.std.proofs.lemmas.Result.{err_from_is_err_and}
 use Rattle.mill_level.specs.Waterlines.{seen}

@@ -1,9 +1,9 @@
-use Rattle.std.proofs.Common.{◌≡◌, ◌++◌, ◌∙◌, List, [], map, refl, sym, ap, subst}
+use Rattle.std.proofs.Common.{◌≡◌, ◌∙◌, List, [], map, refl, sym, subst}
 use Rattle.std.specs.Prelude.{All, Err}
 use Rattle.std.proofs.lemmas.Result.{err_from_is_err_and}
 use Rattle.mill_level.specs.Waterlines.{Outline, seen}
 use Rattle.mill_paths.specs.Limits.{IsListFault}
-use Rattle.mill_paths.specs.Visits.{AreWaterlines, IsVisit, level_visits_of}
+use Rattle.mill_paths.specs.Visits.{IsVisit, level_visits_of}
 use Rattle.mill_paths.specs.declared.visit.Visit.{Visit}
 use Rattle.mill_paths.proofs.FaultLemmas.{list_fault_visits}
 use Rattle.mill_paths.proofs.Many.{few_level, no_level, no_waterlines, none_level}

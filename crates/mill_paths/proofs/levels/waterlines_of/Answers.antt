@@ -1,12 +1,12 @@
-use Rattle.std.proofs.Common.{◌≡◌, ℕ, ◌+◌, ◌-◌, ◌<◌, ◌≤◌, ◌∙◌, length, map, sym, ap, subst, arith}
-use Rattle.std.specs.Prelude.{ℤ, pos, List}
+use Rattle.std.proofs.Common.{◌≡◌, ℕ, ◌-◌, ◌<◌, ◌≤◌, ◌∙◌, length, map, sym, ap, subst, arith}
+use Rattle.std.specs.Prelude.{pos}
 use Rattle.std.specs.List.{range_with_len}
 use Rattle.rayon.specs.Numbers.{nat_range}
 use Rattle.rayon.proofs.ToStd.{nat_range-All}
 use Rattle.mill_base.specs.Lattices.{node_count}
 use Rattle.mill_base.specs.declared.lattice.Lattice.{Lattice}
 use Rattle.mill_base.specs.declared.limits.TheConstants.{MAX_NODES}
-use Rattle.mill_level.specs.Waterlines.{IsWaterline, Outline, seen}
+use Rattle.mill_level.specs.Waterlines.{IsWaterline, seen}
 use Rattle.mill_paths.specs.Lattices.{finish_lattice}
 use Rattle.mill_paths.specs.Limits.{IsHeightsFault}
 use Rattle.mill_paths.specs.declared.fault.PathFault.{PathFault}

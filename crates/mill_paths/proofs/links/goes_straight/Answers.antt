@@ -1,5 +1,3 @@
-use Rattle.std.specs.Prelude.{refl}
-use Rattle.std.proofs.Common.{inl}
 use Rattle.mill_paths.proofs.Points.{same_point, other_point}
 use Rattle.mill_paths.proofs.Straight.{says_there, says_fed}
 use Rattle.mill_paths.proofs.links.goes_straight.Goals as goal
