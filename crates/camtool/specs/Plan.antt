@@ -1,5 +1,5 @@
 -- The command `plan`: the planner's answer to job and part, and how it is shown and stored.
-use Rattle.std.specs.Prelude.{ℕ, codes, decimal, List, [], ◌∷◌}
+use Rattle.std.specs.Prelude.{◌≡◌, ℕ, codes, decimal, List, [], ◌∷◌}
 use Rattle.mill_base.specs.declared.points.Tri.{Tri}
 use Rattle.mill_base.specs.declared.unit.Unit.{Unit}
 use Rattle.mill_decimal.specs.Decimals.{canonical}
