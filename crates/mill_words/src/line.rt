@@ -1,10 +1,12 @@
-ghost use Rattle.std.specs.Prelude.{◌≡◌, ◌<◌, ◌^◌, length, OnOk, IfErr, Ok, Err};
+ghost use Rattle.std.specs.Prelude.{◌≡◌, ◌<◌, ◌≤◌, ◌+◌, ◌^◌, length, OnOk, IfOk, IfErr, Ok, Err};
 ghost use Rattle.mill_words.specs.Lines.{line_of, read_marks};
 ghost use Rattle.mill_words.specs.Marks.{end_marks};
 ghost use Rattle.mill_words.specs.inner.Bounds.{FitsStage};
+ghost use Rattle.mill_words.specs.inner.Places.{rest_of, is_letter_in};
 
 use crate::line_words::LineWords;
 use crate::marks::{Region, scan};
+use crate::plain::take_plain_words;
 use crate::stage::{Stage, finish, take_mark};
 use crate::word::WordFault;
 
@@ -38,14 +40,71 @@ pub fn read_line_into(line: &[u8], words: &mut LineWords) -> Result<(), WordFaul
     words.clear();
     let mut region = Region::Outside;
     let mut stage = Stage::Start;
-    let mut place: u32 = 0;
-    for byte in line {
-        let (next, mark) = scan(region, place, *byte);
-        region = next;
-        take_mark(mark, &mut stage, words)?;
-        place += 1;
+    let mut place = 0;
+    while place < line.len() {
+        place = take_next(line, place, &mut region, &mut stage, words)?;
     }
     end_line(region, &mut stage, words)
+}
+
+// Takes the plain words at a place, or its byte. The answer is the place behind.
+fn take_next(
+    line: &[u8],
+    place: usize,
+    region: &mut Region,
+    stage: &mut Stage,
+    words: &mut LineWords,
+) -> Result<usize, WordFault>
+    requires small { length line.now < 2 ^ 32 }
+    requires within { place < length line.now }
+    requires fits { FitsStage (length words.old.words) stage.old }
+    ensures ok { IfOk result (λ behind. rest_of region.new stage.new words.new line.now behind ≡ rest_of region.old stage.old words.old line.now place) }
+    ensures fault { IfErr result (λ f. rest_of region.old stage.old words.old line.now place ≡ Err f) }
+    ensures fits { OnOk result (FitsStage (length words.new.words) stage.new) }
+    ensures forward { IfOk result (λ behind. place < behind) }
+    ensures within { IfOk result (λ behind. behind ≤ length line.now) }
+{
+    if !is_letter(*region, line[place]) {
+        return take_byte(line, place, region, stage, words);
+    }
+    finish(stage, words)?;
+    let behind = take_plain_words(line, place, stage, words);
+    if behind > place {
+        return Ok(behind);
+    }
+    take_byte(line, place, region, stage, words)
+}
+
+// Whether the byte is a letter outside comments.
+fn is_letter(region: Region, byte: u8) -> bool
+    ensures { result ≡ is_letter_in region byte }
+{
+    match region {
+        Region::Outside => byte.is_ascii_alphabetic(),
+        _ => false,
+    }
+}
+
+// Takes the byte at a place.
+fn take_byte(
+    line: &[u8],
+    place: usize,
+    region: &mut Region,
+    stage: &mut Stage,
+    words: &mut LineWords,
+) -> Result<usize, WordFault>
+    requires small { length line.now < 2 ^ 32 }
+    requires within { place < length line.now }
+    requires fits { FitsStage (length words.old.words) stage.old }
+    ensures ok { IfOk result (λ behind. rest_of region.new stage.new words.new line.now behind ≡ rest_of region.old stage.old words.old line.now place) }
+    ensures fault { IfErr result (λ f. rest_of region.old stage.old words.old line.now place ≡ Err f) }
+    ensures fits { OnOk result (FitsStage (length words.new.words) stage.new) }
+    ensures behind { IfOk result (λ behind. behind ≡ place + 1) }
+{
+    let (next, mark) = scan(*region, place as u32, line[place]);
+    *region = next;
+    take_mark(mark, stage, words)?;
+    Ok(place + 1)
 }
 
 #[tactic(auto, unfolding(crate::specs::Lines::read_marks))]
