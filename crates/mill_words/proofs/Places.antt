@@ -1,18 +1,20 @@
 -- What a line says from one of its places on, where a plain word stands there.
-use Rattle.std.proofs.Common.{◌≡◌, ℕ, ◌+◌, ◌*◌, ◌<◌, ◌≤◌, List, [], ◌∷◌, ◌++◌, length, get_or, drop, arith, Bool, true, false, cond, Result, Ok, Err, refl, sym, ap, ◌∙◌, add-one, drop-cons}
+use Rattle.std.proofs.Common.{◌≡◌, ℕ, ◌+◌, ◌*◌, ◌<◌, ◌≤◌, List, ◌∷◌, length, get_or, drop, arith, Bool, true, false, cond, Result, Ok, Err, refl, sym, ap, ◌∙◌, add-one, drop-cons}
 use Rattle.std.proofs.Math.ListN.{drop_of_length-le}
 use Rattle.std.specs.Prelude.{◌==◌}
 use Rattle.std.specs.Char.{is_ascii_digit, is_ascii_alphabetic, to_ascii_uppercase, digit_value}
+use Rattle.std.proofs.lemmas.Bool.{false≢true}
 use Rattle.std.proofs.lemmas.Bool.Decides.{nat_tests}
 use Rattle.mill_words.specs.Words.{Line}
 use Rattle.mill_words.specs.Marks.{is_blank, marks_from}
-use Rattle.mill_words.specs.Lines.{◌>>=◌, grown_word, grown_number, finished, started, begun, read_marks, opened_at, with_digit, is_sign}
+use Rattle.mill_words.specs.Lines.{◌>>=◌, grown_word, grown_number, finished, started, begun, read_marks, opened_at, is_sign}
 use Rattle.mill_words.specs.declared.word.WordFault.{WordFault}
-use Rattle.mill_words.specs.declared.marks.Region.TheVariants.{Outside}
+use Rattle.mill_words.specs.declared.marks.Region.{Region}
+use Rattle.mill_words.specs.declared.marks.Region.TheVariants.{Outside, Comment, Ignored}
 use Rattle.mill_words.specs.declared.open_word.OpenWord.{OpenWord}
 use Rattle.mill_words.specs.declared.stage.Stage.{Stage}
 use Rattle.mill_words.specs.declared.stage.Stage.TheVariants.{Start, Slashed, InLineNumber, Between, InWord}
-use Rattle.mill_words.specs.inner.Places.{rest_of, IsApart, plain_word, with_word}
+use Rattle.mill_words.specs.inner.Places.{rest_of, is_letter_in, IsApart, plain_word, with_word}
 use Rattle.mill_words.proofs.Spelled.{reading, digit-read, point-read, sign-read}
 
 -- the byte at a place before those behind it
@@ -79,6 +81,12 @@ blank-read s l p b bytes blank = rw blank refl
 pub blank-at : (s : Stage) (l : Line) (bytes : List ℕ) (p : ℕ) → p < length bytes → is_blank (get_or bytes p 0) ≡ true
     → rest_of Outside s l bytes p ≡ rest_of Outside s l bytes (p + 1)
 blank-at s l bytes p lt blank = at-place s l bytes p lt ∙ blank-read s l p (get_or bytes p 0) (drop (p + 1) bytes) blank
+
+-- a letter that counts stands outside comments
+pub outside : (r : Region) (b : ℕ) → is_letter_in r b ≡ true → (r ≡ Outside) × (is_ascii_alphabetic b ≡ true)
+outside Outside b h = (refl, h)
+outside (Comment from) b h = absurd (false≢true h)
+outside Ignored b h = absurd (false≢true h)
 
 -- what a letter is not
 record IsLetter (c : ℕ) : Type 0 where

@@ -1,5 +1,5 @@
 -- What a line says from one of its places on.
-use Rattle.std.specs.Prelude.{ℕ, Bool, false, true, List, [], ◌∷◌, ◌++◌, drop, Result}
+use Rattle.std.specs.Prelude.{ℕ, Bool, false, List, [], ◌∷◌, ◌++◌, drop, Result}
 use Rattle.std.specs.Char.{is_ascii_alphabetic}
 use Rattle.mill_words.specs.declared.word.WordFault.{WordFault}
 use Rattle.mill_words.specs.declared.marks.Region.{Region}

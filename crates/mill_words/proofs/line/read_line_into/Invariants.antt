@@ -1,10 +1,15 @@
-use Rattle.std.proofs.Common.{◌≡◌, drop, length}
-use Rattle.mill_words.specs.Marks.{marks_from}
-use Rattle.mill_words.specs.Lines.{read_marks, line_of}
+use Rattle.std.proofs.Common.{◌≡◌, ◌-◌, ◌≤◌, length}
+use Rattle.mill_words.specs.Lines.{line_of}
 use Rattle.mill_words.specs.inner.Bounds.{FitsStage}
+use Rattle.mill_words.specs.inner.Places.{rest_of}
 use Rattle.mill_words.proofs.line.read_line_into.Given as goal
 
-abbrev pub invariant-loop-byte : goal.invariant-loop-byte
-invariant-loop-byte l =
-    (read_marks l.stage l.words (marks_from l.region l.place (drop l.byte-index l.line)) ≡ line_of l.line)
-    × (l.place ≡ l.byte-index) × FitsStage (length l.words.words) l.stage
+abbrev pub invariant-loop-place : goal.invariant-loop-place
+invariant-loop-place l = record {
+  same : rest_of l.region l.stage l.words l.line l.place ≡ line_of l.line;
+  within : l.place ≤ length l.line;
+  fits : FitsStage (length l.words.words) l.stage;
+}
+
+abbrev pub decreases-loop-place : goal.decreases-loop-place
+decreases-loop-place l = length l.line - l.place

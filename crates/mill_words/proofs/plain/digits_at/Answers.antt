@@ -1,6 +1,5 @@
-use Rattle.std.proofs.Common.{◌≡◌, ℕ, ◌+◌, ◌*◌, ◌<◌, ◌∙◌, Bool, true, get_or, arith, rules}
+use Rattle.std.proofs.Common.{◌≡◌, ℕ, ◌+◌, ◌∙◌, true, get_or, arith, rules}
 use Rattle.std.specs.Char.{is_ascii_digit, digit_value}
-use Rattle.mill_words.specs.Words.{Line}
 use Rattle.mill_words.proofs.Numbers.{below, one_more_of, digit_of}
 use Rattle.mill_words.proofs.Places.{whole-next, part-next}
 use Rattle.mill_words.proofs.plain.digits_at.Goals as goal
