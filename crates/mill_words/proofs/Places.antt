@@ -1,5 +1,5 @@
 -- What a line says from one of its places on, where a plain word stands there.
-use Rattle.std.proofs.Common.{◌≡◌, ℕ, ◌+◌, ◌*◌, ◌<◌, ◌≤◌, List, ◌∷◌, length, get_or, drop, arith, Bool, true, false, cond, Result, Ok, Err, refl, sym, ap, ◌∙◌, add-one, drop-cons}
+use Rattle.std.proofs.Common.{◌≡◌, ℕ, ◌+◌, ◌*◌, ◌<◌, ◌≤◌, List, ◌∷◌, length, get_or, drop, arith, Bool, true, false, not, ◌&&◌, cond, Result, Ok, Err, refl, sym, ap, ◌∙◌, add-one, drop-cons}
 use Rattle.std.proofs.Math.ListN.{drop_of_length-le}
 use Rattle.std.specs.Prelude.{◌==◌}
 use Rattle.std.specs.Char.{is_ascii_digit, is_ascii_alphabetic, to_ascii_uppercase, digit_value}
@@ -14,7 +14,7 @@ use Rattle.mill_words.specs.declared.marks.Region.TheVariants.{Outside, Comment,
 use Rattle.mill_words.specs.declared.open_word.OpenWord.{OpenWord}
 use Rattle.mill_words.specs.declared.stage.Stage.{Stage}
 use Rattle.mill_words.specs.declared.stage.Stage.TheVariants.{Start, Slashed, InLineNumber, Between, InWord}
-use Rattle.mill_words.specs.inner.Places.{rest_of, is_letter_in, IsApart, plain_word, with_word}
+use Rattle.mill_words.specs.inner.Places.{rest_of, begins_word_in, IsApart, plain_word, with_word}
 use Rattle.mill_words.proofs.Spelled.{reading, digit-read, point-read, sign-read}
 
 -- the byte at a place before those behind it
@@ -82,11 +82,23 @@ pub blank-at : (s : Stage) (l : Line) (bytes : List ℕ) (p : ℕ) → p < lengt
     → rest_of Outside s l bytes p ≡ rest_of Outside s l bytes (p + 1)
 blank-at s l bytes p lt blank = at-place s l bytes p lt ∙ blank-read s l p (get_or bytes p 0) (drop (p + 1) bytes) blank
 
--- a letter that counts stands outside comments
-pub outside : (r : Region) (b : ℕ) → is_letter_in r b ≡ true → (r ≡ Outside) × (is_ascii_alphabetic b ≡ true)
-outside Outside b h = (refl, h)
-outside (Comment from) b h = absurd (false≢true h)
-outside Ignored b h = absurd (false≢true h)
+-- the letter of a word: where it stands, and what it is and isn't
+pub record BeginsWord (r : Region) (b : ℕ) : Type 0 where
+  pub outside : r ≡ Outside
+  pub alphabetic : is_ascii_alphabetic b ≡ true
+  pub other : (to_ascii_uppercase b == 78) ≡ false
+
+both : (x y : Bool) → (x && not y) ≡ true → (x ≡ true) × (y ≡ false)
+both true true h = absurd (false≢true h)
+both true false h = (refl, refl)
+both false y h = absurd (false≢true h)
+
+pub begins-word : (r : Region) (b : ℕ) → begins_word_in r b ≡ true → BeginsWord r b
+begins-word Outside b h =
+    let parts = both (is_ascii_alphabetic b) (to_ascii_uppercase b == 78) h in
+    record { outside = refl; alphabetic = parts.0; other = parts.1 }
+begins-word (Comment from) b h = absurd (false≢true h)
+begins-word Ignored b h = absurd (false≢true h)
 
 -- what a letter is not
 record IsLetter (c : ℕ) : Type 0 where
@@ -146,6 +158,24 @@ letter-ends s t l m bytes p lt alphabetic ends apart =
     ∙ sym (letter-read t m p (get_or bytes p 0) (drop (p + 1) bytes) letter)
     ∙ sym (at-place t m bytes p lt)
 
+between-read : (t : Stage) (m : Line) (p c : ℕ) (bytes : List ℕ) → IsApart t → IsLetter c → (to_ascii_uppercase c == 78) ≡ false
+    → reading t m p (c ∷ bytes) ≡ reading Between m p (c ∷ bytes)
+unfolding read_marks marks_from finished started
+between-read Start m p c bytes apart letter other = rw (letter.blank, letter.parenthesis, letter.semicolon, letter.slash, other) refl
+between-read Slashed m p c bytes apart letter other = rw (letter.blank, letter.parenthesis, letter.semicolon, other) refl
+between-read Between m p c bytes apart letter other = refl
+between-read (InLineNumber place digits) m p c bytes apart letter other = absurd apart
+between-read (InWord w) m p c bytes apart letter other = absurd apart
+
+-- and the letter of a word means the same as behind a word
+pub word-starts : (s t : Stage) (l m : Line) (bytes : List ℕ) (p : ℕ) (r : Region) → p < length bytes → BeginsWord r (get_or bytes p 0)
+    → finished s l ≡ Ok (t, m) → IsApart t → rest_of Outside s l bytes p ≡ rest_of Outside Between m bytes p
+word-starts s t l m bytes p r lt begins ends apart =
+    letter-ends s t l m bytes p lt begins.alphabetic ends apart
+    ∙ at-place t m bytes p lt
+    ∙ between-read t m p (get_or bytes p 0) (drop (p + 1) bytes) apart (letter_of (get_or bytes p 0) begins.alphabetic) begins.other
+    ∙ sym (at-place Between m bytes p lt)
+
 -- or the fault that ends it
 pub letter-faults : (s : Stage) (l : Line) (f : WordFault) (bytes : List ℕ) (p : ℕ) → p < length bytes → is_ascii_alphabetic (get_or bytes p 0) ≡ true
     → finished s l ≡ Err f → rest_of Outside s l bytes p ≡ Err f
@@ -156,25 +186,19 @@ letter-faults s l f bytes p lt alphabetic ends =
     ∙ ap rest ends
 
 -- a letter other than N begins a word where there is room
-letter-begins : (s : Stage) (l : Line) (p c : ℕ) (bytes : List ℕ) → IsApart s → IsLetter c → is_ascii_alphabetic c ≡ true
+letter-begins : (l : Line) (p c : ℕ) (bytes : List ℕ) → IsLetter c → is_ascii_alphabetic c ≡ true
     → (to_ascii_uppercase c == 78) ≡ false → (length l.words == 32) ≡ false
-    → reading s l p (c ∷ bytes) ≡ reading (InWord (opened_at (to_ascii_uppercase c) p)) l (p + 1) bytes
+    → reading Between l p (c ∷ bytes) ≡ reading (InWord (opened_at (to_ascii_uppercase c) p)) l (p + 1) bytes
 unfolding read_marks marks_from finished started
-letter-begins Start l p c bytes apart letter alphabetic other room =
-    rw (letter.blank, letter.parenthesis, letter.semicolon, letter.slash, other, alphabetic, room) refl
-letter-begins Slashed l p c bytes apart letter alphabetic other room =
+letter-begins l p c bytes letter alphabetic other room =
     rw (letter.blank, letter.parenthesis, letter.semicolon, other, alphabetic, room) refl
-letter-begins Between l p c bytes apart letter alphabetic other room =
-    rw (letter.blank, letter.parenthesis, letter.semicolon, other, alphabetic, room) refl
-letter-begins (InLineNumber place digits) l p c bytes apart letter alphabetic other room = absurd apart
-letter-begins (InWord w) l p c bytes apart letter alphabetic other room = absurd apart
 
-pub word-begins : (s : Stage) (l : Line) (bytes : List ℕ) (p : ℕ) → IsApart s → p < length bytes → is_ascii_alphabetic (get_or bytes p 0) ≡ true
+pub word-begins : (l : Line) (bytes : List ℕ) (p : ℕ) → p < length bytes → is_ascii_alphabetic (get_or bytes p 0) ≡ true
     → (to_ascii_uppercase (get_or bytes p 0) == 78) ≡ false → (length l.words == 32) ≡ false
-    → rest_of Outside s l bytes p ≡ rest_of Outside (InWord (opened_at (to_ascii_uppercase (get_or bytes p 0)) p)) l bytes (p + 1)
-word-begins s l bytes p apart lt alphabetic other room =
-    at-place s l bytes p lt
-    ∙ letter-begins s l p (get_or bytes p 0) (drop (p + 1) bytes) apart (letter_of (get_or bytes p 0) alphabetic) alphabetic other room
+    → rest_of Outside Between l bytes p ≡ rest_of Outside (InWord (opened_at (to_ascii_uppercase (get_or bytes p 0)) p)) l bytes (p + 1)
+word-begins l bytes p lt alphabetic other room =
+    at-place Between l bytes p lt
+    ∙ letter-begins l p (get_or bytes p 0) (drop (p + 1) bytes) (letter_of (get_or bytes p 0) alphabetic) alphabetic other room
 
 -- ---- the end of a word
 

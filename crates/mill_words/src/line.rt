@@ -2,7 +2,7 @@ ghost use Rattle.std.specs.Prelude.{◌≡◌, ◌<◌, ◌≤◌, ◌+◌, ◌^
 ghost use Rattle.mill_words.specs.Lines.{line_of, read_marks};
 ghost use Rattle.mill_words.specs.Marks.{end_marks};
 ghost use Rattle.mill_words.specs.inner.Bounds.{FitsStage};
-ghost use Rattle.mill_words.specs.inner.Places.{rest_of, is_letter_in};
+ghost use Rattle.mill_words.specs.inner.Places.{rest_of, begins_word_in};
 
 use crate::line_words::LineWords;
 use crate::marks::{Region, scan};
@@ -64,23 +64,24 @@ fn take_next(
     ensures forward { IfOk result (λ behind. place < behind) }
     ensures within { IfOk result (λ behind. behind ≤ length line.now) }
 {
-    if !is_letter(*region, line[place]) {
+    if !begins_word(*region, line[place]) {
         return take_byte(line, place, region, stage, words);
     }
     finish(stage, words)?;
-    let behind = take_plain_words(line, place, stage, words);
+    *stage = Stage::Between;
+    let behind = take_plain_words(line, place, words);
     if behind > place {
         return Ok(behind);
     }
     take_byte(line, place, region, stage, words)
 }
 
-// Whether the byte is a letter outside comments.
-fn is_letter(region: Region, byte: u8) -> bool
-    ensures { result ≡ is_letter_in region byte }
+// Whether the byte is the letter of a word outside comments.
+fn begins_word(region: Region, byte: u8) -> bool
+    ensures { result ≡ begins_word_in region byte }
 {
     match region {
-        Region::Outside => byte.is_ascii_alphabetic(),
+        Region::Outside => byte.is_ascii_alphabetic() && byte.to_ascii_uppercase() != b'N',
         _ => false,
     }
 }

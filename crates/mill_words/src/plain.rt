@@ -1,17 +1,17 @@
 //! Plain words, which are read at once: a letter, a minus sign or none, digits, and a point with
 //! digits behind it or none.
-ghost use Rattle.std.specs.Prelude.{◌≡◌, ℕ, Bool, false, true, ◌==◌, ◌<◌, ◌≤◌, ◌+◌, ◌^◌, length, slice_index, IfSome, IsTrue};
-ghost use Rattle.std.specs.Char.{is_ascii_alphabetic, to_ascii_uppercase};
+ghost use Rattle.std.specs.Prelude.{◌≡◌, ℕ, Bool, false, true, ◌<◌, ◌≤◌, ◌+◌, ◌^◌, length, slice_index, IfSome, IsTrue};
+ghost use Rattle.std.specs.Char.{is_ascii_alphabetic};
 ghost use Rattle.mill_words.specs.Lines.{opened_at};
 ghost use Rattle.mill_words.specs.Words.{Line, FitsNum};
 ghost use Rattle.mill_words.specs.declared.marks.Region.TheVariants.{Outside};
+ghost use Rattle.mill_words.specs.declared.stage.Stage.{Stage};
 ghost use Rattle.mill_words.specs.declared.stage.Stage.TheVariants.{Between, InWord};
-ghost use Rattle.mill_words.specs.inner.Places.{rest_of, IsApart, plain_word, numbered_word, with_word};
+ghost use Rattle.mill_words.specs.inner.Places.{rest_of, plain_word, numbered_word, with_word};
 
 use crate::line_words::{LineWords, MOST_WORDS};
 use crate::marks::is_blank;
 use crate::open_word::{MOST_DIGITS, OpenWord};
-use crate::stage::Stage;
 use crate::word::{Num, Word};
 
 /// A number as it is read at once.
@@ -25,24 +25,20 @@ pub(crate) struct PlainNumber {
     pub end: usize,
 }
 
-/// Takes the plain words that stand from a place on, outside comments. The answer is the place
-/// behind them, which is the same where no such word stands there.
-pub(crate) fn take_plain_words(
-    line: &[u8],
-    from: usize,
-    stage: &mut Stage,
-    words: &mut LineWords,
-) -> usize
-    requires within { from ≤ length line.now }
-    requires apart { IsApart stage.old }
-    ensures same { rest_of Outside stage.new words.new line.now result ≡ rest_of Outside stage.old words.old line.now from }
+/// Takes the plain words that stand from a letter on, outside comments and where nothing has begun.
+/// The answer is the place behind them, which is the same where no such word stands there.
+// It is kept apart from the reading byte by byte, whose state would take its registers.
+#[inline(never)]
+pub(crate) fn take_plain_words(line: &[u8], from: usize, words: &mut LineWords) -> usize
+    requires within { from < length line.now }
+    requires letter { is_ascii_alphabetic (slice_index line.now from) ≡ true }
+    ensures same { rest_of Outside Between words.new line.now result ≡ rest_of Outside Between words.old line.now from }
     ensures forward { from ≤ result }
     ensures within { result ≤ length line.now }
-    ensures apart { IsApart stage.new }
 {
     let mut place = from;
     while place < line.len() {
-        let behind = take_plain_word(line, place, stage, words);
+        let behind = take_plain_word(line, place, words);
         if behind == place {
             return place;
         }
@@ -52,15 +48,16 @@ pub(crate) fn take_plain_words(
 }
 
 // The same for one word.
-fn take_plain_word(line: &[u8], place: usize, stage: &mut Stage, words: &mut LineWords) -> usize
+fn take_plain_word(line: &[u8], place: usize, words: &mut LineWords) -> usize
     requires within { place < length line.now }
-    requires apart { IsApart stage.old }
-    ensures same { rest_of Outside stage.new words.new line.now result ≡ rest_of Outside stage.old words.old line.now place }
+    requires letter { is_ascii_alphabetic (slice_index line.now place) ≡ true }
+    ensures same { rest_of Outside Between words.new line.now result ≡ rest_of Outside Between words.old line.now place }
     ensures forward { place ≤ result }
     ensures within { result ≤ length line.now }
-    ensures apart { IsApart stage.new }
+    ensures letter { result < length line.now → is_ascii_alphabetic (slice_index line.now result) ≡ true }
 {
-    if words.count() == MOST_WORDS || !begins_word(line[place]) {
+    let letter = line[place].to_ascii_uppercase();
+    if letter == b'N' || words.count() == MOST_WORDS {
         return place;
     }
     let number = number_at(line, place + 1);
@@ -70,22 +67,13 @@ fn take_plain_word(line: &[u8], place: usize, stage: &mut Stage, words: &mut Lin
     match word_end(line, number.end) {
         Some(end) => {
             words.push(Word {
-                letter: line[place].to_ascii_uppercase(),
+                letter,
                 num: number.num,
             });
-            *stage = Stage::Between;
             end
         }
         None => place,
     }
-}
-
-// Whether the byte is the letter of a word.
-fn begins_word(byte: u8) -> bool
-    ensures letter { IsTrue result → is_ascii_alphabetic byte ≡ true }
-    ensures other { IsTrue result → (to_ascii_uppercase byte == 78) ≡ false }
-{
-    byte.is_ascii_alphabetic() && byte.to_ascii_uppercase() != b'N'
 }
 
 // Where a word with digits ends: behind a blank or none, at the line's end or at a letter.
@@ -95,6 +83,7 @@ fn word_end(line: &[u8], place: usize) -> Option<usize>
         rest_of Outside (InWord w) l line.now place ≡ rest_of Outside Between (with_word w l) line.now end) }
     ensures forward { IfSome result (λ end. place ≤ end) }
     ensures within { IfSome result (λ end. end ≤ length line.now) }
+    ensures letter { IfSome result (λ end. end < length line.now → is_ascii_alphabetic (slice_index line.now end) ≡ true) }
 {
     let end = behind_blank(line, place);
     if end == line.len() || line[end].is_ascii_alphabetic() {

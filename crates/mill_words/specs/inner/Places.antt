@@ -1,6 +1,6 @@
 -- What a line says from one of its places on.
-use Rattle.std.specs.Prelude.{ℕ, Bool, false, List, [], ◌∷◌, ◌++◌, drop, Result}
-use Rattle.std.specs.Char.{is_ascii_alphabetic}
+use Rattle.std.specs.Prelude.{ℕ, Bool, false, not, ◌&&◌, ◌==◌, List, [], ◌∷◌, ◌++◌, drop, Result}
+use Rattle.std.specs.Char.{is_ascii_alphabetic, to_ascii_uppercase}
 use Rattle.mill_words.specs.declared.word.WordFault.{WordFault}
 use Rattle.mill_words.specs.declared.marks.Region.{Region}
 use Rattle.mill_words.specs.declared.marks.Region.TheVariants.{Outside}
@@ -16,10 +16,10 @@ use Rattle.mill_words.specs.Lines.{read_marks}
 abbrev pub rest_of : Region → Stage → Line → List ℕ → ℕ → Result Line WordFault
 rest_of region stage line bytes p = read_marks stage line (marks_from region p (drop p bytes))
 
--- the byte is a letter outside comments
-abbrev pub is_letter_in : Region → ℕ → Bool
-is_letter_in Outside b = is_ascii_alphabetic b
-is_letter_in region b = false
+-- the byte is the letter of a word, which isn't N (78), outside comments
+abbrev pub begins_word_in : Region → ℕ → Bool
+begins_word_in Outside b = is_ascii_alphabetic b && not (to_ascii_uppercase b == 78)
+begins_word_in region b = false
 
 -- nothing has begun that a byte could go on with
 abbrev pub IsApart : Stage → Type 0

@@ -13,9 +13,10 @@ push-requires-clause-fits c = wider c.number_at-number.result.digits c.number_at
 pub returns-in-Some-clause-same : goal.returns-in-Some-clause-same
 returns-in-Some-clause-same c =
     let letter = to_ascii_uppercase (get_or c.args.line.now c.args.place 0) in
-    let upper : c.to_ascii_uppercase.result ≡ to_ascii_uppercase (get_or c.args.line.now c.args.place 0) = search rules in
+    let upper : c.to_ascii_uppercase-letter.result ≡ to_ascii_uppercase (get_or c.args.line.now c.args.place 0) = search rules in
+    let other : (to_ascii_uppercase (get_or c.args.line.now c.args.place 0) == 78) ≡ false = rw (← upper) (grind (arith, nat_tests)) in
     let room : (length c.args.words.now.words == 32) ≡ false = grind (arith, nat_tests) in
     rw (c.push.ensures, upper) (sym (
-    word-begins c.args.stage.now c.args.words.now c.args.line.now c.args.place c.requires.apart c.requires.within (search rules) (search rules) room
+    word-begins c.args.words.now c.args.line.now c.args.place c.requires.within c.requires.letter other room
     ∙ c.number_at-number.ensures.same letter c.args.place c.args.words.now
     ∙ c.in-Some.ensures.same (numbered_word letter c.args.place c.number_at-number.result) c.args.words.now (omega arith)))
