@@ -26,6 +26,7 @@ pub(crate) fn whole_of(num: Num) -> Option<u64>
 }
 
 /// The units of an axis number, on this line.
+#[inline(always)]
 #[tactic(auto, unfolding(crate::specs::Numbers::axis_units))]
 pub(crate) fn units_of(line: u64, num: Num, unit: Unit) -> Result<i32, NgcFault>
     requires { FitsNum 18 num }
