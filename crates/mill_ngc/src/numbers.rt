@@ -60,6 +60,9 @@ fn whole_units(num: Num, unit: Unit) -> u128
     ensures { result ≡ whole_units_of unit num }
 {
     let places = unit.places() as u8;
+    if num.scale == places {
+        return u128::from(num.mant);
+    }
     if num.scale <= places {
         return u128::from(num.mant) * u128::from(power(places - num.scale));
     }
