@@ -220,3 +220,16 @@ pub word-last : (w : OpenWord) (l : Line) (bytes : List ℕ) (p : ℕ) → 0 < w
     → rest_of Outside (InWord w) l bytes p ≡ rest_of Outside Between (with_word w l) bytes p
 unfolding read_marks marks_from finished
 word-last w l bytes p some end = rw (drop_of_length-le bytes {i = p} end, not_zero w.digits some) refl
+
+-- ---- a whole line
+
+-- a line that begins with a word means the same where a word stands before it
+pub starts-plain : (l : Line) (bytes : List ℕ) → 0 < length bytes → begins_word_in Outside (get_or bytes 0 0) ≡ true
+    → rest_of Outside Start l bytes 0 ≡ rest_of Outside Between l bytes 0
+starts-plain l bytes some begins =
+    word-starts Start Start l l bytes 0 Outside some (begins-word Outside (get_or bytes 0 0) begins) (apart-finished Start l tt) tt
+
+-- at its end nothing more is said
+pub between-end : (l : Line) (bytes : List ℕ) (p : ℕ) → length bytes ≤ p → rest_of Outside Between l bytes p ≡ Ok l
+unfolding read_marks marks_from finished
+between-end l bytes p end = rw (drop_of_length-le bytes {i = p} end) refl

@@ -1,6 +1,7 @@
-ghost use Rattle.std.specs.Prelude.{◌≡◌, ◌<◌, ◌≤◌, ◌+◌, ◌^◌, length, OnOk, IfOk, IfErr, Ok, Err};
+ghost use Rattle.std.specs.Prelude.{◌≡◌, ◌<◌, ◌≤◌, ◌+◌, ◌^◌, length, slice_index, true, IsTrue, OnOk, IfOk, IfErr, Ok, Err};
 ghost use Rattle.mill_words.specs.Lines.{line_of, read_marks};
 ghost use Rattle.mill_words.specs.Marks.{end_marks};
+ghost use Rattle.mill_words.specs.declared.marks.Region.TheVariants.{Outside};
 ghost use Rattle.mill_words.specs.inner.Bounds.{FitsStage};
 ghost use Rattle.mill_words.specs.inner.Places.{rest_of, begins_word_in};
 
@@ -38,9 +39,42 @@ pub fn read_line_into(line: &[u8], words: &mut LineWords) -> Result<(), WordFaul
     ensures fault { IfErr result (λ f. line_of line.now ≡ Err f) }
 {
     words.clear();
+    if !begins_with_word(line) {
+        return read_bytes(line, 0, Stage::Start, words);
+    }
+    let behind = take_plain_words(line, 0, words);
+    if behind == line.len() {
+        return Ok(());
+    }
+    read_bytes(line, behind, Stage::Between, words)
+}
+
+// Whether the line begins with the letter of a word.
+fn begins_with_word(line: &[u8]) -> bool
+    ensures some { IsTrue result → 0 < length line.now }
+    ensures letter { IsTrue result → begins_word_in Outside (slice_index line.now 0) ≡ true }
+{
+    !line.is_empty() && begins_word(Region::Outside, line[0])
+}
+
+// Reads the line from a place on, outside comments, where this has begun. Most lines are plain words
+// alone, and don't come here.
+#[inline(never)]
+fn read_bytes(
+    line: &[u8],
+    from: usize,
+    begun: Stage,
+    words: &mut LineWords,
+) -> Result<(), WordFault>
+    requires small { length line.now < 2 ^ 32 }
+    requires within { from ≤ length line.now }
+    requires fits { FitsStage (length words.old.words) begun }
+    ensures ok { OnOk result (rest_of Outside begun words.old line.now from ≡ Ok words.new) }
+    ensures fault { IfErr result (λ f. rest_of Outside begun words.old line.now from ≡ Err f) }
+{
     let mut region = Region::Outside;
-    let mut stage = Stage::Start;
-    let mut place = 0;
+    let mut stage = begun;
+    let mut place = from;
     while place < line.len() {
         place = take_next(line, place, &mut region, &mut stage, words)?;
     }

@@ -68,7 +68,11 @@ fn take_plain_word(line: &[u8], place: usize, words: &mut LineWords) -> usize
         Some(end) => {
             words.push(Word {
                 letter,
-                num: number.num,
+                num: Num {
+                    neg: number.num.neg,
+                    mant: number.num.mant,
+                    scale: number.num.scale,
+                },
             });
             end
         }
@@ -117,9 +121,10 @@ fn number_at(line: &[u8], from: usize) -> PlainNumber
 {
     let neg = has_byte(line, from, b'-');
     let first = from + usize::from(neg);
-    let (whole, before) = digits_at(line, first, 0, 0);
+    let most = (line.len() - first).min(usize::from(MOST_DIGITS));
+    let (whole, before) = digits_at(line, first, 0, 0, most);
     let point = first + before;
-    if !has_byte(line, point, b'.') {
+    if before == most || line[point] != b'.' {
         return PlainNumber {
             num: Num {
                 neg,
@@ -131,7 +136,7 @@ fn number_at(line: &[u8], from: usize) -> PlainNumber
             end: point,
         };
     }
-    let (mant, behind) = digits_at(line, point + 1, whole, before);
+    let (mant, behind) = digits_at(line, point + 1, whole, before, most - before - 1);
     PlainNumber {
         num: Num {
             neg,
@@ -152,21 +157,19 @@ fn has_byte(line: &[u8], place: usize, byte: u8) -> bool
     place < line.len() && line[place] == byte
 }
 
-// The number of the digits at a place behind `before` digits that stand for `front`, and how many
-// they are: no more than a number may have.
-fn digits_at(line: &[u8], from: usize, front: u64, before: usize) -> (u64, usize)
-    requires within { from ≤ length line.now }
+// The number of the digits at a place, of which no more than `most` are looked at, behind `before`
+// digits that stand for `front`; and how many they are.
+fn digits_at(line: &[u8], from: usize, front: u64, before: usize, most: usize) -> (u64, usize)
+    requires within { from + most ≤ length line.now }
     requires front { front < 10 ^ before }
-    requires before { before ≤ 18 }
+    requires few { before + most ≤ 18 }
     ensures whole { (letter place : ℕ) (neg : Bool) (l : Line) → rest_of Outside (InWord (plain_word letter place neg front 0 before false)) l line.now from
         ≡ rest_of Outside (InWord (plain_word letter place neg result.0 0 (before + result.1) false)) l line.now (from + result.1) }
     ensures part { (letter place : ℕ) (neg : Bool) (l : Line) → rest_of Outside (InWord (plain_word letter place neg front 0 before true)) l line.now from
         ≡ rest_of Outside (InWord (plain_word letter place neg result.0 result.1 (before + result.1) true)) l line.now (from + result.1) }
     ensures bound { result.0 < 10 ^ (before + result.1) }
-    ensures few { before + result.1 ≤ 18 }
-    ensures within { from + result.1 ≤ length line.now }
+    ensures few { result.1 ≤ most }
 {
-    let most = (line.len() - from).min(usize::from(MOST_DIGITS) - before);
     let mut value = front;
     for count in 0..most {
         let byte = line[from + count];

@@ -16,7 +16,7 @@ loop-count-preserved c =
     let byte : ℕ = get_or c.args.line.now (c.args.from + c.loop-count.count) 0 in
     let digit : is_ascii_digit (get_or c.args.line.now (c.args.from + c.loop-count.count) 0) ≡ true = search rules in
     let here = digit_of (get_or c.args.line.now (c.args.from + c.loop-count.count) 0) digit in
-    let value : c.from-in-loop-count.result ≡ digit_value (get_or c.args.line.now (c.args.from + c.loop-count.count) 0) = omega (arith, here.1, c.from-in-loop-count.ensures) in
+    let value : c.from.result ≡ digit_value (get_or c.args.line.now (c.args.from + c.loop-count.count) 0) = omega (arith, here.1, c.from.ensures) in
     record {
       whole = λ letter place neg l.
           c.loop-count.invariant.whole letter place neg l
@@ -24,5 +24,5 @@ loop-count-preserved c =
       part = λ letter place neg l.
           c.loop-count.invariant.part letter place neg l
           ∙ rw value (part-next c.args.line.now c.args.from c.loop-count.count letter place neg c.loop-count.value c.args.before l (omega arith) here.0 (omega arith));
-      bound = one_more_of (c.args.before + c.loop-count.count) (c.args.before + (c.loop-count.count + 1)) c.loop-count.value c.from-in-loop-count.result (omega arith) c.loop-count.invariant.bound (omega (arith, value, here.0));
+      bound = one_more_of (c.args.before + c.loop-count.count) (c.args.before + (c.loop-count.count + 1)) c.loop-count.value c.from.result (omega arith) c.loop-count.invariant.bound (omega (arith, value, here.0));
     }

@@ -2,8 +2,8 @@ use Rattle.std.proofs.Common.{◌≡◌, ◌+◌, ◌∙◌, cond, arith, rules}
 use Rattle.mill_words.proofs.Places.{sign-at, point-at}
 use Rattle.mill_words.proofs.plain.number_at.Goals as goal
 
-pub returns-then-not-has_byte-clause-same : goal.returns-then-not-has_byte-clause-same
-returns-then-not-has_byte-clause-same c letter place l =
+pub returns-then-before-most-clause-same : goal.returns-then-before-most-clause-same
+returns-then-before-most-clause-same c letter place l =
     let sign : c.from.result ≡ cond c.has_byte-neg.result 1 0 = search rules in
     let none : 0 + c.digits_at-whole.result.1 ≡ c.digits_at-whole.result.1 = omega arith in
     rw sign (sign-at c.has_byte-neg.result c.args.line.now c.args.from letter place l c.has_byte-neg.ensures.within c.has_byte-neg.ensures.byte)
