@@ -114,7 +114,6 @@ impl Said {
     }
 
     // The same by the table.
-    #[inline(never)]
     fn take_any_word(&mut self, line: u64, positioned: bool, word: &Word) -> Result<(), NgcFault>
         requires said { FitsSaid self.old }
         requires word { FitsWord word.now }
