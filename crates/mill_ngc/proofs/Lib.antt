@@ -1,3 +1,4 @@
+mod Feeds
 mod LineLemmas
 mod SaidLemmas
 mod PercentLemmas

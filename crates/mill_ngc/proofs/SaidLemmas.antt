@@ -1,9 +1,11 @@
 -- The words of a line from left to right, as the reader's loop takes them.
-use Rattle.std.proofs.Common.{◌≡◌, ℕ, ◌+◌, ◌<◌, ◌≤◌, List, length, drop, get_or, Result, Ok, Err, Bool, refl, sym, ap, ◌∙◌, add-one, drop-cons}
+use Rattle.std.proofs.Common.{◌≡◌, ℕ, ◌+◌, ◌<◌, ◌≤◌, List, length, drop, get_or, Some, Result, Ok, Err, Bool, refl, sym, ap, ◌∙◌, add-one, drop-cons}
 use Rattle.std.proofs.Math.ListN.{drop_of_length-le}
 use Rattle.mill_words.specs.declared.word.Word.{Word}
 use Rattle.mill_ngc.specs.declared.fault.NgcFault.{NgcFault}
 use Rattle.mill_ngc.specs.declared.said.Said.{Said}
+use Rattle.mill_ngc.specs.declared.profile.Effect.TheVariants.{X, Y, Z}
+use Rattle.mill_ngc.specs.Profile.{entry_of, row}
 use Rattle.mill_ngc.specs.Said.{after_word, said_from, ◌>>=◌}
 
 -- the words behind one, after what that one says
@@ -37,3 +39,16 @@ unfolding said_from
 said_from-end line positioned words i s total le so_far =
     let one : said_from line positioned s (drop i words) ≡ Ok s = rw (drop_of_length-le words le) refl in
     sym so_far ∙ one
+
+-- the rows of the axis words, whose letters are 88, 89 and 90
+pub row-x : (w : Word) → w.letter ≡ 88 → entry_of w ≡ Some (row 0 X)
+unfolding entry_of
+row-x w e = rw e refl
+
+pub row-y : (w : Word) → w.letter ≡ 89 → entry_of w ≡ Some (row 0 Y)
+unfolding entry_of
+row-y w e = rw e refl
+
+pub row-z : (w : Word) → w.letter ≡ 90 → entry_of w ≡ Some (row 0 Z)
+unfolding entry_of
+row-z w e = rw e refl

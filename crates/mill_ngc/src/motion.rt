@@ -107,6 +107,7 @@ impl Progress {
 }
 
 // A coordinate of the move's end: the number of its axis, or that of the present point.
+#[inline(always)]
 fn coordinate(line: u64, here: i32, num: Option<Num>, unit: Unit) -> Result<i32, NgcFault>
     requires num { IfSome num (FitsNum 18) }
     requires here { Within (greatest_of unit) here }

@@ -26,6 +26,7 @@ pub(crate) fn whole_of(num: Num) -> Option<u64>
 }
 
 /// The units of an axis number, on this line.
+#[inline(always)]
 #[tactic(auto, unfolding(crate::specs::Numbers::axis_units))]
 pub(crate) fn units_of(line: u64, num: Num, unit: Unit) -> Result<i32, NgcFault>
     requires { FitsNum 18 num }
@@ -59,6 +60,9 @@ fn whole_units(num: Num, unit: Unit) -> u128
     ensures { result ≡ whole_units_of unit num }
 {
     let places = unit.places() as u8;
+    if num.scale == places {
+        return u128::from(num.mant);
+    }
     if num.scale <= places {
         return u128::from(num.mant) * u128::from(power(places - num.scale));
     }

@@ -49,9 +49,9 @@ pub(crate) struct Entry {
 
 /// The row of a word, if it is of the profile.
 #[tactic(auto, unfolding(crate::specs::Profile::entry_of))]
-pub(crate) fn entry_of(word: Word) -> Option<Entry>
-    requires { FitsWord word }
-    ensures { result ≡ entry_of_word word }
+pub(crate) fn entry_of(word: &Word) -> Option<Entry>
+    requires { FitsWord word.now }
+    ensures { result ≡ entry_of_word word.now }
 {
     match word.letter {
         b'G' => match whole_of(word.num) {
@@ -110,7 +110,8 @@ fn letter_entry(letter: u8) -> Option<Entry>
     }
 }
 
-fn row(group: u8, effect: Effect) -> Entry
+/// A row of the table.
+pub(crate) fn row(group: u8, effect: Effect) -> Entry
     ensures { result ≡ row_with group effect }
 {
     Entry { group, effect }

@@ -8,7 +8,7 @@ ghost use Rattle.mill_ngc.specs.inner.Bounds.{FitsSaid};
 
 use crate::fault::NgcFault;
 use crate::groups::{Group, Groups};
-use crate::profile::{Effect, Entry, Mode, entry_of};
+use crate::profile::{Effect, Entry, Mode, entry_of, row};
 use mill_words::{LineWords, Num, Word};
 
 /// What the words of a line have said so far.
@@ -90,17 +90,36 @@ impl Said {
             });
         }
         for word in words.words() {
-            self.take_word(line, positioned, *word)?;
+            self.take_word(line, positioned, word)?;
         }
         Ok(())
     }
 
-    fn take_word(&mut self, line: u64, positioned: bool, word: Word) -> Result<(), NgcFault>
+    // Takes the next word. Most words name a coordinate, and are taken without the table.
+    fn take_word(&mut self, line: u64, positioned: bool, word: &Word) -> Result<(), NgcFault>
         requires said { FitsSaid self.old }
-        requires word { FitsWord word }
+        requires word { FitsWord word.now }
         requires room { length self.old.groups < 32 }
-        ensures ok { OnOk result (after_word line positioned self.old word ≡ Ok self.new) }
-        ensures fault { IfErr result (λ f. after_word line positioned self.old word ≡ Err f) }
+        ensures ok { OnOk result (after_word line positioned self.old word.now ≡ Ok self.new) }
+        ensures fault { IfErr result (λ f. after_word line positioned self.old word.now ≡ Err f) }
+        ensures fits { OnOk result (FitsSaid self.new) }
+        ensures few { length self.new.groups ≤ length self.old.groups + 1 }
+    {
+        match word.letter {
+            b'X' => self.take_entry(line, positioned, word, row(0, Effect::X)),
+            b'Y' => self.take_entry(line, positioned, word, row(0, Effect::Y)),
+            b'Z' => self.take_entry(line, positioned, word, row(0, Effect::Z)),
+            _ => self.take_any_word(line, positioned, word),
+        }
+    }
+
+    // The same by the table.
+    fn take_any_word(&mut self, line: u64, positioned: bool, word: &Word) -> Result<(), NgcFault>
+        requires said { FitsSaid self.old }
+        requires word { FitsWord word.now }
+        requires room { length self.old.groups < 32 }
+        ensures ok { OnOk result (after_word line positioned self.old word.now ≡ Ok self.new) }
+        ensures fault { IfErr result (λ f. after_word line positioned self.old word.now ≡ Err f) }
         ensures fits { OnOk result (FitsSaid self.new) }
         ensures few { length self.new.groups ≤ length self.old.groups + 1 }
     {
@@ -114,19 +133,20 @@ impl Said {
         }
     }
 
+    #[inline(always)]
     #[tactic(auto, unfolding(crate::specs::Said::after_entry))]
     fn take_entry(
         &mut self,
         line: u64,
         positioned: bool,
-        word: Word,
+        word: &Word,
         entry: Entry,
     ) -> Result<(), NgcFault>
         requires said { FitsSaid self.old }
-        requires word { FitsWord word }
+        requires word { FitsWord word.now }
         requires room { length self.old.groups < 32 }
-        ensures ok { OnOk result (after_entry line positioned self.old word entry ≡ Ok self.new) }
-        ensures fault { IfErr result (λ f. after_entry line positioned self.old word entry ≡ Err f) }
+        ensures ok { OnOk result (after_entry line positioned self.old word.now entry ≡ Ok self.new) }
+        ensures fault { IfErr result (λ f. after_entry line positioned self.old word.now entry ≡ Err f) }
         ensures fits { OnOk result (FitsSaid self.new) }
         ensures few { length self.new.groups ≤ length self.old.groups + 1 }
     {
@@ -138,15 +158,15 @@ impl Said {
             number: entry.group,
         };
         take_group(&mut self.groups, line, group)?;
-        self.note(entry.effect, word.num);
+        self.note(entry.effect, &word.num);
         Ok(())
     }
 
     // Takes what a word of this effect says.
-    fn note(&mut self, effect: Effect, num: Num)
+    fn note(&mut self, effect: Effect, num: &Num)
         requires said { FitsSaid self.old }
-        requires num { FitsNum 18 num }
-        ensures value { self.new ≡ noted self.old effect num }
+        requires num { FitsNum 18 num.now }
+        ensures value { self.new ≡ noted self.old effect num.now }
         ensures fits { FitsSaid self.new }
         ensures same { self.new.groups ≡ self.old.groups }
     {
@@ -155,9 +175,9 @@ impl Said {
             Effect::Absolute => self.absolute = true,
             Effect::Millimetres => self.millimetres = true,
             Effect::End => self.ends = true,
-            Effect::X => self.x = Some(num),
-            Effect::Y => self.y = Some(num),
-            Effect::Z => self.z = Some(num),
+            Effect::X => self.x = Some(*num),
+            Effect::Y => self.y = Some(*num),
+            Effect::Z => self.z = Some(*num),
             _ => {}
         }
     }

@@ -70,7 +70,7 @@ more_text (s ∷ ss) = 32 ∷ (spelling s ++ more_text ss)
 -- ---- digits
 
 -- what a line says from the byte at the place p on, outside comments, where this has begun and that stands before it
-abbrev reading : Stage → Line → ℕ → List ℕ → Result Line WordFault
+abbrev pub reading : Stage → Line → ℕ → List ℕ → Result Line WordFault
 reading stage line p bytes = read_marks stage line (marks_from Outside p bytes)
 
 is_digit : (d : ℕ) → digit_value d < 10 → is_ascii_digit d ≡ true
@@ -89,7 +89,7 @@ has_room : (n : ℕ) → n < 18 → (n == 18) ≡ false
 has_room n h = grind (arith, nat_tests)
 
 -- a digit is added to the number
-digit-read : (w : OpenWord) (line : Line) (p d : ℕ) (bytes : List ℕ) → digit_value d < 10 → w.digits < 18
+pub digit-read : (w : OpenWord) (line : Line) (p d : ℕ) (bytes : List ℕ) → digit_value d < 10 → w.digits < 18
     → reading (InWord w) line p (d ∷ bytes) ≡ reading (InWord (with_digit w d)) line (p + 1) bytes
 unfolding read_marks marks_from grown_word
 digit-read w line p d bytes digit few =
@@ -147,12 +147,12 @@ after-append n (x ∷ xs) ys = after-append (n * 10 + digit_value x) xs ys
 not_zero : (n : ℕ) → 0 < n → (n == 0) ≡ false
 not_zero n h = grind (arith, nat_tests)
 
-point-read : (letter place : ℕ) (neg signed : Bool) (line : Line) (rest : List ℕ) (mant n p : ℕ)
+pub point-read : (letter place : ℕ) (neg signed : Bool) (line : Line) (rest : List ℕ) (mant n p : ℕ)
     → reading (InWord (whole_word letter place neg signed mant n)) line p (46 ∷ rest) ≡ reading (InWord (part_word letter place neg signed mant 0 n)) line (p + 1) rest
 unfolding read_marks marks_from grown_word
 point-read letter place neg signed line rest mant n p = refl
 
-sign-read : (letter place : ℕ) (line : Line) (rest : List ℕ) (p : ℕ)
+pub sign-read : (letter place : ℕ) (line : Line) (rest : List ℕ) (p : ℕ)
     → reading (InWord (opened_at letter place)) line p (45 ∷ rest) ≡ reading (InWord (whole_word letter place true true 0 0)) line (p + 1) rest
 unfolding read_marks marks_from grown_word
 sign-read letter place line rest p = refl

@@ -10,6 +10,7 @@ mod line;
 mod line_words;
 mod marks;
 mod open_word;
+mod plain;
 mod stage;
 #[cfg(test)]
 mod tests;

@@ -62,7 +62,8 @@ fn scan_inside(from: u32, byte: u8) -> (Region, Option<Mark>)
     (Region::Comment(from), None)
 }
 
-fn is_blank(byte: u8) -> bool
+/// Whether the byte is a space, a tab or a CR.
+pub(crate) fn is_blank(byte: u8) -> bool
     ensures { result ≡ is_blank_byte byte }
 {
     byte == b' ' || byte == b'\t' || byte == b'\r'

@@ -7,7 +7,7 @@ ghost use Rattle.mill_words.specs.inner.Bounds.{FitsOpenWord};
 use crate::word::{Num, WordFault};
 
 /// The most digits of a number.
-const MOST_DIGITS: u8 = 18;
+pub(crate) const MOST_DIGITS: u8 = 18;
 
 /// A word that has begun: its letter at a place, and what stands behind it so far.
 #[derive(Clone, Copy)]

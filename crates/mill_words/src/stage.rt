@@ -2,6 +2,7 @@
 ghost use Rattle.std.specs.Prelude.{◌≡◌, ◌<◌, ◌≤◌, length, IfOk, IfErr, OnOk, Ok, Err, false};
 ghost use Rattle.mill_words.specs.Lines.{grown, grown_number, grows, finished, started, started_word, started_front, begun, joined, taken};
 ghost use Rattle.mill_words.specs.inner.Bounds.{FitsStage};
+ghost use Rattle.mill_words.specs.inner.Places.{IsApart};
 
 use crate::line_words::{LineWords, MOST_WORDS};
 use crate::marks::Mark;
@@ -104,6 +105,7 @@ fn grow_number(place: u32, digits: &mut u8, byte: u8) -> Result<bool, WordFault>
 pub(crate) fn finish(stage: &mut Stage, words: &mut LineWords) -> Result<(), WordFault>
     requires { FitsStage (length words.old.words) stage.old }
     ensures ok { OnOk result (finished stage.old words.old ≡ Ok (stage.new, words.new)) }
+    ensures apart { OnOk result (IsApart stage.new) }
     ensures fits { OnOk result (FitsStage (length words.new.words) stage.new) }
     ensures fault { IfErr result (λ f. finished stage.old words.old ≡ Err f) }
 {

@@ -6,18 +6,19 @@ use thiserror::Error;
 ///
 /// So it is `mant / 10 ^ scale`, and with `neg` less than 0, or 0. `-12.50` has `neg`, `mant` 1250
 /// and `scale` 2.
+// The fields stand by falling size, so that words are small: they are copied often.
 #[derive(Clone, Copy, Debug, PartialEq, Eq)]
 pub struct Num {
-    pub neg: bool,
     pub mant: u64,
     pub scale: u8,
+    pub neg: bool,
 }
 
 /// A word (NISTIR 6556, 3.3.2): a letter in upper case, other than `N`, and its number.
 #[derive(Clone, Copy, Debug, PartialEq, Eq)]
 pub struct Word {
-    pub letter: u8,
     pub num: Num,
+    pub letter: u8,
 }
 
 /// The first fault of a line, with its place in the line, from 0.

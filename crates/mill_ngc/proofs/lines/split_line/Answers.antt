@@ -4,11 +4,11 @@ use Rattle.mill_ngc.proofs.LineLemmas.{behind, lines_of-first, lines_of-whole}
 use Rattle.mill_ngc.proofs.lines.split_line.Goals as goal
 
 pub returns-then-count-text-clause-lines : goal.returns-then-count-text-clause-lines
-returns-then-count-text-clause-lines c = lines_of-whole c.args.text.now c.length_before-count.result c.length_before-count.ensures.value (search rules)
+returns-then-count-text-clause-lines c = lines_of-whole c.args.text.now c.line_length-count.result c.line_length-count.ensures.value (search rules)
 
 pub returns-clause-lines : goal.returns-clause-lines
 returns-clause-lines c =
     let text = c.args.text.now in
-    let count = c.length_before-count.result in
-    lines_of-first text count c.length_before-count.ensures.value (omega (arith, c.length_before-count.ensures.within))
+    let count = c.line_length-count.result in
+    lines_of-first text count c.line_length-count.ensures.value (omega (arith, c.line_length-count.ensures.within))
     ∙ ap (λ rest. take count text ∷ lines_of rest) (sym (behind text (count + 1)))

@@ -1,32 +1,36 @@
-use Rattle.std.proofs.Common.{arith, rules, refl}
+use Rattle.std.proofs.Common.{◌≡◌, ℕ, List, refl, sym, ◌∙◌, arith, rules}
 use Rattle.mill_words.specs.Lines.{line_of}
-use Rattle.mill_words.proofs.Steps.{read_marks-next, read_marks-fault, read_marks-end}
+use Rattle.mill_words.specs.Words.{empty_line}
+use Rattle.mill_words.specs.declared.marks.Region.TheVariants.{Outside}
+use Rattle.mill_words.specs.declared.stage.Stage.TheVariants.{Start, Between}
+use Rattle.mill_words.specs.inner.Places.{rest_of}
+use Rattle.mill_words.proofs.Places.{starts-plain, between-end}
 use Rattle.mill_words.proofs.line.read_line_into.Goals as goal
 
-pub loop-byte-init : goal.loop-byte-init
+whole : (line : List ℕ) → rest_of Outside Start empty_line line 0 ≡ line_of line
 unfolding line_of
-loop-byte-init c = (rw c.clear.ensures refl, refl, tt)
+whole line = refl
 
-pub returns-in_err-take_mark-clause-fault : goal.returns-in_err-take_mark-clause-fault
-returns-in_err-take_mark-clause-fault c =
-    let told = read_marks-fault c.args.line.now c.loop-byte.byte-index c.loop-byte.region c.loop-byte.stage c.loop-byte.words c.loop-byte.place c.scan-next.result c.in_err-take_mark.field-0.0 (line_of c.args.line.now)
-    c.loop-byte-test.true c.scan-next.ensures c.in_err-take_mark.ensures.fault c.loop-byte.invariant.0 in
-    rw told (search rules)
+pub returns-then-not-begins_with_word-clause-ok : goal.returns-then-not-begins_with_word-clause-ok
+returns-then-not-begins_with_word-clause-ok c = rw (← whole c.args.line.now) (rw c.clear.ensures at c.read_bytes.ensures.ok)
 
-pub loop-byte-preserved : goal.loop-byte-preserved
-loop-byte-preserved c = (
-  read_marks-next c.args.line.now c.loop-byte.byte-index c.loop-byte.region c.loop-byte.stage c.take_mark.new.stage c.loop-byte.words c.take_mark.new.words c.loop-byte.place c.scan-next.result (line_of c.args.line.now)
-      c.loop-byte-test.true c.scan-next.ensures c.in_ok-take_mark.ensures.ok c.loop-byte.invariant.0,
-  omega arith,
-  c.in_ok-take_mark.ensures.fits,
-)
+pub returns-then-not-begins_with_word-clause-fault : goal.returns-then-not-begins_with_word-clause-fault
+returns-then-not-begins_with_word-clause-fault c = rw (← whole c.args.line.now) (rw c.clear.ensures at c.read_bytes.ensures.fault)
+
+pub returns-then-behind-line-clause-ok : goal.returns-then-behind-line-clause-ok
+returns-then-behind-line-clause-ok c =
+    let plain : rest_of Outside Between c.take_plain_words-behind.new.words c.args.line.now c.take_plain_words-behind.result ≡ line_of c.args.line.now
+    = c.take_plain_words-behind.ensures.same ∙ sym (starts-plain c.clear.new.self c.args.line.now (search rules) (search rules)) ∙ rw c.clear.ensures (whole c.args.line.now) in
+    sym plain ∙ between-end c.take_plain_words-behind.new.words c.args.line.now c.take_plain_words-behind.result (omega (arith, c.if-behind-line.true))
 
 pub returns-clause-ok : goal.returns-clause-ok
 returns-clause-ok c =
-    let whole = read_marks-end c.args.line.now c.loop-byte.byte-index c.loop-byte.region c.loop-byte.stage c.loop-byte.words c.loop-byte.place (line_of c.args.line.now) c.loop-byte-test.false c.loop-byte.invariant.0 in
-    rw whole c.end_line.ensures.ok
+    let plain : rest_of Outside Between c.take_plain_words-behind.new.words c.args.line.now c.take_plain_words-behind.result ≡ line_of c.args.line.now
+    = c.take_plain_words-behind.ensures.same ∙ sym (starts-plain c.clear.new.self c.args.line.now (search rules) (search rules)) ∙ rw c.clear.ensures (whole c.args.line.now) in
+    rw (← plain) c.read_bytes-2.ensures.ok
 
 pub returns-clause-fault : goal.returns-clause-fault
 returns-clause-fault c =
-    let whole = read_marks-end c.args.line.now c.loop-byte.byte-index c.loop-byte.region c.loop-byte.stage c.loop-byte.words c.loop-byte.place (line_of c.args.line.now) c.loop-byte-test.false c.loop-byte.invariant.0 in
-    rw whole c.end_line.ensures.fault
+    let plain : rest_of Outside Between c.take_plain_words-behind.new.words c.args.line.now c.take_plain_words-behind.result ≡ line_of c.args.line.now
+    = c.take_plain_words-behind.ensures.same ∙ sym (starts-plain c.clear.new.self c.args.line.now (search rules) (search rules)) ∙ rw c.clear.ensures (whole c.args.line.now) in
+    rw (← plain) c.read_bytes-2.ensures.fault

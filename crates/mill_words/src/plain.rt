@@ -1,0 +1,182 @@
+//! Plain words, which are read at once: a letter, a minus sign or none, digits, and a point with
+//! digits behind it or none.
+ghost use Rattle.std.specs.Prelude.{◌≡◌, ℕ, Bool, false, true, ◌<◌, ◌≤◌, ◌+◌, ◌^◌, length, slice_index, IfSome, IsTrue};
+ghost use Rattle.std.specs.Char.{is_ascii_alphabetic};
+ghost use Rattle.mill_words.specs.Lines.{opened_at};
+ghost use Rattle.mill_words.specs.Words.{Line, FitsNum};
+ghost use Rattle.mill_words.specs.declared.marks.Region.TheVariants.{Outside};
+ghost use Rattle.mill_words.specs.declared.stage.Stage.{Stage};
+ghost use Rattle.mill_words.specs.declared.stage.Stage.TheVariants.{Between, InWord};
+ghost use Rattle.mill_words.specs.inner.Places.{rest_of, plain_word, numbered_word, with_word};
+
+use crate::line_words::{LineWords, MOST_WORDS};
+use crate::marks::is_blank;
+use crate::open_word::{MOST_DIGITS, OpenWord};
+use crate::word::{Num, Word};
+
+/// A number as it is read at once.
+#[derive(Clone, Copy)]
+pub(crate) struct PlainNumber {
+    pub num: Num,
+    /// How many digits it has.
+    pub digits: usize,
+    pub pointed: bool,
+    /// The place behind it.
+    pub end: usize,
+}
+
+/// Takes the plain words that stand from a letter on, outside comments and where nothing has begun.
+/// The answer is the place behind them, which is the same where no such word stands there.
+// It is kept apart from the reading byte by byte, whose state would take its registers.
+#[inline(never)]
+pub(crate) fn take_plain_words(line: &[u8], from: usize, words: &mut LineWords) -> usize
+    requires within { from < length line.now }
+    requires letter { is_ascii_alphabetic (slice_index line.now from) ≡ true }
+    ensures same { rest_of Outside Between words.new line.now result ≡ rest_of Outside Between words.old line.now from }
+    ensures forward { from ≤ result }
+    ensures within { result ≤ length line.now }
+{
+    let mut place = from;
+    while place < line.len() {
+        let behind = take_plain_word(line, place, words);
+        if behind == place {
+            return place;
+        }
+        place = behind;
+    }
+    place
+}
+
+// The same for one word.
+fn take_plain_word(line: &[u8], place: usize, words: &mut LineWords) -> usize
+    requires within { place < length line.now }
+    requires letter { is_ascii_alphabetic (slice_index line.now place) ≡ true }
+    ensures same { rest_of Outside Between words.new line.now result ≡ rest_of Outside Between words.old line.now place }
+    ensures forward { place ≤ result }
+    ensures within { result ≤ length line.now }
+    ensures letter { result < length line.now → is_ascii_alphabetic (slice_index line.now result) ≡ true }
+{
+    let letter = line[place].to_ascii_uppercase();
+    if letter == b'N' || words.count() == MOST_WORDS {
+        return place;
+    }
+    let number = number_at(line, place + 1);
+    if number.digits == 0 {
+        return place;
+    }
+    match word_end(line, number.end) {
+        Some(end) => {
+            words.push(Word {
+                letter,
+                num: Num {
+                    neg: number.num.neg,
+                    mant: number.num.mant,
+                    scale: number.num.scale,
+                },
+            });
+            end
+        }
+        None => place,
+    }
+}
+
+// Where a word with digits ends: behind a blank or none, at the line's end or at a letter.
+fn word_end(line: &[u8], place: usize) -> Option<usize>
+    requires within { place ≤ length line.now }
+    ensures same { IfSome result (λ end. (w : OpenWord) (l : Line) → 0 < w.digits →
+        rest_of Outside (InWord w) l line.now place ≡ rest_of Outside Between (with_word w l) line.now end) }
+    ensures forward { IfSome result (λ end. place ≤ end) }
+    ensures within { IfSome result (λ end. end ≤ length line.now) }
+    ensures letter { IfSome result (λ end. end < length line.now → is_ascii_alphabetic (slice_index line.now end) ≡ true) }
+{
+    let end = behind_blank(line, place);
+    if end == line.len() || line[end].is_ascii_alphabetic() {
+        return Some(end);
+    }
+    None
+}
+
+// Behind the blank at a place, if one stands there.
+fn behind_blank(line: &[u8], place: usize) -> usize
+    requires within { place ≤ length line.now }
+    ensures same { (s : Stage) (l : Line) → rest_of Outside s l line.now place ≡ rest_of Outside s l line.now result }
+    ensures forward { place ≤ result }
+    ensures within { result ≤ length line.now }
+{
+    if place < line.len() && is_blank(line[place]) {
+        return place + 1;
+    }
+    place
+}
+
+// The number at a place, which may have no digits.
+fn number_at(line: &[u8], from: usize) -> PlainNumber
+    requires within { from ≤ length line.now }
+    ensures same { (letter place : ℕ) (l : Line) → rest_of Outside (InWord (opened_at letter place)) l line.now from
+        ≡ rest_of Outside (InWord (numbered_word letter place result)) l line.now result.end }
+    ensures few { result.digits ≤ 18 }
+    ensures fits { FitsNum result.digits result.num }
+    ensures forward { from ≤ result.end }
+    ensures within { result.end ≤ length line.now }
+{
+    let neg = has_byte(line, from, b'-');
+    let first = from + usize::from(neg);
+    let most = (line.len() - first).min(usize::from(MOST_DIGITS));
+    let (whole, before) = digits_at(line, first, 0, 0, most);
+    let point = first + before;
+    if before == most || line[point] != b'.' {
+        return PlainNumber {
+            num: Num {
+                neg,
+                mant: whole,
+                scale: 0,
+            },
+            digits: before,
+            pointed: false,
+            end: point,
+        };
+    }
+    let (mant, behind) = digits_at(line, point + 1, whole, before, most - before - 1);
+    PlainNumber {
+        num: Num {
+            neg,
+            mant,
+            scale: behind as u8,
+        },
+        digits: before + behind,
+        pointed: true,
+        end: point + 1 + behind,
+    }
+}
+
+fn has_byte(line: &[u8], place: usize, byte: u8) -> bool
+    requires within { place ≤ length line.now }
+    ensures within { IsTrue result → place < length line.now }
+    ensures byte { IsTrue result → slice_index line.now place ≡ byte }
+{
+    place < line.len() && line[place] == byte
+}
+
+// The number of the digits at a place, of which no more than `most` are looked at, behind `before`
+// digits that stand for `front`; and how many they are.
+fn digits_at(line: &[u8], from: usize, front: u64, before: usize, most: usize) -> (u64, usize)
+    requires within { from + most ≤ length line.now }
+    requires front { front < 10 ^ before }
+    requires few { before + most ≤ 18 }
+    ensures whole { (letter place : ℕ) (neg : Bool) (l : Line) → rest_of Outside (InWord (plain_word letter place neg front 0 before false)) l line.now from
+        ≡ rest_of Outside (InWord (plain_word letter place neg result.0 0 (before + result.1) false)) l line.now (from + result.1) }
+    ensures part { (letter place : ℕ) (neg : Bool) (l : Line) → rest_of Outside (InWord (plain_word letter place neg front 0 before true)) l line.now from
+        ≡ rest_of Outside (InWord (plain_word letter place neg result.0 result.1 (before + result.1) true)) l line.now (from + result.1) }
+    ensures bound { result.0 < 10 ^ (before + result.1) }
+    ensures few { result.1 ≤ most }
+{
+    let mut value = front;
+    for count in 0..most {
+        let byte = line[from + count];
+        if !byte.is_ascii_digit() {
+            return (value, count);
+        }
+        value = 10 * value + u64::from(byte - b'0');
+    }
+    (value, most)
+}
