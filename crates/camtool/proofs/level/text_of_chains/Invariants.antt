@@ -5,4 +5,4 @@ use Rattle.camtool.specs.Level.{outline_text}
 use Rattle.camtool.proofs.level.text_of_chains.Given as goal
 
 abbrev pub invariant-loop-chain : goal.invariant-loop-chain
-invariant-loop-chain l = l.text.items ≡ flat_map (λ chain. outline_text (seen chain)) (take l.chain-index l.chains)
+invariant-loop-chain l = l.text.items ≡ flat_map (λ chain. outline_text l.unit (seen chain)) (take l.chain-index l.chains)
