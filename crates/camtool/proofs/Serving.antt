@@ -165,6 +165,9 @@ level_serves job part z call j height s read words under loads (inr m) =
 
 -- ---- words
 
+same_view : (view : StoreView) → ReadsOnly view view
+same_view view = record { contents = λ name. refl; tells = refl; write_faults = refl }
+
 pub served_outcome : (words : List (List ℕ)) (asked : Request) (call : Call) → request words ≡ Some asked → Serves asked call → HasOutcome words call
 served_outcome words asked call taken s = record { outcome = s.outcome; is = of_words s.outcome s.is; shows = s.shows }
   where

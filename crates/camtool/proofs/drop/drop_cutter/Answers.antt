@@ -1,4 +1,4 @@
-use Rattle.std.proofs.Common.{◌≡◌, ℕ, List, Option, Result, refl, subst}
+use Rattle.std.proofs.Common.{ℕ, List, Option, Result, refl, subst}
 use Rattle.std.specs.Prelude.{Ok, Err}
 use Rattle.mill_command.specs.Requests.{drop}
 use Rattle.camtool.specs.declared.load.LoadFault.{LoadFault}

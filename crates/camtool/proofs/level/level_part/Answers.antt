@@ -1,4 +1,4 @@
-use Rattle.std.proofs.Common.{◌≡◌, ℕ, List, Option, Result, refl, rules, subst, w32}
+use Rattle.std.proofs.Common.{ℕ, List, Option, Result, refl, rules, subst, w32}
 use Rattle.std.specs.Prelude.{Ok, Err, FitsSigned}
 use Rattle.std.proofs.lemmas.Int.{to_z-of_z}
 use Rattle.mill_command.specs.Requests.{level}
