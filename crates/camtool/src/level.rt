@@ -64,7 +64,11 @@ fn tell_level<O: Sink>(alloc: Global, setup: &Setup, height: i32, out: &mut O) -
     ensures { TriesLevel setup.now height (status_code result) (O.shows out.old) (O.shows out.new) }
 {
     match chains_at(alloc, setup, height) {
-        Ok(chains) => tell_made(text_of_chains(alloc, &chains, setup.job.unit), Status::Done, out),
+        Ok(chains) => tell_made(
+            text_of_chains(alloc, &chains, setup.job.unit),
+            Status::Done,
+            out,
+        ),
         Err(LevelFault::TooManyNodes { nodes }) => {
             tell_made(line_of_nodes(alloc, nodes), Status::TooLarge, out)
         }

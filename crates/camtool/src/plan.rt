@@ -92,12 +92,7 @@ fn store_plan<S: Shelf, O: Sink>(
 }
 
 /// Prints why there is no program.
-pub fn tell_plan_fault<O: Sink>(
-    alloc: Global,
-    fault: PlanFault,
-    unit: Unit,
-    out: &mut O,
-) -> Status
+pub fn tell_plan_fault<O: Sink>(alloc: Global, fault: PlanFault, unit: Unit, out: &mut O) -> Status
     requires { (O.shows out.old).faults < 2 ^ 64 - 1 }
     ensures { PrintsPlanFault unit fault (status_code result) (O.shows out.old) (O.shows out.new) }
 {
@@ -107,7 +102,11 @@ pub fn tell_plan_fault<O: Sink>(
         }
         PlanFault::TooManyMoves => tell(out, b"over moves\n", Status::TooLarge),
         PlanFault::Uncut { row, col, top } => {
-            tell_made(line_of_uncut(alloc, row, col, top, unit), Status::Uncut, out)
+            tell_made(
+                line_of_uncut(alloc, row, col, top, unit),
+                Status::Uncut,
+                out,
+            )
         }
         PlanFault::WantOfMemory => tell(out, b"out of memory\n", Status::Memory),
     }

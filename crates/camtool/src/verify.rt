@@ -143,9 +143,7 @@ fn line_of_verdict(
             most_left,
         } => line_of_acceptance(alloc, job, moves, count, columns, most_left),
         Verdict::Reject(Reason::Floor { at }) => line_of_floor(alloc, moves, at, job.unit),
-        Verdict::Reject(Reason::Gouge { at, tri, leaf }) => {
-            line_of_gouge(alloc, at, tri, leaf)
-        }
+        Verdict::Reject(Reason::Gouge { at, tri, leaf }) => { line_of_gouge(alloc, at, tri, leaf) }
         Verdict::Reject(Reason::Rapid { at, row, col, leaf }) => {
             line_of_rapid(alloc, at, row, col, leaf)
         }
@@ -206,12 +204,7 @@ fn line_of_floor(
     Ok(line)
 }
 
-fn line_of_gouge(
-    alloc: Global,
-    at: u64,
-    tri: u32,
-    leaf: Leaf,
-) -> Result<Vec<u8>, WantOfMemory>
+fn line_of_gouge(alloc: Global, at: u64, tri: u32, leaf: Leaf) -> Result<Vec<u8>, WantOfMemory>
     ensures { IfOk result (λ line. line.items ≡ gouge_line at tri leaf) }
 {
     let mut line = Vec::new(alloc);

@@ -1,7 +1,9 @@
 // `drop`: the line and the status of each answer.
 use crate::run::run;
 use crate::status::Status;
-use crate::tests::{BALL_JOB, CORNER, EMPTY, HIGH, JOB, PEAK, PLATE, THOUSANDTHS_JOB, WIDE_JOB, store, words};
+use crate::tests::{
+    BALL_JOB, CORNER, EMPTY, HIGH, JOB, PEAK, PLATE, THOUSANDTHS_JOB, WIDE_JOB, store, words,
+};
 use mill_io::MemSink;
 use std::test::Fail;
 

@@ -11,9 +11,13 @@ use std::test::Fail;
 use std::thread::Threads;
 
 const VERIFY: &[&str] = &["verify", "job", "part", "program"];
+
 const PLAN: &[&str] = &["plan", "job", "part", "out"];
+
 const DROP: &[&str] = &["drop", "job", "part", "--x=1", "--y=1"];
+
 const LEVEL: &[&str] = &["level", "job", "part", "--z=0"];
+
 const SAMPLE: &[&str] = &["sample", "1"];
 
 // What OUT holds before each call.

@@ -1,14 +1,15 @@
 // `level`: the text and the status of each answer.
 use crate::run::run;
 use crate::status::Status;
-use crate::tests::{CORNER, EMPTY, FINE_JOB, HIGH, JOB, PEAK, POINT, THOUSANDTHS_JOB, WIDE_JOB, store, words};
+use crate::tests::{
+    CORNER, EMPTY, FINE_JOB, HIGH, JOB, PEAK, POINT, THOUSANDTHS_JOB, WIDE_JOB, store, words,
+};
 use mill_io::MemSink;
 use std::test::Fail;
 
 const ROUND: &[u8] = b"closed 4\n4.00 5.00\n5.00 4.00\n6.00 5.00\n5.00 6.00\nchains 1\n";
 
-const FINE: &[u8] =
-    b"open 4\n1.500 0.000\n1.119 1.000\n1.000 1.119\n0.000 1.500\nchains 1\n";
+const FINE: &[u8] = b"open 4\n1.500 0.000\n1.119 1.000\n1.000 1.119\n0.000 1.500\nchains 1\n";
 
 #[test]
 fn goes_round_the_part(rt: HostRuntime) -> Result<(), Fail> {
