@@ -56,6 +56,7 @@ sample_job n = record {
   rough_stock = pos 0;
   levels = [];
   snap = Nearest;
+  max_cut = pos 0;
 }
 
 -- ---- the answers

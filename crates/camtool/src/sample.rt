@@ -224,6 +224,7 @@ fn sample_job(size: u32) -> Job
         rough_stock: 0,
         levels: Levels::NONE,
         snap: Snap::Nearest,
+        max_cut: 0,
     }
 }
 

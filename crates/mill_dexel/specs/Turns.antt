@@ -1,10 +1,10 @@
--- A row through the moves of a program, one turn a move: a rapid is tested first, and what passes cuts.
+-- A row through the moves of a program, one turn a move: the move is tested first, and what passes cuts.
 use Rattle.std.specs.Prelude.{◌≡◌, ℕ, ◌+◌, ◌<◌, ◌≤◌, ℤ, pos, List, length, fold, Option, Some, None, MatchOption, slice_index_or, slice_range}
 use Rattle.mill_base.specs.Points.{point_at}
 use Rattle.mill_base.specs.declared.motion.Move.{Move}
-use Rattle.mill_base.specs.declared.motion.Kind.TheVariants.{Rapid, Feed}
+use Rattle.mill_base.specs.declared.motion.Kind.TheVariants.{Feed}
 use Rattle.mill_job.specs.declared.job.Job.{Job}
-use Rattle.mill_dexel.specs.Tops.{tops_after_move}
+use Rattle.mill_dexel.specs.Tops.{IsTested, tops_after_move}
 use Rattle.mill_dexel.specs.Rows.{RowState, PassesRow, IsFirstStop, IsColumnBlocked}
 use Rattle.mill_dexel.specs.declared.fail.RowFail.{RowFail}
 
@@ -12,20 +12,20 @@ use Rattle.mill_dexel.specs.declared.fail.RowFail.{RowFail}
 abbrev pub move_at : List Move → ℕ → Move
 move_at moves k = slice_index_or moves k (record { kind = Feed; from = point_at (pos 0) (pos 0) (pos 0); to = point_at (pos 0) (pos 0) (pos 0) })
 
--- the test of a move by a row: where it is a rapid, it passes each column
+-- the test of a move by a row: it passes each column, a rapid at the column's top, and a feed, if the depth of cut is limited, as low as it may cut
 abbrev pub ClearsRow : Job → RowState → Move → Type 0
-ClearsRow job r m = m.kind ≡ Rapid → PassesRow job r m
+ClearsRow job r m = IsTested job m.kind → PassesRow job m.kind r m
 
 -- the row after its next move, which passed
 abbrev pub turned : Job → Move → RowState → RowState
 turned job m r = record r { tops = tops_after_move job r.row 0 m r.tops; done = r.done + 1 }
 
--- the row's next move is a rapid, and the failure names it, the first column that it doesn't pass, and the segment, which that column blocks
+-- the row's next move is tested, and the failure names it, the first column that it doesn't pass, and the segment, which that column blocks
 pub record StopsRow (job : Job) (r : RowState) (m : Move) (fail : RowFail) : Type 0 where
-  pub rapid : m.kind ≡ Rapid
+  pub tested : IsTested job m.kind
   pub move : fail.at ≡ r.done
-  pub column : IsFirstStop job r m fail.col fail.leaf
-  pub blocked : IsColumnBlocked job r m fail.col fail.leaf
+  pub column : IsFirstStop job m.kind r m fail.col fail.leaf
+  pub blocked : IsColumnBlocked job m.kind r m fail.col fail.leaf
 
 -- the row's next move was stopped: the failure is noted, and the rest is as it was
 pub record IsRowStopped (job : Job) (m : Move) (old new : RowState) : Type 0 where

@@ -1,6 +1,6 @@
 use mill_sweep::Leaf;
 
-/// Where a rapid would have cut a row of the stock.
+/// Where a rapid would have cut a row of the stock, or a feed too deep into it.
 #[derive(Clone, Copy, Debug, PartialEq, Eq)]
 pub struct RowFail {
     /// The number of the move, from 0 on.

@@ -2,13 +2,13 @@
 //!
 //! It stands on `mill_shape`, `mill_sweep` and `mill_job`. Definitions: `specs/Samples` says where
 //! a move is sampled and by which cutter, `specs/Tops` what a column's top is after a list of moves,
-//! `specs/Rows` what a row is and where a rapid stops at it, `specs/Turns` what becomes of a row in a
+//! `specs/Rows` what a row is and where a move stops at it, `specs/Turns` what becomes of a row in a
 //! program, `specs/Laws` what a top implies.
 //!
 //! Most moves do nothing to most rows, and that is seen early. A row goes over a band of moves at
 //! once where all of them stay far away from it (`Row::go_over`), leaves out a move's first sample
 //! where the move before has cut it there (`Row::turn_on`), and looks only at its columns inside the
-//! circle of a sample (`specs/Cuts`), and at a rapid at those within the radius and 2.
+//! circle of a sample (`specs/Cuts`), and at a move that is tested at those within the radius and 2.
 #![tactic(auto)]
 
 mod band;
@@ -27,7 +27,9 @@ mod turns;
 
 pub use bands::Bands;
 pub use fail::RowFail;
-pub use laws::{cut_at_end, over_top_is_removed, passes_after_cut};
+pub use laws::{
+    cut_at_end, over_top_is_removed, passed_is_left, passes_after_cut, passes_limit_after_cut,
+};
 pub use row::Row;
 pub use rows::{rows_static, share};
 pub use turns::one_outcome;

@@ -1,12 +1,12 @@
-ghost use Rattle.std.specs.Prelude.{◌≡◌, ℕ, ◌-◌, ◌<◌, ◌≤◌, false, length, None, Some, IfOk, IfSome, IsTrue, MatchOption};
+ghost use Rattle.std.specs.Prelude.{◌≡◌, ℕ, ◌-◌, ◌<◌, ◌≤◌, ◌≤ℤ◌, false, length, None, Some, IfOk, IfSome, IsTrue, MatchOption};
 ghost use Rattle.mill_base.specs.Ranges.{MoveInRange, MovesInRange};
-ghost use Rattle.mill_base.specs.declared.motion.Kind.TheVariants.{Rapid};
+ghost use Rattle.mill_base.specs.declared.motion.Kind.TheVariants.{Rapid, Feed};
 ghost use Rattle.mill_job.specs.Columns.{row_count, column_count};
-ghost use Rattle.mill_job.specs.Jobs.{IsJob};
+ghost use Rattle.mill_job.specs.Jobs.{IsFrom, IsJob};
 ghost use Rattle.mill_dexel.specs.inner.Passing.{PassesOver};
 ghost use Rattle.mill_dexel.specs.inner.Readiness.{IsNext};
 ghost use Rattle.mill_dexel.specs.Cuts.{IsCutAt};
-ghost use Rattle.mill_dexel.specs.Tops.{tops_after_move};
+ghost use Rattle.mill_dexel.specs.Tops.{IsTested, tested_height as tested_height_of, tops_after_move};
 ghost use Rattle.mill_dexel.specs.Rows.{IsRowOf, PassesRow, IsFirstStop, IsColumnBlocked, row_point, uncut_row, uncut_tri};
 ghost use Rattle.mill_dexel.specs.Turns.{ClearsRow, IsRowStopped, StopsRow, move_at, row_before, turned};
 
@@ -22,7 +22,8 @@ use std::alloc::Global;
 use std::marker::Model;
 
 /// A row of the stock's columns: for each, the height up to which it is still there, in units. It goes
-/// through the moves of a program one by one, up to a rapid that would cut it.
+/// through the moves of a program one by one, up to a rapid that would cut it, or a feed that would cut too
+/// deep.
 #[derive(Drop)]
 pub struct Row {
     number: u32,
@@ -77,27 +78,36 @@ impl Row {
         self.failed
     }
 
-    /// The first column that the move doesn't pass at every moment, with the segment of the move at
+    /// The first column whose top the move doesn't pass at every moment, with the segment of the move at
     /// which the test fails; none where it passes them all.
     pub fn rapid_turn(&self, job: &Job, step: &Move) -> Option<(u32, Leaf)>
         requires job { IsJob job.now }
         requires row { IsRowOf job.now self.now }
         requires step { MoveInRange step.now }
-        ensures first { MatchOption result (PassesRow job.now self.now step.now) (λ s. IsFirstStop job.now self.now step.now s.0 s.1) }
-        ensures blocked { IfSome result (λ s. IsColumnBlocked job.now self.now step.now s.0 s.1) }
+        ensures first { MatchOption result (PassesRow job.now Rapid self.now step.now) (λ s. IsFirstStop job.now Rapid self.now step.now s.0 s.1) }
+        ensures blocked { IfSome result (λ s. IsColumnBlocked job.now Rapid self.now step.now s.0 s.1) }
     {
-        if self.is_passed_uncut(job, step) {
+        self.first_stop(job, Kind::Rapid, step)
+    }
+
+    /// The first column in which the move, as a feed, would cut too deep, with the segment of the move at
+    /// which the test fails; none where it does so in no column, or the job doesn't limit the depth.
+    ///
+    /// A feed may remove no point that lies the job's `max_cut` or more under the column's top. So it
+    /// has to pass the point as far under the top as that, or the one at the floor where that is higher.
+    pub fn cut_test(&self, job: &Job, step: &Move) -> Option<(u32, Leaf)>
+        requires job { IsJob job.now }
+        requires row { IsRowOf job.now self.now }
+        requires step { MoveInRange step.now }
+        ensures none { result ≡ None → IsTested job.now Feed → PassesRow job.now Feed self.now step.now }
+        ensures tested { IfSome result (λ s. IsTested job.now Feed) }
+        ensures first { IfSome result (λ s. IsFirstStop job.now Feed self.now step.now s.0 s.1) }
+        ensures blocked { IfSome result (λ s. IsColumnBlocked job.now Feed self.now step.now s.0 s.1) }
+    {
+        if job.max_cut == 0 {
             return None;
         }
-        let reach = reach_of(job, step.from, step.to);
-        let sweep = Sweep::new(job.cutter, step);
-        for column in reach.first..reach.end {
-            let top = self.top_point(job, column);
-            if let Some(leaf) = sweep.first_block_point(top) {
-                return Some((column, leaf));
-            }
-        }
-        None
+        self.first_stop(job, Kind::Feed, step)
     }
 
     /// Lowers the tops to what the cutter leaves after the move.
@@ -111,9 +121,9 @@ impl Row {
         self.cut_after(job, step, None);
     }
 
-    /// The turn of move `t`, the row's next one, in a row that hasn't failed. A rapid is tested
-    /// first. A move that passes cuts, and the answer is true; where one fails, that is noted, nothing
-    /// is cut, and the answer is false.
+    /// The turn of move `t`, the row's next one, in a row that hasn't failed. A rapid is tested first, and
+    /// a feed where the job limits the depth of cut. A move that passes cuts, and the answer is true;
+    /// where one fails, that is noted, nothing is cut, and the answer is false.
     pub fn turn(&mut self, job: &Job, moves: &[Move], t: u64) -> bool
         requires job { IsJob job.now }
         requires moves_ok { MovesInRange moves.now }
@@ -236,28 +246,17 @@ impl Row {
         cut_move(&mut self.tops, job, number, step, last);
     }
 
-    /// The failure of the next move, where the row stops it: a rapid is tested, a feed never.
+    /// The failure of the next move, where the row stops it.
     fn stop(&self, job: &Job, step: &Move) -> Option<RowFail>
         requires job { IsJob job.now }
         requires row { IsRowOf job.now self.now }
         requires step { MoveInRange step.now }
         ensures { MatchOption result (ClearsRow job.now self.now step.now) (StopsRow job.now self.now step.now) }
     {
-        match step.kind {
-            Kind::Rapid => self.rapid_stop(job, step),
-            Kind::Feed => None,
-        }
-    }
-
-    /// The failure of the next move, where it is a rapid that doesn't pass the row.
-    fn rapid_stop(&self, job: &Job, step: &Move) -> Option<RowFail>
-        requires job { IsJob job.now }
-        requires row { IsRowOf job.now self.now }
-        requires step { MoveInRange step.now }
-        requires rapid { step.now.kind ≡ Rapid }
-        ensures { MatchOption result (ClearsRow job.now self.now step.now) (StopsRow job.now self.now step.now) }
-    {
-        let (col, leaf) = self.rapid_turn(job, step)?;
+        let (col, leaf) = match step.kind {
+            Kind::Rapid => self.rapid_turn(job, step)?,
+            Kind::Feed => self.cut_test(job, step)?,
+        };
         Some(RowFail {
             at: self.done,
             col,
@@ -265,32 +264,56 @@ impl Row {
         })
     }
 
-    /// Whether the move passes even the uncut row, and so every column of this one. Most moves are far
-    /// away in y, and that is seen first.
-    fn is_passed_uncut(&self, job: &Job, step: &Move) -> bool
+    /// The first column that the move doesn't pass at every moment, at the point at which one of this
+    /// kind is tested, with the segment of the move at which the test fails; none where it passes them
+    /// all.
+    fn first_stop(&self, job: &Job, kind: Kind, step: &Move) -> Option<(u32, Leaf)>
         requires job { IsJob job.now }
         requires row { IsRowOf job.now self.now }
         requires step { MoveInRange step.now }
-        ensures { IsTrue result → PassesRow job.now self.now step.now }
+        ensures first { MatchOption result (PassesRow job.now kind self.now step.now) (λ s. IsFirstStop job.now kind self.now step.now s.0 s.1) }
+        ensures blocked { IfSome result (λ s. IsColumnBlocked job.now kind self.now step.now s.0 s.1) }
+    {
+        if self.is_passed_uncut(job, kind, step) {
+            return None;
+        }
+        let reach = reach_of(job, step.from, step.to);
+        let sweep = Sweep::new(job.cutter, step);
+        for column in reach.first..reach.end {
+            let point = self.tested_point(job, kind, column);
+            if let Some(leaf) = sweep.first_block_point(point) {
+                return Some((column, leaf));
+            }
+        }
+        None
+    }
+
+    /// Whether the move passes even the uncut row, and so every column of this one. Most moves are far
+    /// away in y, and that is seen first.
+    fn is_passed_uncut(&self, job: &Job, kind: Kind, step: &Move) -> bool
+        requires job { IsJob job.now }
+        requires row { IsRowOf job.now self.now }
+        requires step { MoveInRange step.now }
+        ensures { IsTrue result → PassesRow job.now kind self.now step.now }
     {
         let y = job.row_y(self.number);
         if is_apart(job, y, step.from.y, step.to.y) {
             return true;
         }
-        passes_tri(job.cutter, step, &uncut_triangle(job, self.number))
+        passes_tri(job.cutter, step, &uncut_triangle(job, kind, self.number))
     }
 
-    /// The point at the top of a column.
-    fn top_point(&self, job: &Job, column: u32) -> Pt3
+    /// The point of a column at which a move of this kind is tested.
+    fn tested_point(&self, job: &Job, kind: Kind, column: u32) -> Pt3
         requires job { IsJob job.now }
         requires row { IsRowOf job.now self.now }
         requires column { column < column_count job.now }
-        ensures { result ≡ row_point job.now self.now column }
+        ensures { result ≡ row_point job.now kind self.now column }
     {
         Pt3 {
             x: job.column_x(column),
             y: job.row_y(self.number),
-            z: self.tops[column as usize],
+            z: tested_height(job, kind, self.tops[column as usize]),
         }
     }
 }
@@ -307,22 +330,38 @@ fn end_before(moves: &[Move], t: u64) -> Option<Pt3>
     Some(moves[(t - 1) as usize].to)
 }
 
-/// The uncut row as a flat triangle.
-fn uncut_triangle(job: &Job, number: u32) -> Tri
+/// The height at which a move of this kind is tested at a column with this top: a rapid at the top, and a
+/// feed as far under it as it may cut, or at the floor where that is higher.
+fn tested_height(job: &Job, kind: Kind, top: i32) -> i32
+    requires job { IsJob job.now }
+    requires top { IsFrom job.now.floor job.now.top top }
+    ensures value { result ≡ tested_height_of job.now kind top }
+    ensures low { job.now.floor ≤ℤ result }
+    ensures high { result ≤ℤ top }
+{
+    match kind {
+        Kind::Rapid => top,
+        Kind::Feed => job.floor.max(top - job.max_cut),
+    }
+}
+
+/// The points of the uncut row at which a move of this kind is tested, as a flat triangle.
+fn uncut_triangle(job: &Job, kind: Kind, number: u32) -> Tri
     requires job { IsJob job.now }
     requires row { number < row_count job.now }
-    ensures { result ≡ uncut_tri job.now number }
+    ensures { result ≡ uncut_tri job.now kind number }
 {
     let y = job.row_y(number);
+    let z = tested_height(job, kind, job.top);
     let west = Pt3 {
         x: job.area.x0,
         y,
-        z: job.top,
+        z,
     };
     let east = Pt3 {
         x: job.area.x1,
         y,
-        z: job.top,
+        z,
     };
     Tri {
         a: west,

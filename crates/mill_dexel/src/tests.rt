@@ -41,6 +41,7 @@ fn three_columns() -> Job
         rough_stock: 0,
         levels: Levels::NONE,
         snap: Snap::Nearest,
+        max_cut: 0,
     }
 }
 
@@ -119,6 +120,7 @@ fn long_row(cutter: Cutter) -> Job
         rough_stock: 0,
         levels: Levels::NONE,
         snap: Snap::Nearest,
+        max_cut: 0,
     }
 }
 
@@ -234,6 +236,7 @@ fn whole_range(cutter: Cutter) -> Job
         rough_stock: 0,
         levels: Levels::NONE,
         snap: Snap::Nearest,
+        max_cut: 0,
     }
 }
 

@@ -99,6 +99,7 @@ job_with unit ms = record {
   rough_stock = number_or key.RoughStock (pos 0) ms;
   levels = levels_of (numbers_at key.Levels ms);
   snap = snap_of ms;
+  max_cut = number_or key.MaxCut (pos 0) ms;
 }
 
 -- the same in the document's unit

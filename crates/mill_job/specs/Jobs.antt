@@ -57,3 +57,4 @@ pub record IsJob (job : Job) : Type 0 where
   pub rough_stock_ok : IsFrom (pos 0) MAX_DISTANCE job.rough_stock
   pub layers : HasFewLayers job
   pub levels_ok : AreLevels job.floor job.top job.levels
+  pub max_cut_ok : IsFrom (pos 0) (pos (greatest_of job.unit)) job.max_cut

@@ -56,6 +56,9 @@ pub struct Job {
     pub levels: Levels,
     /// How coordinates of the part that are finer than a unit are taken.
     pub snap: Snap,
+    /// How deep a feed may cut at a time: it removes no point of a column that lies this much or more
+    /// under the column's top. From 0 to the unit's greatest coordinate; 0 means no limit.
+    pub max_cut: i32,
 }
 
 impl Job {

@@ -27,6 +27,7 @@ pub enum Key {
     RoughStock,
     Levels,
     Snap,
+    MaxCut,
 }
 
 impl Key {
@@ -56,6 +57,7 @@ impl Key {
             Key::RoughStock => "rough_stock",
             Key::Levels => "levels",
             Key::Snap => "snap",
+            Key::MaxCut => "max_cut",
         }
     }
 }

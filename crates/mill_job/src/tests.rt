@@ -66,6 +66,7 @@ const JOB: Job = Job {
     rough_stock: 0,
     levels: Levels::NONE,
     snap: Snap::Nearest,
+    max_cut: 0,
 };
 
 #[test]

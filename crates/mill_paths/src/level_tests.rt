@@ -41,6 +41,7 @@ fn job(radius: i32, raster: i32, levels: Levels) -> Job
         rough_stock: 0,
         levels,
         snap: Snap::Nearest,
+        max_cut: 0,
     }
 }
 

@@ -36,6 +36,7 @@ fn job() -> Job
         rough_stock: 0,
         levels: Levels::NONE,
         snap: Snap::Nearest,
+        max_cut: 0,
     }
 }
 

@@ -41,6 +41,7 @@ fn block_job(layer: i32, lift: i32) -> Job
         rough_stock: 0,
         levels: Levels::NONE,
         snap: Snap::Nearest,
+        max_cut: 0,
     }
 }
 
@@ -72,6 +73,7 @@ fn wide_job() -> Job
         rough_stock: 0,
         levels: Levels::NONE,
         snap: Snap::Nearest,
+        max_cut: 0,
     }
 }
 
@@ -109,6 +111,7 @@ fn fine_job(raster: i32, rough_raster: i32, layer: i32) -> Job
         rough_stock: 0,
         levels: Levels::NONE,
         snap: Snap::Nearest,
+        max_cut: 0,
     }
 }
 

@@ -47,6 +47,7 @@ fn block_job(layer: i32, lift: i32) -> Job
         rough_stock: 0,
         levels: Levels::NONE,
         snap: Snap::Nearest,
+        max_cut: 0,
     }
 }
 
@@ -85,6 +86,7 @@ fn fine_job(raster: i32, rough_raster: i32, layer: i32) -> Job
         rough_stock: 0,
         levels: Levels::NONE,
         snap: Snap::Nearest,
+        max_cut: 0,
     }
 }
 
@@ -118,6 +120,7 @@ fn wide_job(levels: Levels) -> Job
         rough_stock: 0,
         levels,
         snap: Snap::Nearest,
+        max_cut: 0,
     }
 }
 
@@ -151,6 +154,7 @@ fn thousandths_job() -> Job
         rough_stock: 0,
         levels: Levels::NONE,
         snap: Snap::Nearest,
+        max_cut: 0,
     }
 }
 

@@ -49,6 +49,7 @@ pub(crate) fn block_job(cutter: Cutter, band: i32, allowance: u8) -> Job
         rough_stock: 0,
         levels: Levels::NONE,
         snap: Snap::Nearest,
+        max_cut: 0,
     }
 }
 
@@ -113,6 +114,7 @@ pub(crate) fn whole_job(cutter: Cutter) -> Job
         rough_stock: 0,
         levels: Levels::NONE,
         snap: Snap::Nearest,
+        max_cut: 0,
     }
 }
 

@@ -46,6 +46,7 @@ fn five_rows() -> Job
         rough_stock: 0,
         levels: Levels::NONE,
         snap: Snap::Nearest,
+        max_cut: 0,
     }
 }
 
