@@ -56,6 +56,7 @@ key_faults_in unit ms =
     ∷ number_fault_if_there key.RoughStock (pos 0) MAX_DISTANCE ms
     ∷ array_fault_if_there key.Levels (are_levels unit) ms
     ∷ text_fault_if_there key.Snap (codes "nearest" ∷ codes "exact" ∷ []) ms
+    ∷ number_fault_if_there key.MaxCut (pos 0) (pos (greatest_of unit)) ms
     ∷ []
 
 -- what is wrong with each key, in the format's order: the unit comes first, since the ranges of others are by it

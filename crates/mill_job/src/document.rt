@@ -57,6 +57,7 @@ fn is_known(name: &str) -> bool
             | "rough_stock"
             | "levels"
             | "snap"
+            | "max_cut"
     )
 }
 

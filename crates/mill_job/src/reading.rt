@@ -19,7 +19,7 @@ use crate::job::Job;
 use crate::key::Key;
 use crate::limits::{MAX_DISTANCE, MAX_LAYERS};
 use crate::positions::count;
-use crate::values::{coordinate, layer, number, number_or, snap, unit};
+use crate::values::{coordinate, depth, number, number_or, snap, unit};
 use mill_base::{MAX_COLUMNS, MAX_RADIUS, Unit};
 use std::alloc::Global;
 use toml::Table;
@@ -127,10 +127,11 @@ fn job_in(table: &Table, unit: Unit) -> Result<Job, JobFault>
     let lift = number_or(table, Key::Lift, 0, MAX_DISTANCE, 0)?;
     let raster = number_or(table, Key::Raster, 1, MAX_DISTANCE, pitch)?;
     let rough_raster = number_or(table, Key::RoughRaster, 1, MAX_DISTANCE, raster)?;
-    let layer = layer(table, unit)?;
+    let layer = depth(table, Key::Layer, unit)?;
     let rough_stock = number_or(table, Key::RoughStock, 0, MAX_DISTANCE, 0)?;
     let levels = levels(table, unit)?;
     let snap = snap(table)?;
+    let max_cut = depth(table, Key::MaxCut, unit)?;
     let cutter = cutter(shape, radius, rise, run)?;
     let job = Job {
         unit,
@@ -151,24 +152,25 @@ fn job_in(table: &Table, unit: Unit) -> Result<Job, JobFault>
         rough_stock,
         levels,
         snap,
+        max_cut,
     };
     unless(relation_fault(&job), job)
 }
 
 /// Reads a job: a TOML 1.0 document with each key of [`Key`] and no other; `unit`, `snap`, `lift`,
-/// `raster`, `rough_raster`, `layer`, `rough_stock` and `levels` may be left out, and `rise` and
-/// `run` where the cutter is no cone.
+/// `raster`, `rough_raster`, `layer`, `rough_stock`, `levels` and `max_cut` may be left out, and `rise`
+/// and `run` where the cutter is no cone.
 ///
 /// `unit` is a text, `hundredth` for 0.01 mm or `thousandth` for 0.001 mm; numbers are whole, in
 /// that unit. `cutter` is a text, `flat`, `ball` or `cone`. `radius`, `pitch`, `sample`, `raster` and
 /// `rough_raster` are from 1 to 10,000, `rise` and `run` from 1 to 100, `allowance`, `band`, `lift`
-/// and `rough_stock` from 0 to 10,000, `layer` from 0 to the unit's greatest coordinate, which is
-/// 131,071 or 524,287. `floor`, `top`, `clear` and the members of `area`, `home` and `levels` are
+/// and `rough_stock` from 0 to 10,000, `layer` and `max_cut` from 0 to the unit's greatest coordinate,
+/// which is 131,071 or 524,287. `floor`, `top`, `clear` and the members of `area`, `home` and `levels` are
 /// coordinates, of a magnitude of at most that. `area` has x0, y0, x1, y1, with x0 at most x1 and y0
 /// at most y1; `home` has x, y; `levels` has at most 64 members, each less than the one before it.
 /// `snap` is a text, `nearest` or `exact`.
 ///
-/// In a document without them `unit` is `hundredth`, `lift`, `layer` and `rough_stock` are 0,
+/// In a document without them `unit` is `hundredth`, `lift`, `layer`, `rough_stock` and `max_cut` are 0,
 /// `raster` is the pitch, `rough_raster` the raster, `levels` has no member, and `snap` is `nearest`.
 ///
 /// The relations are: only a cone has a rise, only a cone has a run, rise is at most 16 times run,

@@ -98,13 +98,14 @@ pub fn coordinate(table: &Table, key: Key, unit: Unit) -> Result<i32, JobFault>
     number(table, key, least(unit), unit.greatest())
 }
 
-/// How much roughing takes off at a time: 0, which is none, where the document doesn't say.
-pub fn layer(table: &Table, unit: Unit) -> Result<i32, JobFault>
-    ensures ok { IfOk result (λ n. (number_fault_if_there Key.Layer (pos 0) (pos (greatest_of unit)) (table_view table.now) ≡ None) × (n ≡ number_or_other Key.Layer (pos 0) (table_view table.now))) }
-    ensures err { IfErr result (λ fault. number_fault_if_there Key.Layer (pos 0) (pos (greatest_of unit)) (table_view table.now) ≡ Some fault) }
+/// The depth at a key, from 0 to the unit's greatest coordinate; 0, which is none, where the document
+/// doesn't say.
+pub fn depth(table: &Table, key: Key, unit: Unit) -> Result<i32, JobFault>
+    ensures ok { IfOk result (λ n. (number_fault_if_there key (pos 0) (pos (greatest_of unit)) (table_view table.now) ≡ None) × (n ≡ number_or_other key (pos 0) (table_view table.now))) }
+    ensures err { IfErr result (λ fault. number_fault_if_there key (pos 0) (pos (greatest_of unit)) (table_view table.now) ≡ Some fault) }
     ensures in_range { IfOk result (IsFrom (pos 0) (pos (greatest_of unit))) }
 {
-    number_or(table, Key::Layer, 0, unit.greatest(), 0)
+    number_or(table, key, 0, unit.greatest(), 0)
 }
 
 /// The unit of the document's numbers.

@@ -57,10 +57,11 @@ returns-clause-value c =
     let rough_stock : to_z w32 (of_z w32 c.in_ok-rough_stock.rough_stock) ≡ number_or key.RoughStock (pos 0) ms = stored_number c.in_ok-rough_stock.ensures.in_range (record { le = tt }) (record { le = tt }) ∙ c.in_ok-rough_stock.ensures.ok.1 in
     let levels : c.in_ok-levels.levels ≡ levels_of (numbers_at key.Levels ms) = c.in_ok-levels.ensures.ok.1 in
     let snap : c.in_ok-snap.snap ≡ snap_of ms = c.in_ok-snap.ensures.ok.1 in
+    let max_cut : to_z w32 (of_z w32 c.in_ok-max_cut.max_cut) ≡ number_or key.MaxCut (pos 0) ms = stored_number c.in_ok-max_cut.ensures.in_range (record { le = tt }) (most c.args.unit) ∙ c.in_ok-max_cut.ensures.ok.1 in
     let keys : first (key_faults_in c.args.unit ms) ≡ None = search rules in
     let rest : first (key_faults_in c.args.unit ms ++ cutter_faults ms ++ relation_faults (job_with c.args.unit ms)) ≡ first (relation_faults (job_with c.args.unit ms)) = first-append (key_faults_in c.args.unit ms) (cutter_faults ms ++ relation_faults (job_with c.args.unit ms)) keys ∙ first-append (cutter_faults ms) (relation_faults (job_with c.args.unit ms)) slope in
     let same = ap (λ (fault : Option JobFault). checked fault (job_with c.args.unit ms)) (sym rest) in
-    c.unless.ensures ∙ rw (c.relation_fault.ensures.value, cutter, floor, top, clear, area, home, pitch, sample, allowance, band, lift, raster, rough_raster, layer, rough_stock, levels, snap) same
+    c.unless.ensures ∙ rw (c.relation_fault.ensures.value, cutter, floor, top, clear, area, home, pitch, sample, allowance, band, lift, raster, rough_raster, layer, rough_stock, levels, snap, max_cut) same
 
 pub returns-clause-in_range : goal.returns-clause-in_range
 returns-clause-in_range c = rw c.unless.ensures (if_ok c.relation_fault.result _ IsJob (λ none. record {
@@ -94,4 +95,5 @@ returns-clause-in_range c = rw c.unless.ensures (if_ok c.relation_fault.result _
     falling = c.in_ok-levels.ensures.in_order.falling;
     within = c.relation_fault.ensures.levels none;
   };
+  max_cut_ok = record { low = omega (arith, ints, most c.args.unit, c.in_ok-max_cut.ensures.in_range); high = omega (arith, ints, most c.args.unit, c.in_ok-max_cut.ensures.in_range) };
 }))
