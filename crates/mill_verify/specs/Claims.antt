@@ -1,13 +1,14 @@
 -- What an accepted program does, at every fraction of every move.
-use Rattle.std.specs.Prelude.{◌≡◌, ℕ, ◌<◌, ℤ, pos, ◌-ℤ◌, ◌≤ℤ◌, List, Contains, length, take}
+use Rattle.std.specs.Prelude.{◌≡◌, ℕ, ◌+◌, ◌<◌, ℤ, pos, ◌-ℤ◌, ◌<ℤ◌, ◌≤ℤ◌, List, Contains, length, take}
 use Rattle.mill_base.specs.declared.points.Tri.{Tri}
 use Rattle.mill_base.specs.declared.motion.Move.{Move}
-use Rattle.mill_base.specs.declared.motion.Kind.TheVariants.{Rapid}
+use Rattle.mill_base.specs.declared.motion.Kind.TheVariants.{Rapid, Feed}
 use Rattle.mill_base.specs.Points.{point_at}
 use Rattle.mill_base.specs.Contact.{GougesOn, Removes, IsLeft}
 use Rattle.mill_base.specs.Covers.{Covered, HasPointOver}
 use Rattle.mill_job.specs.declared.job.Job.{Job}
 use Rattle.mill_job.specs.Columns.{IsColumn, column_x, column_y}
+use Rattle.mill_dexel.specs.Tops.{top_after}
 use Rattle.mill_dexel.specs.Turns.{move_at}
 
 -- h is a whole height of the column (j, i), from the floor to the top
@@ -40,9 +41,25 @@ abbrev pub PartIsLeft : Job → List Tri → List Move → Type 0
 PartIsLeft job part moves = (j i : ℕ) (h : ℤ) → IsColumnPoint job j i h
     → HasPointOver part (pos 0) (column_x job i) (column_y job j) h → LeavesPoint job moves j i h
 
--- what an accepted program does: all four
+-- the top of column (j, i) that the first k moves leave
+abbrev pub top_before : Job → List Move → ℕ → ℕ → ℕ → ℤ
+top_before job moves k j i = top_after job (column_x job i) (column_y job j) (take k moves)
+
+-- no Feed removes a column point that lies the greatest depth of cut or more under the top that the moves before it left, and no move lowers a top by more than that depth
+pub record CutsShallow (job : Job) (moves : List Move) : Type 0 where
+  pub feeds : (k j i : ℕ) (h : ℤ) → k < length moves → (move_at moves k).kind ≡ Feed
+    → IsColumnPoint job j i h → h ≤ℤ (top_before job moves k j i -ℤ job.max_cut)
+    → ¬ Removes job.cutter (move_at moves k) (pos 1) (point_at (column_x job i) (column_y job j) h)
+  pub tops : (k j i : ℕ) → k < length moves → IsColumn job j i → (top_before job moves k j i -ℤ job.max_cut) ≤ℤ top_before job moves (k + 1) j i
+
+-- so it is where the job limits the depth of cut
+abbrev pub KeepsDepth : Job → List Move → Type 0
+KeepsDepth job moves = (pos 0) <ℤ job.max_cut → CutsShallow job moves
+
+-- what an accepted program does: all five
 pub record CutsSafely (job : Job) (part : List Tri) (moves : List Move) : Type 0 where
   pub gouges : NeverGouges job part moves
   pub rapids : RapidsMissStock job moves
   pub covered : LeftIsCovered job part moves
   pub kept : PartIsLeft job part moves
+  pub depth : KeepsDepth job moves

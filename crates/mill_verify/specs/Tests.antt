@@ -2,12 +2,11 @@
 use Rattle.std.specs.Prelude.{◌≡◌, ℕ, ◌<◌, ◌-ℤ◌, ◌≤ℤ◌, List, take}
 use Rattle.mill_base.specs.declared.points.Tri.{Tri}
 use Rattle.mill_base.specs.declared.motion.Move.{Move}
-use Rattle.mill_base.specs.declared.motion.Kind.TheVariants.{Rapid}
 use Rattle.mill_sweep.specs.Halving.{Passes, PassesPoint}
 use Rattle.mill_base.specs.Covers.{Covered}
 use Rattle.mill_job.specs.declared.job.Job.{Job}
 use Rattle.mill_job.specs.Columns.{IsColumn, column_x, column_y}
-use Rattle.mill_dexel.specs.Tops.{top_after, top_point}
+use Rattle.mill_dexel.specs.Tops.{ClearsColumns, tested_point, top_after}
 use Rattle.mill_dexel.specs.Turns.{move_at}
 use Rattle.mill_base.specs.Points.{tri_at}
 use Rattle.mill_gouge.specs.Gouges.{PassesPart}
@@ -25,13 +24,14 @@ PassesTri job part moves k t = Passes job.cutter (move_at moves k) (tri_at part 
 abbrev pub ClearsPart : Job → List Tri → List Move → ℕ → Type 0
 ClearsPart job part moves k = PassesPart job.cutter (move_at moves k) part
 
--- test (iii) of one column: move k passes, by halving, the point at the top that the moves before it left
+-- test (iii) of one column: move k passes, by halving, the point of the column at which it is tested after the moves before it: a Rapid the one at the top,
+-- and a Feed the one as low as it may cut
 abbrev pub PassesColumn : Job → List Move → ℕ → ℕ → ℕ → Type 0
-PassesColumn job moves k j i = PassesPoint job.cutter (move_at moves k) (top_point job (take k moves) j i)
+PassesColumn job moves k j i = PassesPoint job.cutter (move_at moves k) (tested_point job (move_at moves k).kind (take k moves) j i)
 
--- test (iii): where move k is a Rapid, it passes each column
+-- test (iii): where move k is a Rapid, or a Feed and the job limits the depth of cut, it passes each column
 abbrev pub ClearsStock : Job → List Move → ℕ → Type 0
-ClearsStock job moves k = (move_at moves k).kind ≡ Rapid → (j i : ℕ) → IsColumn job j i → PassesColumn job moves k j i
+ClearsStock job moves k = ClearsColumns job (take k moves) (move_at moves k)
 
 -- move k passes all three
 pub record IsGood (job : Job) (part : List Tri) (moves : List Move) (k : ℕ) : Type 0 where

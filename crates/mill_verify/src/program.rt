@@ -2,6 +2,7 @@ ghost use Rattle.std.specs.Prelude.{◌≡◌, ℕ, ◌≤◌, ℤ, length, Ok, 
 ghost use Rattle.mill_base.specs.declared.limits.TheConstants.{MAX_MOVES, MAX_WORKERS};
 ghost use Rattle.mill_base.specs.Covers.{IsUnder};
 ghost use Rattle.mill_base.specs.Motion.{Follow};
+ghost use Rattle.mill_base.specs.declared.motion.Kind.TheVariants.{Rapid, Feed};
 ghost use Rattle.mill_base.specs.Ranges.{MovesInRange};
 ghost use Rattle.mill_cells.specs.Sorted.{sorted_of};
 ghost use Rattle.mill_job.specs.Columns.{home};
@@ -36,11 +37,12 @@ use std::thread::Threads;
 ///
 /// Move by move, in order: (i) both ends are at or over the floor; (ii) the move, halved into leaves,
 /// passes every triangle of the part; (iii) a rapid, halved in the same way, passes the top of every
-/// column of the stock that the moves before it left; then the move cuts. After the last move, (iv)
-/// every column stands at most the allowance over what covers it. An accepted program cuts safely, at
-/// every fraction of every move. A rejection by (ii) or (iii) names a leaf whose outer cutter, which
-/// holds the cutter at each moment of the leaf and is wider by at most two units, has some point of the
-/// triangle, or the column's top, strictly inside.
+/// column of the stock that the moves before it left, and a feed, where the job's `max_cut` isn't 0,
+/// the point of every column that lies so far under that top, or at the floor if that is higher; then
+/// the move cuts. After the last move, (iv) every column stands at most the allowance over what covers
+/// it. An accepted program cuts safely, at every fraction of every move. A rejection by (ii) or (iii)
+/// names a leaf whose outer cutter, which holds the cutter at each moment of the leaf and is wider by at
+/// most two units, has some point of the triangle, or the point of the column, strictly inside.
 ///
 /// The work is shared by `workers` threads, from 1 to 64; the verdict doesn't depend on their number, or
 /// on which of them does what.
@@ -75,7 +77,10 @@ pub fn verify<R: Threads + Sync>(
         → BlocksMove job.now part.now moves.now number tri leaf }
     ensures stopped { (number row col : ℕ) (leaf : Leaf)
         → result ≡ Ok (Verdict.Reject (Reason.Rapid number row col leaf))
-        → StopsMove job.now moves.now number row col leaf }
+        → StopsMove job.now moves.now Rapid number row col leaf }
+    ensures too_deep { (number row col : ℕ) (leaf : Leaf)
+        → result ≡ Ok (Verdict.Reject (Reason.Cut number row col leaf))
+        → StopsMove job.now moves.now Feed number row col leaf }
 {
     verify_with(rt, alloc, NoGate, job, part, moves, workers)
 }
@@ -111,7 +116,10 @@ pub fn verify_with<R: Threads + Sync, G: Gate>(
         → BlocksMove job.now part.now moves.now number tri leaf }
     ensures stopped { (number row col : ℕ) (leaf : Leaf)
         → result ≡ Ok (Verdict.Reject (Reason.Rapid number row col leaf))
-        → StopsMove job.now moves.now number row col leaf }
+        → StopsMove job.now moves.now Rapid number row col leaf }
+    ensures too_deep { (number row col : ℕ) (leaf : Leaf)
+        → result ≡ Ok (Verdict.Reject (Reason.Cut number row col leaf))
+        → StopsMove job.now moves.now Feed number row col leaf }
 {
     let sorted = SortedPart::new(alloc, part)?;
     tested(rt, alloc, gate, job, part, sorted.cells(), moves, workers)
@@ -144,7 +152,10 @@ pub fn verify_with_cells<R: Threads + Sync>(
         → BlocksMove job.now part.now moves.now number tri leaf }
     ensures stopped { (number row col : ℕ) (leaf : Leaf)
         → result ≡ Ok (Verdict.Reject (Reason.Rapid number row col leaf))
-        → StopsMove job.now moves.now number row col leaf }
+        → StopsMove job.now moves.now Rapid number row col leaf }
+    ensures too_deep { (number row col : ℕ) (leaf : Leaf)
+        → result ≡ Ok (Verdict.Reject (Reason.Cut number row col leaf))
+        → StopsMove job.now moves.now Feed number row col leaf }
 {
     tested(rt, alloc, NoGate, job, part, cells, moves, workers)
 }
@@ -181,7 +192,10 @@ fn tested<R: Threads + Sync, G: Gate>(
         → BlocksMove job.now part.now moves.now number tri leaf }
     ensures stopped { (number row col : ℕ) (leaf : Leaf)
         → result ≡ Ok (Verdict.Reject (Reason.Rapid number row col leaf))
-        → StopsMove job.now moves.now number row col leaf }
+        → StopsMove job.now moves.now Rapid number row col leaf }
+    ensures too_deep { (number row col : ℕ) (leaf : Leaf)
+        → result ≡ Ok (Verdict.Reject (Reason.Cut number row col leaf))
+        → StopsMove job.now moves.now Feed number row col leaf }
 {
     // A law without code: a leaf that fails is one of the last of its move.
     failing_is_blocked();
@@ -216,7 +230,8 @@ fn verdict_of<R: Threads + Sync>(
 {
     let Closed { least, pieces } = closed;
     if let Some(number) = first_failed(&pieces, least) {
-        let reason = reason_of(&pieces[number], Block::count(turns));
+        let kind = moves[least as usize].kind;
+        let reason = reason_of(&pieces[number], kind, Block::count(turns));
         return Ok(Verdict::Reject(reason));
     }
     if turns < moves.len() as u64 {

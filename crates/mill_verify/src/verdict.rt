@@ -20,6 +20,14 @@ pub enum Reason {
         col: u32,
         leaf: Leaf,
     },
+    /// The feed cuts too deep: it doesn't pass the point of the column that lies the job's greatest depth
+    /// of cut under the top, or at the floor if that is higher, which blocks this leaf of the move.
+    Cut {
+        at: u64,
+        row: u32,
+        col: u32,
+        leaf: Leaf,
+    },
     /// After all moves the column's top, in units, is more than the allowance over what covers it.
     Left {
         row: u32,

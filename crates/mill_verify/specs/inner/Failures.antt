@@ -1,12 +1,15 @@
 -- The first piece that has failed at a turn, and why.
 use Rattle.std.specs.Prelude.{◌≡◌, ℕ, ◌+◌, ◌^◌, ◌<◌, true, List, slice_get, Some}
+use Rattle.mill_base.specs.declared.motion.Kind.{Kind}
+use Rattle.mill_base.specs.declared.motion.Kind.TheVariants as motion
+use Rattle.mill_sweep.specs.declared.leaf.Leaf.{Leaf}
 use Rattle.mill_board.specs.declared.work.Held.{Held}
 use Rattle.mill_gouge.specs.declared.gouge.Gouge.{Gouge as Found}
 use Rattle.mill_dexel.specs.declared.fail.RowFail.{RowFail}
 use Rattle.mill_verify.specs.declared.piece.Piece.{Piece}
 use Rattle.mill_verify.specs.declared.piece.Piece.TheVariants.{Block, Stock}
 use Rattle.mill_verify.specs.declared.verdict.Reason.{Reason}
-use Rattle.mill_verify.specs.declared.verdict.Reason.TheVariants.{Gouge, Rapid}
+use Rattle.mill_verify.specs.declared.verdict.Reason.TheVariants.{Gouge, Rapid, Cut}
 
 -- a held piece has failed at this turn
 abbrev pub HasFailed : ℕ → Held Piece → Type 0
@@ -23,7 +26,12 @@ pub record IsFirstFailed (t : ℕ) (pieces : List (Held Piece)) (n : ℕ) : Type
   pub failed : HasFailed t held
   pub before : NoneFailed t pieces n
 
--- why a piece has failed at a turn, where rows come after so many blocks: a block names a triangle, and a row a column
-abbrev pub IsReasonOf : ℕ → ℕ → Piece → Reason → Type 0
-IsReasonOf blocks t (Block m b) reason = (found : Found) × (b.failed ≡ Some found) × (reason ≡ Gouge t found.tri found.leaf)
-IsReasonOf blocks t (Stock m r) reason = (fail : RowFail) × (r.failed ≡ Some fail) × (m ≡ blocks + r.row) × (m < 2 ^ 32) × (reason ≡ Rapid t r.row fail.col fail.leaf)
+-- why a column stops a move of this kind
+abbrev pub stock_reason : Kind → ℕ → ℕ → ℕ → Leaf → Reason
+stock_reason motion.Rapid t j i leaf = Rapid t j i leaf
+stock_reason motion.Feed t j i leaf = Cut t j i leaf
+
+-- why a piece has failed at a turn, a move of this kind, where rows come after so many blocks: a block names a triangle, and a row a column
+abbrev pub IsReasonOf : Kind → ℕ → ℕ → Piece → Reason → Type 0
+IsReasonOf kind blocks t (Block m b) reason = (found : Found) × (b.failed ≡ Some found) × (reason ≡ Gouge t found.tri found.leaf)
+IsReasonOf kind blocks t (Stock m r) reason = (fail : RowFail) × (r.failed ≡ Some fail) × (m ≡ blocks + r.row) × (m < 2 ^ 32) × (reason ≡ stock_reason kind t r.row fail.col fail.leaf)
