@@ -1,11 +1,12 @@
 -- The moves that link the place where the cutter is to the next visit.
-use Rattle.std.specs.Prelude.{◌≡◌, ◌≢◌, ◌⊎◌, ◌↔◌, Bool, IsTrue, ◌&&◌, if◌then◌else◌, ℤ, pos, nat_abs, ◌-ℤ◌, ◌*ℤ◌, ◌≤ℤ◌, int_lt, List, [], ◌∷◌, ◌++◌}
+use Rattle.std.specs.Prelude.{◌≡◌, ◌≢◌, ◌⊎◌, ◌↔◌, ℕ, zero, suc, ◌-◌, ◌/◌, Bool, IsTrue, ◌&&◌, if◌then◌else◌, ℤ, pos, nat_abs, ◌-ℤ◌, ◌*ℤ◌, ◌≤ℤ◌, int_lt, List, [], ◌∷◌, ◌++◌}
 use Rattle.std.specs.Ordering.{int_eq}
 use Rattle.mill_base.specs.Points.{point_at}
 use Rattle.mill_base.specs.declared.points.Pt3.{Pt3}
 use Rattle.mill_base.specs.declared.points.Tri.{Tri}
 use Rattle.mill_base.specs.declared.motion.Move.{Move}
 use Rattle.mill_base.specs.declared.motion.Kind.TheVariants.{Rapid, Feed}
+use Rattle.mill_dexel.specs.Tops.{ClearsColumns}
 use Rattle.mill_gouge.specs.Gouges.{PassesPart}
 use Rattle.mill_job.specs.Columns.{home}
 use Rattle.mill_job.specs.declared.job.Job.{Job}
@@ -48,26 +49,36 @@ cross job from at = if is_over_place from at then [] else rapid_to (at_height fr
 abbrev pub descend : Job → Pt3 → List Move
 descend job at = if int_lt job.top job.clear then rapid_to (at_height at job.clear) (at_height at job.top) ∷ [] else []
 
--- from the top of the stock down to the place
-abbrev pub plunge : Job → Pt3 → Move
-plunge job at = feed_to (at_height at job.top) at
+-- feeds straight down to a place, from the height z over it: so many go down by the depth each (pecks), and one more goes the rest of the way
+abbrev pub pecks : ℕ → ℤ → Pt3 → ℤ → List Move
+pecks zero depth at z = feed_to (at_height at z) at ∷ []
+pecks (suc n) depth at z = feed_to (at_height at z) (at_height at (z -ℤ depth)) ∷ pecks n depth at (z -ℤ depth)
+
+-- the greatest number of pecks of this depth that all end over a place so far under their start; none where there is no limit on the depth
+abbrev pub peck_count : ℤ → ℤ → ℕ
+peck_count depth height = if int_lt (pos 0) depth then (nat_abs height - 1) / nat_abs depth else 0
+
+-- from the top of the stock down to the place, by as many pecks of the job's greatest depth of cut as end over it, and a feed for the rest
+abbrev pub plunge : Job → Pt3 → List Move
+plunge job at = pecks (peck_count job.max_cut (job.top -ℤ at.z)) job.max_cut at job.top
 
 -- the way round over everything: up, across and down
 abbrev pub detour : Job → Pt3 → Pt3 → List Move
-detour job from at = climb job from ++ cross job from at ++ descend job at ++ plunge job at ∷ []
+detour job from at = climb job from ++ cross job from at ++ descend job at ++ plunge job at
 
--- the straight feed to the visit may be made: it is near, and the feed passes each triangle of the part
-pub record MayFeed (job : Job) (part : List Tri) (from : Pt3) (visit : Visit) : Type 0 where
+-- after the moves done so far the straight feed to the visit may be made: it is near, and the feed passes each triangle of the part, and cuts no column too deep
+pub record MayFeed (job : Job) (part : List Tri) (done : List Move) (from : Pt3) (visit : Visit) : Type 0 where
   pub near : IsNearBy from visit
   pub passes : PassesPart job.cutter (feed_to from visit.at) part
+  pub depth : ClearsColumns job done (feed_to from visit.at)
 
 -- the link needs no way round: the cutter is at the visit already, or the straight feed to it may be made
-abbrev pub GoesStraight : Job → List Tri → Pt3 → Visit → Type 0
-GoesStraight job part from visit = (visit.at ≡ from) ⊎ MayFeed job part from visit
+abbrev pub GoesStraight : Job → List Tri → List Move → Pt3 → Visit → Type 0
+GoesStraight job part done from visit = (visit.at ≡ from) ⊎ MayFeed job part done from visit
 
 -- the answer says whether the link needs none
-abbrev pub SaysStraight : Job → List Tri → Pt3 → Visit → Bool → Type 0
-SaysStraight job part from visit answer = IsTrue answer ↔ GoesStraight job part from visit
+abbrev pub SaysStraight : Job → List Tri → List Move → Pt3 → Visit → Bool → Type 0
+SaysStraight job part done from visit answer = IsTrue answer ↔ GoesStraight job part done from visit
 
 -- the cutter is at the visit already, and no move is made
 pub record IsStay (from : Pt3) (visit : Visit) (moves : List Move) : Type 0 where
@@ -75,20 +86,20 @@ pub record IsStay (from : Pt3) (visit : Visit) (moves : List Move) : Type 0 wher
   pub none : moves ≡ []
 
 -- it isn't there, the straight feed may be made, and it is
-pub record IsStraight (job : Job) (part : List Tri) (from : Pt3) (visit : Visit) (moves : List Move) : Type 0 where
+pub record IsStraight (job : Job) (part : List Tri) (done : List Move) (from : Pt3) (visit : Visit) (moves : List Move) : Type 0 where
   pub away : visit.at ≢ from
-  pub free : MayFeed job part from visit
+  pub free : MayFeed job part done from visit
   pub feed : moves ≡ feed_to from visit.at ∷ []
 
 -- it isn't there, the straight feed may not be made, and the cutter goes round
-pub record IsDetour (job : Job) (part : List Tri) (from : Pt3) (visit : Visit) (moves : List Move) : Type 0 where
+pub record IsDetour (job : Job) (part : List Tri) (done : List Move) (from : Pt3) (visit : Visit) (moves : List Move) : Type 0 where
   pub away : visit.at ≢ from
-  pub barred : ¬ MayFeed job part from visit
+  pub barred : ¬ MayFeed job part done from visit
   pub round : moves ≡ detour job from visit.at
 
--- these moves link the place to the visit
-abbrev pub IsLink : Job → List Tri → Pt3 → Visit → List Move → Type 0
-IsLink job part from visit moves = IsStay from visit moves ⊎ (IsStraight job part from visit moves ⊎ IsDetour job part from visit moves)
+-- after the moves done so far these link the place to the visit
+abbrev pub IsLink : Job → List Tri → List Move → Pt3 → Visit → List Move → Type 0
+IsLink job part done from visit moves = IsStay from visit moves ⊎ (IsStraight job part done from visit moves ⊎ IsDetour job part done from visit moves)
 
 -- the way home: up and across
 abbrev pub way_home : Job → Pt3 → List Move
@@ -101,14 +112,14 @@ pub record AddsFirst (moves old new : List Move) : Type 0 where
   pub whole : moves ≡ added ++ left
   pub joined : new ≡ old ++ added
 
--- the list gets the moves of a link
-pub record AddsLink (job : Job) (part : List Tri) (from : Pt3) (visit : Visit) (old new : List Move) : Type 0 where
+-- the list gets the moves of a link after the moves done so far
+pub record AddsLink (job : Job) (part : List Tri) (done : List Move) (from : Pt3) (visit : Visit) (old new : List Move) : Type 0 where
   pub moves : List Move
-  pub link : IsLink job part from visit moves
+  pub link : IsLink job part done from visit moves
   pub joined : new ≡ old ++ moves
 
--- the list gets the first of a link's moves
-pub record BeginsLink (job : Job) (part : List Tri) (from : Pt3) (visit : Visit) (old new : List Move) : Type 0 where
+-- the list gets the first of such a link's moves
+pub record BeginsLink (job : Job) (part : List Tri) (done : List Move) (from : Pt3) (visit : Visit) (old new : List Move) : Type 0 where
   pub moves : List Move
-  pub link : IsLink job part from visit moves
+  pub link : IsLink job part done from visit moves
   pub begins : AddsFirst moves old new

@@ -1,4 +1,5 @@
--- What every move of a plan keeps: it is in the range of the job's unit and over the floor, it passes the part, and as a rapid it passes what is left of the stock.
+-- What every move of a plan keeps: it is in the range of the job's unit and over the floor, and passes the part; as a rapid it passes what is left of the stock, and as a feed it
+-- cuts no column too deep.
 use Rattle.std.specs.Prelude.{◌≡◌, ◌⊎◌, ℤ, pos, ◌≤ℤ◌, List, [], ◌∷◌, ◌++◌, All, Contains}
 use Rattle.mill_base.specs.Contact.{Gouges}
 use Rattle.mill_base.specs.Covers.{IsUnder}
@@ -7,8 +8,8 @@ use Rattle.mill_base.specs.Ranges.{IsInUnitRange, MoveInUnitRange}
 use Rattle.mill_base.specs.declared.points.Pt3.{Pt3}
 use Rattle.mill_base.specs.declared.points.Tri.{Tri}
 use Rattle.mill_base.specs.declared.motion.Move.{Move}
-use Rattle.mill_base.specs.declared.motion.Kind.TheVariants.{Rapid}
-use Rattle.mill_dexel.specs.Tops.{top_after}
+use Rattle.mill_base.specs.declared.motion.Kind.TheVariants.{Rapid, Feed}
+use Rattle.mill_dexel.specs.Tops.{ClearsColumns, top_after}
 use Rattle.mill_gouge.specs.Gouges.{PassesPart}
 use Rattle.mill_job.specs.Columns.{home}
 use Rattle.mill_job.specs.Jobs.{IsJob}
@@ -25,6 +26,7 @@ pub record IsSafeMove (job : Job) (part : List Tri) (done : List Move) (m : Move
   pub floor_to : job.floor ≤ℤ m.to.z
   pub passes : PassesPart job.cutter m part
   pub stock : m.kind ≡ Rapid → (x y : ℤ) → PassesPoint job.cutter m (point_at x y (top_after job x y done))
+  pub depth : m.kind ≡ Feed → ClearsColumns job done m
 
 -- so are these moves, each after those before it
 abbrev pub AreSafe : Job → List Tri → List Move → List Move → Type 0
@@ -65,12 +67,12 @@ pub record GoSafely (job : Job) (part : List Tri) (done : List Move) (from : Pt3
 -- a link to a free place goes there safely
 abbrev pub LinkIsSafe : Type 0
 LinkIsSafe = (job : Job) (part : List Tri) (done : List Move) (from : Pt3) (visit : Visit) (moves : List Move) → IsJob job → IsUnder part job.top
-    → IsReached job part done from → IsFreePlace job part visit.at → IsLink job part from visit moves → GoSafely job part done from moves visit.at
+    → IsReached job part done from → IsFreePlace job part visit.at → IsLink job part done from visit moves → GoSafely job part done from moves visit.at
 
 -- so does a tour of free places
 abbrev pub TourIsSafe : Type 0
 TourIsSafe = (job : Job) (part : List Tri) (done : List Move) (from : Pt3) (visits : List Visit) (moves : List Move) → IsJob job → IsUnder part job.top
-    → IsReached job part done from → All (λ v. IsFreePlace job part v.at) visits → IsTour job part from visits moves → GoSafely job part done from moves (last_place from visits)
+    → IsReached job part done from → All (λ v. IsFreePlace job part v.at) visits → IsTour job part done from visits moves → GoSafely job part done from moves (last_place from visits)
 
 -- and the way home
 abbrev pub WayHomeIsSafe : Type 0

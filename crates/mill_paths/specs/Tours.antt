@@ -10,17 +10,17 @@ use Rattle.mill_paths.specs.Links.{IsLink, way_home}
 use Rattle.mill_paths.specs.Visits.{AreRoughVisits, AreLevelVisits, AreFinishVisits}
 use Rattle.mill_paths.specs.declared.visit.Visit.{Visit}
 
--- these are the links to the visits, one list of moves each: the first from this place, and each other from the visit before it
-abbrev pub AreLinks : Job → List Tri → Pt3 → List Visit → List (List Move) → Type 0
-AreLinks job part from [] [] = Unit {0}
-AreLinks job part from [] (link ∷ links) = ⊥
-AreLinks job part from (v ∷ vs) [] = ⊥
-AreLinks job part from (v ∷ vs) (link ∷ links) = IsLink job part from v link × AreLinks job part v.at vs links
+-- after the moves done so far these are the links to the visits, one list of moves each: the first from this place, and each other from the visit before it
+abbrev pub AreLinks : Job → List Tri → List Move → Pt3 → List Visit → List (List Move) → Type 0
+AreLinks job part done from [] [] = Unit {0}
+AreLinks job part done from [] (link ∷ links) = ⊥
+AreLinks job part done from (v ∷ vs) [] = ⊥
+AreLinks job part done from (v ∷ vs) (link ∷ links) = IsLink job part done from v link × AreLinks job part (done ++ link) v.at vs links
 
--- the moves go from this place through all the visits: they are the links, one after the other
-pub record IsTour (job : Job) (part : List Tri) (from : Pt3) (visits : List Visit) (moves : List Move) : Type 0 where
+-- after the moves done so far these go from this place through all the visits: they are the links, one after the other
+pub record IsTour (job : Job) (part : List Tri) (done : List Move) (from : Pt3) (visits : List Visit) (moves : List Move) : Type 0 where
   pub links : List (List Move)
-  pub are : AreLinks job part from visits links
+  pub are : AreLinks job part done from visits links
   pub joined : moves ≡ flat_map (λ link. link) links
 
 -- where the cutter is after the visits
@@ -43,5 +43,5 @@ pub record IsPlan (job : Job) (part : List Tri) (moves : List Move) : Type 0 whe
   pub visits : List Visit
   pub are : ArePlanVisits job part visits
   pub toured : List Move
-  pub tour : IsTour job part (home job) visits toured
+  pub tour : IsTour job part [] (home job) visits toured
   pub joined : moves ≡ toured ++ way_home job (last_place (home job) visits)

@@ -23,7 +23,7 @@ pub record BeginsTour (job : Job) (part : List Tri) (from : Pt3) (visits : List 
   pub first : List Visit
   pub rest : List Visit
   pub all : visits ≡ first ++ rest
-  pub tour : IsTour job part from first moves
+  pub tour : IsTour job part [] from first moves
 
 -- a plan has at least as many moves as the links to the first of its visits
 abbrev pub PlanIsLonger : Type 0
@@ -46,4 +46,4 @@ ManyFinishVisitsMakeMoves = (job : Job) (part : List Tri) (moves : List Move) �
 -- a tour of visits from home, and the way home from its last, go safely
 abbrev pub RoundIsSafe : Type 0
 RoundIsSafe = (job : Job) (part : List Tri) (visits : List Visit) (toured : List Move) → IsJob job → IsUnder part job.top → All (IsVisit job part) visits
-    → IsTour job part (home job) visits toured → GoSafely job part [] (home job) (toured ++ way_home job (last_place (home job) visits)) (home job)
+    → IsTour job part [] (home job) visits toured → GoSafely job part [] (home job) (toured ++ way_home job (last_place (home job) visits)) (home job)
