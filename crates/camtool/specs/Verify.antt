@@ -2,6 +2,8 @@
 use Rattle.std.specs.Prelude.{◌≡◌, ℕ, ◌<◌, codes, decimal, List, [], ◌∷◌, length, Option, IsSome, IfSome, Ok, Err}
 use Rattle.mill_base.specs.declared.points.Tri.{Tri}
 use Rattle.mill_base.specs.declared.motion.Move.{Move}
+use Rattle.mill_base.specs.declared.motion.Kind.{Kind}
+use Rattle.mill_base.specs.declared.motion.Kind.TheVariants.{Rapid, Feed}
 use Rattle.mill_base.specs.declared.unit.Unit.{Unit as LengthUnit}
 use Rattle.mill_decimal.specs.Decimals.{canonical}
 use Rattle.mill_sweep.specs.declared.leaf.Leaf.{Leaf}
@@ -15,7 +17,7 @@ use Rattle.mill_verify.specs.Verdicts.{BlocksMove, IsVerdict, StopsMove}
 use Rattle.mill_verify.specs.declared.verdict.Verdict.{Verdict}
 use Rattle.mill_verify.specs.declared.verdict.Verdict.TheVariants.{Accept, Reject}
 use Rattle.mill_verify.specs.declared.verdict.Reason.{Reason}
-use Rattle.mill_verify.specs.declared.verdict.Reason.TheVariants.{Floor, Gouge, Rapid as RapidCut, Left}
+use Rattle.mill_verify.specs.declared.verdict.Reason.TheVariants.{Floor, Gouge, Rapid as RapidCut, Cut, Left}
 use Rattle.camtool.specs.declared.file.File.{File}
 use Rattle.camtool.specs.declared.file.File.TheVariants.{Program as ProgramFile}
 use Rattle.camtool.specs.declared.load.Unfit.{Unfit}
@@ -92,11 +94,12 @@ abbrev pub IsSafe : Job → List Tri → List Move → Verdict → Type 0
 IsSafe job part moves (Accept count columns left) = CutsSafely job part moves
 IsSafe job part moves (Reject reason) = Unit {0}
 
--- a leaf that a rejection names is one of the last of its move, with a reach of at most 2, and the triangle or the column's top that is named blocks it
+-- a leaf that a rejection names is one of the last of its move, with a reach of at most 2, and the triangle that is named, or the point at which the column that is named is tested, blocks it
 abbrev pub NamesBlocked : Job → List Tri → List Move → Reason → Type 0
 NamesBlocked job part moves (Floor k) = Unit {0}
 NamesBlocked job part moves (Gouge k t leaf) = BlocksMove job part moves k t leaf
-NamesBlocked job part moves (RapidCut k j i leaf) = StopsMove job moves k j i leaf
+NamesBlocked job part moves (RapidCut k j i leaf) = StopsMove job moves Rapid k j i leaf
+NamesBlocked job part moves (Cut k j i leaf) = StopsMove job moves Feed k j i leaf
 NamesBlocked job part moves (Left j i top) = Unit {0}
 
 abbrev pub IsNamed : Job → List Tri → List Move → Verdict → Type 0
@@ -120,18 +123,25 @@ verdict_status (Reject reason) = 3
 abbrev pub leaf_words : Leaf → List (List ℕ)
 leaf_words leaf = codes "leaf" ∷ decimal leaf.d ∷ decimal leaf.k ∷ []
 
--- the line of a move that gouges, and of a rapid that removes a column's top
+-- the line of a move that gouges
 abbrev pub gouge_line : ℕ → ℕ → Leaf → List ℕ
 gouge_line k t leaf = line (codes "rejected" ∷ codes "gouge" ∷ codes "move" ∷ decimal k ∷ codes "triangle" ∷ decimal t ∷ leaf_words leaf)
 
-abbrev pub rapid_line : ℕ → ℕ → ℕ → Leaf → List ℕ
-rapid_line k j i leaf = line (codes "rejected" ∷ codes "rapid" ∷ codes "move" ∷ decimal k ∷ codes "row" ∷ decimal j ∷ codes "column" ∷ decimal i ∷ leaf_words leaf)
+-- the word for a move that a column stops: a rapid that removes the column's top, and a feed that cuts too deep
+abbrev pub stop_word : Kind → List ℕ
+stop_word Rapid = codes "rapid"
+stop_word Feed = codes "cut"
+
+-- the line of such a move
+abbrev pub stop_line : Kind → ℕ → ℕ → ℕ → Leaf → List ℕ
+stop_line kind k j i leaf = line (codes "rejected" ∷ stop_word kind ∷ codes "move" ∷ decimal k ∷ codes "row" ∷ decimal j ∷ codes "column" ∷ decimal i ∷ leaf_words leaf)
 
 -- the line of a rejection, with lengths in this unit; a floor's has the height of the move's end
 abbrev pub rejection_line : LengthUnit → List Move → Reason → List ℕ
 rejection_line unit moves (Floor k) = line (codes "rejected" ∷ codes "floor" ∷ codes "move" ∷ decimal k ∷ codes "z" ∷ canonical unit (move_at moves k).to.z ∷ [])
 rejection_line unit moves (Gouge k t leaf) = gouge_line k t leaf
-rejection_line unit moves (RapidCut k j i leaf) = rapid_line k j i leaf
+rejection_line unit moves (RapidCut k j i leaf) = stop_line Rapid k j i leaf
+rejection_line unit moves (Cut k j i leaf) = stop_line Feed k j i leaf
 rejection_line unit moves (Left j i top) = line (codes "rejected" ∷ codes "left" ∷ column_words unit j i top)
 
 -- the end of a line that names a segment of a move

@@ -7,14 +7,14 @@ ghost use Rattle.camtool.specs.inner.Loads.{Loads, OnlyLoads, AreWorkers, IsRead
 ghost use Rattle.camtool.specs.Outcomes.{Serves, answered};
 ghost use Rattle.camtool.specs.inner.Prints.{PrintsOr, TriesVerdict};
 ghost use Rattle.camtool.specs.Statuses.{status_code};
-ghost use Rattle.camtool.specs.Verify.{texts_of, verdict_status, verdict_line, rejection_line, gouge_line, rapid_line, leaf_end, tolerances_end, NamesMove};
+ghost use Rattle.camtool.specs.Verify.{texts_of, verdict_status, verdict_line, rejection_line, gouge_line, leaf_end, stop_line, tolerances_end, NamesMove};
 
 use crate::load::{LoadFault, load_setup};
 use crate::print::{add_column, add_length, add_number, add_text};
 use crate::program::load_program;
 use crate::status::Status;
 use crate::tell::{tell, tell_fault};
-use mill_base::{Move, Unit, WantOfMemory};
+use mill_base::{Kind, Move, Unit, WantOfMemory};
 use mill_io::{Shelf, Sink};
 use mill_job::Job;
 use mill_part::Part;
@@ -145,7 +145,10 @@ fn line_of_verdict(
         Verdict::Reject(Reason::Floor { at }) => line_of_floor(alloc, moves, at, job.unit),
         Verdict::Reject(Reason::Gouge { at, tri, leaf }) => { line_of_gouge(alloc, at, tri, leaf) }
         Verdict::Reject(Reason::Rapid { at, row, col, leaf }) => {
-            line_of_rapid(alloc, at, row, col, leaf)
+            line_of_stop(alloc, Kind::Rapid, at, row, col, leaf)
+        }
+        Verdict::Reject(Reason::Cut { at, row, col, leaf }) => {
+            line_of_stop(alloc, Kind::Feed, at, row, col, leaf)
         }
         Verdict::Reject(Reason::Left { row, col, top }) => {
             line_of_left(alloc, moves, row, col, top, job.unit)
@@ -216,17 +219,22 @@ fn line_of_gouge(alloc: Global, at: u64, tri: u32, leaf: Leaf) -> Result<Vec<u8>
     Ok(line)
 }
 
-fn line_of_rapid(
+// The line of a move of this kind that a column stops.
+fn line_of_stop(
     alloc: Global,
+    kind: Kind,
     at: u64,
     row: u32,
     col: u32,
     leaf: Leaf,
 ) -> Result<Vec<u8>, WantOfMemory>
-    ensures { IfOk result (λ line. line.items ≡ rapid_line at row col leaf) }
+    ensures { IfOk result (λ line. line.items ≡ stop_line kind at row col leaf) }
 {
     let mut line = Vec::new(alloc);
-    add_text(&mut line, b"rejected rapid move ")?;
+    match kind {
+        Kind::Rapid => add_text(&mut line, b"rejected rapid move ")?,
+        Kind::Feed => add_text(&mut line, b"rejected cut move ")?,
+    }
     add_number(&mut line, at)?;
     add_text(&mut line, b" row ")?;
     add_number(&mut line, u64::from(row))?;

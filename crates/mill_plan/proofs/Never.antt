@@ -1,5 +1,6 @@
 -- A plan's moves are good, so it is rejected for nothing but stock that it leaves.
 use Rattle.std.proofs.Common.{List, [], length, sym, subst}
+use Rattle.mill_base.specs.declared.motion.Kind.TheVariants.{Rapid, Feed}
 use Rattle.mill_base.specs.declared.motion.Move.{Move}
 use Rattle.mill_base.specs.declared.points.Tri.{Tri}
 use Rattle.mill_base.specs.Covers.{IsUnder}
@@ -13,15 +14,16 @@ use Rattle.mill_paths.specs.Visits.{FinishVisitsAreFree, LevelVisitsAreFree, Rou
 use Rattle.mill_verify.specs.Tests.{GoodBefore}
 use Rattle.mill_verify.specs.Verdicts.{IsRejection}
 use Rattle.mill_verify.specs.declared.verdict.Reason.{Reason}
-use Rattle.mill_verify.specs.declared.verdict.Reason.TheVariants.{Floor, Gouge, Rapid as RapidCut, Left}
+use Rattle.mill_verify.specs.declared.verdict.Reason.TheVariants.{Floor, Gouge, Rapid as RapidCut, Cut, Left}
 use Rattle.mill_plan.specs.Laws.{IsStockLeft, PlanNeverFails}
-use Rattle.mill_plan.proofs.Good.{good}
+use Rattle.mill_plan.proofs.Good.{good, not_stopped}
 use Rattle.mill_plan.proofs.Planning.{each_joined}
 
 only_left : (job : Job) (part : List Tri) (moves : List Move) (reason : Reason) → GoodBefore job part moves (length moves) → IsRejection job part moves reason → IsStockLeft reason
 only_left job part moves (Floor k) all fails = fails.fails (all k fails.there).floor
 only_left job part moves (Gouge k t leaf) all fails = fails.fails.fails ((all k fails.there).clears t fails.tri)
-only_left job part moves (RapidCut k j i leaf) all fails = fails.fails.fails ((all k fails.there).stock fails.rapid j i fails.column)
+only_left job part moves (RapidCut k j i leaf) all fails = not_stopped job part moves Rapid k j i leaf all fails
+only_left job part moves (Cut k j i leaf) all fails = not_stopped job part moves Feed k j i leaf all fails
 only_left job part moves (Left j i top) all fails = tt
 
 goes : RoughVisitsAreFree → LevelVisitsAreFree → FinishVisitsAreFree → RoundIsSafe → (job : Job) (part : List Tri) (moves : List Move) → IsJob job → IsUnder part job.top

@@ -20,7 +20,7 @@ abbrev pub IsStockLeft : Reason → Type 0
 IsStockLeft (Left row col top) = Unit {0}
 IsStockLeft _ = ⊥
 
--- a plan, also one of too many moves, is rejected for no reason but stock that it leaves: never for the floor, the part or a rapid
+-- a plan, also one of too many moves, is rejected for no reason but stock that it leaves: never for the floor, the part, a rapid or a cut too deep
 abbrev pub PlanNeverFails : Type 0
 PlanNeverFails = (job : Job) (part : List Tri) (moves : List Move) (reason : Reason) → IsJob job → IsUnder part job.top → IsPlan job part moves
     → IsRejection job part moves reason → IsStockLeft reason

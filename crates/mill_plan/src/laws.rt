@@ -14,7 +14,7 @@ pub fn one_plan_answer()
 }
 
 /// A plan, also one that has too many moves, is rejected for no reason but stock that it leaves: none
-/// of its moves fails the test of the floor, of the part or of a rapid.
+/// of its moves fails the test of the floor, of the part or of the stock.
 pub fn plan_never_fails()
     ensures { PlanNeverFails }
 {
