@@ -1,7 +1,13 @@
-use crate::{Job, Key, Levels, Name, Place, read_job};
+// Jobs that are read, and the faults for which others are refused.
+//
+// Each table is one text: the proof of a test then costs the same however many rows there are. A row
+// is a line `OLD => NEW => SAYS`: EXAMPLE with NEW in the place of OLD, and what is said of it. There
+// `\n` is a line's end.
+use crate::{Job, JobFault, Key, Levels, Name, Place, read_job};
 use mill_base::{Box2, Cutter, Pt3, Unit};
 use mill_decimal::Snap;
 use std::alloc::Global;
+use std::process::Abort;
 use std::test::Fail;
 
 const EXAMPLE: &str = "cutter = \"flat\"
@@ -34,6 +40,7 @@ layer = 1
 rough_stock = 10001
 levels = [300, 300]
 snap = \"near\"
+max_cut = -9
 ";
 
 /// 64 heights, from the highest to the lowest.
@@ -69,268 +76,225 @@ const JOB: Job = Job {
     max_cut: 0,
 };
 
+/// What is said of a text: the job as it is, and its levels, or its fault.
+fn answer(alloc: Global, text: &str) -> Result<String, Fail> {
+    match read_job(alloc, text.as_bytes()) {
+        Ok(job) => Ok(format!(in alloc; "{job:?} with levels {:?}", job.levels.as_slice())?),
+        Err(fault) => Ok(format!(in alloc; "{fault}")?),
+    }
+}
+
+/// A row's text, and what is said of it.
+fn text_of_row<'a>(alloc: Global, from: &str, row: &'a str) -> Result<(String, &'a str), Fail> {
+    let (old, rest) = row.split_once(" => ").ok_or("a row without =>")?;
+    let (new, says) = rest.split_once(" => ").ok_or("a row with one =>")?;
+    let new = new.replace(alloc, "\\n", "\n")?;
+    Ok((from.replace(alloc, old, new.as_str())?, says))
+}
+
+fn each_is_refused<R: Abort>(rt: &R, alloc: Global, from: &str, table: &str) -> Result<(), Fail> {
+    for row in table.lines() {
+        let (text, says) = text_of_row(alloc, from, row)?;
+        assert_eq!(rt; answer(alloc, text.as_str())?.as_str(), says, "{row}");
+    }
+    Ok(())
+}
+
+/// Each row's job has this among its values.
+fn each_is_read<R: Abort>(rt: &R, alloc: Global, from: &str, table: &str) -> Result<(), Fail> {
+    for row in table.lines() {
+        let (text, says) = text_of_row(alloc, from, row)?;
+        let told = answer(alloc, text.as_str())?;
+        assert!(rt; told.contains(says), "{row}: {told}");
+    }
+    Ok(())
+}
+
 #[test]
-fn reads_jobs(rt: HostRuntime) -> Result<(), Fail> {
+fn reads_a_job(rt: HostRuntime) -> Result<(), Fail> {
     let alloc = rt.alloc();
     let job = read_job(alloc, EXAMPLE.as_bytes())?;
     assert_eq!(rt; job, JOB);
-    let with_snap = format!(in alloc; "{EXAMPLE}snap = \"exact\"\n")?;
-    assert_eq!(rt; read_job(alloc, with_snap.as_bytes())?.snap, Snap::Exact);
-    let with_ball = EXAMPLE.replace(alloc, "flat", "ball")?;
-    assert_eq!(rt;
-        read_job(alloc, with_ball.as_bytes())?.cutter,
-        Cutter::Ball { radius: 150 }
-    );
-    let with_band = EXAMPLE.replace(alloc, "band = 0", "band = 150")?;
-    assert_eq!(rt; read_job(alloc, with_band.as_bytes())?.band, 150);
     assert_eq!(rt; (job.rows(), job.columns(), job.column_total()), (3, 3, 9));
-    assert_eq!(rt;
-        job.home(),
-        Pt3 {
-            x: 100,
-            y: 90,
-            z: 400
-        }
-    );
+    let home = Pt3 {
+        x: 100,
+        y: 90,
+        z: 400,
+    };
+    assert_eq!(rt; job.home(), home);
     assert!(rt; 2 < job.columns() && 1 < job.rows());
     assert_eq!(rt; (job.column_x(2), job.row_y(1)), (200, 100));
     Ok(())
 }
 
-/// The text of the fault for which a document is refused.
-fn fault_text(alloc: Global, text: &str) -> Result<String, Fail> {
-    match read_job(alloc, text.as_bytes()) {
-        Ok(_) => Err(Fail::from("a job")),
-        Err(fault) => Ok(format!(in alloc; "{fault}")?),
-    }
+/// The last rows: with a layer of 2 the stock may be 1,001 high, and without roughing too.
+const READ: &str =
+    r#"band = 0 => band = 150 => band: 150, lift: 0, raster: 100, rough_raster: 100, layer: 0, rough_stock: 0, levels
+"flat" => "ball" => cutter: Ball { radius: 150 }, floor
+band = 0 => band = 0\nsnap = "exact" => snap: Exact, max_cut: 0
+band = 0 => band = 0\nlift = 10000 => lift: 10000, raster: 100, rough_raster: 100, layer: 0, rough_stock: 0
+band = 0 => band = 0\nraster = 1 => lift: 0, raster: 1, rough_raster: 1, layer: 0, rough_stock: 0
+band = 0 => band = 0\nrough_raster = 10000 => lift: 0, raster: 100, rough_raster: 10000, layer: 0, rough_stock: 0
+band = 0 => band = 0\nraster = 10000\nrough_raster = 1 => lift: 0, raster: 10000, rough_raster: 1, layer: 0, rough_stock: 0
+band = 0 => band = 0\nlayer = 131071 => lift: 0, raster: 100, rough_raster: 100, layer: 131071, rough_stock: 0
+band = 0 => band = 0\nrough_stock = 10000 => lift: 0, raster: 100, rough_raster: 100, layer: 0, rough_stock: 10000
+band = 0 => band = 0\nlift = 0\nlayer = 0\nrough_stock = 0 => lift: 0, raster: 100, rough_raster: 100, layer: 0, rough_stock: 0
+band = 0 => band = 0\nmax_cut = 131071 => snap: Nearest, max_cut: 131071
+band = 0 => band = 0\nmax_cut = 0 => snap: Nearest, max_cut: 0
+band = 0 => band = 0\nlevels = [] => with levels []
+band = 0 => band = 0\nlevels = [0] => with levels [0]
+band = 0 => band = 0\nlevels = [299] => with levels [299]
+band = 0 => band = 0\nlevels = [299, 298, 1, 0] => with levels [299, 298, 1, 0]
+band = 0 => band = 0\nunit = "hundredth" => unit: Hundredth, cutter: Flat { radius: 150 }, floor: 0, top: 300, clear: 400
+floor = 0 => floor = -700\nlayer = 1 => layer: 1
+floor = 0 => floor = -701\nlayer = 2 => layer: 2
+floor = 0 => floor = -701\nlayer = 0 => floor: -701"#;
+
+#[test]
+fn reads_other_values(rt: HostRuntime) -> Result<(), Fail> {
+    each_is_read(&rt, rt.alloc(), EXAMPLE, READ)
 }
+
+const REFUSED: &str = r#"radius = 150 => clear = 400 => syntax
+radius = 150 => # => missing radius
+clear = 400 => clear = 200 => top doesn't fit clear
+band = 0 => band = 0\ndepth = 1 => unknown depth
+= 150 => = 1.5 => wrong kind of radius
+= 150 => = 10001 => radius out of range
+= 150 => = 99999999999999999999 => syntax
+"flat" => "disc" => cutter out of range
+"flat" => "flat"\nrise = 1 => cutter doesn't fit rise
+"flat" => "ball"\nrun = 1 => cutter doesn't fit run
+"flat" => "ball"\nrise = 99\nrun = 1 => cutter doesn't fit rise
+"flat" => "ball"\nrise = 101 => rise out of range
+[0, 0, 200, 200] => [0, 0, 200] => area out of range
+[0, 0, 200, 200] => [0, 0, 200, "200"] => wrong kind of area
+[100, 90] => [100, 131072] => home out of range
+band = 0 => band = 10001 => band out of range
+band = 0 => band = 151 => band doesn't fit radius
+band = 0 => band = 0\nsnap = "near" => snap out of range
+band = 0 => band = 0\nsnap = 1 => wrong kind of snap
+band = 0 => snap = 1\nsnaps = 1 => unknown snaps
+band = 0 => band = 0\nlift = true => wrong kind of lift
+band = 0 => band = 0\nlift = -1 => lift out of range
+band = 0 => band = 0\nlift = 10001 => lift out of range
+band = 0 => band = 0\nraster = [1] => wrong kind of raster
+band = 0 => band = 0\nraster = 0 => raster out of range
+band = 0 => band = 0\nraster = 10001 => raster out of range
+band = 0 => band = 0\nrough_raster = "1" => wrong kind of rough_raster
+band = 0 => band = 0\nrough_raster = 0 => rough_raster out of range
+band = 0 => band = 0\nrough_raster = 10001 => rough_raster out of range
+band = 0 => band = 0\nlayer = 1.0 => wrong kind of layer
+band = 0 => band = 0\nlayer = -1 => layer out of range
+band = 0 => band = 0\nlayer = 131072 => layer out of range
+band = 0 => band = 0\nrough_stock = {} => wrong kind of rough_stock
+band = 0 => band = 0\nrough_stock = -1 => rough_stock out of range
+band = 0 => band = 0\nrough_stock = 10001 => rough_stock out of range
+band = 0 => band = 0\nmax_cut = 1.5 => wrong kind of max_cut
+band = 0 => band = 0\nmax_cut = -1 => max_cut out of range
+band = 0 => band = 0\nmax_cut = 131072 => max_cut out of range
+band = 0 => band = 0\nsnap = 1\nmax_cut = -1 => wrong kind of snap
+band = 0 => band = 0\nlevel = [1] => unknown level
+band = 0 => band = 0\nlevels = 5 => wrong kind of levels
+band = 0 => band = 0\nlevels = [5, 4.0] => wrong kind of levels
+band = 0 => band = 0\nlevels = [5, "4"] => wrong kind of levels
+band = 0 => band = 0\nlevels = [5, 5, [4]] => wrong kind of levels
+band = 0 => band = 0\nlevels = [5, 5] => levels out of range
+band = 0 => band = 0\nlevels = [5, 3, 4] => levels out of range
+band = 0 => band = 0\nlevels = [131072] => levels out of range
+band = 0 => band = 0\nlevels = [5, -131072] => levels out of range
+band = 0 => band = 0\nlevels = [131071] => levels doesn't fit top
+band = 0 => band = 0\nlevels = [301, 299] => levels doesn't fit top
+band = 0 => band = 0\nlevels = [300, 299] => levels doesn't fit top
+band = 0 => band = 0\nlevels = [299, -1] => levels doesn't fit top
+floor = 0 => floor = -701\nlayer = 1 => layer doesn't fit top"#;
 
 #[test]
 fn refuses_other_texts(rt: HostRuntime) -> Result<(), Fail> {
     let alloc = rt.alloc();
-    let rows = [
-        ("radius = 150\n", "", "missing radius"),
-        ("clear = 400", "clear = 200", "top doesn't fit clear"),
-        ("band = 0", "band = 0\ndepth = 1", "unknown depth"),
-        ("= 150", "= 1.5", "wrong kind of radius"),
-        ("= 150", "= 10001", "radius out of range"),
-        ("= 150", "= 99999999999999999999", "syntax"),
-        ("\"flat\"", "\"disc\"", "cutter out of range"),
-        ("\"flat\"", "\"flat\"\nrise = 1", "cutter doesn't fit rise"),
-        ("\"flat\"", "\"ball\"\nrun = 1", "cutter doesn't fit run"),
-        (
-            "\"flat\"",
-            "\"ball\"\nrise = 99\nrun = 1",
-            "cutter doesn't fit rise",
-        ),
-        ("\"flat\"", "\"ball\"\nrise = 101", "rise out of range"),
-        ("[0, 0, 200, 200]", "[0, 0, 200]", "area out of range"),
-        (
-            "[0, 0, 200, 200]",
-            "[0, 0, 200, \"200\"]",
-            "wrong kind of area",
-        ),
-        ("[100, 90]", "[100, 131072]", "home out of range"),
-        ("band = 0", "band = 10001", "band out of range"),
-        ("band = 0", "band = 151", "band doesn't fit radius"),
-        ("band = 0", "band = 0\nsnap = \"near\"", "snap out of range"),
-        ("band = 0", "band = 0\nsnap = 1", "wrong kind of snap"),
-        ("band = 0", "snap = 1\nsnaps = 1", "unknown snaps"),
-    ];
-    for (old, new, want) in rows {
-        let text = EXAMPLE.replace(alloc, old, new)?;
-        assert_eq!(rt; fault_text(alloc, text.as_str())?.as_str(), want);
-    }
+    each_is_refused(&rt, alloc, EXAMPLE, REFUSED)?;
     let wide = EXAMPLE.replace(alloc, "[0, 0, 200, 200]", "[0, 0, 131071, 131071]")?;
     let fine = wide.replace(alloc, "pitch = 100", "pitch = 1")?;
-    let many = read_job(alloc, fine.as_bytes());
-    assert!(rt; matches!(many, Err(crate::JobFault::Relation(Key::Area, Key::Pitch))));
-    assert!(rt; matches!(read_job(alloc, &[0xFF]), Err(crate::JobFault::Syntax)));
+    assert_eq!(rt;
+        answer(alloc, fine.as_str())?.as_str(),
+        "area doesn't fit pitch"
+    );
+    assert!(rt; matches!(read_job(alloc, &[0xFF]), Err(JobFault::Syntax)));
     Ok(())
 }
 
 #[test]
-fn reads_the_numbers_of_a_plan(rt: HostRuntime) -> Result<(), Fail> {
+fn takes_64_levels(rt: HostRuntime) -> Result<(), Fail> {
     let alloc = rt.alloc();
-    let rows = [
-        ("", (0, 100, 100, 0, 0)),
-        ("lift = 10000", (10000, 100, 100, 0, 0)),
-        ("raster = 1", (0, 1, 1, 0, 0)),
-        ("rough_raster = 10000", (0, 100, 10000, 0, 0)),
-        ("raster = 10000\nrough_raster = 1", (0, 10000, 1, 0, 0)),
-        ("layer = 131071", (0, 100, 100, 131071, 0)),
-        ("rough_stock = 10000", (0, 100, 100, 0, 10000)),
-        ("lift = 0\nlayer = 0\nrough_stock = 0", (0, 100, 100, 0, 0)),
-    ];
-    for (added, want) in rows {
-        let text = format!(in alloc; "{EXAMPLE}{added}\n")?;
-        let job = read_job(alloc, text.as_bytes())?;
-        let given = (
-            job.lift,
-            job.raster,
-            job.rough_raster,
-            job.layer,
-            job.rough_stock,
-        );
-        assert_eq!(rt; given, want, "{added}");
-    }
-    Ok(())
-}
-
-#[test]
-fn refuses_other_numbers_of_a_plan(rt: HostRuntime) -> Result<(), Fail> {
-    let alloc = rt.alloc();
-    let rows = [
-        ("lift = true", "wrong kind of lift"),
-        ("lift = -1", "lift out of range"),
-        ("lift = 10001", "lift out of range"),
-        ("raster = [1]", "wrong kind of raster"),
-        ("raster = 0", "raster out of range"),
-        ("raster = 10001", "raster out of range"),
-        ("rough_raster = \"1\"", "wrong kind of rough_raster"),
-        ("rough_raster = 0", "rough_raster out of range"),
-        ("rough_raster = 10001", "rough_raster out of range"),
-        ("layer = 1.0", "wrong kind of layer"),
-        ("layer = -1", "layer out of range"),
-        ("layer = 131072", "layer out of range"),
-        ("rough_stock = {}", "wrong kind of rough_stock"),
-        ("rough_stock = -1", "rough_stock out of range"),
-        ("rough_stock = 10001", "rough_stock out of range"),
-        ("level = [1]", "unknown level"),
-    ];
-    for (added, want) in rows {
-        let text = format!(in alloc; "{EXAMPLE}{added}\n")?;
-        assert_eq!(rt; fault_text(alloc, text.as_str())?.as_str(), want);
-    }
-    Ok(())
-}
-
-#[test]
-fn reads_levels(rt: HostRuntime) -> Result<(), Fail> {
-    let alloc = rt.alloc();
-    let rows = [
-        ("", [].as_slice()),
-        ("levels = []", [].as_slice()),
-        ("levels = [0]", [0].as_slice()),
-        ("levels = [299]", [299].as_slice()),
-        ("levels = [299, 298, 1, 0]", [299, 298, 1, 0].as_slice()),
-    ];
-    for (added, want) in rows {
-        let text = format!(in alloc; "{EXAMPLE}{added}\n")?;
-        let job = read_job(alloc, text.as_bytes())?;
-        assert_eq!(rt; job.levels.as_slice(), want, "{added}");
-    }
     let most = format!(in alloc; "{EXAMPLE}levels = [{LADDER}]\n")?;
     let job = read_job(alloc, most.as_bytes())?;
     let heights = job.levels.as_slice();
     assert_eq!(rt; heights.len(), 64);
     assert_eq!(rt; (heights.first(), heights.last()), (Some(&63), Some(&0)));
-    Ok(())
-}
-
-#[test]
-fn refuses_other_levels(rt: HostRuntime) -> Result<(), Fail> {
-    let alloc = rt.alloc();
-    let rows = [
-        ("5", "wrong kind of levels"),
-        ("[5, 4.0]", "wrong kind of levels"),
-        ("[5, \"4\"]", "wrong kind of levels"),
-        ("[5, 5, [4]]", "wrong kind of levels"),
-        ("[5, 5]", "levels out of range"),
-        ("[5, 3, 4]", "levels out of range"),
-        ("[131072]", "levels out of range"),
-        ("[5, -131072]", "levels out of range"),
-        ("[131071]", "levels doesn't fit top"),
-        ("[301, 299]", "levels doesn't fit top"),
-        ("[300, 299]", "levels doesn't fit top"),
-        ("[299, -1]", "levels doesn't fit top"),
-    ];
-    for (given, want) in rows {
-        let text = format!(in alloc; "{EXAMPLE}levels = {given}\n")?;
-        assert_eq!(rt; fault_text(alloc, text.as_str())?.as_str(), want, "{given}");
-    }
-    let too_many = format!(in alloc; "{EXAMPLE}levels = [64, {LADDER}]\n")?;
+    let more = format!(in alloc; "{EXAMPLE}levels = [64, {LADDER}]\n")?;
     assert_eq!(rt;
-        fault_text(alloc, too_many.as_str())?.as_str(),
+        answer(alloc, more.as_str())?.as_str(),
         "levels out of range"
     );
     Ok(())
 }
 
-/// With a layer of 1 the stock may be 1,000 high, and without roughing higher.
-#[test]
-fn bounds_the_layers(rt: HostRuntime) -> Result<(), Fail> {
-    let alloc = rt.alloc();
-    let high = EXAMPLE.replace(alloc, "floor = 0", "floor = -701\nlayer = 1")?;
-    assert_eq!(rt;
-        fault_text(alloc, high.as_str())?.as_str(),
-        "layer doesn't fit top"
-    );
-    let lower = high.replace(alloc, "-701", "-700")?;
-    assert_eq!(rt; read_job(alloc, lower.as_bytes())?.layer, 1);
-    let thicker = high.replace(alloc, "layer = 1", "layer = 2")?;
-    assert_eq!(rt; read_job(alloc, thicker.as_bytes())?.layer, 2);
-    let whole = high.replace(alloc, "layer = 1", "layer = 0")?;
-    assert_eq!(rt; read_job(alloc, whole.as_bytes())?.floor, -701);
-    Ok(())
-}
+/// FAULTY's first fault, what mends it, and so on: each repair mends the first of those that are left.
+const REPAIRS: &str = r#"unknown depth => depth = 1 => #
+wrong kind of cutter => cutter = 1 => cutter = "cone"
+radius out of range => radius = 0 => radius = 150
+missing rise => floor => rise = 0\nfloor
+rise out of range => rise = 0 => rise = 17
+wrong kind of run => run = "1" => run = 1
+floor out of range => 131072 => 301
+missing clear => area => clear = 200\narea
+area out of range => 9, 131071, 0] => 0, 131071, 131071]
+wrong kind of home => 1.5 => 100
+band out of range => band = -1 => band = 151
+wrong kind of lift => 2.5 => 10000
+rough_stock out of range => 10001 => 10000
+levels out of range => [300, 300] => [300, 1]
+snap out of range => "near" => "nearest"
+max_cut out of range => -9 => 9
+rise doesn't fit run => rise = 17 => rise = 16
+floor doesn't fit top => floor = 301 => floor = -701
+top doesn't fit clear => clear = 200 => clear = 400
+area doesn't fit pitch => 131071, 131071 => 200, 200
+band doesn't fit radius => band = 151 => band = 0
+layer doesn't fit top => floor = -701 => floor = -700
+levels doesn't fit top => [300, 1] => [299, 1]"#;
 
-/// Each repair mends the first of the faults that are left.
 #[test]
 fn first_fault_decides(rt: HostRuntime) -> Result<(), Fail> {
     let alloc = rt.alloc();
-    let repairs = [
-        ("unknown depth", "depth = 1\n", ""),
-        ("wrong kind of cutter", "cutter = 1", "cutter = \"cone\""),
-        ("radius out of range", "radius = 0", "radius = 150"),
-        ("missing rise", "floor", "rise = 0\nfloor"),
-        ("rise out of range", "rise = 0", "rise = 17"),
-        ("wrong kind of run", "run = \"1\"", "run = 1"),
-        ("floor out of range", "131072", "301"),
-        ("missing clear", "area", "clear = 200\narea"),
-        ("area out of range", "9, 131071, 0]", "0, 131071, 131071]"),
-        ("wrong kind of home", "1.5", "100"),
-        ("band out of range", "band = -1", "band = 151"),
-        ("wrong kind of lift", "2.5", "10000"),
-        ("rough_stock out of range", "10001", "10000"),
-        ("levels out of range", "[300, 300]", "[300, 1]"),
-        ("snap out of range", "\"near\"", "\"nearest\""),
-        ("rise doesn't fit run", "rise = 17", "rise = 16"),
-        ("floor doesn't fit top", "floor = 301", "floor = -701"),
-        ("top doesn't fit clear", "clear = 200", "clear = 400"),
-        ("area doesn't fit pitch", "131071, 131071", "200, 200"),
-        ("band doesn't fit radius", "band = 151", "band = 0"),
-        ("layer doesn't fit top", "floor = -701", "floor = -700"),
-        ("levels doesn't fit top", "[300, 1]", "[299, 1]"),
-    ];
     let mut text = FAULTY.to_string(alloc)?;
-    for (want, old, new) in repairs {
-        assert_eq!(rt; fault_text(alloc, text.as_str())?.as_str(), want);
-        text = text.replace(alloc, old, new)?;
+    for row in REPAIRS.lines() {
+        let (fault, repair) = row.split_once(" => ").ok_or("a row without =>")?;
+        assert_eq!(rt; answer(alloc, text.as_str())?.as_str(), fault);
+        let repair = format!(in alloc; "{repair} => ")?;
+        text = text_of_row(alloc, text.as_str(), repair.as_str())?.0;
     }
-    let cone = Cutter::Cone {
-        radius: 150,
-        rise: 16,
-        run: 1,
-    };
     let mut levels = Levels::NONE;
     levels.push(299);
     levels.push(1);
-    assert_eq!(rt;
-        read_job(alloc, text.as_bytes())?,
-        Job {
-            cutter: cone,
-            floor: -700,
-            pitch: 50,
-            lift: 10000,
-            raster: 50,
-            rough_raster: 50,
-            layer: 1,
-            rough_stock: 10000,
-            levels,
-            ..JOB
-        }
-    );
+    let want = Job {
+        cutter: Cutter::Cone {
+            radius: 150,
+            rise: 16,
+            run: 1,
+        },
+        floor: -700,
+        pitch: 50,
+        lift: 10000,
+        raster: 50,
+        rough_raster: 50,
+        layer: 1,
+        rough_stock: 10000,
+        levels,
+        max_cut: 9,
+        ..JOB
+    };
+    assert_eq!(rt; read_job(alloc, text.as_bytes())?, want);
     Ok(())
 }
 
@@ -343,46 +307,34 @@ fn names_keep_their_bytes(rt: HostRuntime) -> Result<(), Fail> {
     Ok(())
 }
 
+/// Of EXAMPLE in thousandths.
+const FINE: &str =
+    r#"clear = 400 => clear = 524287\nlayer = 524287 => unit: Thousandth, cutter: Flat { radius: 150 }, floor: 0, top: 300, clear: 524287
+band = 0 => band = 0\nlayer = 524287 => layer: 524287
+band = 0 => band = 0\nmax_cut = 524287 => max_cut: 524287"#;
+
+const NOT_FINE: &str = r#""thousandth" => "inch" => unit out of range
+"thousandth" => 3 => wrong kind of unit
+clear = 400 => clear = 524288 => clear out of range
+[100, 90] => [-524288, 90] => home out of range
+band = 0 => band = 0\nlayer = 524288 => layer out of range
+band = 0 => band = 0\nlevels = [524288] => levels out of range
+band = 0 => band = 0\nmax_cut = 524288 => max_cut out of range
+unit = "thousandth" => clears = 131072 => unknown clears"#;
+
 #[test]
 fn reads_thousandths(rt: HostRuntime) -> Result<(), Fail> {
     let alloc = rt.alloc();
-    let hundredths = format!(in alloc; "{EXAMPLE}unit = \"hundredth\"\n")?;
-    assert_eq!(rt; read_job(alloc, hundredths.as_bytes())?, JOB);
-    let thousandths = format!(in alloc; "{EXAMPLE}unit = \"thousandth\"\n")?;
+    let fine = format!(in alloc; "{EXAMPLE}unit = \"thousandth\"\n")?;
     let want = Job {
         unit: Unit::Thousandth,
         ..JOB
     };
-    assert_eq!(rt; read_job(alloc, thousandths.as_bytes())?, want);
-    let wide = thousandths.replace(alloc, "clear = 400", "clear = 524287\nlayer = 524287")?;
-    let job = read_job(alloc, wide.as_bytes())?;
-    assert_eq!(rt; (job.clear, job.layer), (524_287, 524_287));
-    let rows = [
-        (
-            "unit = \"thousandth\"",
-            "unit = \"inch\"",
-            "unit out of range",
-        ),
-        ("unit = \"thousandth\"", "unit = 3", "wrong kind of unit"),
-        ("clear = 400", "clear = 524288", "clear out of range"),
-        ("[100, 90]", "[-524288, 90]", "home out of range"),
-        ("band = 0", "band = 0\nlayer = 524288", "layer out of range"),
-        (
-            "band = 0",
-            "band = 0\nlevels = [524288]",
-            "levels out of range",
-        ),
-        ("unit = \"thousandth\"", "clears = 131072", "unknown clears"),
-    ];
-    for (old, new, want) in rows {
-        let text = thousandths.replace(alloc, old, new)?;
-        assert_eq!(rt; fault_text(alloc, text.as_str())?.as_str(), want);
-    }
-    let first = thousandths.replace(alloc, "\"flat\"", "\"disc\"")?;
+    assert_eq!(rt; read_job(alloc, fine.as_bytes())?, want);
+    each_is_read(&rt, alloc, fine.as_str(), FINE)?;
+    each_is_refused(&rt, alloc, fine.as_str(), NOT_FINE)?;
+    let first = fine.replace(alloc, "\"flat\"", "\"disc\"")?;
     let both = first.replace(alloc, "\"thousandth\"", "\"inch\"")?;
-    assert_eq!(rt;
-        fault_text(alloc, both.as_str())?.as_str(),
-        "unit out of range"
-    );
+    assert_eq!(rt; answer(alloc, both.as_str())?.as_str(), "unit out of range");
     Ok(())
 }
