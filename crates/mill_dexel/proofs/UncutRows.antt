@@ -10,7 +10,7 @@ use Rattle.std.proofs.Math.Nat.{div-mul-le_self, mul-le-mul_right}
 use Rattle.std.proofs.Math.IntN.{pos-*ℤ-pos}
 use Rattle.mill_base.specs.Numbers.{Within, greater}
 use Rattle.mill_base.specs.declared.limits.TheConstants.{MAX_COORDINATE}
-use Rattle.mill_base.proofs.Machine.{X, Read, Diff, stored, exact, kept}
+use Rattle.mill_base.proofs.Machine.{Read, Diff, stored, exact, kept}
 use Rattle.mill_base.proofs.Ranges.{within_of_unit}
 use Rattle.mill_base.specs.Points.{point_at}
 use Rattle.mill_base.specs.Ranges.{IsInRange, TriInRange}

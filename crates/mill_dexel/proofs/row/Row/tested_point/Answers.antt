@@ -4,7 +4,7 @@ use Rattle.std.proofs.lemmas.Int.{ints}
 use Rattle.mill_base.proofs.Machine.{stored}
 use Rattle.mill_job.specs.Columns.{column_y}
 use Rattle.mill_job.specs.Jobs.{IsFrom}
-use Rattle.mill_dexel.specs.Rows.{RowState, top_at}
+use Rattle.mill_dexel.specs.Rows.{RowState}
 use Rattle.mill_dexel.specs.Tops.{tested_height}
 use Rattle.mill_dexel.proofs.Lines.{same_point}
 use Rattle.mill_dexel.proofs.UncutRows.{top_read, top_stays}
