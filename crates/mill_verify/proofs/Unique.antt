@@ -57,8 +57,8 @@ module _ (job : Job) (part : List Tri) (moves : List Move) where
 
   one_column : (kind : Kind) (k j i c d : ℕ) (a b : Leaf) → FailsStock job part moves kind k j i a → FailsStock job part moves kind k c d b → (j ≡ c) × (i ≡ d)
   one_column kind k j i c d a b h g =
-      let as = passes_as job moves kind k h.is in
-      not_before j i c d (λ x. h.fails.fails (as j i (g.first j i h.column x))) (λ x. g.fails.fails (as c d (h.first c d g.column x)))
+      let at = passes_as job moves kind k h.is in
+      not_before j i c d (λ x. h.fails.fails (at j i (g.first j i h.column x))) (λ x. g.fails.fails (at c d (h.first c d g.column x)))
 
   one_uncut : (j i c d : ℕ) (s t : ℤ) → FailsCut job part moves j i s → FailsCut job part moves c d t → (j ≡ c) × (i ≡ d)
   one_uncut j i c d s t h g = not_before j i c d (λ x. h.fails (g.first j i h.column x)) (λ x. g.fails (h.first c d g.column x))

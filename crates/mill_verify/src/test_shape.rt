@@ -53,6 +53,18 @@ pub(crate) fn block_job(cutter: Cutter, band: i32, allowance: u8) -> Job
     }
 }
 
+/// The same block of stock under a flat cutter, where a feed may cut this deep and no deeper.
+pub(crate) fn limited_job(max_cut: u8) -> Job
+    ensures job { IsJob result }
+    ensures top { result.top ≡ pos 300 }
+    ensures start { home result ≡ point_at (pos 100) (pos 100) (pos 400) }
+{
+    Job {
+        max_cut: i32::from(max_cut),
+        ..block_job(Cutter::Flat { radius: 150 }, 0, 0)
+    }
+}
+
 /// A corner of a plate, at the height 200.
 pub(crate) fn corner(x: i32, y: i32) -> Pt3
     requires x_ok { Within MAX_COORDINATE x }
