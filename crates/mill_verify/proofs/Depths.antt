@@ -1,6 +1,6 @@
 -- The height at which a move is tested at a column: from the floor to the top, and at most the greatest depth of cut under that.
 use Rattle.std.specs.Prelude.{◌≡◌, ℕ, ℤ, pos, ◌-ℤ◌, ◌<ℤ◌, ◌≤ℤ◌, List, take, cond, int_lt, Bool, true, false, refl}
-use Rattle.std.proofs.Common.{sym, subst, tt, arith}
+use Rattle.std.proofs.Common.{sym, subst, arith}
 use Rattle.std.proofs.lemmas.Int.{ints}
 use Rattle.mill_base.specs.Numbers.{Within, greater}
 use Rattle.mill_base.specs.declared.limits.TheConstants.{MAX_COORDINATE}

@@ -1,6 +1,6 @@
 -- An accepted program cuts safely, by the laws of the layers below.
 use Rattle.std.specs.Prelude.{◌≡◌, ℕ, ◌+◌, ◌<◌, ℤ, pos, ◌-ℤ◌, ◌+ℤ◌, ◌*ℤ◌, ◌<ℤ◌, ◌≤ℤ◌, List, Contains, length, take, drop, slice_index_or, [], ◌∷◌, zero, suc, negsuc, int_lt, Bool, true, false, refl}
-use Rattle.std.proofs.Common.{sym, subst, ap, tt, inl, inr, arith, ◌∙◌}
+use Rattle.std.proofs.Common.{sym, subst, ap, inl, inr, arith, ◌∙◌}
 use Rattle.std.proofs.lemmas.Int.{ints}
 use lib.IntN.{*ℤ_comm}
 use borrow.Author.Differences.{same_in}
