@@ -32,6 +32,7 @@ use Rattle.mill_verify.specs.inner.Pieces.{AreTested, IsPieceAt, IsPieceFailed, 
 use Rattle.mill_verify.specs.inner.Stock.{IsStock}
 use Rattle.mill_verify.proofs.Gathered.{gathered}
 use Rattle.mill_verify.proofs.Ranges.{rows_few}
+use Rattle.mill_verify.proofs.ReadLemmas.{move_read}
 use Rattle.mill_verify.proofs.Sharing.{first_of_block, first_of_row, limit_of_block, limit_of_row, spans}
 use Rattle.mill_verify.proofs.Turned.{RowClears, row_clears, row_stops}
 
@@ -40,7 +41,7 @@ there_in [] n lt = absurd (omega (lt, arith))
 there_in (x ∷ xs) zero lt = (x, refl)
 there_in (x ∷ xs) (suc n) lt = there_in xs n (omega (lt, arith))
 
-in_list : {A : Type 0} → (xs : List A) (n : ℕ) (x : A) → slice_get xs n ≡ Some x → n < length xs
+pub in_list : {A : Type 0} → (xs : List A) (n : ℕ) (x : A) → slice_get xs n ≡ Some x → n < length xs
 in_list [] n x e = absurd (cc)
 in_list (y ∷ ys) zero x e = omega arith
 in_list (y ∷ ys) (suc n) x e = let t = in_list ys n x e in omega (t, arith)
@@ -125,9 +126,12 @@ module _ (job : Job) (part : List Tri) (moves : List Move) (turns least : ℕ) (
     pub move_there : least < length moves
     move_there = let t = turn_there in omega (t, within, arith)
 
-    -- the kind of the move that fails
+    -- the kind of the move that fails, and that it is what is read
     abbrev kind : Kind
     kind = (move_at moves least).kind
+
+    kind_read : (d : Move) → kind ≡ (slice_index_or moves least d).kind
+    kind_read d = sym (ap (λ (m : Move). m.kind) (move_read moves least d move_there))
 
     -- the pieces before it pass their tests of that move
     others : (m : ℕ) → m < n → first_turn w m ≤ least → least < turn_limit w m → PassesTest w m least
@@ -142,11 +146,14 @@ module _ (job : Job) (part : List Tri) (moves : List Move) (turns least : ℕ) (
         let u = under in let rows = rows_few ok in let same = f.0 in
         (stock_reason kind least r.row f.2.fail.col f.2.fail.leaf, (f.2.fail, ap (λ (x : RowState). x.failed) f.2.noted, f.0 ∙ f.1, omega (same, u, rows, few, within, arith), refl))
 
-    pub reason_there : IsJob job → length moves ≤ MAX_MOVES → (h : Held Piece) → h ≡ slice_index_or hs n h → (reason : Reason) × IsReasonOf kind (blocks_of w) h.next h.piece reason
-    reason_there ok few h at =
+    pub reason_there : (d : Move) (blocks : ℕ) → blocks ≡ blocks_of w → IsJob job → length moves ≤ MAX_MOVES → (h : Held Piece) → h ≡ slice_index_or hs n h
+        → (reason : Reason) × IsReasonOf (slice_index_or moves least d).kind blocks h.next h.piece reason
+    reason_there d blocks count ok few h at =
         let same : first.held ≡ h = read_there hs n first.held h first.there at in
-        subst (λ (x : Held Piece). (reason : Reason) × IsReasonOf kind (blocks_of w) x.next x.piece reason) same
-        (subst (λ (t : ℕ). (reason : Reason) × IsReasonOf kind (blocks_of w) t first.held.piece reason) (sym first.failed.1) (has_reason ok few first.held.piece failing.1))
+        subst (λ (v : Kind). (reason : Reason) × IsReasonOf v blocks h.next h.piece reason) (kind_read d)
+        (subst (λ (k : ℕ). (reason : Reason) × IsReasonOf kind k h.next h.piece reason) (sym count)
+        (subst (λ (x : Held Piece). (reason : Reason) × IsReasonOf kind (blocks_of w) x.next x.piece reason) same
+        (subst (λ (t : ℕ). (reason : Reason) × IsReasonOf kind (blocks_of w) t first.held.piece reason) (sym first.failed.1) (has_reason ok few first.held.piece failing.1))))
 
     -- which is the program's
     abbrev Rejects : Reason → Type 0
@@ -199,8 +206,11 @@ module _ (job : Job) (part : List Tri) (moves : List Move) (turns least : ℕ) (
         let same : f.2.fail ≡ r.0 = one_of (sym (ap (λ (x : RowState). x.failed) f.2.noted) ∙ r.1) in
         subst Rejects (sym r.4) (stock_rejects row.row f.1 r.0 (subst (λ (x : RowFail). StopsRow job (row_before job moves (uncut_row job row.row) least) (move_at moves least) x) same f.2.stops))
 
-    pub rejected : (h : Held Piece) (reason : Reason) → h ≡ slice_index_or hs n h → IsReasonOf kind (blocks_of w) h.next h.piece reason → Rejects reason
-    rejected h reason at r =
+    pub rejected : (d : Move) (blocks : ℕ) → blocks ≡ blocks_of w → (h : Held Piece) (reason : Reason) → h ≡ slice_index_or hs n h
+        → IsReasonOf (slice_index_or moves least d).kind blocks h.next h.piece reason → Rejects reason
+    rejected d blocks count h reason at told =
+        let of_kind = subst (λ (v : Kind). IsReasonOf v blocks h.next h.piece reason) (sym (kind_read d)) told in
+        let r = subst (λ (k : ℕ). IsReasonOf kind k h.next h.piece reason) count of_kind in
         let same : h ≡ first.held = sym (read_there hs n first.held h first.there at) in
         rejects first.held.piece reason failing.1
         (subst (λ (t : ℕ). IsReasonOf kind (blocks_of w) t first.held.piece reason) first.failed.1 (subst (λ (x : Held Piece). IsReasonOf kind (blocks_of w) x.next x.piece reason) same r))
