@@ -9,7 +9,7 @@ use Rattle.std.proofs.lemmas.List.Elements.{Contains-append_left}
 use Rattle.mill_base.specs.declared.points.Tri.{Tri}
 use Rattle.mill_base.specs.declared.motion.Move.{Move}
 use Rattle.mill_base.specs.declared.motion.Kind.{Kind}
-use Rattle.mill_base.specs.declared.motion.Kind.TheVariants.{Rapid, Feed}
+use Rattle.mill_base.specs.declared.motion.Kind.TheVariants.{Rapid}
 use Rattle.mill_base.specs.Numbers.{square}
 use Rattle.mill_base.specs.Motion.{tip_at}
 use Rattle.mill_base.specs.Contact.{Holds, HoldsOver, Removes}
@@ -31,7 +31,7 @@ use Rattle.mill_verify.specs.Tests.{GoodBefore, PassesColumn, PassesTri}
 use Rattle.mill_dexel.specs.Turns.{move_at}
 use Rattle.mill_base.specs.Points.{point_at, tri_at}
 use Rattle.mill_verify.specs.Verdicts.{Accepts}
-use Rattle.mill_verify.specs.Claims.{NeverGouges, RapidsMissStock, LeftIsCovered, PartIsLeft, CutsSafely, CutsShallow, KeepsDepth, LeavesPoint, IsColumnPoint, top_before}
+use Rattle.mill_verify.specs.Claims.{NeverGouges, RapidsMissStock, LeftIsCovered, PartIsLeft, CutsSafely, KeepsDepth, LeavesPoint, IsColumnPoint, top_before}
 
 not_over : (a b : ℤ) → ¬ (a <ℤ b) → b ≤ℤ a
 not_over a b h = by (int_lt a b) refl
