@@ -22,4 +22,5 @@ pub mod Removal
 mod LastCerts
 mod Ends
 pub mod Cleared
+pub mod Limits
 pub mod Ranges
