@@ -5,9 +5,10 @@ use Rattle.std.proofs.lemmas.List.{take_all, take_more, take-append-drop}
 use Rattle.mill_base.specs.declared.motion.Move.{Move}
 use Rattle.mill_base.specs.declared.points.Pt3.{Pt3}
 use Rattle.mill_base.specs.declared.points.Tri.{Tri}
+use Rattle.mill_dexel.specs.Rows.{RowState}
 use Rattle.mill_job.specs.Columns.{home}
 use Rattle.mill_job.specs.declared.job.Job.{Job}
-use Rattle.mill_paths.specs.Links.{AddsLink, IsLink, way_home}
+use Rattle.mill_paths.specs.Links.{AddsLink, FollowStock, IsLink, way_home}
 use Rattle.mill_paths.specs.Tours.{IsTour, last_place}
 use Rattle.mill_paths.specs.declared.visit.Visit.{Visit}
 use Rattle.mill_paths.proofs.Steps.{last_snoc, tour_snoc}
@@ -44,6 +45,11 @@ module _ (job : Job) where
         (subst (λ (vs : List Visit). IsTour job part [] (home job) vs (old ++ next.moves)) (sym (take_more visits k d inside))
         (tour_snoc job part [] (home job) (take k visits) (slice_index_or visits k d) old next.moves so_far
         (subst (λ (p : Pt3). IsLink job part old p (slice_index_or visits k d) next.moves) there next.link)))
+
+    -- the rows go on with the moves of the link
+    pub stock_more : (place : Pt3) (visit : Visit) (old new : List Move) (rows : List RowState) (next : AddsLink job part old place visit old new)
+        → FollowStock job (old ++ next.moves) rows → FollowStock job new rows
+    stock_more place visit old new rows next follow = subst (λ (ms : List Move). FollowStock job ms rows) (sym next.joined) follow
 
     -- with the link to the visit of number k there are too many moves
     pub over_at : (visits : List Visit) (k : ℕ) (moves : List Move) → IsTour job part [] (home job) (take (k + 1) visits) moves → MAX_MOVES < length moves

@@ -1,4 +1,5 @@
 use Rattle.std.specs.Prelude.{◌≡◌, List, [], take, All}
+use Rattle.mill_base.specs.Ranges.{IsInUnitRange}
 use Rattle.mill_base.specs.declared.points.Tri.{Tri}
 use Rattle.mill_dexel.specs.Rows.{IsRowOf}
 use Rattle.mill_job.specs.Columns.{home}
@@ -11,6 +12,7 @@ abbrev pub invariant-loop-number : goal.invariant-loop-number
 invariant-loop-number l = record {
   place : l.place ≡ place_before l.job l.visits l.number;
   tour : (part : List Tri) → SayClear l.job part l.visits l.clear → IsTour l.job part [] (home l.job) (take l.number l.visits) l.moves.items;
-  stock : FollowStock l.job l.moves.items l.rows;
+  stock : (part : List Tri) → SayClear l.job part l.visits l.clear → FollowStock l.job l.moves.items l.rows;
   rows_ok : All (IsRowOf l.job) l.rows;
+  in_range : IsInUnitRange l.job.unit l.place;
 }
