@@ -12,6 +12,7 @@ mod Beyond
 mod LineCerts
 mod Lines
 mod UncutRows
+mod Stops
 pub mod RunLaws
 mod Blocks
 mod BandLists

@@ -13,12 +13,12 @@ use Rattle.mill_verify.specs.Verdicts.{IsVerdict, Accepts}
 use Rattle.mill_verify.specs.Claims.{CutsSafely}
 use Rattle.mill_verify.specs.declared.verdict.Verdict.{Verdict}
 use Rattle.mill_verify.specs.declared.verdict.Verdict.TheVariants.{Accept, Reject}
-use Rattle.mill_dexel.proofs.Removal.{over_top_is_removed}
+use Rattle.mill_dexel.proofs.Removal.{over_top_is_removed, passed_is_left}
 use Rattle.mill_verify.proofs.Safe.{safe}
 
 accepted : (job : Job) (part : List Tri) (moves : List Move) (count columns : ℕ) (left : ℤ) → IsJob job → MovesInRange moves → Accepts job part moves count columns left → CutsSafely job part moves
 accepted job part moves count columns left ok moves_ok a =
-    safe job part moves ok moves_ok passing_is_clear passing_keeps_point over_top_is_removed covered_below holds_over count columns left a
+    safe job part moves ok moves_ok passing_is_clear passing_keeps_point over_top_is_removed passed_is_left covered_below holds_over count columns left a
 
 -- if the verdict is an acceptance, the program cuts safely
 pub accepted_is_safe : (job : Job) (part : List Tri) (moves : List Move) (v : Verdict) → IsJob job → MovesInRange moves → IsVerdict job part moves v

@@ -2,6 +2,7 @@ mod ReadLemmas
 mod StockLemmas
 mod Turned
 mod Ranges
+mod Depths
 mod Most
 mod Remaining
 mod Stored

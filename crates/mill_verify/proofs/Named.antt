@@ -5,18 +5,20 @@ use Rattle.mill_base.specs.Points.{point_tri, tri_at}
 use Rattle.mill_base.specs.Ranges.{MoveInRange, MovesInRange}
 use Rattle.mill_base.specs.declared.points.Tri.{Tri}
 use Rattle.mill_base.specs.declared.motion.Move.{Move}
+use Rattle.mill_base.specs.declared.motion.Kind.{Kind}
+use Rattle.mill_base.specs.declared.motion.Kind.TheVariants.{Rapid, Feed}
 use Rattle.mill_job.specs.declared.job.Job.{Job}
 use Rattle.mill_job.specs.Jobs.{IsJob}
-use Rattle.mill_dexel.specs.Tops.{top_point}
+use Rattle.mill_dexel.specs.Tops.{tested_point}
 use Rattle.mill_dexel.specs.Turns.{move_at}
 use Rattle.mill_sweep.specs.declared.leaf.Leaf.{Leaf}
 use Rattle.mill_sweep.specs.Moments.{FailingIsBlocked}
 use Rattle.mill_verify.proofs.ReadLemmas.{move_read}
-use Rattle.mill_verify.specs.Verdicts.{BlocksMove, IsVerdict, StopsMove}
-use Rattle.mill_verify.specs.inner.Firsts.{ShowsBlocks}
+use Rattle.mill_verify.specs.Verdicts.{BlocksMove, FailsStock, IsVerdict, StopsMove}
+use Rattle.mill_verify.specs.inner.Firsts.{ShowsBlocks, StopsAt}
 use Rattle.mill_verify.specs.declared.verdict.Verdict.{Verdict}
 use Rattle.mill_verify.specs.declared.verdict.Verdict.TheVariants.{Reject}
-use Rattle.mill_verify.specs.declared.verdict.Reason.TheVariants.{Gouge, Rapid}
+use Rattle.mill_verify.specs.declared.verdict.Reason.TheVariants.{Gouge, Rapid as RapidCut, Cut}
 
 module _ (failing_is_blocked : FailingIsBlocked) (job : Job) (part : List Tri) (moves : List Move) (job_ok : IsJob job) (moves_ok : MovesInRange moves) where
   in_range : (k : ℕ) → k < length moves → MoveInRange (move_at moves k)
@@ -27,11 +29,10 @@ module _ (failing_is_blocked : FailingIsBlocked) (job : Job) (part : List Tri) (
   part_named k t leaf h shown =
       record { last = (failing_is_blocked job.cutter (move_at moves k) (tri_at part t) leaf job_ok.cutter_ok (in_range k h.there) h.fails).0; blocks = shown }
 
-  stock_named : (k j i : ℕ) (leaf : Leaf) → IsVerdict job part moves (Reject (Rapid k j i leaf)) → ShowsBlocks job part moves (Reject (Rapid k j i leaf))
-      → StopsMove job moves k j i leaf
-  stock_named k j i leaf h shown =
+  stock_named : (kind : Kind) (k j i : ℕ) (leaf : Leaf) → FailsStock job part moves kind k j i leaf → StopsAt job moves kind k j i leaf → StopsMove job moves kind k j i leaf
+  stock_named kind k j i leaf h shown =
       record {
-        last = (failing_is_blocked job.cutter (move_at moves k) (point_tri (top_point job (take k moves) j i)) leaf job_ok.cutter_ok (in_range k h.there) h.fails).0;
+        last = (failing_is_blocked job.cutter (move_at moves k) (point_tri (tested_point job kind (take k moves) j i)) leaf job_ok.cutter_ok (in_range k h.there) h.fails).0;
         blocks = shown;
       }
 
@@ -40,7 +41,12 @@ module _ (failing_is_blocked : FailingIsBlocked) (job : Job) (part : List Tri) (
   blocked v h shown k t leaf e =
       part_named k t leaf (subst (λ w. IsVerdict job part moves w) e h) (subst (λ w. ShowsBlocks job part moves w) e shown)
 
-  pub stopped : (v : Verdict) → IsVerdict job part moves v → ShowsBlocks job part moves v → (k j i : ℕ) (leaf : Leaf) → v ≡ Reject (Rapid k j i leaf)
-      → StopsMove job moves k j i leaf
+  pub stopped : (v : Verdict) → IsVerdict job part moves v → ShowsBlocks job part moves v → (k j i : ℕ) (leaf : Leaf) → v ≡ Reject (RapidCut k j i leaf)
+      → StopsMove job moves Rapid k j i leaf
   stopped v h shown k j i leaf e =
-      stock_named k j i leaf (subst (λ w. IsVerdict job part moves w) e h) (subst (λ w. ShowsBlocks job part moves w) e shown)
+      stock_named Rapid k j i leaf (subst (λ w. IsVerdict job part moves w) e h) (subst (λ w. ShowsBlocks job part moves w) e shown)
+
+  pub too_deep : (v : Verdict) → IsVerdict job part moves v → ShowsBlocks job part moves v → (k j i : ℕ) (leaf : Leaf) → v ≡ Reject (Cut k j i leaf)
+      → StopsMove job moves Feed k j i leaf
+  too_deep v h shown k j i leaf e =
+      stock_named Feed k j i leaf (subst (λ w. IsVerdict job part moves w) e h) (subst (λ w. ShowsBlocks job part moves w) e shown)

@@ -24,8 +24,12 @@ within_between unit lo hi v a b h = record { within = by lo hi v (within_of_unit
     by : (lo hi v : ℤ) → nat_abs lo ≤ MAX_COORDINATE → nat_abs hi ≤ MAX_COORDINATE → lo ≤ℤ v → v ≤ℤ hi → nat_abs v ≤ MAX_COORDINATE
     by lo hi v p q r s = omega (arith, ints)
 
+-- a height of the stock is in range
+pub stock_within : {job : Job} {h : ℤ} → IsJob job → IsFrom job.floor job.top h → Within MAX_COORDINATE h
+stock_within {job} {h} ok stays = within_between job.unit job.floor job.top h ok.floor_ok ok.top_ok stays
+
 pub top_within : {job : Job} (x y : ℤ) (moves : List Move) → IsJob job → Within MAX_COORDINATE (top_after job x y moves)
-top_within {job} x y moves ok = within_between job.unit job.floor job.top _ ok.floor_ok ok.top_ok (top_after_stays job x y moves ok.stock)
+top_within {job} x y moves ok = stock_within ok (top_after_stays job x y moves ok.stock)
 
 -- a row has at most as many columns as the stock
 pub columns_few : {job : Job} → IsJob job → column_count job ≤ 4000000

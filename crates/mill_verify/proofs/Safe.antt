@@ -1,32 +1,37 @@
 -- An accepted program cuts safely, by the laws of the layers below.
-use Rattle.std.specs.Prelude.{◌≡◌, ℕ, ◌<◌, ℤ, pos, ◌-ℤ◌, ◌+ℤ◌, ◌*ℤ◌, ◌<ℤ◌, ◌≤ℤ◌, List, Contains, length, take, drop, slice_index_or, [], ◌∷◌, zero, suc, negsuc, int_lt, Bool, true, false, refl}
-use Rattle.std.proofs.Common.{sym, subst, inl, inr, arith, ◌∙◌}
+use Rattle.std.specs.Prelude.{◌≡◌, ℕ, ◌+◌, ◌<◌, ℤ, pos, ◌-ℤ◌, ◌+ℤ◌, ◌*ℤ◌, ◌<ℤ◌, ◌≤ℤ◌, List, Contains, length, take, drop, slice_index_or, [], ◌∷◌, zero, suc, negsuc, int_lt, Bool, true, false, refl}
+use Rattle.std.proofs.Common.{sym, subst, ap, inl, inr, arith, ◌∙◌}
 use Rattle.std.proofs.lemmas.Int.{ints}
 use lib.IntN.{*ℤ_comm}
 use borrow.Author.Differences.{same_in}
-use Rattle.std.proofs.lemmas.List.{get_or_read, take-append-drop}
+use Rattle.std.proofs.lemmas.List.{get_or_read, take-append-drop, take_more}
 use Rattle.std.proofs.lemmas.List.Elements.{Contains-append_left}
 use Rattle.mill_base.specs.declared.points.Tri.{Tri}
 use Rattle.mill_base.specs.declared.motion.Move.{Move}
+use Rattle.mill_base.specs.declared.motion.Kind.{Kind}
+use Rattle.mill_base.specs.declared.motion.Kind.TheVariants.{Rapid}
 use Rattle.mill_base.specs.Numbers.{square}
 use Rattle.mill_base.specs.Motion.{tip_at}
-use Rattle.mill_base.specs.Contact.{Holds, HoldsOver}
+use Rattle.mill_base.specs.Contact.{Holds, HoldsOver, Removes}
 use Rattle.mill_base.specs.Covers.{CoveredBelow}
-use Rattle.mill_base.specs.Ranges.{IsInRange, MovesInRange}
+use Rattle.mill_base.specs.Ranges.{IsInRange, MoveInRange, MovesInRange}
 use Rattle.mill_sweep.specs.Halving.{Passes}
 use Rattle.mill_sweep.specs.Moments.{PassingIsClear, PassingKeepsPoint}
 use Rattle.mill_job.specs.declared.job.Job.{Job}
 use Rattle.mill_job.specs.Jobs.{IsJob}
 use Rattle.mill_job.specs.Columns.{IsColumn, column_x, column_y}
-use Rattle.mill_dexel.specs.Tops.{top_after, top_point}
-use Rattle.mill_dexel.specs.Laws.{OverTopIsRemoved}
+use Rattle.mill_dexel.specs.Tops.{tested_height, tested_point, top_after, top_after_move}
+use Rattle.mill_dexel.specs.Laws.{OverTopIsRemoved, PassedIsLeft}
+use Rattle.mill_dexel.proofs.RowLaws.{top_after_more}
+use Rattle.mill_dexel.proofs.TopLaws.{top_after_stays}
 use Rattle.mill_base.proofs.Ranges.{within_of_unit}
 use Rattle.mill_verify.proofs.Ranges.{column_within, top_within}
-use Rattle.mill_verify.specs.Tests.{GoodBefore, PassesTri}
+use Rattle.mill_verify.proofs.Depths.{clears_as, tested_deep, tested_each, tested_high, tested_within}
+use Rattle.mill_verify.specs.Tests.{GoodBefore, PassesColumn, PassesTri}
 use Rattle.mill_dexel.specs.Turns.{move_at}
-use Rattle.mill_base.specs.Points.{tri_at}
+use Rattle.mill_base.specs.Points.{point_at, tri_at}
 use Rattle.mill_verify.specs.Verdicts.{Accepts}
-use Rattle.mill_verify.specs.Claims.{NeverGouges, RapidsMissStock, LeftIsCovered, PartIsLeft, CutsSafely, LeavesPoint, IsColumnPoint}
+use Rattle.mill_verify.specs.Claims.{NeverGouges, RapidsMissStock, LeftIsCovered, PartIsLeft, CutsSafely, KeepsDepth, LeavesPoint, IsColumnPoint, top_before}
 
 not_over : (a b : ℤ) → ¬ (a <ℤ b) → b ≤ℤ a
 not_over a b h = by (int_lt a b) refl
@@ -70,9 +75,16 @@ module _ (job : Job) (part : List Tri) (moves : List Move) (ok : IsJob job) (all
   moves_ok : (k : ℕ) → MovesInRange (take k moves)
   moves_ok k m member = all_ok m (subst (λ (v : List Move). Contains v m) (take-append-drop k moves) (Contains-append_left (take k moves) (drop k moves) m member))
 
+  in_range : (k : ℕ) → k < length moves → MoveInRange (move_at moves k)
+  in_range k hk = all_ok (move_at moves k) (k, hk, any_default moves k _ _ hk)
+
   -- the point at a column's top is in range
-  top_ok : (ms : List Move) (j i : ℕ) → IsColumn job j i → IsInRange (top_point job ms j i)
+  top_ok : (ms : List Move) (j i : ℕ) → IsColumn job j i → IsInRange (point_at (column_x job i) (column_y job j) (top_after job (column_x job i) (column_y job j) ms))
   top_ok ms j i c = column_within ok c (top_within _ _ ms ok)
+
+  -- and so is the one at which a move is tested
+  tested_ok : (kind : Kind) (ms : List Move) (j i : ℕ) → IsColumn job j i → IsInRange (tested_point job kind ms j i)
+  tested_ok kind ms j i c = column_within ok c (tested_within kind _ _ ms ok)
 
   passes : (k t : ℕ) (m : Move) (tri : Tri) → GoodBefore job part moves (length moves) → k < length moves → slice_index_or moves k m ≡ m → t < length part → slice_index_or part t tri ≡ tri → Passes job.cutter m tri
   passes k t m tri good hk ek ht et =
@@ -91,8 +103,7 @@ module _ (job : Job) (part : List Tri) (moves : List Move) (ok : IsJob job) (all
   rapids_miss : PassingKeepsPoint → OverTopIsRemoved → GoodBefore job part moves (length moves) → RapidsMissStock job moves
   rapids_miss keeps removed good k j i h hk rapid point leaves removes =
       keeps job.cutter (move_at moves k) (column_x job i) (column_y job j) (top_after job (column_x job i) (column_y job j) (take k moves)) h ok.cutter_ok
-      (all_ok (move_at moves k) (k, hk, any_default moves k _ _ hk))
-      (top_ok (take k moves) j i point.column) ((good k hk).stock rapid j i point.column) (under_top removed (take k moves) (moves_ok k) j i h point leaves) removes
+      (in_range k hk) (top_ok (take k moves) j i point.column) (clears_as job moves Rapid k rapid (good k hk).stock tt j i point.column) (under_top removed (take k moves) (moves_ok k) j i h point leaves) removes
 
   left_is_covered : OverTopIsRemoved → CoveredBelow → (count columns : ℕ) (left : ℤ) → Accepts job part moves count columns left → LeftIsCovered job part moves
   left_is_covered removed below count columns left a j i h point leaves =
@@ -112,11 +123,54 @@ module _ (job : Job) (part : List Tri) (moves : List Move) (ok : IsJob job) (all
       held : Holds job.cutter r.removes.m (tip_at r.move r.removes.k r.removes.m) stands.n stands.p
       held = over job.cutter r.removes.m (tip_at r.move r.removes.k r.removes.m) stands.n stands.p (column_x job i) (column_y job j) h r.removes.moment.some stands.point.some r.removes.inside at_column.0 at_column.1 stands.high
 
+  -- where the depth of cut is limited
+  module _ (good : GoodBefore job part moves (length moves)) (limited : (pos 0) <ℤ job.max_cut) where
+    -- each move passes each column
+    passes_each : (k j i : ℕ) → k < length moves → IsColumn job j i → PassesColumn job moves k j i
+    passes_each k j i hk column = (good k hk).stock (tested_each job (move_at moves k).kind limited) j i column
+
+    at_most : (a b c : ℤ) → a ≤ℤ b → b ≤ℤ c → a ≤ℤ c
+    at_most a b c h g = omega (h, g, arith, ints)
+
+    -- so it removes no point as low as that
+    cuts_shallow : PassingKeepsPoint → (k j i : ℕ) (h : ℤ) → k < length moves → IsColumnPoint job j i h → h ≤ℤ (top_before job moves k j i -ℤ job.max_cut)
+        → ¬ Removes job.cutter (move_at moves k) (pos 1) (point_at (column_x job i) (column_y job j) h)
+    cuts_shallow keeps k j i h hk point deep =
+        let kind = (move_at moves k).kind in
+        let top = top_before job moves k j i in
+        keeps job.cutter (move_at moves k) (column_x job i) (column_y job j) (tested_height job kind top) h ok.cutter_ok (in_range k hk)
+        (tested_ok kind (take k moves) j i point.column) (passes_each k j i hk point.column) (at_most _ _ _ deep (tested_deep job kind top limited))
+
+    -- one move more lowers a top by that move
+    top_lowered : (k j i : ℕ) → k < length moves
+        → top_before job moves (k + 1) j i ≡ top_after_move job (column_x job i) (column_y job j) (top_before job moves k j i) (move_at moves k)
+    top_lowered k j i hk =
+        ap (top_after job (column_x job i) (column_y job j)) (take_more moves k _ hk) ∙ top_after_more job (column_x job i) (column_y job j) (take k moves) (move_at moves k)
+
+    -- and not under the point that it passes
+    tops_shallow : PassedIsLeft → (k j i : ℕ) → k < length moves → IsColumn job j i → (top_before job moves k j i -ℤ job.max_cut) ≤ℤ top_before job moves (k + 1) j i
+    tops_shallow left k j i hk column =
+        let kind = (move_at moves k).kind in
+        let top = top_before job moves k j i in
+        let stays = top_after_stays job (column_x job i) (column_y job j) (take k moves) ok.stock in
+        let high = tested_high kind top ok stays.low in
+        subst (λ (z : ℤ). (top -ℤ job.max_cut) ≤ℤ z) (sym (top_lowered k j i hk))
+        (at_most _ _ _ (tested_deep job kind top limited)
+        (left job (move_at moves k) (column_x job i) (column_y job j) top (tested_height job kind top) ok.cutter_ok (in_range k hk)
+        (top_ok (take k moves) j i column) (tested_ok kind (take k moves) j i column) ok.sample_ok.low high (passes_each k j i hk column)))
+
+  keeps_depth : PassingKeepsPoint → PassedIsLeft → GoodBefore job part moves (length moves) → KeepsDepth job moves
+  keeps_depth keeps left good limited = record {
+    feeds = λ k j i h hk feed point deep. cuts_shallow good limited keeps k j i h hk point deep;
+    tops = tops_shallow good limited left;
+  }
+
   -- what an accepted program does, from the laws
-  pub safe : PassingIsClear → PassingKeepsPoint → OverTopIsRemoved → CoveredBelow → HoldsOver → (count columns : ℕ) (left : ℤ) → Accepts job part moves count columns left → CutsSafely job part moves
-  safe clear keeps removed below over count columns left a = record {
+  pub safe : PassingIsClear → PassingKeepsPoint → OverTopIsRemoved → PassedIsLeft → CoveredBelow → HoldsOver → (count columns : ℕ) (most : ℤ) → Accepts job part moves count columns most → CutsSafely job part moves
+  safe clear keeps removed left below over count columns most a = record {
     gouges = never_gouges clear a.good;
     rapids = rapids_miss keeps removed a.good;
-    covered = left_is_covered removed below count columns left a;
+    covered = left_is_covered removed below count columns most a;
     kept = part_is_left (never_gouges clear a.good) over;
+    depth = keeps_depth keeps left a.good;
   }

@@ -112,7 +112,7 @@ module _ (w : TestsShown) (n t m : ℕ) where
   row_fails r new d stopped =
       let stop = stopped.stops in
       let fail = stopped.fail in (
-        λ p. stop.column.fails.fails (subst (λ (x : RowState). ClearsRow w.job x (move_at w.moves t)) (sym d.is_at.2) (p.stock r.row d.is_at.1) stop.rapid fail.col stop.column.column),
+        λ p. stop.column.fails.fails (subst (λ (x : RowState). ClearsRow w.job x (move_at w.moves t)) (sym d.is_at.2) (p.stock r.row d.is_at.1) stop.tested fail.col stop.column.column),
         subst (λ (x : RowState). IsPieceFailed w n t (Stock m x)) (sym stopped.noted) (
           d.is_at.0,
           d.is_at.1,

@@ -4,10 +4,13 @@ use Rattle.std.specs.List.{flat_map}
 use Rattle.std.proofs.Common.{sym, ◌∙◌, ap, subst, inl, inr, ⊎_elim, arith}
 use Rattle.mill_base.specs.declared.points.Tri.{Tri}
 use Rattle.mill_base.specs.declared.motion.Move.{Move}
+use Rattle.mill_base.specs.declared.motion.Kind.{Kind}
+use Rattle.mill_base.specs.declared.motion.Kind.TheVariants.{Rapid, Feed}
 use Rattle.mill_base.specs.declared.limits.TheConstants.{MAX_MOVES}
 use Rattle.mill_board.specs.declared.work.Held.{Held}
 use Rattle.mill_board.specs.Works.{FailsAt, IsDone}
 use Rattle.mill_board.proofs.Outcomes.{fails_least, passes_all, passes_to, passes_under}
+use Rattle.mill_sweep.specs.declared.leaf.Leaf.{Leaf}
 use Rattle.mill_gouge.specs.declared.gouge.Gouge.{Gouge as Found}
 use Rattle.mill_gouge.specs.Gouges.{IsFirstGouge}
 use Rattle.mill_job.specs.declared.job.Job.{Job}
@@ -17,18 +20,19 @@ use Rattle.mill_dexel.specs.Turns.{StopsRow, move_at, row_before}
 use Rattle.mill_dexel.specs.declared.fail.RowFail.{RowFail}
 use Rattle.mill_verify.specs.Blocks.{BlockState}
 use Rattle.mill_verify.specs.Tests.{ClearsPart, GoodBefore, PassesColumn}
-use Rattle.mill_verify.specs.Verdicts.{IsVerdict}
+use Rattle.mill_verify.specs.Verdicts.{FailsStock, IsVerdict}
 use Rattle.mill_verify.specs.declared.verdict.Verdict.TheVariants.{Reject}
 use Rattle.mill_verify.specs.declared.verdict.Reason.{Reason}
-use Rattle.mill_verify.specs.declared.verdict.Reason.TheVariants.{Floor, Gouge, Rapid as RapidCut}
+use Rattle.mill_verify.specs.declared.verdict.Reason.TheVariants.{Floor, Gouge}
 use Rattle.mill_verify.specs.declared.piece.Piece.{Piece}
 use Rattle.mill_verify.specs.declared.piece.Piece.TheVariants.{Block, Stock}
-use Rattle.mill_verify.specs.inner.Failures.{IsFirstFailed, IsReasonOf, NoneFailed}
-use Rattle.mill_verify.specs.inner.Firsts.{IsFloorEnd, ShowsBlocks}
+use Rattle.mill_verify.specs.inner.Failures.{IsFirstFailed, IsReasonOf, NoneFailed, stock_reason}
+use Rattle.mill_verify.specs.inner.Firsts.{IsFloorEnd, ShowsBlocks, StopsAt}
 use Rattle.mill_verify.specs.inner.Pieces.{AreTested, IsPieceAt, IsPieceFailed, PassesTest, TestsShown, blocks_of, first_turn, piece_count, row_in, tests, turn_limit}
 use Rattle.mill_verify.specs.inner.Stock.{IsStock}
 use Rattle.mill_verify.proofs.Gathered.{gathered}
 use Rattle.mill_verify.proofs.Ranges.{rows_few}
+use Rattle.mill_verify.proofs.ReadLemmas.{move_read}
 use Rattle.mill_verify.proofs.Sharing.{first_of_block, first_of_row, limit_of_block, limit_of_row, spans}
 use Rattle.mill_verify.proofs.Turned.{RowClears, row_clears, row_stops}
 
@@ -37,7 +41,7 @@ there_in [] n lt = absurd (omega (lt, arith))
 there_in (x ∷ xs) zero lt = (x, refl)
 there_in (x ∷ xs) (suc n) lt = there_in xs n (omega (lt, arith))
 
-in_list : {A : Type 0} → (xs : List A) (n : ℕ) (x : A) → slice_get xs n ≡ Some x → n < length xs
+pub in_list : {A : Type 0} → (xs : List A) (n : ℕ) (x : A) → slice_get xs n ≡ Some x → n < length xs
 in_list [] n x e = absurd (cc)
 in_list (y ∷ ys) zero x e = omega arith
 in_list (y ∷ ys) (suc n) x e = let t = in_list ys n x e in omega (t, arith)
@@ -100,7 +104,7 @@ module _ (job : Job) (part : List Tri) (moves : List Move) (turns least : ℕ) (
       record {
         floor = floor.over e lt;
         clears = part_cleared e lt (before_least (e / 64) e (let b = block_under e lt in omega (b, arith)) (block_first e lt) (block_last e lt) early);
-        stock = λ rapid j i column. let r = column.row in row_cleared e j (before_least (blocks_of w + j) e (omega (r, arith)) (row_first e j) (row_last e j lt) early) rapid i column.column;
+        stock = λ tested j i column. let r = column.row in row_cleared e j (before_least (blocks_of w + j) e (omega (r, arith)) (row_first e j) (row_last e j lt) early) tested i column.column;
       }
 
   module _ (n : ℕ) (first : IsFirstFailed least hs n) where
@@ -119,6 +123,16 @@ module _ (job : Job) (part : List Tri) (moves : List Move) (turns least : ℕ) (
     turn_there : least < turns
     turn_there = under_turns n least under failing.0.to
 
+    pub move_there : least < length moves
+    move_there = let t = turn_there in omega (t, within, arith)
+
+    -- the kind of the move that fails, and that it is what is read
+    abbrev kind : Kind
+    kind = (move_at moves least).kind
+
+    kind_read : (d : Move) → kind ≡ (slice_index_or moves least d).kind
+    kind_read d = sym (ap (λ (m : Move). m.kind) (move_read moves least d move_there))
+
     -- the pieces before it pass their tests of that move
     others : (m : ℕ) → m < n → first_turn w m ≤ least → least < turn_limit w m → PassesTest w m least
     others m less from to =
@@ -126,17 +140,20 @@ module _ (job : Job) (part : List Tri) (moves : List Move) (turns least : ℕ) (
         passes_to tests w least m t.0 t.2 (λ k. closed.under m k (let u = under in omega (less, u, arith))) least from to (omega arith) (first.before m t.0 less t.1)
 
     -- it has a reason
-    has_reason : IsJob job → length moves ≤ MAX_MOVES → (p : Piece) → IsPieceFailed w n least p → (reason : Reason) × IsReasonOf (blocks_of w) least p reason
+    has_reason : IsJob job → length moves ≤ MAX_MOVES → (p : Piece) → IsPieceFailed w n least p → (reason : Reason) × IsReasonOf kind (blocks_of w) least p reason
     has_reason ok few (Block m b) f = (Gouge least f.2.gouge.tri f.2.gouge.leaf, (f.2.gouge, ap (λ (x : BlockState). x.failed) f.2.noted, refl))
     has_reason ok few (Stock m r) f =
         let u = under in let rows = rows_few ok in let same = f.0 in
-        (RapidCut least r.row f.2.fail.col f.2.fail.leaf, (f.2.fail, ap (λ (x : RowState). x.failed) f.2.noted, f.0 ∙ f.1, omega (same, u, rows, few, within, arith), refl))
+        (stock_reason kind least r.row f.2.fail.col f.2.fail.leaf, (f.2.fail, ap (λ (x : RowState). x.failed) f.2.noted, f.0 ∙ f.1, omega (same, u, rows, few, within, arith), refl))
 
-    pub reason_there : IsJob job → length moves ≤ MAX_MOVES → (h : Held Piece) → h ≡ slice_index_or hs n h → (reason : Reason) × IsReasonOf (blocks_of w) h.next h.piece reason
-    reason_there ok few h at =
+    pub reason_there : (d : Move) (blocks : ℕ) → blocks ≡ blocks_of w → IsJob job → length moves ≤ MAX_MOVES → (h : Held Piece) → h ≡ slice_index_or hs n h
+        → (reason : Reason) × IsReasonOf (slice_index_or moves least d).kind blocks h.next h.piece reason
+    reason_there d blocks count ok few h at =
         let same : first.held ≡ h = read_there hs n first.held h first.there at in
-        subst (λ (x : Held Piece). (reason : Reason) × IsReasonOf (blocks_of w) x.next x.piece reason) same
-        (subst (λ (t : ℕ). (reason : Reason) × IsReasonOf (blocks_of w) t first.held.piece reason) (sym first.failed.1) (has_reason ok few first.held.piece failing.1))
+        subst (λ (v : Kind). (reason : Reason) × IsReasonOf v blocks h.next h.piece reason) (kind_read d)
+        (subst (λ (k : ℕ). (reason : Reason) × IsReasonOf kind k h.next h.piece reason) (sym count)
+        (subst (λ (x : Held Piece). (reason : Reason) × IsReasonOf kind (blocks_of w) x.next x.piece reason) same
+        (subst (λ (t : ℕ). (reason : Reason) × IsReasonOf kind (blocks_of w) t first.held.piece reason) (sym first.failed.1) (has_reason ok few first.held.piece failing.1))))
 
     -- which is the program's
     abbrev Rejects : Reason → Type 0
@@ -145,7 +162,7 @@ module _ (job : Job) (part : List Tri) (moves : List Move) (turns least : ℕ) (
     part_rejects : (found : Found) → IsFirstGouge job.cutter (move_at moves least) part found → Rejects (Gouge least found.tri found.leaf)
     part_rejects found f = (
       record {
-        there = let t = turn_there in omega (t, within, arith);
+        there = move_there;
         before = good_to least (omega arith);
         floor = floor.over least turn_there;
         tri = f.tri;
@@ -155,28 +172,33 @@ module _ (job : Job) (part : List Tri) (moves : List Move) (turns least : ℕ) (
       f.blocked,
     )
 
-    stock_rejects : (j : ℕ) → n ≡ blocks_of w + j → (fail : RowFail) → StopsRow job (row_before job moves (uncut_row job j) least) (move_at moves least) fail → Rejects (RapidCut least j fail.col fail.leaf)
+    kind_rejects : (v : Kind) (j i : ℕ) (leaf : Leaf) → FailsStock job part moves v least j i leaf → StopsAt job moves v least j i leaf → Rejects (stock_reason v least j i leaf)
+    kind_rejects Rapid j i leaf fails stops = (fails, stops)
+    kind_rejects Feed j i leaf fails stops = (fails, stops)
+
+    stock_rejects : (j : ℕ) → n ≡ blocks_of w + j → (fail : RowFail) → StopsRow job (row_before job moves (uncut_row job j) least) (move_at moves least) fail → Rejects (stock_reason kind least j fail.col fail.leaf)
     stock_rejects j number fail stop =
         let s = row_stops job moves least j fail stop in
         let lt = turn_there in
-        let u = under in (
-          record {
-            there = omega (lt, within, arith);
-            before = good_to least (omega arith);
-            floor = floor.over least lt;
-            clears = part_cleared least lt (others (least / 64) (let b = block_under least lt in omega (b, number, arith)) (block_first least lt) (block_last least lt));
-            rapid = s.rapid;
-            column = record { row = omega (number, u, arith); column = s.column };
-            first = λ a b column order. elim order [
-              | inl less ↦ row_cleared least a (others (blocks_of w + a) (omega (less, number, arith)) (row_first least a) (row_last least a lt)) s.rapid b column.column
-              | inr same ↦ subst (λ (v : ℕ). PassesColumn job moves least v b) (sym same.0) (s.before b same.1)
-            ];
-            fails = s.fails;
-          },
-          s.blocked,
-        )
+        let u = under in
+        kind_rejects kind j fail.col fail.leaf
+        (record {
+          there = move_there;
+          before = good_to least (omega arith);
+          floor = floor.over least lt;
+          clears = part_cleared least lt (others (least / 64) (let b = block_under least lt in omega (b, number, arith)) (block_first least lt) (block_last least lt));
+          is = refl;
+          tested = s.tested;
+          column = record { row = omega (number, u, arith); column = s.column };
+          first = λ a b column order. elim order [
+            | inl less ↦ row_cleared least a (others (blocks_of w + a) (omega (less, number, arith)) (row_first least a) (row_last least a lt)) s.tested b column.column
+            | inr same ↦ subst (λ (v : ℕ). PassesColumn job moves least v b) (sym same.0) (s.before b same.1)
+          ];
+          fails = s.fails;
+        })
+        s.blocked
 
-    rejects : (p : Piece) (reason : Reason) → IsPieceFailed w n least p → IsReasonOf (blocks_of w) least p reason → Rejects reason
+    rejects : (p : Piece) (reason : Reason) → IsPieceFailed w n least p → IsReasonOf kind (blocks_of w) least p reason → Rejects reason
     rejects (Block m b) reason f r =
         let same : f.2.gouge ≡ r.0 = one_of (sym (ap (λ (x : BlockState). x.failed) f.2.noted) ∙ r.1) in
         subst Rejects (sym r.2) (part_rejects r.0 (subst (λ (g : Found). IsFirstGouge job.cutter (move_at moves least) part g) same f.2.first))
@@ -184,11 +206,14 @@ module _ (job : Job) (part : List Tri) (moves : List Move) (turns least : ℕ) (
         let same : f.2.fail ≡ r.0 = one_of (sym (ap (λ (x : RowState). x.failed) f.2.noted) ∙ r.1) in
         subst Rejects (sym r.4) (stock_rejects row.row f.1 r.0 (subst (λ (x : RowFail). StopsRow job (row_before job moves (uncut_row job row.row) least) (move_at moves least) x) same f.2.stops))
 
-    pub rejected : (h : Held Piece) (reason : Reason) → h ≡ slice_index_or hs n h → IsReasonOf (blocks_of w) h.next h.piece reason → Rejects reason
-    rejected h reason at r =
+    pub rejected : (d : Move) (blocks : ℕ) → blocks ≡ blocks_of w → (h : Held Piece) (reason : Reason) → h ≡ slice_index_or hs n h
+        → IsReasonOf (slice_index_or moves least d).kind blocks h.next h.piece reason → Rejects reason
+    rejected d blocks count h reason at told =
+        let of_kind = subst (λ (v : Kind). IsReasonOf v blocks h.next h.piece reason) (sym (kind_read d)) told in
+        let r = subst (λ (k : ℕ). IsReasonOf kind k h.next h.piece reason) count of_kind in
         let same : h ≡ first.held = sym (read_there hs n first.held h first.there at) in
         rejects first.held.piece reason failing.1
-        (subst (λ (t : ℕ). IsReasonOf (blocks_of w) t first.held.piece reason) first.failed.1 (subst (λ (x : Held Piece). IsReasonOf (blocks_of w) x.next x.piece reason) same r))
+        (subst (λ (t : ℕ). IsReasonOf kind (blocks_of w) t first.held.piece reason) first.failed.1 (subst (λ (x : Held Piece). IsReasonOf kind (blocks_of w) x.next x.piece reason) same r))
 
   module _ (none : NoneFailed least hs (length hs)) where
     -- where no piece has failed at the least turn, that is the number of turns

@@ -5,13 +5,13 @@ use Rattle.std.proofs.lemmas.List.{append-nil, append_assoc}
 use Rattle.mill_base.specs.Points.{point_at, point_tri}
 use Rattle.mill_base.specs.declared.points.Pt3.{Pt3}
 use Rattle.mill_base.specs.declared.motion.Move.{Move}
-use Rattle.mill_base.specs.declared.motion.Kind.TheVariants.{Rapid}
+use Rattle.mill_base.specs.declared.motion.Kind.{Kind}
 use Rattle.mill_sweep.specs.Leaves.{span_of}
 use Rattle.mill_sweep.specs.Halving.{PassesPoint, FailsAt, Blocks}
 use Rattle.mill_sweep.specs.declared.leaf.Leaf.{Leaf}
 use Rattle.mill_job.specs.declared.job.Job.{Job}
 use Rattle.mill_job.specs.Columns.{column_count, column_x, column_y}
-use Rattle.mill_dexel.specs.Tops.{row_after, top_point}
+use Rattle.mill_dexel.specs.Tops.{IsTested, row_after, tested_height, tested_point}
 use Rattle.mill_dexel.specs.Rows.{RowState, row_point, uncut_row}
 use Rattle.mill_dexel.specs.Turns.{ClearsRow, StopsRow, move_at, tops_after, row_before}
 use Rattle.mill_dexel.specs.declared.fail.RowFail.{RowFail}
@@ -35,35 +35,39 @@ tops_are job j k moves = ap (λ (ts : List ℤ). tops_after job j (slice_range m
 pub before_is : (job : Job) (moves : List Move) (j k : ℕ) → row_before job moves (uncut_row job j) k ≡ record { row = j; tops = row_after job j (take k moves); done = k; failed = None }
 before_is job moves j k = ap (λ (ts : List ℤ). record { row = j; tops = ts; done = k; failed = None }) (tops_are job j k moves)
 
--- the point at the top of a column, as move k meets the row
-point_is : (job : Job) (moves : List Move) (j k i : ℕ) → i < column_count job → row_point job (row_before job moves (uncut_row job j) k) i ≡ top_point job (take k moves) j i
-point_is job moves j k i h =
-    ap (λ (r : RowState). row_point job r i) (before_is job moves j k) ∙ ap (λ (t : ℤ). point_at (column_x job i) (column_y job j) t) (row_after-at job j (take k moves) i _ h)
+-- the point of a column at which a move of this kind is tested, as move k meets the row
+point_is : (job : Job) (kind : Kind) (moves : List Move) (j k i : ℕ) → i < column_count job
+    → row_point job kind (row_before job moves (uncut_row job j) k) i ≡ tested_point job kind (take k moves) j i
+point_is job kind moves j k i h =
+    ap (λ (r : RowState). row_point job kind r i) (before_is job moves j k)
+    ∙ ap (λ (t : ℤ). point_at (column_x job i) (column_y job j) (tested_height job kind t)) (row_after-at job j (take k moves) i _ h)
 
 -- test (iii) of move k by row j
 abbrev pub RowClears : Job → List Move → ℕ → ℕ → Type 0
-RowClears job moves k j = (move_at moves k).kind ≡ Rapid → (i : ℕ) → i < column_count job → PassesColumn job moves k j i
+RowClears job moves k j = IsTested job (move_at moves k).kind → (i : ℕ) → i < column_count job → PassesColumn job moves k j i
 
--- move k is a Rapid that fails test (iii) in row j at column i first, whose top blocks the leaf
+-- move k is tested, and fails test (iii) in row j at column i first, where the leaf is blocked
 pub record IsRowStop (job : Job) (moves : List Move) (k j i : ℕ) (leaf : Leaf) : Type 0 where
-  pub rapid : (move_at moves k).kind ≡ Rapid
+  pub tested : IsTested job (move_at moves k).kind
   pub column : i < column_count job
   pub before : (e : ℕ) → e < i → PassesColumn job moves k j e
-  pub fails : FailsAt job.cutter (move_at moves k) (point_tri (top_point job (take k moves) j i)) leaf
-  pub blocked : StopsAt job moves k j i leaf
+  pub fails : FailsAt job.cutter (move_at moves k) (point_tri (tested_point job (move_at moves k).kind (take k moves) j i)) leaf
+  pub blocked : StopsAt job moves (move_at moves k).kind k j i leaf
 
 -- a move that a row lets pass, as that move meets it, passes test (iii) there
 pub row_clears : (job : Job) (moves : List Move) (k j : ℕ) → ClearsRow job (row_before job moves (uncut_row job j) k) (move_at moves k) → RowClears job moves k j
-row_clears job moves k j clears rapid i there = subst (λ (p : Pt3). PassesPoint job.cutter (move_at moves k) p) (point_is job moves j k i there) (clears rapid i there)
+row_clears job moves k j clears tested i there =
+    subst (λ (p : Pt3). PassesPoint job.cutter (move_at moves k) p) (point_is job (move_at moves k).kind moves j k i there) (clears tested i there)
 
 -- and one that it stops fails
 pub row_stops : (job : Job) (moves : List Move) (k j : ℕ) (fail : RowFail) → StopsRow job (row_before job moves (uncut_row job j) k) (move_at moves k) fail → IsRowStop job moves k j fail.col fail.leaf
 row_stops job moves k j fail stop =
-    let here = point_is job moves j k fail.col stop.column.column in
+    let kind = (move_at moves k).kind in
+    let here = point_is job kind moves j k fail.col stop.column.column in
     record {
-      rapid = stop.rapid;
+      tested = stop.tested;
       column = stop.column.column;
-      before = λ e h. subst (λ (p : Pt3). PassesPoint job.cutter (move_at moves k) p) (point_is job moves j k e (less e fail.col (column_count job) h stop.column.column)) (stop.column.before e h);
+      before = λ e h. subst (λ (p : Pt3). PassesPoint job.cutter (move_at moves k) p) (point_is job kind moves j k e (less e fail.col (column_count job) h stop.column.column)) (stop.column.before e h);
       fails = subst (λ (p : Pt3). FailsAt job.cutter (move_at moves k) (point_tri p) fail.leaf) here stop.column.fails;
       blocked = subst (λ (p : Pt3). Blocks job.cutter (span_of (move_at moves k) fail.leaf.d fail.leaf.k) (point_tri p)) here stop.blocked;
     }

@@ -4,24 +4,31 @@ use Rattle.std.proofs.Common.{sym, ◌∙◌, ap, subst, inl, inr, arith}
 use Rattle.std.proofs.lemmas.Int.{ints}
 use Rattle.mill_base.specs.declared.points.Tri.{Tri}
 use Rattle.mill_base.specs.declared.motion.Move.{Move}
+use Rattle.mill_base.specs.declared.motion.Kind.{Kind}
+use Rattle.mill_base.specs.declared.motion.Kind.TheVariants.{Rapid, Feed}
 use Rattle.mill_base.specs.Points.{point_tri, tri_at}
 use Rattle.mill_sweep.specs.declared.leaf.Leaf.{Leaf}
 use Rattle.mill_job.specs.declared.job.Job.{Job}
 use Rattle.mill_job.specs.Columns.{IsBefore}
-use Rattle.mill_dexel.specs.Tops.{top_point}
+use Rattle.mill_dexel.specs.Tops.{tested_point}
 use Rattle.mill_verify.specs.Tests.{IsOverFloor, ClearsPart, IsGood, GoodBefore}
 use Rattle.mill_dexel.specs.Turns.{move_at}
 use Rattle.mill_dexel.proofs.RunLaws.{same_number, leaf_is_one}
+use Rattle.mill_verify.proofs.Depths.{clears_as, passes_as}
 use Rattle.mill_verify.specs.Verdicts.{FailsFloor, FailsPart, FailsStock, FailsCut, Accepts, IsRejection, IsVerdict}
 use Rattle.mill_verify.specs.declared.verdict.Verdict.{Verdict}
 use Rattle.mill_verify.specs.declared.verdict.Verdict.TheVariants.{Accept, Reject}
 use Rattle.mill_verify.specs.declared.verdict.Reason.{Reason}
-use Rattle.mill_verify.specs.declared.verdict.Reason.TheVariants.{Floor, Gouge, Rapid as RapidCut, Left}
+use Rattle.mill_verify.specs.declared.verdict.Reason.TheVariants.{Floor, Gouge, Rapid as RapidCut, Cut, Left}
+use Rattle.mill_verify.specs.inner.Failures.{stock_reason}
 
 not_before : (j i a b : ℕ) → ¬ IsBefore j i a b → ¬ IsBefore a b j i → (j ≡ a) × (i ≡ b)
 not_before j i a b h g =
     let row : j ≡ a = same_number j a (λ x. h (inl x)) (λ x. g (inl x)) in
     (row, same_number i b (λ x. h (inr (row, x))) (λ x. g (inr (sym row, x))))
+
+not_alike : Rapid ≡ Feed → ⊥
+not_alike e = cc
 
 module _ (job : Job) (part : List Tri) (moves : List Move) where
   -- the first bad move
@@ -36,8 +43,8 @@ module _ (job : Job) (part : List Tri) (moves : List Move) where
   stops_part : (k t : ℕ) (leaf : Leaf) → FailsPart job part moves k t leaf → Stops k
   stops_part k t leaf h = record { there = h.there; before = h.before; bad = λ g. h.fails.fails (g.clears t h.tri) }
 
-  stops_stock : (k j i : ℕ) (leaf : Leaf) → FailsStock job part moves k j i leaf → Stops k
-  stops_stock k j i leaf h = record { there = h.there; before = h.before; bad = λ g. h.fails.fails (g.stock h.rapid j i h.column) }
+  stops_stock : (kind : Kind) (k j i : ℕ) (leaf : Leaf) → FailsStock job part moves kind k j i leaf → Stops k
+  stops_stock kind k j i leaf h = record { there = h.there; before = h.before; bad = λ g. h.fails.fails (clears_as job moves kind k h.is g.stock h.tested j i h.column) }
 
   one_stop : (a b : ℕ) → Stops a → Stops b → a ≡ b
   one_stop a b h g = same_number a b (λ x. h.bad (g.before a x)) (λ x. g.bad (h.before b x))
@@ -48,8 +55,10 @@ module _ (job : Job) (part : List Tri) (moves : List Move) where
   one_gouge : (k t u : ℕ) (a b : Leaf) → FailsPart job part moves k t a → FailsPart job part moves k u b → t ≡ u
   one_gouge k t u a b h g = same_number t u (λ x. h.fails.fails (g.first t x)) (λ x. g.fails.fails (h.first u x))
 
-  one_column : (k j i c d : ℕ) (a b : Leaf) → FailsStock job part moves k j i a → FailsStock job part moves k c d b → (j ≡ c) × (i ≡ d)
-  one_column k j i c d a b h g = not_before j i c d (λ x. h.fails.fails (g.first j i h.column x)) (λ x. g.fails.fails (h.first c d g.column x))
+  one_column : (kind : Kind) (k j i c d : ℕ) (a b : Leaf) → FailsStock job part moves kind k j i a → FailsStock job part moves kind k c d b → (j ≡ c) × (i ≡ d)
+  one_column kind k j i c d a b h g =
+      let at = passes_as job moves kind k h.is in
+      not_before j i c d (λ x. h.fails.fails (at j i (g.first j i h.column x))) (λ x. g.fails.fails (at c d (h.first c d g.column x)))
 
   one_uncut : (j i c d : ℕ) (s t : ℤ) → FailsCut job part moves j i s → FailsCut job part moves c d t → (j ≡ c) × (i ≡ d)
   one_uncut j i c d s t h g = not_before j i c d (λ x. h.fails (g.first j i h.column x)) (λ x. g.fails (h.first c d g.column x))
@@ -62,14 +71,22 @@ module _ (job : Job) (part : List Tri) (moves : List Move) where
       let q : a ≡ b = leaf_is_one job.cutter (move_at moves k) (tri_at part t) a b h.fails g3.fails in
       ap (λ (n : ℕ). Gouge n t a) e ∙ ap (λ (n : ℕ). Gouge l n a) f ∙ ap (λ (x : Leaf). Gouge l u x) q
 
-  same_rapid : (k l j i c d : ℕ) (a b : Leaf) → k ≡ l → FailsStock job part moves k j i a → FailsStock job part moves l c d b → RapidCut k j i a ≡ RapidCut l c d b
-  same_rapid k l j i c d a b e h g =
-      let g2 : FailsStock job part moves k c d b = subst (λ (n : ℕ). FailsStock job part moves n c d b) (sym e) g in
-      let f = one_column k j i c d a b h g2 in
-      let g3 : FailsStock job part moves k j d b = subst (λ (n : ℕ). FailsStock job part moves k n d b) (sym f.0) g2 in
-      let g4 : FailsStock job part moves k j i b = subst (λ (n : ℕ). FailsStock job part moves k j n b) (sym f.1) g3 in
-      let q : a ≡ b = leaf_is_one job.cutter (move_at moves k) (point_tri (top_point job (take k moves) j i)) a b h.fails g4.fails in
-      ap (λ (n : ℕ). RapidCut n j i a) e ∙ ap (λ (n : ℕ). RapidCut l n i a) f.0 ∙ ap (λ (n : ℕ). RapidCut l c n a) f.1 ∙ ap (λ (x : Leaf). RapidCut l c d x) q
+  same_stock : (kind : Kind) (k l j i c d : ℕ) (a b : Leaf) → k ≡ l → FailsStock job part moves kind k j i a → FailsStock job part moves kind l c d b
+      → stock_reason kind k j i a ≡ stock_reason kind l c d b
+  same_stock kind k l j i c d a b e h g =
+      let g2 : FailsStock job part moves kind k c d b = subst (λ (n : ℕ). FailsStock job part moves kind n c d b) (sym e) g in
+      let f = one_column kind k j i c d a b h g2 in
+      let g3 : FailsStock job part moves kind k j d b = subst (λ (n : ℕ). FailsStock job part moves kind k n d b) (sym f.0) g2 in
+      let g4 : FailsStock job part moves kind k j i b = subst (λ (n : ℕ). FailsStock job part moves kind k j n b) (sym f.1) g3 in
+      let q : a ≡ b = leaf_is_one job.cutter (move_at moves k) (point_tri (tested_point job kind (take k moves) j i)) a b h.fails g4.fails in
+      let r = stock_reason kind in
+      ap (λ (n : ℕ). r n j i a) e ∙ ap (λ (n : ℕ). r l n i a) f.0 ∙ ap (λ (n : ℕ). r l c n a) f.1 ∙ ap (λ (x : Leaf). r l c d x) q
+
+  -- no move is both a Rapid and a Feed
+  two_kinds : (k l j i c d : ℕ) (a b : Leaf) → FailsStock job part moves Rapid k j i a → FailsStock job part moves Feed l c d b → ⊥
+  two_kinds k l j i c d a b h g =
+      let same : k ≡ l = one_stop k l (stops_stock Rapid k j i a h) (stops_stock Feed l c d b g) in
+      not_alike (sym h.is ∙ ap (λ (n : ℕ). (move_at moves n).kind) same ∙ g.is)
 
   same_left : (j i c d : ℕ) (s t : ℤ) → FailsCut job part moves j i s → FailsCut job part moves c d t → Left j i s ≡ Left c d t
   same_left j i c d s t h g =
@@ -81,34 +98,51 @@ module _ (job : Job) (part : List Tri) (moves : List Move) where
   floor_part : (k l t : ℕ) (b : Leaf) → FailsFloor job part moves k → FailsPart job part moves l t b → ⊥
   floor_part k l t b h g = h.fails (subst (λ (n : ℕ). IsOverFloor job moves n) (one_stop l k (stops_part l t b g) (stops_floor k h)) g.floor)
 
-  floor_stock : (k l j i : ℕ) (b : Leaf) → FailsFloor job part moves k → FailsStock job part moves l j i b → ⊥
-  floor_stock k l j i b h g = h.fails (subst (λ (n : ℕ). IsOverFloor job moves n) (one_stop l k (stops_stock l j i b g) (stops_floor k h)) g.floor)
+  floor_stock : (kind : Kind) (k l j i : ℕ) (b : Leaf) → FailsFloor job part moves k → FailsStock job part moves kind l j i b → ⊥
+  floor_stock kind k l j i b h g = h.fails (subst (λ (n : ℕ). IsOverFloor job moves n) (one_stop l k (stops_stock kind l j i b g) (stops_floor k h)) g.floor)
 
-  part_stock : (k l t j i : ℕ) (a b : Leaf) → FailsPart job part moves k t a → FailsStock job part moves l j i b → ⊥
-  part_stock k l t j i a b h g = h.fails.fails (subst (λ (n : ℕ). ClearsPart job part moves n) (one_stop l k (stops_stock l j i b g) (stops_part k t a h)) g.clears t h.tri)
+  part_stock : (kind : Kind) (k l t j i : ℕ) (a b : Leaf) → FailsPart job part moves k t a → FailsStock job part moves kind l j i b → ⊥
+  part_stock kind k l t j i a b h g = h.fails.fails (subst (λ (n : ℕ). ClearsPart job part moves n) (one_stop l k (stops_stock kind l j i b g) (stops_part k t a h)) g.clears t h.tri)
+
+  same_at : (kind : Kind) (k l j i c d : ℕ) (a b : Leaf) → FailsStock job part moves kind k j i a → FailsStock job part moves kind l c d b
+      → stock_reason kind k j i a ≡ stock_reason kind l c d b
+  same_at kind k l j i c d a b h g = same_stock kind k l j i c d a b (one_stop k l (stops_stock kind k j i a h) (stops_stock kind l c d b g)) h g
+
+  stock_left : (kind : Kind) (k j i c d : ℕ) (a : Leaf) (s : ℤ) → FailsStock job part moves kind k j i a → FailsCut job part moves c d s → ⊥
+  stock_left kind k j i c d a s h g = no_stop k (stops_stock kind k j i a h) g.before
 
   one_reason : (r s : Reason) → IsRejection job part moves r → IsRejection job part moves s → r ≡ s
   one_reason (Floor k) (Floor l) h g = ap (λ (n : ℕ). Floor n) (one_stop k l (stops_floor k h) (stops_floor l g))
   one_reason (Floor k) (Gouge l t b) h g = absurd (floor_part k l t b h g)
-  one_reason (Floor k) (RapidCut l j i b) h g = absurd (floor_stock k l j i b h g)
+  one_reason (Floor k) (RapidCut l j i b) h g = absurd (floor_stock Rapid k l j i b h g)
+  one_reason (Floor k) (Cut l j i b) h g = absurd (floor_stock Feed k l j i b h g)
   one_reason (Floor k) (Left j i s) h g = absurd (no_stop k (stops_floor k h) g.before)
   one_reason (Gouge l t b) (Floor k) h g = absurd (floor_part k l t b g h)
   one_reason (Gouge k t a) (Gouge l u b) h g = same_gouge k l t u a b (one_stop k l (stops_part k t a h) (stops_part l u b g)) h g
-  one_reason (Gouge k t a) (RapidCut l j i b) h g = absurd (part_stock k l t j i a b h g)
+  one_reason (Gouge k t a) (RapidCut l j i b) h g = absurd (part_stock Rapid k l t j i a b h g)
+  one_reason (Gouge k t a) (Cut l j i b) h g = absurd (part_stock Feed k l t j i a b h g)
   one_reason (Gouge k t a) (Left j i s) h g = absurd (no_stop k (stops_part k t a h) g.before)
-  one_reason (RapidCut l j i b) (Floor k) h g = absurd (floor_stock k l j i b g h)
-  one_reason (RapidCut l j i b) (Gouge k t a) h g = absurd (part_stock k l t j i a b g h)
-  one_reason (RapidCut k j i a) (RapidCut l c d b) h g = same_rapid k l j i c d a b (one_stop k l (stops_stock k j i a h) (stops_stock l c d b g)) h g
-  one_reason (RapidCut k j i a) (Left c d s) h g = absurd (no_stop k (stops_stock k j i a h) g.before)
+  one_reason (RapidCut l j i b) (Floor k) h g = absurd (floor_stock Rapid k l j i b g h)
+  one_reason (RapidCut l j i b) (Gouge k t a) h g = absurd (part_stock Rapid k l t j i a b g h)
+  one_reason (RapidCut k j i a) (RapidCut l c d b) h g = same_at Rapid k l j i c d a b h g
+  one_reason (RapidCut k j i a) (Cut l c d b) h g = absurd (two_kinds k l j i c d a b h g)
+  one_reason (RapidCut k j i a) (Left c d s) h g = absurd (stock_left Rapid k j i c d a s h g)
+  one_reason (Cut l j i b) (Floor k) h g = absurd (floor_stock Feed k l j i b g h)
+  one_reason (Cut l j i b) (Gouge k t a) h g = absurd (part_stock Feed k l t j i a b g h)
+  one_reason (Cut k j i a) (RapidCut l c d b) h g = absurd (two_kinds l k c d j i b a g h)
+  one_reason (Cut k j i a) (Cut l c d b) h g = same_at Feed k l j i c d a b h g
+  one_reason (Cut k j i a) (Left c d s) h g = absurd (stock_left Feed k j i c d a s h g)
   one_reason (Left j i s) (Floor k) h g = absurd (no_stop k (stops_floor k g) h.before)
   one_reason (Left j i s) (Gouge k t a) h g = absurd (no_stop k (stops_part k t a g) h.before)
-  one_reason (Left c d s) (RapidCut k j i a) h g = absurd (no_stop k (stops_stock k j i a g) h.before)
+  one_reason (Left c d s) (RapidCut k j i a) h g = absurd (stock_left Rapid k j i c d a s g h)
+  one_reason (Left c d s) (Cut k j i a) h g = absurd (stock_left Feed k j i c d a s g h)
   one_reason (Left j i s) (Left c d t) h g = same_left j i c d s t h g
 
   not_both : (count columns : ℕ) (left : ℤ) (r : Reason) → Accepts job part moves count columns left → IsRejection job part moves r → ⊥
   not_both count columns left (Floor k) h g = no_stop k (stops_floor k g) h.good
   not_both count columns left (Gouge k t a) h g = no_stop k (stops_part k t a g) h.good
-  not_both count columns left (RapidCut k j i a) h g = no_stop k (stops_stock k j i a g) h.good
+  not_both count columns left (RapidCut k j i a) h g = no_stop k (stops_stock Rapid k j i a g) h.good
+  not_both count columns left (Cut k j i a) h g = no_stop k (stops_stock Feed k j i a g) h.good
   not_both count columns left (Left j i s) h g = g.fails (h.cut j i g.column)
 
   same_most : (x y : ℤ) → x ≤ℤ y → y ≤ℤ x → x ≡ y

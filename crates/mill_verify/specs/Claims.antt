@@ -48,8 +48,8 @@ top_before job moves k j i = top_after job (column_x job i) (column_y job j) (ta
 -- no Feed removes a column point that lies the greatest depth of cut or more under the top that the moves before it left, and no move lowers a top by more than that depth
 pub record CutsShallow (job : Job) (moves : List Move) : Type 0 where
   pub feeds : (k j i : ℕ) (h : ℤ) → k < length moves → (move_at moves k).kind ≡ Feed
-    → IsColumnPoint job j i h → h ≤ℤ (top_before job moves k j i -ℤ job.max_cut)
-    → ¬ Removes job.cutter (move_at moves k) (pos 1) (point_at (column_x job i) (column_y job j) h)
+      → IsColumnPoint job j i h → h ≤ℤ (top_before job moves k j i -ℤ job.max_cut)
+      → ¬ Removes job.cutter (move_at moves k) (pos 1) (point_at (column_x job i) (column_y job j) h)
   pub tops : (k j i : ℕ) → k < length moves → IsColumn job j i → (top_before job moves k j i -ℤ job.max_cut) ≤ℤ top_before job moves (k + 1) j i
 
 -- so it is where the job limits the depth of cut

@@ -1,11 +1,11 @@
 -- The written tests of a program against a job and a part.
-use Rattle.std.specs.Prelude.{◌≡◌, ℕ, ◌<◌, ◌-ℤ◌, ◌≤ℤ◌, List, take}
+use Rattle.std.specs.Prelude.{ℕ, ◌<◌, ◌-ℤ◌, ◌≤ℤ◌, List, take}
 use Rattle.mill_base.specs.declared.points.Tri.{Tri}
 use Rattle.mill_base.specs.declared.motion.Move.{Move}
 use Rattle.mill_sweep.specs.Halving.{Passes, PassesPoint}
 use Rattle.mill_base.specs.Covers.{Covered}
 use Rattle.mill_job.specs.declared.job.Job.{Job}
-use Rattle.mill_job.specs.Columns.{IsColumn, column_x, column_y}
+use Rattle.mill_job.specs.Columns.{column_x, column_y}
 use Rattle.mill_dexel.specs.Tops.{ClearsColumns, tested_point, top_after}
 use Rattle.mill_dexel.specs.Turns.{move_at}
 use Rattle.mill_base.specs.Points.{tri_at}

@@ -14,8 +14,32 @@ use mill_job::{Job, Levels, Place};
 use mill_part::Part;
 use std::alloc::Global;
 
-/// A block of stock from 0 to 300 over a square of 200, and nine columns in it.
+/// A block of stock from 0 to 300 over a square of 200, and nine columns in it, into which a feed may cut as
+/// deep as it likes.
 pub(crate) fn block_job(cutter: Cutter, band: i32, allowance: u8) -> Job
+    requires cutter_ok { IsCutter cutter }
+    requires least { pos 0 ≤ℤ band }
+    requires most { band ≤ℤ pos 150 }
+    requires narrow { band ≤ℤ radius_of cutter }
+    ensures job { IsJob result }
+    ensures top { result.top ≡ pos 300 }
+    ensures start { home result ≡ point_at (pos 100) (pos 100) (pos 400) }
+    ensures band { result.band ≡ band }
+{
+    job_of(cutter, band, allowance, 0)
+}
+
+/// The same block under a flat cutter, where a feed may cut this deep and no deeper; 0 is no limit.
+pub(crate) fn limited_job(max_cut: u8) -> Job
+    ensures job { IsJob result }
+    ensures top { result.top ≡ pos 300 }
+    ensures start { home result ≡ point_at (pos 100) (pos 100) (pos 400) }
+{
+    job_of(Cutter::Flat { radius: 150 }, 0, 0, max_cut)
+}
+
+/// The job over the block, by the numbers in which one such job is unlike another.
+fn job_of(cutter: Cutter, band: i32, allowance: u8, max_cut: u8) -> Job
     requires cutter_ok { IsCutter cutter }
     requires least { pos 0 ≤ℤ band }
     requires most { band ≤ℤ pos 150 }
@@ -49,7 +73,7 @@ pub(crate) fn block_job(cutter: Cutter, band: i32, allowance: u8) -> Job
         rough_stock: 0,
         levels: Levels::NONE,
         snap: Snap::Nearest,
-        max_cut: 0,
+        max_cut: i32::from(max_cut),
     }
 }
 

@@ -11,7 +11,7 @@ ghost use Rattle.mill_job.specs.Jobs.{IsJob};
 mod gated;
 
 use super::*;
-use crate::test_shape::{block_job, corner, plate, whole_job, whole_plate};
+use crate::test_shape::{block_job, corner, limited_job, plate, whole_job, whole_plate};
 use mill_base::{Cutter, Kind, Pt3, Tri};
 use mill_sweep::Leaf;
 
@@ -283,6 +283,111 @@ fn names_the_part_before_the_stock(rt: HostRuntime) {
             verify(&rt, alloc, &job, &part, &moves, workers),
             Ok(gouge),
             "by {workers}"
+        );
+    }
+}
+
+// A feed down to the plate cuts exactly 100 deep. Where the plate stops it too, that comes first, and a rapid
+// may cut nothing, whatever the depth of a feed.
+#[test]
+fn names_the_leaf_of_a_feed_that_cuts_too_deep(rt: HostRuntime) {
+    let alloc = rt.alloc();
+    let part = plate(alloc, 200).unwrap_or_else(|_| panic!(rt; "want of memory"));
+    let accept = Verdict::Accept {
+        moves: 2,
+        columns: 9,
+        most_left: 0,
+    };
+    let leaf = Leaf { d: 8, k: 254 };
+    let cut = Verdict::Reject(Reason::Cut {
+        at: 0,
+        row: 0,
+        col: 0,
+        leaf,
+    });
+    let gouge = Verdict::Reject(Reason::Gouge {
+        at: 0,
+        tri: 0,
+        leaf,
+    });
+    let rapid = Verdict::Reject(Reason::Rapid {
+        at: 0,
+        row: 0,
+        col: 0,
+        leaf: Leaf { d: 7, k: 126 },
+    });
+    for workers in [1, 4, 64] {
+        for (max_cut, kind, height, want) in [
+            (100, Kind::Feed, 200, accept),
+            (99, Kind::Feed, 200, cut),
+            (99, Kind::Feed, 199, gouge),
+            (99, Kind::Rapid, 299, rapid),
+        ] {
+            let job = limited_job(max_cut);
+            let moves = down_and_up(kind, height);
+            assert_eq!(rt;
+                verify(&rt, alloc, &job, &part, &moves, workers),
+                Ok(want),
+                "by {workers} at {height}, by at most {max_cut}"
+            );
+        }
+    }
+}
+
+/// Down in the middle to 260 and on to the plate, as feeds, and up again as a rapid.
+fn down_in_two_and_up() -> [Move; 3]
+    ensures range { MovesInRange result }
+    ensures follow { Follow (point_at (pos 100) (pos 100) (pos 400)) result }
+{
+    let home = Pt3 {
+        x: 100,
+        y: 100,
+        z: 400,
+    };
+    let halfway = Pt3 { z: 260, ..home };
+    let low = Pt3 { z: 200, ..home };
+    [
+        Move {
+            kind: Kind::Feed,
+            from: home,
+            to: halfway,
+        },
+        Move {
+            kind: Kind::Feed,
+            from: halfway,
+            to: low,
+        },
+        Move {
+            kind: Kind::Rapid,
+            from: low,
+            to: home,
+        },
+    ]
+}
+
+// The first feed leaves 260 of the stock, and the second cuts 60 of that.
+#[test]
+fn measures_a_cut_from_what_is_left(rt: HostRuntime) {
+    let alloc = rt.alloc();
+    let part = plate(alloc, 200).unwrap_or_else(|_| panic!(rt; "want of memory"));
+    let moves = down_in_two_and_up();
+    let accept = Verdict::Accept {
+        moves: 3,
+        columns: 9,
+        most_left: 0,
+    };
+    let cut = Verdict::Reject(Reason::Cut {
+        at: 1,
+        row: 0,
+        col: 0,
+        leaf: Leaf { d: 6, k: 53 },
+    });
+    for (max_cut, want) in [(60, accept), (50, cut)] {
+        let job = limited_job(max_cut);
+        assert_eq!(rt;
+            verify(&rt, alloc, &job, &part, &moves, 2),
+            Ok(want),
+            "by at most {max_cut}"
         );
     }
 }

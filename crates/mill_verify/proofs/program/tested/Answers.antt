@@ -1,8 +1,8 @@
 use Rattle.std.specs.Prelude.{refl}
 use Rattle.mill_verify.specs.declared.verdict.Verdict.TheVariants.{Accept, Reject}
-use Rattle.mill_verify.specs.declared.verdict.Reason.TheVariants.{Gouge, Rapid}
+use Rattle.mill_verify.specs.declared.verdict.Reason.TheVariants.{Gouge, Rapid, Cut}
 use Rattle.mill_verify.proofs.Accepted.{accepted_is_safe}
-use Rattle.mill_verify.proofs.Named.{blocked, stopped}
+use Rattle.mill_verify.proofs.Named.{blocked, stopped, too_deep}
 use Rattle.mill_verify.proofs.program.tested.Goals as goal
 
 pub returns-clause-safe : goal.returns-clause-safe
@@ -21,3 +21,9 @@ returns-clause-stopped g c number row col leaf e =
     let v = rw e at c.verdict_of.ensures.verdict in
     let s = rw e at c.verdict_of.ensures.shown in
     stopped c.failing_is_blocked.ensures c.args.job.now c.args.part.now c.args.moves.now c.requires.job_ok c.requires.moves_ok (Reject (Rapid number row col leaf)) v s number row col leaf refl
+
+pub returns-clause-too_deep : goal.returns-clause-too_deep
+returns-clause-too_deep g c number row col leaf e =
+    let v = rw e at c.verdict_of.ensures.verdict in
+    let s = rw e at c.verdict_of.ensures.shown in
+    too_deep c.failing_is_blocked.ensures c.args.job.now c.args.part.now c.args.moves.now c.requires.job_ok c.requires.moves_ok (Reject (Cut number row col leaf)) v s number row col leaf refl

@@ -1,33 +1,44 @@
-use Rattle.std.proofs.Common.{ℕ, List, length, sym, subst, ◌∙◌, arith}
+use Rattle.std.proofs.Common.{List, length, sym, subst, ◌∙◌, arith}
 use Rattle.mill_board.specs.declared.work.Held.{Held}
 use Rattle.mill_dexel.specs.Rows.{RowState}
 use Rattle.mill_verify.specs.declared.piece.Piece.{Piece}
-use Rattle.mill_verify.specs.declared.verdict.Reason.{Reason}
-use Rattle.mill_verify.specs.inner.Failures.{IsFirstFailed, IsReasonOf, NoneFailed}
+use Rattle.mill_verify.specs.inner.Failures.{IsFirstFailed, NoneFailed}
 use Rattle.mill_verify.specs.inner.Stock.{IsStock}
-use Rattle.mill_verify.proofs.Tested.{all_good, floor_rejects, reason_there, rejected, stock_is}
+use Rattle.mill_verify.proofs.Tested.{all_good, floor_rejects, in_list, move_there, reason_there, rejected, stock_is}
 use Rattle.mill_verify.proofs.program.verdict_of.Goals as goal
+
+pub bounds-moves-least : goal.bounds-moves-least
+bounds-moves-least g c =
+    let q = c.requires in
+    let first = subst (λ (hs : List (Held Piece)). IsFirstFailed c.args.closed.least hs c.in-Some.number) c.deref.ensures.value c.in-Some.ensures in
+    move_there c.args.job.now c.args.part.now c.args.moves.now c.args.turns c.args.closed.least c.args.closed.pieces.items q.ready.within q.floor q.tested c.in-Some.number first
+
+pub index-requires : goal.index-requires
+index-requires g c =
+    let under = in_list c.deref.result.now c.in-Some.number c.in-Some.ensures.held c.in-Some.ensures.there in
+    let same = c.deref.ensures.len in
+    omega (under, same, arith)
 
 pub reason_of-reason-requires : goal.reason_of-reason-requires
 reason_of-reason-requires g c =
     let q = c.requires in
     let first = subst (λ (hs : List (Held Piece)). IsFirstFailed c.args.closed.least hs c.in-Some.number) c.deref.ensures.value c.in-Some.ensures in
-    subst (λ (k : ℕ). (reason : Reason) × IsReasonOf k c.index.result.now.next c.index.result.now.piece reason) (sym c.count.ensures)
-    (reason_there c.args.job.now c.args.part.now c.args.moves.now c.args.turns c.args.closed.least c.args.closed.pieces.items q.ready.within q.floor q.tested c.in-Some.number first q.ready.job_ok q.ready.few c.index.result.now c.index.ensures)
+    reason_there c.args.job.now c.args.part.now c.args.moves.now c.args.turns c.args.closed.least c.args.closed.pieces.items q.ready.within q.floor q.tested c.in-Some.number first
+    _ c.count.result c.count.ensures q.ready.job_ok q.ready.few c.index.result.now c.index.ensures
 
 pub returns-in-Some-clause-verdict : goal.returns-in-Some-clause-verdict
 returns-in-Some-clause-verdict g c =
     let q = c.requires in
     let first = subst (λ (hs : List (Held Piece)). IsFirstFailed c.args.closed.least hs c.in-Some.number) c.deref.ensures.value c.in-Some.ensures in
-    (rejected c.args.job.now c.args.part.now c.args.moves.now c.args.turns c.args.closed.least c.args.closed.pieces.items q.ready.within q.floor q.tested c.in-Some.number first c.index.result.now c.reason_of-reason.result c.index.ensures
-    (subst (λ (k : ℕ). IsReasonOf k c.index.result.now.next c.index.result.now.piece c.reason_of-reason.result) c.count.ensures c.reason_of-reason.ensures)).0
+    (rejected c.args.job.now c.args.part.now c.args.moves.now c.args.turns c.args.closed.least c.args.closed.pieces.items q.ready.within q.floor q.tested c.in-Some.number first
+    _ c.count.result c.count.ensures c.index.result.now c.reason_of-reason.result c.index.ensures c.reason_of-reason.ensures).0
 
 pub returns-in-Some-clause-shown : goal.returns-in-Some-clause-shown
 returns-in-Some-clause-shown g c =
     let q = c.requires in
     let first = subst (λ (hs : List (Held Piece)). IsFirstFailed c.args.closed.least hs c.in-Some.number) c.deref.ensures.value c.in-Some.ensures in
-    (rejected c.args.job.now c.args.part.now c.args.moves.now c.args.turns c.args.closed.least c.args.closed.pieces.items q.ready.within q.floor q.tested c.in-Some.number first c.index.result.now c.reason_of-reason.result c.index.ensures
-    (subst (λ (k : ℕ). IsReasonOf k c.index.result.now.next c.index.result.now.piece c.reason_of-reason.result) c.count.ensures c.reason_of-reason.ensures)).1
+    (rejected c.args.job.now c.args.part.now c.args.moves.now c.args.turns c.args.closed.least c.args.closed.pieces.items q.ready.within q.floor q.tested c.in-Some.number first
+    _ c.count.result c.count.ensures c.index.result.now c.reason_of-reason.result c.index.ensures c.reason_of-reason.ensures).1
 
 pub returns-then-turns-moves-clause-verdict : goal.returns-then-turns-moves-clause-verdict
 returns-then-turns-moves-clause-verdict g c =

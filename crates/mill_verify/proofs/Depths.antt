@@ -1,0 +1,73 @@
+-- The height at which a move is tested at a column: from the floor to the top, and at most the greatest depth of cut under that.
+use Rattle.std.specs.Prelude.{◌≡◌, ℕ, ℤ, pos, ◌-ℤ◌, ◌<ℤ◌, ◌≤ℤ◌, List, take, cond, int_lt, Bool, true, false, refl}
+use Rattle.std.proofs.Common.{sym, subst, arith}
+use Rattle.std.proofs.lemmas.Int.{ints}
+use Rattle.mill_base.specs.Numbers.{Within, greater}
+use Rattle.mill_base.specs.declared.limits.TheConstants.{MAX_COORDINATE}
+use Rattle.mill_base.specs.declared.motion.Kind.{Kind}
+use Rattle.mill_base.specs.declared.motion.Kind.TheVariants.{Rapid, Feed}
+use Rattle.mill_base.specs.declared.motion.Move.{Move}
+use Rattle.mill_sweep.specs.Halving.{PassesPoint}
+use Rattle.mill_job.specs.declared.job.Job.{Job}
+use Rattle.mill_job.specs.Jobs.{IsJob}
+use Rattle.mill_job.specs.Columns.{IsColumn}
+use Rattle.mill_dexel.specs.Tops.{IsTested, tested_height, tested_point, top_after}
+use Rattle.mill_dexel.specs.Turns.{move_at}
+use Rattle.mill_dexel.proofs.TopLaws.{top_after_stays}
+use Rattle.mill_verify.proofs.Ranges.{stock_within}
+use Rattle.mill_verify.specs.Tests.{ClearsStock, PassesColumn}
+
+-- the greater of a number and a depth under a top that is no lower
+greater_left : (a b : ℤ) → a ≤ℤ greater a b
+greater_left a b = by (int_lt a b) refl
+  where
+    by : (t : Bool) → int_lt a b ≡ t → a ≤ℤ cond t b a
+    by true e = omega (e, arith, ints)
+    by false e = omega (arith, ints)
+
+greater_right : (a b : ℤ) → b ≤ℤ greater a b
+greater_right a b = by (int_lt a b) refl
+  where
+    by : (t : Bool) → int_lt a b ≡ t → b ≤ℤ cond t b a
+    by true e = omega (arith, ints)
+    by false e = omega (e, arith, ints)
+
+greater_under : (floor top depth : ℤ) → floor ≤ℤ top → (pos 0) ≤ℤ depth → greater floor (top -ℤ depth) ≤ℤ top
+greater_under floor top depth order least = by (int_lt floor (top -ℤ depth))
+  where
+    by : (t : Bool) → cond t (top -ℤ depth) floor ≤ℤ top
+    by true = omega (least, arith, ints)
+    by false = order
+
+tested_low : (job : Job) (kind : Kind) (top : ℤ) → job.floor ≤ℤ top → job.floor ≤ℤ tested_height job kind top
+tested_low job Rapid top order = order
+tested_low job Feed top order = greater_left job.floor (top -ℤ job.max_cut)
+
+pub tested_high : {job : Job} (kind : Kind) (top : ℤ) → IsJob job → job.floor ≤ℤ top → tested_height job kind top ≤ℤ top
+tested_high {job} Rapid top ok order = omega (arith, ints)
+tested_high {job} Feed top ok order = greater_under job.floor top job.max_cut order ok.max_cut_ok.low
+
+pub tested_deep : (job : Job) (kind : Kind) (top : ℤ) → (pos 0) <ℤ job.max_cut → (top -ℤ job.max_cut) ≤ℤ tested_height job kind top
+tested_deep job Rapid top limited = omega (limited, arith, ints)
+tested_deep job Feed top limited = greater_right job.floor (top -ℤ job.max_cut)
+
+pub tested_within : {job : Job} (kind : Kind) (x y : ℤ) (moves : List Move) → IsJob job → Within MAX_COORDINATE (tested_height job kind (top_after job x y moves))
+tested_within {job} kind x y moves ok =
+    let stays = top_after_stays job x y moves ok.stock in
+    stock_within ok (record { low = tested_low job kind _ stays.low; high = at_most _ _ _ (tested_high kind _ ok stays.low) stays.high })
+  where
+    at_most : (a b c : ℤ) → a ≤ℤ b → b ≤ℤ c → a ≤ℤ c
+    at_most a b c h k = omega (h, k, arith, ints)
+
+-- where the depth of cut is limited, a move of either kind is tested
+pub tested_each : (job : Job) (kind : Kind) → (pos 0) <ℤ job.max_cut → IsTested job kind
+tested_each job Rapid limited = tt
+tested_each job Feed limited = limited
+
+-- test (iii) of a move whose kind is known
+module _ (job : Job) (moves : List Move) (kind : Kind) (k : ℕ) (is : (move_at moves k).kind ≡ kind) where
+  pub passes_as : (j i : ℕ) → PassesColumn job moves k j i → PassesPoint job.cutter (move_at moves k) (tested_point job kind (take k moves) j i)
+  passes_as j i passes = subst (λ (v : Kind). PassesPoint job.cutter (move_at moves k) (tested_point job v (take k moves) j i)) is passes
+
+  pub clears_as : ClearsStock job moves k → IsTested job kind → (j i : ℕ) → IsColumn job j i → PassesPoint job.cutter (move_at moves k) (tested_point job kind (take k moves) j i)
+  clears_as clears tested j i column = passes_as j i (clears (subst (IsTested job) (sym is) tested) j i column)
