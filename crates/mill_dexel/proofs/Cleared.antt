@@ -36,7 +36,7 @@ lesser_right a b = by (int_lt b a) refl
     by false e = omega (arith, ints)
 
 -- what is so of two numbers is so of the greater
-greater_is : (P : ℤ → Type 0) (a b : ℤ) → P a → P b → P (greater a b)
+pub greater_is : (P : ℤ → Type 0) (a b : ℤ) → P a → P b → P (greater a b)
 greater_is P a b p q = by (int_lt a b)
   where
     by : (t : Bool) → P (cond t b a)
@@ -57,7 +57,7 @@ module _ (cutter : Cutter) (t : Pt3) (x y : ℤ) where
       up a b h = omega (arith, ints)
 
   -- nor at the tip's height or under it
-  free_under_tip : (h : ℤ) → IsCutter cutter → h ≤ℤ t.z → IsFreeAt cutter t x y h
+  pub free_under_tip : (h : ℤ) → IsCutter cutter → h ≤ℤ t.z → IsFreeAt cutter t x y h
   free_under_tip h size under held =
       no t.z h (holds_over_tip cutter (pos 1) t (pos 1) (point_at x y h) (radius_least cutter size) (omega (arith, ints)) (omega (arith, ints)) held) under
     where

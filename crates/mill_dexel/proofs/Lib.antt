@@ -23,4 +23,5 @@ pub mod Removal
 mod LastCerts
 mod Ends
 pub mod Cleared
+pub mod Limits
 pub mod Ranges

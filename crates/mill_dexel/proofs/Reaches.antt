@@ -24,7 +24,7 @@ use Rattle.mill_sweep.proofs.Far.{far_passes}
 use Rattle.mill_sweep.proofs.Passing.{radius_least}
 use Rattle.mill_dexel.specs.declared.sample.Placed.{Placed}
 use Rattle.mill_dexel.specs.Tops.{top_after_sample, lowered_to}
-use Rattle.mill_dexel.specs.Cuts.{IsUnderBy, IsOverBy, IsReachBy, IsBeyond, IsHalfChord}
+use Rattle.mill_dexel.specs.Cuts.{IsUnderBy, IsOverBy, IsReachAlong, IsReachBy, IsBeyond, IsHalfChord}
 use Rattle.mill_dexel.proofs.FarCerts.{far_under, far_over}
 
 -- two numbers are at least r apart
@@ -99,6 +99,10 @@ reach_same job r a b s c d first «end» er ea eb reach = record {
   under = λ i before. let h = reach.under i before in let l = h.first in let k = h.second in record { first = omega (arith, ints); second = omega (arith, ints) };
   over = λ i behind within. let h = reach.over i behind within in let l = h.first in let k = h.second in record { first = omega (arith, ints); second = omega (arith, ints) };
 }
+
+pub along_same : (a p : ℤ) (n : ℕ) (r f t b q : ℤ) (m : ℕ) (s g u : ℤ) (first «end» : ℕ) → a ≡ b → p ≡ q → n ≡ m → r ≡ s → f ≡ g → t ≡ u
+    → IsReachAlong a p n r f t first «end» → IsReachAlong b q m s g u first «end»
+along_same a p n r f t b q m s g u first «end» ea ep en er ef et reach = rw (← ea, ← ep, ← en, ← er, ← ef, ← et) reach
 
 -- a row or a column beyond a distance from the tip is that far from it
 pub beyond_far : (r t x : ℤ) → IsBeyond r t t x → AreFar r x t

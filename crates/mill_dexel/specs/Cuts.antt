@@ -1,12 +1,12 @@
 -- What one sample does to the tops of a row, and which columns and rows it leaves alone.
-use Rattle.std.specs.Prelude.{◌≡◌, ◌⊎◌, ℕ, ◌+◌, ◌<◌, ◌≤◌, neg_ℤ, ℤ, pos, ◌+ℤ◌, ◌≤ℤ◌, List, length, Option, None, Some, MatchOption}
+use Rattle.std.specs.Prelude.{◌≡◌, ◌⊎◌, ℕ, ◌+◌, ◌<◌, ◌≤◌, neg_ℤ, ℤ, pos, ◌+ℤ◌, ◌*ℤ◌, ◌≤ℤ◌, List, length, Option, None, Some, MatchOption}
 use Rattle.mill_base.specs.Numbers.{Within, square}
 use Rattle.mill_base.specs.declared.limits.TheConstants.{MAX_COORDINATE, MAX_LAST_REACH}
 use Rattle.mill_base.specs.Sizes.{IsCutter, radius_of, inner, shift}
 use Rattle.mill_base.specs.declared.points.Pt3.{Pt3}
 use Rattle.mill_base.specs.declared.cutter.Cutter.{Cutter}
 use Rattle.mill_job.specs.declared.job.Job.{Job}
-use Rattle.mill_job.specs.Columns.{column_count, column_x, column_y}
+use Rattle.mill_job.specs.Columns.{row_count, column_count, column_x, column_y}
 use Rattle.mill_dexel.specs.declared.sample.Placed.{Placed}
 use Rattle.mill_dexel.specs.Samples.{placed}
 use Rattle.mill_dexel.specs.Tops.{top_after_sample}
@@ -30,15 +30,23 @@ pub record IsOverBy (r a b x : ℤ) : Type 0 where
   pub first : (a +ℤ r) ≤ℤ x
   pub second : (b +ℤ r) ≤ℤ x
 
--- all columns that stand nearer than r to the interval from a to b in x are among those from first on, before end
-pub record IsReachBy (job : Job) (r a b : ℤ) (first «end» : ℕ) : Type 0 where
-  pub within : «end» ≤ column_count job
-  pub under : (i : ℕ) → i < first → IsUnderBy r a b (column_x job i)
-  pub over : (i : ℕ) → «end» ≤ i → i < column_count job → IsOverBy r a b (column_x job i)
+-- of so many places at steps of pitch from start on, all that are nearer than r to the interval from a to b are among those from number first on, before end
+pub record IsReachAlong (start pitch : ℤ) (count : ℕ) (r a b : ℤ) (first «end» : ℕ) : Type 0 where
+  pub within : «end» ≤ count
+  pub under : (i : ℕ) → i < first → IsUnderBy r a b (start +ℤ pos i *ℤ pitch)
+  pub over : (i : ℕ) → «end» ≤ i → i < count → IsOverBy r a b (start +ℤ pos i *ℤ pitch)
+
+-- so are all columns of a row in x
+abbrev pub IsReachBy : Job → ℤ → ℤ → ℤ → ℕ → ℕ → Type 0
+IsReachBy job r a b first «end» = IsReachAlong job.area.x0 job.pitch (column_count job) r a b first «end»
 
 -- the same by the radius of the job's cutter and the last reach, beyond which a move passes each column
 abbrev pub IsReach : Job → ℤ → ℤ → ℕ → ℕ → Type 0
 IsReach job a b first «end» = IsReachBy job (radius_of job.cutter +ℤ pos MAX_LAST_REACH) a b first «end»
+
+-- and by that distance the rows in y
+abbrev pub IsRowReach : Job → ℤ → ℤ → ℕ → ℕ → Type 0
+IsRowReach job a b first «end» = IsReachAlong job.area.y0 job.pitch (row_count job) (radius_of job.cutter +ℤ pos MAX_LAST_REACH) a b first «end»
 
 -- y is at least r away from the interval from a to b
 abbrev pub IsBeyond : ℤ → ℤ → ℤ → ℤ → Type 0

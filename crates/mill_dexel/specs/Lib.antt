@@ -5,4 +5,5 @@ pub mod Rows
 pub mod Turns
 pub mod Cuts
 pub mod Bands
+pub mod Stocks
 pub mod inner

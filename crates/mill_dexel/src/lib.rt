@@ -3,7 +3,8 @@
 //! It stands on `mill_shape`, `mill_sweep` and `mill_job`. Definitions: `specs/Samples` says where
 //! a move is sampled and by which cutter, `specs/Tops` what a column's top is after a list of moves,
 //! `specs/Rows` what a row is and where a move stops at it, `specs/Turns` what becomes of a row in a
-//! program, `specs/Laws` what a top implies.
+//! program, `specs/Stocks` what the rows of a whole stock are after a list of moves, `specs/Laws` what a
+//! top implies.
 //!
 //! Most moves do nothing to most rows, and that is seen early. A row goes over a band of moves at
 //! once where all of them stay far away from it (`Row::go_over`), leaves out a move's first sample
@@ -21,6 +22,7 @@ mod reach;
 mod row;
 mod rows;
 mod sample;
+mod stock;
 #[cfg(test)]
 mod tests;
 mod turns;
@@ -30,4 +32,5 @@ pub use fail::RowFail;
 pub use laws::{cut_at_end, over_top_is_removed, passed_is_left, passes_after_cut};
 pub use row::Row;
 pub use rows::{rows_static, share};
+pub use stock::{cut_rows, keeps_depth, uncut_rows};
 pub use turns::one_outcome;

@@ -1,19 +1,27 @@
-ghost use Rattle.std.specs.Prelude.{ℕ, ◌<◌, ◌≤◌, ◌*◌, ◌^◌, IsTrue, pos, ◌+ℤ◌, ◌≤ℤ◌, ◌<ℤ◌};
+ghost use Rattle.std.specs.Prelude.{◌≡◌, ℕ, ◌<◌, ◌≤◌, ◌*◌, ◌^◌, IsTrue, pos, ◌+ℤ◌, ◌*ℤ◌, ◌≤ℤ◌, ◌<ℤ◌};
 ghost use Rattle.mill_base.specs.Numbers.{Within};
 ghost use Rattle.mill_base.specs.Sizes.{radius_of};
 ghost use Rattle.mill_base.specs.declared.limits.TheConstants.{MAX_LAST_REACH};
-ghost use Rattle.mill_job.specs.Columns.{column_count, column_x as x_of_column};
 ghost use Rattle.mill_job.specs.Jobs.{IsJob};
-ghost use Rattle.mill_dexel.specs.Cuts.{IsReach, IsReachBy, IsBeyond};
+ghost use Rattle.mill_dexel.specs.Cuts.{IsReach, IsReachAlong, IsReachBy, IsRowReach, IsBeyond};
 
 use mill_base::{MAX_LAST_REACH, Pt3};
 use mill_job::Job;
 
-/// The numbers of the columns that a move may touch: from `first` on, before `end`.
+/// The numbers of the columns of a row, or of the rows, that a move may touch: from `first` on, before `end`.
 #[derive(Clone, Copy)]
 pub(crate) struct Reach {
     pub first: u32,
     pub end: u32,
+}
+
+/// Where the columns of a row stand in x, or the rows in y: `count` places at steps of `pitch`, from
+/// `start` on.
+#[derive(Clone, Copy)]
+struct Places {
+    start: i32,
+    pitch: i32,
+    count: u32,
 }
 
 /// The columns that stand nearer than the cutter's radius and the greatest last reach to the interval
@@ -22,12 +30,7 @@ pub(crate) fn reach_of(job: &Job, from: Pt3, to: Pt3) -> Reach
     requires { IsJob job.now }
     ensures { IsReach job.now from.x to.x result.first result.end }
 {
-    reach_by(
-        job,
-        job.cutter.radius() + MAX_LAST_REACH as i32,
-        from.x,
-        to.x,
-    )
+    reach_by(job, passing_distance(job), from.x, to.x)
 }
 
 /// The columns that stand nearer than `distance` to the interval between two places in x.
@@ -35,13 +38,41 @@ pub(crate) fn reach_by(job: &Job, distance: i32, from: i32, to: i32) -> Reach
     requires { IsJob job.now }
     ensures { IsReachBy job.now distance from to result.first result.end }
 {
+    let columns = Places {
+        start: job.area.x0,
+        pitch: job.pitch,
+        count: job.columns(),
+    };
+    reach_along(columns, distance, from, to)
+}
+
+/// The rows that stand nearer than the cutter's radius and the greatest last reach to the interval between
+/// two points in y. A move between these points passes the columns of each other row, and leaves them
+/// uncut.
+pub(crate) fn row_reach(job: &Job, from: Pt3, to: Pt3) -> Reach
+    requires { IsJob job.now }
+    ensures { IsRowReach job.now from.y to.y result.first result.end }
+{
+    let rows = Places {
+        start: job.area.y0,
+        pitch: job.pitch,
+        count: job.rows(),
+    };
+    reach_along(rows, passing_distance(job), from.y, to.y)
+}
+
+/// The places that are nearer than `distance` to the interval between two others.
+fn reach_along(places: Places, distance: i32, from: i32, to: i32) -> Reach
+    requires { (pos 1) ≤ℤ places.pitch }
+    ensures { IsReachAlong places.start places.pitch places.count distance from to result.first result.end }
+{
     Reach {
-        first: columns_up_to(job, low_end(distance, from, to)),
-        end: columns_up_to(job, high_end(distance, from, to)),
+        first: places_up_to(places, low_end(distance, from, to)),
+        end: places_up_to(places, high_end(distance, from, to)),
     }
 }
 
-/// The greatest x that is `distance` under both places.
+/// The greatest place that is `distance` under both.
 fn low_end(distance: i32, from: i32, to: i32) -> i64
     ensures bound { Within (2 ^ 40) result }
     ensures from { (result +ℤ distance) ≤ℤ from }
@@ -50,7 +81,7 @@ fn low_end(distance: i32, from: i32, to: i32) -> i64
     i64::from(from.min(to)) - i64::from(distance)
 }
 
-/// The greatest x that is less than `distance` over one of the places.
+/// The greatest place that is less than `distance` over one of them.
 fn high_end(distance: i32, from: i32, to: i32) -> i64
     ensures bound { Within (2 ^ 40) result }
     ensures from { (from +ℤ distance) ≤ℤ (result +ℤ pos 1) }
@@ -59,20 +90,20 @@ fn high_end(distance: i32, from: i32, to: i32) -> i64
     i64::from(from.max(to)) + i64::from(distance) - 1
 }
 
-/// How many columns stand at `x` or before it.
-fn columns_up_to(job: &Job, x: i64) -> u32
-    requires job { IsJob job.now }
-    requires x_ok { Within (2 ^ 40) x }
-    ensures bound { result ≤ column_count job.now }
-    ensures inside { (i : ℕ) → i < result → x_of_column job.now i ≤ℤ x }
-    ensures outside { (i : ℕ) → result ≤ i → i < column_count job.now → x <ℤ x_of_column job.now i }
+/// How many of the places are at `end` or before it.
+fn places_up_to(places: Places, end: i64) -> u32
+    requires pitch_ok { (pos 1) ≤ℤ places.pitch }
+    requires end_ok { Within (2 ^ 40) end }
+    ensures bound { result ≤ places.count }
+    ensures inside { (i : ℕ) → i < result → (places.start +ℤ pos i *ℤ places.pitch) ≤ℤ end }
+    ensures outside { (i : ℕ) → result ≤ i → i < places.count → end <ℤ (places.start +ℤ pos i *ℤ places.pitch) }
 {
-    let span = x - i64::from(job.area.x0);
+    let span = end - i64::from(places.start);
     if span < 0 {
         return 0;
     }
-    let steps = steps_up_to(span.unsigned_abs(), u64::from(job.pitch.unsigned_abs()));
-    steps.min(u64::from(job.columns())) as u32
+    let steps = steps_up_to(span.unsigned_abs(), u64::from(places.pitch.unsigned_abs()));
+    steps.min(u64::from(places.count)) as u32
 }
 
 /// How many multiples of the pitch, from 0 on, are at most the span.
@@ -102,5 +133,14 @@ pub(crate) fn is_apart(job: &Job, y: i32, from: i32, to: i32) -> bool
     requires { IsJob job.now }
     ensures { IsTrue result → IsBeyond (radius_of job.now.cutter +ℤ pos MAX_LAST_REACH) from to y }
 {
-    is_beyond(y, job.cutter.radius() + MAX_LAST_REACH as i32, from, to)
+    is_beyond(y, passing_distance(job), from, to)
+}
+
+/// How far away from a move in x or in y a column stands at least that the move passes: the cutter's
+/// radius and the greatest last reach.
+fn passing_distance(job: &Job) -> i32
+    requires { IsJob job.now }
+    ensures { result ≡ radius_of job.now.cutter +ℤ pos MAX_LAST_REACH }
+{
+    job.cutter.radius() + MAX_LAST_REACH as i32
 }

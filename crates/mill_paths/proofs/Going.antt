@@ -1,5 +1,5 @@
 -- The moves of links, tours and the way home are safe, and lead on from each other.
-use Rattle.std.specs.Prelude.{◌≡◌, ℕ, ◌<◌, Bool, true, false, ◌&&◌, if◌then◌else◌, ℤ, ◌≤ℤ◌, int_lt, List, [], ◌∷◌, ◌++◌, length, All}
+use Rattle.std.specs.Prelude.{◌≡◌, ◌⊎◌, ℕ, zero, suc, ◌<◌, Bool, true, false, ◌&&◌, if◌then◌else◌, ℤ, pos, ◌+ℤ◌, ◌-ℤ◌, ◌<ℤ◌, ◌≤ℤ◌, int_lt, List, [], ◌∷◌, ◌++◌, length, All}
 use Rattle.std.specs.Ordering.{int_eq}
 use Rattle.std.specs.List.{flat_map}
 use Rattle.std.proofs.Common.{inl, inr, refl, sym, subst, ap, arith}
@@ -15,20 +15,22 @@ use Rattle.mill_base.specs.declared.points.Pt3.{Pt3}
 use Rattle.mill_base.specs.declared.points.Tri.{Tri}
 use Rattle.mill_base.specs.declared.motion.Move.{Move}
 use Rattle.mill_base.specs.declared.motion.Kind.TheVariants.{Rapid, Feed}
-use Rattle.mill_dexel.specs.Tops.{top_after}
+use Rattle.mill_dexel.specs.Tops.{cut_limit, top_after}
 use Rattle.mill_dexel.proofs.TopLaws.{top_after_stays}
 use Rattle.mill_dexel.proofs.Cleared.{passes_after_cut}
-use Rattle.mill_job.specs.Columns.{home}
+use Rattle.mill_dexel.proofs.Limits.{passes_limit_after_cut}
+use Rattle.mill_job.specs.Columns.{column_x, column_y, home}
 use Rattle.mill_job.specs.Jobs.{IsJob}
 use Rattle.mill_job.specs.declared.job.Job.{Job}
-use Rattle.mill_sweep.specs.Halving.{Passes}
+use Rattle.mill_sweep.specs.Halving.{Passes, PassesPoint}
 use Rattle.mill_sweep.specs.Vertical.{StaysOver}
 use Rattle.mill_sweep.proofs.Far.{top_passes}
 use Rattle.mill_sweep.proofs.Vertical.{vertical_passes}
-use Rattle.mill_paths.specs.Links.{at_height, feed_to, rapid_to, is_over_place, climb, cross, descend, plunge, detour, MayFeed, IsLink, way_home}
+use Rattle.mill_paths.specs.Links.{at_height, feed_to, rapid_to, is_over_place, climb, cross, descend, peck_count, pecks, plunge, detour, MayFeed, IsLink, way_home}
 use Rattle.mill_paths.specs.Tours.{AreLinks, last_place}
 use Rattle.mill_paths.specs.Safety.{IsSafeMove, AreSafe, Connect, IsFreePlace, IsEndOf, IsReached, GoSafely, LinkIsSafe, TourIsSafe, WayHomeIsSafe}
 use Rattle.mill_paths.specs.declared.visit.Visit.{Visit}
+use Rattle.mill_paths.proofs.Pecks.{Fit, pecks_connect, pecks_end, pecks_fit}
 use Rattle.mill_paths.proofs.Points.{same_pair}
 
 through : (a b c : ℤ) → a ≤ℤ b → b ≤ℤ c → a ≤ℤ c
@@ -42,6 +44,24 @@ all_low a b c h p q r = grind (p, q, r, arith, ints)
 
 feed_is_no_rapid : Feed ≡ Rapid → ⊥
 feed_is_no_rapid e = cc
+
+rapid_is_no_feed : Rapid ≡ Feed → ⊥
+rapid_is_no_feed e = cc
+
+between : (m : ℕ) (a b z : ℤ) → Within m a → Within m b → a ≤ℤ z → z ≤ℤ b → Within m z
+between m a b z a_ok b_ok low high = let p = a_ok.within in let q = b_ok.within in record { within = omega (p, q, low, high, arith, ints) }
+
+lowered : (z depth : ℤ) → (pos 0) ≤ℤ depth → (z -ℤ depth) ≤ℤ z
+lowered z depth least = omega (least, arith, ints)
+
+reaches : (z low depth : ℤ) → z ≤ℤ (low +ℤ depth) → (z -ℤ depth) ≤ℤ low
+reaches z low depth h = omega (h, arith, ints)
+
+regains : (z depth : ℤ) → z ≤ℤ ((z -ℤ depth) +ℤ depth)
+regains z depth = omega (arith, ints)
+
+limited_by : (floor top t depth z : ℤ) → t ≤ℤ top → floor ≤ℤ z → (top -ℤ depth) ≤ℤ z → greater floor (t -ℤ depth) ≤ℤ z
+limited_by floor top t depth z under over near = grind (under, over, near, arith, ints)
 
 -- lists of safe moves, one after the other
 module _ (job : Job) (part : List Tri) where
@@ -74,17 +94,22 @@ module _ (job : Job) (part : List Tri) where
 
 -- the moves themselves
 module _ (job : Job) (part : List Tri) (ok : IsJob job) (under : IsUnder part job.top) where
-  -- a move over the stock
-  over_safe : (done : List Move) (m : Move) → MoveInUnitRange job.unit m → job.top ≤ℤ m.from.z → job.top ≤ℤ m.to.z → IsSafeMove job part done m
-  over_safe done m ranged from to = record {
+  -- a rapid over the stock
+  over_safe : (done : List Move) (start end : Pt3) → MoveInUnitRange job.unit (rapid_to start end) → job.top ≤ℤ start.z → job.top ≤ℤ end.z
+      → IsSafeMove job part done (rapid_to start end)
+  over_safe done start end ranged from to = record {
     ranged = ranged;
     floor_from = through _ _ _ ok.stock from;
     floor_to = through _ _ _ ok.stock to;
     passes = λ t inside. let h = low_tri t inside in top_passes job.cutter m (tri_at part t) (through _ _ _ h from) (through _ _ _ h to);
     stock = λ rapid x y. let h = low_column x y in
         top_passes job.cutter m (point_tri (point_at x y (top_after job x y done))) (through _ _ _ h from) (through _ _ _ h to);
+    depth = λ feed. absurd (rapid_is_no_feed feed);
   }
     where
+      m : Move
+      m = rapid_to start end
+
       low_tri : (t : ℕ) → t < length part → highest (tri_at part t) ≤ℤ job.top
       low_tri t inside = let h = under (tri_at part t) (Contains-get_or part t _ inside) in by _ _ _ h
         where
@@ -129,6 +154,7 @@ module _ (job : Job) (part : List Tri) (ok : IsJob job) (under : IsUnder part jo
     passes = passes_over up from at stays;
     stock = λ rapid x y. passes_after_cut job done end.move up x y ok.cutter_ok end.member
         (subst (λ p. job.floor ≤ℤ p.z) (sym end.here) at.floor) (subst (λ p. StaysOver p up) (sym end.here) stays);
+    depth = λ feed. absurd (rapid_is_no_feed feed);
   }
     where
       up : Move
@@ -181,24 +207,70 @@ module _ (job : Job) (part : List Tri) (ok : IsJob job) (under : IsUnder part jo
           → GoSafely job part done (at_height from job.clear) (if b then [] else over ∷ []) (at_height at job.clear)
       by true e = go_nowhere job part done (at_height from job.clear) (at_height at job.clear) (same e) (at_clear done from ranged)
       by false e = go_once job part done over
-          (over_safe done over (record { from_ok = raised_range from job.clear ranged ok.clear_ok; to_ok = raised_range at job.clear at_ok ok.clear_ok }) ok.over_stock ok.over_stock)
+          (over_safe done (at_height from job.clear) (at_height at job.clear) (record { from_ok = raised_range from job.clear ranged ok.clear_ok; to_ok = raised_range at job.clear at_ok ok.clear_ok }) ok.over_stock ok.over_stock)
           (at_clear _ at at_ok)
 
-  -- down
-  plunge_safe : (done : List Move) (at : Pt3) → IsFreePlace job part at → IsSafeMove job part done (plunge job at)
-  plunge_safe done at free = record {
-    ranged = record { from_ok = raised_range at job.top free.ranged ok.top_ok; to_ok = free.ranged };
-    floor_from = ok.stock;
-    floor_to = free.floor;
-    passes = passes_over (plunge job at) at free (record {
-      from = record { x_same = refl; y_same = refl; z_least = free.top };
-      to = record { x_same = refl; y_same = refl; z_least = at_most_itself at.z };
+  -- a feed straight down over a free place, from the top of the stock or from where a move ended, that is no longer than the greatest depth of cut
+  peck_safe : (done : List Move) (at : Pt3) (z low : ℤ) → IsFreePlace job part at → at.z ≤ℤ low → low ≤ℤ z → z ≤ℤ job.top
+      → ((pos 0) <ℤ job.max_cut → z ≤ℤ (low +ℤ job.max_cut)) → (z ≡ job.top) ⊎ IsEndOf done (at_height at z)
+      → IsSafeMove job part done (feed_to (at_height at z) (at_height at low))
+  peck_safe done at z low free over under high short start = record {
+    ranged = record {
+      from_ok = raised_range at z free.ranged (between (greatest_of job.unit) at.z job.top z free.ranged.z_ok ok.top_ok (through _ _ _ over under) high);
+      to_ok = raised_range at low free.ranged (between (greatest_of job.unit) at.z job.top low free.ranged.z_ok ok.top_ok over (through _ _ _ under high));
+    };
+    floor_from = from_floor;
+    floor_to = to_floor;
+    passes = passes_over peck at free (record {
+      from = record { x_same = refl; y_same = refl; z_least = through _ _ _ over under };
+      to = record { x_same = refl; y_same = refl; z_least = over };
     });
     stock = λ rapid x y. absurd (feed_is_no_rapid rapid);
+    depth = λ feed tested j i there. limit_passes (column_x job i) (column_y job j) (short tested) start;
   }
+    where
+      peck : Move
+      peck = feed_to (at_height at z) (at_height at low)
 
+      to_floor : job.floor ≤ℤ low
+      to_floor = through _ _ _ free.floor over
+
+      from_floor : job.floor ≤ℤ z
+      from_floor = through _ _ _ to_floor under
+
+      limit_passes : (x y : ℤ) → z ≤ℤ (low +ℤ job.max_cut) → (z ≡ job.top) ⊎ IsEndOf done (at_height at z)
+          → PassesPoint job.cutter peck (point_at x y (cut_limit job (top_after job x y done)))
+      limit_passes x y near (inl at_top) =
+          let stays = top_after_stays job x y done ok.stock in
+          let to : (job.top -ℤ job.max_cut) ≤ℤ low = reaches job.top low job.max_cut (subst (λ h. h ≤ℤ (low +ℤ job.max_cut)) at_top near) in
+          let to_low = limited_by job.floor job.top (top_after job x y done) job.max_cut low stays.high to_floor to in
+          let from_low = limited_by job.floor job.top (top_after job x y done) job.max_cut z stays.high from_floor (through _ _ _ to under) in
+          top_passes job.cutter peck (point_tri (point_at x y (cut_limit job (top_after job x y done)))) (all_low _ _ _ z from_low from_low from_low)
+          (all_low _ _ _ low to_low to_low to_low)
+      limit_passes x y near (inr end) =
+          passes_limit_after_cut job done end.move peck x y ok.cutter_ok end.member (subst (λ p. job.floor ≤ℤ p.z) (sym end.here) from_floor) from_floor to_floor
+          (subst (λ p. StaysOver (point_at p.x p.y (p.z -ℤ job.max_cut)) peck) (sym end.here) (record {
+            from = record { x_same = refl; y_same = refl; z_least = lowered z job.max_cut ok.max_cut_ok.low };
+            to = record { x_same = refl; y_same = refl; z_least = reaches z low job.max_cut near };
+          }))
+
+  -- so do pecks that fit, one after the other
+  pecks_safe : (n : ℕ) (done : List Move) (at : Pt3) (z : ℤ) → IsFreePlace job part at → z ≤ℤ job.top → Fit n job.max_cut z at.z
+      → (z ≡ job.top) ⊎ IsEndOf done (at_height at z) → AreSafe job part done (pecks n job.max_cut at z)
+  pecks_safe zero done at z free high fit start = (peck_safe done at z at.z free (at_most_itself at.z) fit.0 high fit.1 start, tt)
+  pecks_safe (suc n) done at z free high fit start =
+      let down : (z -ℤ job.max_cut) ≤ℤ z = lowered z job.max_cut ok.max_cut_ok.low in
+      (peck_safe done at z (z -ℤ job.max_cut) free fit.0 down high (λ limited. regains z job.max_cut) start,
+      pecks_safe n _ at (z -ℤ job.max_cut) free (through _ _ _ down high) fit.1
+      (inr (last_of done [] (feed_to (at_height at z) (at_height at (z -ℤ job.max_cut))))))
+
+  plunge_safe : (done : List Move) (at : Pt3) → IsFreePlace job part at → AreSafe job part done (plunge job at)
+  plunge_safe done at free =
+      pecks_safe (peck_count job.max_cut (job.top -ℤ at.z)) done at job.top free (at_most_itself job.top) (pecks_fit job.max_cut job.top at.z ok.max_cut_ok.low free.top) (inl refl)
+
+  -- down
   down_goes : (done : List Move) (at : Pt3) → IsFreePlace job part at
-      → GoSafely job part done (at_height at job.clear) (descend job at ++ plunge job at ∷ []) at
+      → GoSafely job part done (at_height at job.clear) (descend job at ++ plunge job at) at
   down_goes done at free = by (int_lt job.top job.clear) refl
     where
       down : Move
@@ -210,34 +282,46 @@ module _ (job : Job) (part : List Tri) (ok : IsJob job) (under : IsUnder part jo
           equal : (a b : ℤ) → int_lt a b ≡ false → a ≤ℤ b → a ≡ b
           equal a b e h = omega (e, h, arith, ints)
 
+      led : Connect (at_height at job.top) (plunge job at) at
+      led = pecks_connect (peck_count job.max_cut (job.top -ℤ at.z)) job.max_cut at job.top
+
+      end_within : (before first : List Move) → IsEndOf (before ++ (first ++ plunge job at)) at
+      end_within before first =
+          let end : IsEndOf (plunge job at) at = pecks_end (peck_count job.max_cut (job.top -ℤ at.z)) job.max_cut at job.top in
+          record {
+            move = end.move;
+            member = Contains-append_right before (first ++ plunge job at) end.move (Contains-append_right first (plunge job at) end.move end.member);
+            here = end.here;
+          }
+
       by : (b : Bool) → int_lt job.top job.clear ≡ b
-          → GoSafely job part done (at_height at job.clear) ((if b then down ∷ [] else []) ++ plunge job at ∷ []) at
+          → GoSafely job part done (at_height at job.clear) ((if b then down ∷ [] else []) ++ plunge job at) at
       by true low = record {
         safe = (
-          over_safe done down (record { from_ok = raised_range at job.clear free.ranged ok.clear_ok; to_ok = raised_range at job.top free.ranged ok.top_ok }) ok.over_stock (at_most_itself job.top),
-          (plunge_safe (done ++ down ∷ []) at free, tt),
+          over_safe done (at_height at job.clear) (at_height at job.top) (record { from_ok = raised_range at job.clear free.ranged ok.clear_ok; to_ok = raised_range at job.top free.ranged ok.top_ok }) ok.over_stock (at_most_itself job.top),
+          plunge_safe (done ++ down ∷ []) at free,
         );
-        connect = (refl, (refl, refl));
-        reached = at_end _ at free (last_of done (down ∷ []) (plunge job at));
+        connect = (refl, led);
+        reached = at_end _ at free (end_within done (down ∷ []));
       }
       by false high = record {
-        safe = (plunge_safe done at free, tt);
-        connect = (same high, refl);
-        reached = at_end _ at free (last_of done [] (plunge job at));
+        safe = plunge_safe done at free;
+        connect = subst (λ p. Connect p (plunge job at) at) (same high) led;
+        reached = at_end _ at free (end_within done []);
       }
 
   -- round
   detour_goes : (done : List Move) (from at : Pt3) → IsReached job part done from → IsFreePlace job part at
       → GoSafely job part done from (detour job from at) at
   detour_goes done from at reached free =
-      subst (λ ms. GoSafely job part done from ms at) (sym (append_assoc (climb job from ++ cross job from at) (descend job at) (plunge job at ∷ [])))
-      (go_on job part done from (at_height at job.clear) at (climb job from ++ cross job from at) (descend job at ++ plunge job at ∷ [])
+      subst (λ ms. GoSafely job part done from ms at) (sym (append_assoc (climb job from ++ cross job from at) (descend job at) (plunge job at)))
+      (go_on job part done from (at_height at job.clear) at (climb job from ++ cross job from at) (descend job at ++ plunge job at)
       (go_on job part done from (at_height from job.clear) (at_height at job.clear) (climb job from) (cross job from at)
       (climb_goes done from reached) (cross_goes _ from at reached.ranged free.ranged))
       (down_goes _ at free))
 
   -- straight
-  straight_goes : (done : List Move) (from : Pt3) (visit : Visit) → IsReached job part done from → IsFreePlace job part visit.at → MayFeed job part from visit
+  straight_goes : (done : List Move) (from : Pt3) (visit : Visit) → IsReached job part done from → IsFreePlace job part visit.at → MayFeed job part done from visit
       → GoSafely job part done from (feed_to from visit.at ∷ []) visit.at
   straight_goes done from visit reached free may = go_once job part done (feed_to from visit.at)
       (record {
@@ -246,11 +330,12 @@ module _ (job : Job) (part : List Tri) (ok : IsJob job) (under : IsUnder part jo
         floor_to = free.floor;
         passes = may.passes;
         stock = λ rapid x y. absurd (feed_is_no_rapid rapid);
+        depth = λ feed. may.depth;
       })
       (at_end _ visit.at free (last_of done [] (feed_to from visit.at)))
 
   link_goes : (done : List Move) (from : Pt3) (visit : Visit) (moves : List Move) → IsReached job part done from → IsFreePlace job part visit.at
-      → IsLink job part from visit moves → GoSafely job part done from moves visit.at
+      → IsLink job part done from visit moves → GoSafely job part done from moves visit.at
   link_goes done from visit moves reached free (inl stay) =
       subst (λ ms. GoSafely job part done from ms visit.at) (sym stay.none) (go_nowhere job part done from visit.at stay.there reached)
   link_goes done from visit moves reached free (inr (inl straight)) =
@@ -259,7 +344,7 @@ module _ (job : Job) (part : List Tri) (ok : IsJob job) (under : IsUnder part jo
       subst (λ ms. GoSafely job part done from ms visit.at) (sym round.round) (detour_goes done from visit.at reached free)
 
   links_go : (done : List Move) (from : Pt3) (visits : List Visit) (links : List (List Move)) → IsReached job part done from
-      → All (λ v. IsFreePlace job part v.at) visits → AreLinks job part from visits links
+      → All (λ v. IsFreePlace job part v.at) visits → AreLinks job part done from visits links
       → GoSafely job part done from (flat_map (λ link. link) links) (last_place from visits)
   links_go done from [] [] reached free are = go_nowhere job part done from from refl reached
   links_go done from [] (link ∷ links) reached free are = absurd are

@@ -1,11 +1,11 @@
 -- How many moves a plan has at least.
-use Rattle.std.specs.Prelude.{◌≡◌, ℕ, ◌+◌, ◌<◌, ◌≤◌, Bool, true, false, ◌&&◌, if◌then◌else◌, ℤ, pos, ◌+ℤ◌, int_lt, int_le, List, [], ◌∷◌, ◌++◌, length, map, take, get_or, All}
+use Rattle.std.specs.Prelude.{◌≡◌, ℕ, zero, suc, ◌+◌, ◌<◌, ◌≤◌, Bool, true, false, ◌&&◌, if◌then◌else◌, ℤ, pos, ◌+ℤ◌, int_lt, int_le, List, [], ◌∷◌, ◌++◌, length, map, take, get_or, All}
 use Rattle.std.specs.Ordering.{int_eq}
 use Rattle.std.specs.List.{flat_map}
 use Rattle.std.proofs.Common.{inl, inr, refl, sym, ap, ◌∙◌, subst, arith}
 use Rattle.std.proofs.lemmas.Bool.{and_from}
 use Rattle.std.proofs.lemmas.Bool.Decides.{Decides-int_eq}
-use Rattle.std.proofs.lemmas.List.{append_assoc, append-nil, length-append, length_push}
+use Rattle.std.proofs.lemmas.List.{append_assoc, append-nil, length-append}
 use Rattle.std.proofs.lemmas.List.Elements.{All-nil, All-cons, All-head, All-tail}
 use Rattle.mill_base.specs.declared.lattice.Lattice.{Lattice}
 use Rattle.mill_base.specs.declared.motion.Move.{Move}
@@ -16,7 +16,7 @@ use Rattle.mill_job.specs.declared.job.Job.{Job}
 use Rattle.mill_level.specs.Waterlines.{Outline}
 use Rattle.mill_paths.specs.Lattices.{finish_lattice, rough_lattice, zigzag_of}
 use Rattle.mill_paths.specs.Limits.{change_count, changes_after, is_same_point, is_same_visit, most_changes}
-use Rattle.mill_paths.specs.Links.{IsLink, climb, cross, descend, plunge, way_home}
+use Rattle.mill_paths.specs.Links.{IsLink, climb, cross, descend, pecks, plunge, way_home}
 use Rattle.mill_paths.specs.Tours.{AreLinks, IsPlan, IsTour, last_place}
 use Rattle.mill_paths.specs.Unique.{ManyFinishVisitsMakeMoves, ManyLevelVisitsMakeMoves, ManyRoughVisitsMakeMoves, PlanIsLonger}
 use Rattle.mill_paths.specs.Visits.{finish_visit, finish_visits_of, height_at, level_visits_of, outline_visits, rough_levels, rough_visit, rough_visits_of, rough_visits_on, visit_at, visit_if}
@@ -47,19 +47,22 @@ both a b c d e h = subst (λ (ms : List Move). length (a ++ c) ≤ length (ms ++
 
 module _ (job : Job) (part : List Tri) where
   -- links to the first visits are the first of the links to all
-  links_begin : (from : Pt3) (first rest : List Visit) (ls ks : List (List Move)) → AreLinks job part from first ls → AreLinks job part from (first ++ rest) ks
+  links_begin : (done : List Move) (from : Pt3) (first rest : List Visit) (ls ks : List (List Move)) → AreLinks job part done from first ls → AreLinks job part done from (first ++ rest) ks
       → length (joined ls) ≤ length (joined ks)
-  links_begin from [] rest [] ks h g = least (length (joined ks))
-  links_begin from [] rest (l ∷ ls) ks h g = absurd h
-  links_begin from (v ∷ vs) rest [] ks h g = absurd h
-  links_begin from (v ∷ vs) rest (l ∷ ls) [] h g = absurd g
-  links_begin from (v ∷ vs) rest (l ∷ ls) (k ∷ ks) h g =
-      both l k (joined ls) (joined ks) (one_link job part from v l k h.0 g.0) (links_begin v.at vs rest ls ks h.1 g.1)
+  links_begin done from [] rest [] ks h g = least (length (joined ks))
+  links_begin done from [] rest (l ∷ ls) ks h g = absurd h
+  links_begin done from (v ∷ vs) rest [] ks h g = absurd h
+  links_begin done from (v ∷ vs) rest (l ∷ ls) [] h g = absurd g
+  links_begin done from (v ∷ vs) rest (l ∷ ls) (k ∷ ks) h g =
+      let same : l ≡ k = one_link job part done from v l k h.0 g.0 in
+      both l k (joined ls) (joined ks) same
+      (links_begin (done ++ l) v.at vs rest ls ks h.1 (subst (λ (ms : List Move). AreLinks job part (done ++ ms) v.at (vs ++ rest) ks) (sym same) g.1))
 
-  tour_begins : (from : Pt3) (first rest : List Visit) (a b : List Move) → IsTour job part from first a → IsTour job part from (first ++ rest) b → length a ≤ length b
-  tour_begins from first rest a b h g =
+  tour_begins : (done : List Move) (from : Pt3) (first rest : List Visit) (a b : List Move) → IsTour job part done from first a
+      → IsTour job part done from (first ++ rest) b → length a ≤ length b
+  tour_begins done from first rest a b h g =
       subst (λ (ms : List Move). length ms ≤ length b) (sym h.joined)
-      (subst (λ (ms : List Move). length (joined h.links) ≤ length ms) (sym g.joined) (links_begin from first rest h.links g.links h.are g.are))
+      (subst (λ (ms : List Move). length (joined h.links) ≤ length ms) (sym g.joined) (links_begin done from first rest h.links g.links h.are g.are))
 
   -- a plan has the moves of its tour
   tour_within : (moves : List Move) (plan : IsPlan job part moves) → length plan.toured ≤ length moves
@@ -70,9 +73,9 @@ module _ (job : Job) (part : List Tri) where
 pub plan_is_longer : PlanIsLonger
 plan_is_longer job part visits begun moves are begins plan =
     let same : plan.visits ≡ begins.first ++ begins.rest = one_visits job part plan.visits visits plan.are are ∙ begins.all in
-    let tour : IsTour job part (home job) (begins.first ++ begins.rest) plan.toured = subst (λ (vs : List Visit). IsTour job part (home job) vs plan.toured) same plan.tour in
+    let tour : IsTour job part [] (home job) (begins.first ++ begins.rest) plan.toured = subst (λ (vs : List Visit). IsTour job part [] (home job) vs plan.toured) same plan.tour in
     through (length begun) (length plan.toured) (length moves)
-    (tour_begins job part (home job) begins.first begins.rest begun plan.toured begins.tour tour) (tour_within job part moves plan)
+    (tour_begins job part [] (home job) begins.first begins.rest begun plan.toured begins.tour tour) (tour_within job part moves plan)
   where
     through : (a b c : ℕ) → a ≤ b → b ≤ c → a ≤ c
     through a b c h g = omega (h, g, arith)
@@ -137,43 +140,47 @@ level_steps job waterlines =
 
 module _ (job : Job) (part : List Tri) where
   -- the link from a visit to another of its path has a move, where they differ
-  link_counts : (v w : Visit) (link : List Move) → w.step ≡ v.step → IsLink job part v.at w link → (if is_same_visit v w then 0 else 1) ≤ length link
-  link_counts v w link step (inl stay) =
+  link_counts : (done : List Move) (v w : Visit) (link : List Move) → w.step ≡ v.step → IsLink job part done v.at w link → (if is_same_visit v w then 0 else 1) ≤ length link
+  link_counts done v w link step (inl stay) =
       subst (λ (t : Bool). (if t then 0 else 1) ≤ length link) (sym (same_visit v w stay.there step)) (least (length link))
-  link_counts v w link step (inr (inl straight)) =
+  link_counts done v w link step (inr (inl straight)) =
       at_most_one (is_same_visit v w) (length link) (subst (λ (ms : List Move). 0 < length ms) (sym straight.feed) (omega arith))
-  link_counts v w link step (inr (inr round)) =
+  link_counts done v w link step (inr (inr round)) =
       at_most_one (is_same_visit v w) (length link)
-      (subst (λ (ms : List Move). 0 < length ms) (sym round.round) (some (climb job v.at ++ cross job v.at w.at ++ descend job w.at) (plunge job w.at)))
+      (subst (λ (ms : List Move). 0 < length ms) (sym round.round) (some (climb job v.at ++ cross job v.at w.at ++ descend job w.at) (plunge job w.at) (pecks_some _ job.max_cut w.at job.top)))
     where
-      some : (ms : List Move) (m : Move) → 0 < length (ms ++ m ∷ [])
-      some ms m = omega (length_push ms m, arith)
+      some : (ms ns : List Move) → 0 < length ns → 0 < length (ms ++ ns)
+      some ms ns h = omega (h, length-append ms ns, arith)
+
+      pecks_some : (n : ℕ) (depth : ℤ) (at : Pt3) (z : ℤ) → 0 < length (pecks n depth at z)
+      pecks_some zero depth at z = omega arith
+      pecks_some (suc n) depth at z = omega arith
 
   -- so a tour through the visits of a path has a move for each that differs from the one before it
-  counted_after : (step : ℤ) (v : Visit) (vs more : List Visit) (links : List (List Move)) → v.step ≡ step → HaveStep step vs
-      → AreLinks job part v.at (vs ++ more) links → changes_after v vs ≤ length (joined links)
-  counted_after step v [] more links is steps are = least (length (joined links))
-  counted_after step v (w ∷ ws) more [] is steps are = absurd are
-  counted_after step v (w ∷ ws) more (l ∷ ls) is steps are =
+  counted_after : (step : ℤ) (done : List Move) (v : Visit) (vs more : List Visit) (links : List (List Move)) → v.step ≡ step → HaveStep step vs
+      → AreLinks job part done v.at (vs ++ more) links → changes_after v vs ≤ length (joined links)
+  counted_after step done v [] more links is steps are = least (length (joined links))
+  counted_after step done v (w ∷ ws) more [] is steps are = absurd are
+  counted_after step done v (w ∷ ws) more (l ∷ ls) is steps are =
       let next : w.step ≡ step = All-head (λ (u : Visit). u.step ≡ step) w ws steps in
-      sum (if is_same_visit v w then 0 else 1) (changes_after w ws) l (joined ls) (link_counts v w l (next ∙ sym is) are.0)
-      (counted_after step w ws more ls next (All-tail (λ (u : Visit). u.step ≡ step) w ws steps) are.1)
+      sum (if is_same_visit v w then 0 else 1) (changes_after w ws) l (joined ls) (link_counts done v w l (next ∙ sym is) are.0)
+      (counted_after step (done ++ l) w ws more ls next (All-tail (λ (u : Visit). u.step ≡ step) w ws steps) are.1)
 
   -- also where it comes through others before and after them
-  counted : (step : ℤ) (from : Pt3) (before visits more : List Visit) (links : List (List Move)) → HaveStep step visits
-      → AreLinks job part from (before ++ (visits ++ more)) links → change_count visits ≤ length (joined links)
-  counted step from [] [] more links steps are = least (length (joined links))
-  counted step from [] (v ∷ vs) more [] steps are = absurd are
-  counted step from [] (v ∷ vs) more (l ∷ ls) steps are =
+  counted : (step : ℤ) (done : List Move) (from : Pt3) (before visits more : List Visit) (links : List (List Move)) → HaveStep step visits
+      → AreLinks job part done from (before ++ (visits ++ more)) links → change_count visits ≤ length (joined links)
+  counted step done from [] [] more links steps are = least (length (joined links))
+  counted step done from [] (v ∷ vs) more [] steps are = absurd are
+  counted step done from [] (v ∷ vs) more (l ∷ ls) steps are =
       after (changes_after v vs) l (joined ls)
-      (counted_after step v vs more ls (All-head (λ (u : Visit). u.step ≡ step) v vs steps) (All-tail (λ (u : Visit). u.step ≡ step) v vs steps) are.1)
-  counted step from (b ∷ bs) visits more [] steps are = absurd are
-  counted step from (b ∷ bs) visits more (l ∷ ls) steps are = after (change_count visits) l (joined ls) (counted step b.at bs visits more ls steps are.1)
+      (counted_after step (done ++ l) v vs more ls (All-head (λ (u : Visit). u.step ≡ step) v vs steps) (All-tail (λ (u : Visit). u.step ≡ step) v vs steps) are.1)
+  counted step done from (b ∷ bs) visits more [] steps are = absurd are
+  counted step done from (b ∷ bs) visits more (l ∷ ls) steps are = after (change_count visits) l (joined ls) (counted step (done ++ l) b.at bs visits more ls steps are.1)
 
-  tour_counts : (step : ℤ) (from : Pt3) (before visits more : List Visit) (moves : List Move) → HaveStep step visits
-      → IsTour job part from (before ++ (visits ++ more)) moves → change_count visits ≤ length moves
-  tour_counts step from before visits more moves steps tour =
-      subst (λ (ms : List Move). change_count visits ≤ length ms) (sym tour.joined) (counted step from before visits more tour.links steps tour.are)
+  tour_counts : (step : ℤ) (done : List Move) (from : Pt3) (before visits more : List Visit) (moves : List Move) → HaveStep step visits
+      → IsTour job part done from (before ++ (visits ++ more)) moves → change_count visits ≤ length moves
+  tour_counts step done from before visits more moves steps tour =
+      subst (λ (ms : List Move). change_count visits ≤ length ms) (sym tour.joined) (counted step done from before visits more tour.links steps tour.are)
 
 over : (a b c d : ℕ) → a < b → b ≤ c → c ≤ d → a < d
 over a b c d h g k = omega (h, g, k, arith)
@@ -182,9 +189,9 @@ over a b c d h g k = omega (h, g, k, arith)
 plan_counts : (job : Job) (part : List Tri) (step : ℤ) (before visits more : List Visit) (moves : List Move) (plan : IsPlan job part moves) → HaveStep step visits
     → plan.visits ≡ before ++ (visits ++ more) → most_changes < change_count visits → most_changes < length moves
 plan_counts job part step before visits more moves plan steps all many =
-    let tour : IsTour job part (home job) (before ++ (visits ++ more)) plan.toured = subst (λ (vs : List Visit). IsTour job part (home job) vs plan.toured) all plan.tour in
+    let tour : IsTour job part [] (home job) (before ++ (visits ++ more)) plan.toured = subst (λ (vs : List Visit). IsTour job part [] (home job) vs plan.toured) all plan.tour in
     over most_changes (change_count visits) (length plan.toured) (length moves) many
-    (tour_counts job part step (home job) before visits more plan.toured steps tour) (tour_within job part moves plan)
+    (tour_counts job part step [] (home job) before visits more plan.toured steps tour) (tour_within job part moves plan)
 
 pub many_rough : ManyRoughVisitsMakeMoves
 many_rough job part moves layer many plan =

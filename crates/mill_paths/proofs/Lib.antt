@@ -1,8 +1,7 @@
 mod Rows
+mod Pecks
 pub mod Going
-mod Joining
 mod Points
-mod Straight
 pub mod Changes
 pub mod Adding
 pub mod PathLemmas

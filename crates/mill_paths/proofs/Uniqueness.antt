@@ -62,31 +62,33 @@ one_level job part a b h g =
     h.visits ∙ ap (λ (lines : List (List Outline)). level_visits_of job lines) (one_waterlines job part h.waterlines g.waterlines h.are g.are) ∙ sym g.visits
 
 -- the link to a visit: the three kinds exclude each other
-pub one_link : (job : Job) (part : List Tri) (from : Pt3) (visit : Visit) (a b : List Move) → IsLink job part from visit a → IsLink job part from visit b → a ≡ b
-one_link job part from visit a b (inl h) (inl g) = h.none ∙ sym g.none
-one_link job part from visit a b (inl h) (inr (inl g)) = absurd (g.away h.there)
-one_link job part from visit a b (inl h) (inr (inr g)) = absurd (g.away h.there)
-one_link job part from visit a b (inr (inl h)) (inl g) = absurd (h.away g.there)
-one_link job part from visit a b (inr (inl h)) (inr (inl g)) = h.feed ∙ sym g.feed
-one_link job part from visit a b (inr (inl h)) (inr (inr g)) = absurd (g.barred h.free)
-one_link job part from visit a b (inr (inr h)) (inl g) = absurd (h.away g.there)
-one_link job part from visit a b (inr (inr h)) (inr (inl g)) = absurd (h.barred g.free)
-one_link job part from visit a b (inr (inr h)) (inr (inr g)) = h.round ∙ sym g.round
+pub one_link : (job : Job) (part : List Tri) (done : List Move) (from : Pt3) (visit : Visit) (a b : List Move) → IsLink job part done from visit a → IsLink job part done from visit b → a ≡ b
+one_link job part done from visit a b (inl h) (inl g) = h.none ∙ sym g.none
+one_link job part done from visit a b (inl h) (inr (inl g)) = absurd (g.away h.there)
+one_link job part done from visit a b (inl h) (inr (inr g)) = absurd (g.away h.there)
+one_link job part done from visit a b (inr (inl h)) (inl g) = absurd (h.away g.there)
+one_link job part done from visit a b (inr (inl h)) (inr (inl g)) = h.feed ∙ sym g.feed
+one_link job part done from visit a b (inr (inl h)) (inr (inr g)) = absurd (g.barred h.free)
+one_link job part done from visit a b (inr (inr h)) (inl g) = absurd (h.away g.there)
+one_link job part done from visit a b (inr (inr h)) (inr (inl g)) = absurd (h.barred g.free)
+one_link job part done from visit a b (inr (inr h)) (inr (inr g)) = h.round ∙ sym g.round
 
-one_links : (job : Job) (part : List Tri) (from : Pt3) (visits : List Visit) (ls ks : List (List Move)) → AreLinks job part from visits ls
-    → AreLinks job part from visits ks → ls ≡ ks
-one_links job part from [] [] [] h g = refl
-one_links job part from [] [] (k ∷ ks) h g = absurd g
-one_links job part from [] (l ∷ ls) ks h g = absurd h
-one_links job part from (v ∷ vs) [] ks h g = absurd h
-one_links job part from (v ∷ vs) (l ∷ ls) [] h g = absurd g
-one_links job part from (v ∷ vs) (l ∷ ls) (k ∷ ks) h g =
-    ap (λ (m : List Move). m ∷ ls) (one_link job part from v l k h.0 g.0) ∙ ap (λ (ms : List (List Move)). k ∷ ms) (one_links job part v.at vs ls ks h.1 g.1)
+one_links : (job : Job) (part : List Tri) (done : List Move) (from : Pt3) (visits : List Visit) (ls ks : List (List Move)) → AreLinks job part done from visits ls
+    → AreLinks job part done from visits ks → ls ≡ ks
+one_links job part done from [] [] [] h g = refl
+one_links job part done from [] [] (k ∷ ks) h g = absurd g
+one_links job part done from [] (l ∷ ls) ks h g = absurd h
+one_links job part done from (v ∷ vs) [] ks h g = absurd h
+one_links job part done from (v ∷ vs) (l ∷ ls) [] h g = absurd g
+one_links job part done from (v ∷ vs) (l ∷ ls) (k ∷ ks) h g =
+    let same : l ≡ k = one_link job part done from v l k h.0 g.0 in
+    let later : AreLinks job part (done ++ l) v.at vs ks = subst (λ (m : List Move). AreLinks job part (done ++ m) v.at vs ks) (sym same) g.1 in
+    ap (λ (m : List Move). m ∷ ls) same ∙ ap (λ (ms : List (List Move)). k ∷ ms) (one_links job part (done ++ l) v.at vs ls ks h.1 later)
 
-pub one_tour : (job : Job) (part : List Tri) (from : Pt3) (visits : List Visit) (a b : List Move) → IsTour job part from visits a
-    → IsTour job part from visits b → a ≡ b
-one_tour job part from visits a b h g =
-    h.joined ∙ ap (λ (links : List (List Move)). flat_map (λ (link : List Move). link) links) (one_links job part from visits h.links g.links h.are g.are) ∙ sym g.joined
+pub one_tour : (job : Job) (part : List Tri) (done : List Move) (from : Pt3) (visits : List Visit) (a b : List Move) → IsTour job part done from visits a
+    → IsTour job part done from visits b → a ≡ b
+one_tour job part done from visits a b h g =
+    h.joined ∙ ap (λ (links : List (List Move)). flat_map (λ (link : List Move). link) links) (one_links job part done from visits h.links g.links h.are g.are) ∙ sym g.joined
 
 -- a job and a part have one list of visits at most
 pub one_visits : (job : Job) (part : List Tri) (a b : List Visit) → ArePlanVisits job part a → ArePlanVisits job part b → a ≡ b
@@ -100,8 +102,8 @@ one_visits job part a b h g =
 pub one_plan : OnePlan
 one_plan job part a b h g =
     let visits : h.visits ≡ g.visits = one_visits job part h.visits g.visits h.are g.are in
-    let tour : IsTour job part (home job) h.visits g.toured = subst (λ (vs : List Visit). IsTour job part (home job) vs g.toured) (sym visits) g.tour in
-    let moves : h.toured ≡ g.toured = one_tour job part (home job) h.visits h.toured g.toured h.tour tour in
+    let tour : IsTour job part [] (home job) h.visits g.toured = subst (λ (vs : List Visit). IsTour job part [] (home job) vs g.toured) (sym visits) g.tour in
+    let moves : h.toured ≡ g.toured = one_tour job part [] (home job) h.visits h.toured g.toured h.tour tour in
     h.joined
     ∙ ap (λ (ms : List Move). ms ++ way_home job (last_place (home job) h.visits)) moves
     ∙ ap (λ (vs : List Visit). g.toured ++ way_home job (last_place (home job) vs)) visits

@@ -6,7 +6,9 @@ use Rattle.mill_base.specs.declared.points.Pt3.{Pt3}
 use Rattle.mill_base.specs.declared.points.Tri.{Tri}
 use Rattle.mill_base.specs.declared.motion.Move.{Move}
 use Rattle.mill_base.specs.declared.motion.Kind.TheVariants.{Rapid, Feed}
-use Rattle.mill_dexel.specs.Tops.{ClearsColumns}
+use Rattle.mill_dexel.specs.Rows.{RowState}
+use Rattle.mill_dexel.specs.Stocks.{IsStock}
+use Rattle.mill_dexel.specs.Tops.{ClearsColumns, IsTested}
 use Rattle.mill_gouge.specs.Gouges.{PassesPart}
 use Rattle.mill_job.specs.Columns.{home}
 use Rattle.mill_job.specs.declared.job.Job.{Job}
@@ -54,9 +56,9 @@ abbrev pub pecks : ℕ → ℤ → Pt3 → ℤ → List Move
 pecks zero depth at z = feed_to (at_height at z) at ∷ []
 pecks (suc n) depth at z = feed_to (at_height at z) (at_height at (z -ℤ depth)) ∷ pecks n depth at (z -ℤ depth)
 
--- the greatest number of pecks of this depth that all end over a place so far under their start; none where there is no limit on the depth
+-- how many pecks of this depth end over a place so far under their start; none where the depth isn't limited, or the place doesn't lie under the start
 abbrev pub peck_count : ℤ → ℤ → ℕ
-peck_count depth height = if int_lt (pos 0) depth then (nat_abs height - 1) / nat_abs depth else 0
+peck_count depth height = if int_lt (pos 0) depth && int_lt (pos 0) height then (nat_abs height - 1) / nat_abs depth else 0
 
 -- from the top of the stock down to the place, by as many pecks of the job's greatest depth of cut as end over it, and a feed for the rest
 abbrev pub plunge : Job → Pt3 → List Move
@@ -72,13 +74,18 @@ pub record MayFeed (job : Job) (part : List Tri) (done : List Move) (from : Pt3)
   pub passes : PassesPart job.cutter (feed_to from visit.at) part
   pub depth : ClearsColumns job done (feed_to from visit.at)
 
--- the link needs no way round: the cutter is at the visit already, or the straight feed to it may be made
-abbrev pub GoesStraight : Job → List Tri → List Move → Pt3 → Visit → Type 0
-GoesStraight job part done from visit = (visit.at ≡ from) ⊎ MayFeed job part done from visit
+-- what can be said of that without the stock: the visit is near, and the feed passes each triangle of the part
+pub record IsClear (job : Job) (part : List Tri) (from : Pt3) (visit : Visit) : Type 0 where
+  pub near : IsNearBy from visit
+  pub passes : PassesPart job.cutter (feed_to from visit.at) part
 
--- the answer says whether the link needs none
-abbrev pub SaysStraight : Job → List Tri → List Move → Pt3 → Visit → Bool → Type 0
-SaysStraight job part done from visit answer = IsTrue answer ↔ GoesStraight job part done from visit
+-- nothing but the stock may stand in the way of the link: the cutter is at the visit already, or the straight feed to it is clear
+abbrev pub GoesClear : Job → List Tri → Pt3 → Visit → Type 0
+GoesClear job part from visit = (visit.at ≡ from) ⊎ IsClear job part from visit
+
+-- the answer says whether that is so
+abbrev pub SaysClear : Job → List Tri → Pt3 → Visit → Bool → Type 0
+SaysClear job part from visit answer = IsTrue answer ↔ GoesClear job part from visit
 
 -- the cutter is at the visit already, and no move is made
 pub record IsStay (from : Pt3) (visit : Visit) (moves : List Move) : Type 0 where
@@ -105,21 +112,12 @@ IsLink job part done from visit moves = IsStay from visit moves ⊎ (IsStraight 
 abbrev pub way_home : Job → Pt3 → List Move
 way_home job from = climb job from ++ cross job from (home job)
 
--- the list gets the first of these moves, or all or none of them
-pub record AddsFirst (moves old new : List Move) : Type 0 where
-  pub added : List Move
-  pub left : List Move
-  pub whole : moves ≡ added ++ left
-  pub joined : new ≡ old ++ added
-
 -- the list gets the moves of a link after the moves done so far
 pub record AddsLink (job : Job) (part : List Tri) (done : List Move) (from : Pt3) (visit : Visit) (old new : List Move) : Type 0 where
   pub moves : List Move
   pub link : IsLink job part done from visit moves
   pub joined : new ≡ old ++ moves
 
--- the list gets the first of such a link's moves
-pub record BeginsLink (job : Job) (part : List Tri) (done : List Move) (from : Pt3) (visit : Visit) (old new : List Move) : Type 0 where
-  pub moves : List Move
-  pub link : IsLink job part done from visit moves
-  pub begins : AddsFirst moves old new
+-- where feeds are tested, the rows are the stock as the moves done so far leave it
+abbrev pub FollowStock : Job → List Move → List RowState → Type 0
+FollowStock job done rows = IsTested job Feed → IsStock job done rows

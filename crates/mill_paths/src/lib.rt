@@ -34,7 +34,7 @@ pub use fault::PathFault;
 pub use lattices::{finish_lattice, rough_lattice};
 pub use levels::level_visits;
 pub use link_laws::{link_is_safe, tour_is_safe, way_home_is_safe};
-pub use links::{goes_straight, home, link, link_known};
+pub use links::{goes_clear, home, link, link_known};
 pub use plan_laws::{
     many_visits_make_moves, one_plan, plan_is_longer, round_is_safe, visits_are_free,
 };

@@ -1,3 +1,4 @@
+ghost use Rattle.std.specs.Prelude.{◌≤ℤ◌, pos};
 ghost use Rattle.mill_base.specs.Ranges.{IsInRange, TriInRange};
 ghost use Rattle.mill_job.specs.Jobs.{IsJob};
 
@@ -5,11 +6,15 @@ use crate::test_shape::{Shape, at, shape_of};
 use crate::{Visit, home, link};
 use mill_base::{Box2, Cutter, Kind, Move, Pt3, Tri, Unit};
 use mill_decimal::Snap;
+use mill_dexel::{Row, uncut_rows};
 use mill_job::{Job, Levels, Place};
 use std::test::Fail;
 
-/// The stock is 400 high, and the cutter starts over (-300, 0) at 500.
-fn job() -> Job
+/// The stock is 400 high, and the cutter starts over (-300, 0) at 500. No feed may cut deeper than
+/// `max_cut`, if that isn't 0.
+fn job(max_cut: i32) -> Job
+    requires least { pos 0 ≤ℤ max_cut }
+    requires most { max_cut ≤ℤ pos 400 }
     ensures { IsJob result }
 {
     Job {
@@ -36,7 +41,7 @@ fn job() -> Job
         rough_stock: 0,
         levels: Levels::NONE,
         snap: Snap::Nearest,
-        max_cut: 0,
+        max_cut,
     }
 }
 
@@ -88,11 +93,11 @@ fn rapid(from: Pt3, to: Pt3) -> Move {
 #[test]
 fn near_visits_are_fed_to(rt: HostRuntime) -> Result<(), Fail> {
     let shape = one_post(&rt)?;
-    let job = job();
+    let job = job(0);
     let to = visit(-200, 0, 100);
     let mut out = Vec::new(rt.alloc());
-    link(&job, &shape.part, &shape.cells, job.home(), to, &mut out)?;
-    link(&job, &shape.part, &shape.cells, to.at, to, &mut out)?;
+    link(&job, &shape.part, &shape.cells, &mut [], job.home(), to, &mut out)?;
+    link(&job, &shape.part, &shape.cells, &mut [], to.at, to, &mut out)?;
     assert_eq!(rt;
         out.as_slice(),
         [feed(at(-300, 0, 500), at(-200, 0, 200))].as_slice()
@@ -105,12 +110,12 @@ fn near_visits_are_fed_to(rt: HostRuntime) -> Result<(), Fail> {
 #[test]
 fn others_are_gone_round_to(rt: HostRuntime) -> Result<(), Fail> {
     let shape = one_post(&rt)?;
-    let job = job();
+    let job = job(0);
     for (y, step) in [(0, 200), (-300, 100)] {
         let from = visit(-200, y, step);
         let to = visit(200, y, step);
         let mut out = Vec::new(rt.alloc());
-        link(&job, &shape.part, &shape.cells, from.at, to, &mut out)?;
+        link(&job, &shape.part, &shape.cells, &mut [], from.at, to, &mut out)?;
         let want = [
             rapid(from.at, at(-200, y, 500)),
             rapid(at(-200, y, 500), at(200, y, 500)),
@@ -122,9 +127,25 @@ fn others_are_gone_round_to(rt: HostRuntime) -> Result<(), Fail> {
     Ok(())
 }
 
+// Without a limit the cutter would feed straight to the visit, which is near.
+#[test]
+fn goes_down_by_pecks(rt: HostRuntime) -> Result<(), Fail> {
+    let shape = one_post(&rt)?;
+    let to = visit(-200, 0, 100);
+    let place = |z| at(-200, 0, z);
+    for (max_cut, ends) in [(50, [350, 300, 250].as_slice()), (150, [250].as_slice())] {
+        let job = job(max_cut);
+        let mut rows = uncut_rows(rt.alloc(), &job)?;
+        let mut out = Vec::new(rt.alloc());
+        link(&job, &shape.part, &shape.cells, &mut rows, job.home(), to, &mut out)?;
+        assert_eq!(rt; out.len(), 3 + ends.len());
+    }
+    Ok(())
+}
+
 #[test]
 fn goes_home(rt: HostRuntime) -> Result<(), Fail> {
-    let job = job();
+    let job = job(0);
     let mut out = Vec::new(rt.alloc());
     home(&job, at(200, 100, 200), &mut out)?;
     home(&job, job.home(), &mut out)?;

@@ -1,0 +1,56 @@
+ghost use Rattle.std.specs.Prelude.{◌≡◌, List, [], ◌∷◌, ◌++◌, All, IfOk, IsTrue, false};
+ghost use Rattle.mill_base.specs.Ranges.{MoveInRange};
+ghost use Rattle.mill_base.specs.declared.motion.Move.{Move as OneMove};
+ghost use Rattle.mill_base.specs.declared.motion.Kind.TheVariants.{Feed};
+ghost use Rattle.mill_job.specs.Jobs.{IsJob};
+ghost use Rattle.mill_dexel.specs.Rows.{IsRowOf};
+ghost use Rattle.mill_dexel.specs.Stocks.{IsStock};
+ghost use Rattle.mill_dexel.specs.Tops.{ClearsColumns};
+
+use crate::row::Row;
+use mill_base::{Move, WantOfMemory};
+use mill_job::Job;
+use std::alloc::Global;
+
+/// All rows of the uncut stock, in order.
+pub fn uncut_rows(alloc: Global, job: &Job) -> Result<Vec<Row>, WantOfMemory>
+    requires { IsJob job.now }
+    ensures stock { IfOk result (λ rows. IsStock job.now [] rows.items) }
+    ensures rows_ok { IfOk result (λ rows. All (IsRowOf job.now) rows.items) }
+{
+    let mut rows = Vec::new(alloc);
+    for number in 0..job.rows() {
+        rows.push(Row::new(alloc, job, u64::from(number))?)?;
+    }
+    Ok(rows)
+}
+
+/// Whether a feed passes every column of the stock as low as it may cut, after whatever moves have made
+/// the stock. It does where the job doesn't limit the depth of cut.
+pub fn keeps_depth(job: &Job, rows: &[Row], step: &Move) -> bool
+    requires job { IsJob job.now }
+    requires rows_ok { All (IsRowOf job.now) rows.now }
+    requires step { MoveInRange step.now }
+    ensures yes { IsTrue result → step.now.kind ≡ Feed → (done : List OneMove) → IsStock job.now done rows.now → ClearsColumns job.now done step.now }
+    ensures no { result ≡ false → step.now.kind ≡ Feed → (done : List OneMove) → IsStock job.now done rows.now → ¬ ClearsColumns job.now done step.now }
+{
+    for row in rows {
+        if row.cut_test(job, step).is_some() {
+            return false;
+        }
+    }
+    true
+}
+
+/// Lowers the tops of all rows of the stock to what the cutter leaves after one more move.
+pub fn cut_rows(job: &Job, rows: &mut [Row], step: &Move)
+    requires job { IsJob job.now }
+    requires rows_ok { All (IsRowOf job.now) rows.old }
+    requires step { MoveInRange step.now }
+    ensures stock { (done : List OneMove) → IsStock job.now done rows.old → IsStock job.now (done ++ step.now ∷ []) rows.new }
+    ensures rows_ok { All (IsRowOf job.now) rows.new }
+{
+    for row in rows.iter_mut() {
+        row.cut_turn(job, step);
+    }
+}
