@@ -1,5 +1,5 @@
 -- Some move of a plan ends at each of its finishing visits.
-use Rattle.std.specs.Prelude.{◌≡◌, ◌⊎◌, ℤ, ◌<ℤ◌, ◌≤ℤ◌, List, [], ◌∷◌, ◌++◌, slice_index_or, All}
+use Rattle.std.specs.Prelude.{◌≡◌, ◌⊎◌, ℕ, zero, suc, ℤ, ◌-ℤ◌, ◌<ℤ◌, ◌≤ℤ◌, List, [], ◌∷◌, ◌++◌, slice_index_or, All}
 use Rattle.std.specs.List.{flat_map}
 use Rattle.std.proofs.Common.{inl, inr, refl, sym, ap, ◌∙◌, subst, arith}
 use Rattle.std.proofs.lemmas.Int.{ints}
@@ -10,7 +10,7 @@ use Rattle.mill_base.specs.declared.points.Tri.{Tri}
 use Rattle.mill_job.specs.Columns.{home}
 use Rattle.mill_job.specs.Jobs.{IsJob}
 use Rattle.mill_job.specs.declared.job.Job.{Job}
-use Rattle.mill_paths.specs.Links.{IsLink, climb, cross, descend, feed_to, plunge, way_home}
+use Rattle.mill_paths.specs.Links.{IsLink, at_height, climb, cross, descend, feed_to, peck_count, pecks, plunge, way_home}
 use Rattle.mill_paths.specs.Safety.{IsEndOf}
 use Rattle.mill_paths.specs.Tours.{AreLinks, IsPlan, last_place}
 use Rattle.mill_paths.specs.Visits.{AreFinishVisits, IsVisit}
@@ -28,18 +28,25 @@ ends_right xs ys p end = record { move = end.move; member = Contains-append_righ
 ends_once : (m : Move) → IsEndOf (m ∷ []) m.to
 ends_once m = record { move = m; member = (0, omega arith, refl); here = refl }
 
+-- the last of the pecks down to a place ends there
+pecks_end : (n : ℕ) (depth : ℤ) (at : Pt3) (z : ℤ) → IsEndOf (pecks n depth at z) at
+pecks_end zero depth at z = ends_once (feed_to (at_height at z) at)
+pecks_end (suc n) depth at z =
+    ends_right (feed_to (at_height at z) (at_height at (z -ℤ depth)) ∷ []) (pecks n depth at (z -ℤ depth)) at (pecks_end n depth at (z -ℤ depth))
+
 -- the place is where the moves start, or where one of them ends
 abbrev IsOnTheWay : Pt3 → List Move → Pt3 → Type 0
 IsOnTheWay from moves p = (p ≡ from) ⊎ IsEndOf moves p
 
 module _ (job : Job) (part : List Tri) where
-  link_ends : (from : Pt3) (visit : Visit) (moves : List Move) → IsLink job part from visit moves → IsOnTheWay from moves visit.at
-  link_ends from visit moves (inl stay) = inl stay.there
-  link_ends from visit moves (inr (inl straight)) =
+  link_ends : (done : List Move) (from : Pt3) (visit : Visit) (moves : List Move) → IsLink job part done from visit moves → IsOnTheWay from moves visit.at
+  link_ends done from visit moves (inl stay) = inl stay.there
+  link_ends done from visit moves (inr (inl straight)) =
       inr (subst (λ (ms : List Move). IsEndOf ms visit.at) (sym straight.feed) (ends_once (feed_to from visit.at)))
-  link_ends from visit moves (inr (inr round)) =
+  link_ends done from visit moves (inr (inr round)) =
       inr (subst (λ (ms : List Move). IsEndOf ms visit.at) (sym round.round)
-      (ends_right (climb job from ++ cross job from visit.at ++ descend job visit.at) (plunge job visit.at ∷ []) visit.at (ends_once (plunge job visit.at))))
+      (ends_right (climb job from ++ cross job from visit.at ++ descend job visit.at) (plunge job visit.at) visit.at
+      (pecks_end (peck_count job.max_cut (job.top -ℤ visit.at.z)) job.max_cut visit.at job.top)))
 
   -- what is on the way from the first visit is so from the start
   on_the_way : (from mid : Pt3) (first rest : List Move) (p : Pt3) → IsOnTheWay from first mid → IsOnTheWay mid rest p → IsOnTheWay from (first ++ rest) p
@@ -51,17 +58,17 @@ module _ (job : Job) (part : List Tri) where
   started from first rest p (inl start) = inl start
   started from first rest p (inr end) = inr (ends_left first rest p end)
 
-  links_end : (from : Pt3) (visits : List Visit) (links : List (List Move)) → AreLinks job part from visits links
+  links_end : (done : List Move) (from : Pt3) (visits : List Visit) (links : List (List Move)) → AreLinks job part done from visits links
       → All (λ (v : Visit). IsOnTheWay from (flat_map (λ (link : List Move). link) links) v.at) visits
-  links_end from [] [] are = All-nil (λ (v : Visit). IsOnTheWay from [] v.at)
-  links_end from [] (link ∷ links) are = absurd are
-  links_end from (v ∷ vs) [] are = absurd are
-  links_end from (v ∷ vs) (link ∷ links) are =
+  links_end done from [] [] are = All-nil (λ (v : Visit). IsOnTheWay from [] v.at)
+  links_end done from [] (link ∷ links) are = absurd are
+  links_end done from (v ∷ vs) [] are = absurd are
+  links_end done from (v ∷ vs) (link ∷ links) are =
       let rest : List Move = flat_map (λ (l : List Move). l) links in
-      let here : IsOnTheWay from link v.at = link_ends from v link are.0 in
+      let here : IsOnTheWay from link v.at = link_ends done from v link are.0 in
       All-cons (λ (w : Visit). IsOnTheWay from (link ++ rest) w.at) v vs (started from link rest v.at here)
       (All-weaker (λ (w : Visit). IsOnTheWay v.at rest w.at) (λ (w : Visit). IsOnTheWay from (link ++ rest) w.at)
-      (λ w later. on_the_way from v.at link rest w.at here later) vs (links_end v.at vs links are.1))
+      (λ w later. on_the_way from v.at link rest w.at here later) vs (links_end (done ++ link) v.at vs links are.1))
 
 -- what holds of all of two lists holds of all of the second
 behind : (P : Visit → Type 0) (xs ys : List Visit) → All P (xs ++ ys) → All P ys
@@ -86,7 +93,7 @@ finish_ends job part moves plan ok few =
     let are = plan.are in
     let links : List Move = flat_map (λ (link : List Move). link) plan.tour.links in
     let all : All (λ (v : Visit). IsOnTheWay (home job) links v.at) (are.rough ++ are.level ++ are.finish) =
-    subst (λ (vs : List Visit). All (λ (v : Visit). IsOnTheWay (home job) links v.at) vs) are.all (links_end job part (home job) plan.visits plan.tour.links plan.tour.are) in
+    subst (λ (vs : List Visit). All (λ (v : Visit). IsOnTheWay (home job) links v.at) vs) are.all (links_end job part [] (home job) plan.visits plan.tour.links plan.tour.are) in
     let way : All (λ (v : Visit). IsOnTheWay (home job) links v.at) are.finish =
     behind (λ (v : Visit). IsOnTheWay (home job) links v.at) (are.rough ++ are.level) are.finish all in
     let each : All (IsVisit job part) are.finish = finish_ok job part are.finish ok few are.are_finish in

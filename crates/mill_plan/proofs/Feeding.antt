@@ -6,9 +6,9 @@ use Rattle.std.proofs.lemmas.List.{get_or_default}
 use Rattle.mill_base.specs.declared.points.Pt3.{Pt3}
 use Rattle.mill_base.specs.declared.points.Tri.{Tri}
 use Rattle.mill_job.specs.declared.job.Job.{Job}
-use Rattle.mill_paths.specs.Links.{SaysStraight}
+use Rattle.mill_paths.specs.Links.{SaysClear}
 use Rattle.mill_paths.specs.declared.visit.Visit.{Visit}
-use Rattle.mill_plan.specs.inner.Feeds.{SayStraight, SaysStraightTo, no_visit, place_before}
+use Rattle.mill_plan.specs.inner.Feeds.{SayClear, SaysClearTo, no_visit, place_before}
 
 -- what holds of the numbers from one on and the items of a list holds of each number and item
 numbered : {Y : Type 0} (R : ℕ → Y → Type 0) (from count : ℕ) (ys : List Y) (k m : ℕ) (e : Y) → from + k ≡ m → AllZip R (range_with_len from count) ys → k < count
@@ -26,19 +26,19 @@ as_many R from (suc n) [] all = absurd all
 as_many R from (suc n) (y ∷ ys) all = ap suc (as_many R (from + 1) n ys all.1)
 
 -- what the answers say of the visit of number k, with the place where the cutter is then
-pub says_at : (job : Job) (part : List Tri) (visits : List Visit) (answers : List Bool) (k : ℕ) (d : Visit) (e : Bool) (place : Pt3) → SayStraight job part visits answers
-    → k < length visits → place ≡ place_before job visits k → SaysStraight job part place (slice_index_or visits k d) (slice_index_or answers k e)
+pub says_at : (job : Job) (part : List Tri) (visits : List Visit) (answers : List Bool) (k : ℕ) (d : Visit) (e : Bool) (place : Pt3) → SayClear job part visits answers
+    → k < length visits → place ≡ place_before job visits k → SaysClear job part place (slice_index_or visits k d) (slice_index_or answers k e)
 says_at job part visits answers k d e place say inside there =
-    subst (λ (p : Pt3). SaysStraight job part p (slice_index_or visits k d) (slice_index_or answers k e)) (sym there)
-    (subst (λ (v : Visit). SaysStraight job part (place_before job visits k) v (slice_index_or answers k e)) (get_or_default visits k no_visit d inside)
-    (numbered (λ n answer. SaysStraight job part (place_before job visits n) (slice_index_or visits n no_visit) answer) 0 (length visits) answers k k e (plain k) say inside))
+    subst (λ (p : Pt3). SaysClear job part p (slice_index_or visits k d) (slice_index_or answers k e)) (sym there)
+    (subst (λ (v : Visit). SaysClear job part (place_before job visits k) v (slice_index_or answers k e)) (get_or_default visits k no_visit d inside)
+    (numbered (λ n answer. SaysClear job part (place_before job visits n) (slice_index_or visits n no_visit) answer) 0 (length visits) answers k k e (plain k) say inside))
   where
     plain : (n : ℕ) → 0 + n ≡ n
     plain n = omega arith
 
 -- what an answer says of the visit of a number, whatever stands past the list's end
 pub says_to : (job : Job) (part : List Tri) (visits : List Visit) (number : ℕ) (d : Visit) (place : Pt3) (answer : Bool) → number < length visits
-    → place ≡ place_before job visits number → SaysStraight job part place (slice_index_or visits number d) answer → SaysStraightTo job part visits number answer
+    → place ≡ place_before job visits number → SaysClear job part place (slice_index_or visits number d) answer → SaysClearTo job part visits number answer
 says_to job part visits number d place answer inside there says =
-    subst (λ (p : Pt3). SaysStraight job part p (slice_index_or visits number no_visit) answer) there
-    (subst (λ (v : Visit). SaysStraight job part place v answer) (get_or_default visits number d no_visit inside) says)
+    subst (λ (p : Pt3). SaysClear job part p (slice_index_or visits number no_visit) answer) there
+    (subst (λ (v : Visit). SaysClear job part place v answer) (get_or_default visits number d no_visit inside) says)

@@ -1,26 +1,27 @@
-//! Which of a plan's links need no way round, tried side by side.
+//! Which of a plan's links are clear, tried side by side.
 ghost use Rattle.std.specs.Prelude.{◌≡◌, ◌<◌, length, All, IfOk};
 ghost use Rattle.mill_base.specs.Ranges.{IsInUnitRange};
 ghost use Rattle.mill_cells.specs.Sorted.{sorted_of};
 ghost use Rattle.mill_job.specs.Jobs.{IsJob};
 ghost use Rattle.mill_paths.specs.Visits.{IsVisit};
-ghost use Rattle.mill_plan.specs.inner.Feeds.{IsLinkTask, SayStraight, SaysStraightTo, place_before as place_before_of};
+ghost use Rattle.mill_plan.specs.inner.Feeds.{IsLinkTask, SayClear, SaysClearTo, place_before as place_before_of};
 
 use mill_base::{Pt3, WantOfMemory};
 use mill_cells::Cells;
 use mill_job::Job;
 use mill_part::Part;
-use mill_paths::{Visit, goes_straight};
+use mill_paths::{Visit, goes_clear};
 use rayon::prelude::*;
 use std::alloc::Global;
 use std::thread::Threads;
 
-/// For each visit, in their order, whether the link to it needs no way round: to the first from home,
-/// and to each other from the visit before it.
+/// For each visit, in their order, whether the link to it is clear, as `goes_clear` says: to the first
+/// from home, and to each other from the visit before it.
 ///
-/// Where the cutter is before a visit is known beforehand, so the feeds are tried side by side. The
-/// answers are the same whatever the number of threads. The cells are those of the part's triangles.
-pub(crate) fn straight_links<R: Threads + Sync>(
+/// Where the cutter is before a visit is known beforehand, and no answer looks at the stock, so the
+/// feeds are tried side by side. The answers are the same whatever the number of threads. The cells are
+/// those of the part's triangles.
+pub(crate) fn clear_links<R: Threads + Sync>(
     rt: &R,
     alloc: Global,
     job: &Job,
@@ -31,7 +32,7 @@ pub(crate) fn straight_links<R: Threads + Sync>(
     requires job_ok { IsJob job.now }
     requires cells_ok { cells.now ≡ sorted_of part.now }
     requires visits_ok { All (IsVisit job.now part.now) visits.now }
-    ensures say { IfOk result (λ answers. SayStraight job.now part.now visits.now answers.items) }
+    ensures say { IfOk result (λ answers. SayClear job.now part.now visits.now answers.items) }
     ensures each { IfOk result (λ answers. length answers.items ≡ length visits.now) }
 {
     let answers = (0..visits.len())
@@ -39,20 +40,20 @@ pub(crate) fn straight_links<R: Threads + Sync>(
         .map(
             |number: usize| -> bool
                 requires { IsLinkTask job.now part.now cells.now visits.now number }
-                ensures { SaysStraightTo job.entry.now part.entry.now visits.entry.now number result }
-            { is_straight_to(job, part, cells, visits, number) },
+                ensures { SaysClearTo job.entry.now part.entry.now visits.entry.now number result }
+            { is_clear_to(job, part, cells, visits, number) },
         )
         .collect(rt, alloc)?;
     Ok(answers)
 }
 
-/// Whether the link to the visit of this number needs no way round.
-fn is_straight_to(job: &Job, part: &Part, cells: &Cells, visits: &[Visit], number: usize) -> bool
+/// Whether the link to the visit of this number is clear.
+fn is_clear_to(job: &Job, part: &Part, cells: &Cells, visits: &[Visit], number: usize) -> bool
     requires { IsLinkTask job.now part.now cells.now visits.now number }
-    ensures { SaysStraightTo job.now part.now visits.now number result }
+    ensures { SaysClearTo job.now part.now visits.now number result }
 {
     let from = place_before(job, visits, number);
-    goes_straight(job, part, cells, from, visits[number])
+    goes_clear(job, part, cells, from, visits[number])
 }
 
 /// Where the cutter is before it comes to the visit of this number.

@@ -2,20 +2,24 @@ ghost use Rattle.std.specs.Prelude.{◌≡◌, ◌<◌, ◌≤◌, List, [], len
 ghost use Rattle.mill_base.specs.declared.limits.TheConstants.{MAX_MOVES};
 ghost use Rattle.mill_base.specs.declared.points.Tri.{Tri};
 ghost use Rattle.mill_base.specs.Covers.{IsUnder};
+ghost use Rattle.mill_base.specs.Ranges.{IsInUnitRange};
 ghost use Rattle.mill_cells.specs.Sorted.{sorted_of};
+ghost use Rattle.mill_dexel.specs.Rows.{IsRowOf};
 ghost use Rattle.mill_job.specs.Columns.{home as home_of};
 ghost use Rattle.mill_job.specs.Jobs.{IsJob};
+ghost use Rattle.mill_paths.specs.Links.{FollowStock};
 ghost use Rattle.mill_paths.specs.Safety.{GoSafely};
 ghost use Rattle.mill_paths.specs.Tours.{ArePlanVisits};
 ghost use Rattle.mill_paths.specs.Visits.{IsVisit};
 ghost use Rattle.mill_plan.specs.Plans.{HasFewNodes, HasPlan, IsPlanFault};
-ghost use Rattle.mill_plan.specs.inner.Feeds.{SayStraight};
+ghost use Rattle.mill_plan.specs.inner.Feeds.{SayClear};
 ghost use Rattle.mill_plan.specs.inner.Steps.{IsNodesFault, IsRound, IsRoundFault};
 
 use crate::fault::PlanFault;
-use crate::feeds::straight_links;
-use mill_base::{MAX_MOVES, MAX_NODES, Move};
+use crate::feeds::clear_links;
+use mill_base::{MAX_MOVES, MAX_NODES, Move, WantOfMemory};
 use mill_cells::Cells;
+use mill_dexel::{Row, uncut_rows};
 use mill_job::Job;
 use mill_part::Part;
 use mill_paths::{
@@ -49,7 +53,8 @@ pub(crate) fn check_nodes(job: &Job) -> Result<(), PlanFault>
 
 /// The moves of the plan, of which there are at most 1,000,000.
 ///
-/// They go safely from home to home. The error is that there are too many, or want of memory.
+/// They go safely from home to home. Where the job limits the depth of cut, the rows of the stock are
+/// held while the moves are made. The error is that there are too many moves, or want of memory.
 pub(crate) fn planned_moves<R: Threads + Sync>(
     rt: &R,
     alloc: Global,
@@ -68,8 +73,9 @@ pub(crate) fn planned_moves<R: Threads + Sync>(
     ensures fault { IfErr result (IsPlanFault job.now part.now) }
 {
     let visits = plan_visits(rt, alloc, job, part, cells)?;
-    let straight = straight_links(rt, alloc, job, part, cells, &visits)?;
-    round_of(alloc, job, &visits, &straight)
+    let clear = clear_links(rt, alloc, job, part, cells, &visits)?;
+    let mut rows = rows_for_depth(alloc, job)?;
+    round_of(alloc, job, &mut rows, &visits, &clear)
 }
 
 /// The plan's visits: those of its roughing, then those of its levels, then its finishing path.
@@ -95,30 +101,47 @@ fn plan_visits<R: Threads + Sync>(
     Ok(visits)
 }
 
+/// The rows of the uncut stock, by which it is seen how deep a feed cuts; none where the job doesn't
+/// limit that.
+fn rows_for_depth(alloc: Global, job: &Job) -> Result<Vec<Row>, WantOfMemory>
+    requires { IsJob job.now }
+    ensures stock { IfOk result (λ rows. FollowStock job.now [] rows.items) }
+    ensures rows_ok { IfOk result (λ rows. All (IsRowOf job.now) rows.items) }
+{
+    if job.max_cut == 0 {
+        return Ok(Vec::new(alloc));
+    }
+    uncut_rows(alloc, job)
+}
+
 /// The moves from home through the visits, and home again, of which there are at most 1,000,000.
 ///
-/// `straight` says of each visit whether the link to it needs no way round: for each part of which it
-/// says so, the links are those of the part's plan. It ends at the first link with which there are too
-/// many moves.
+/// `clear` says of each visit whether the link to it is clear: for each part of which it says so, the
+/// links are those of the part's plan. The rows are those of `rows_for_depth`; the moves cut them. It
+/// ends at the first link with which there are too many moves.
 fn round_of(
     alloc: Global,
     job: &Job,
+    rows: &mut [Row],
     visits: &[Visit],
-    straight: &[bool],
+    clear: &[bool],
 ) -> Result<Vec<Move>, PlanFault>
     requires job_ok { IsJob job.now }
-    requires both { length straight.now ≡ length visits.now }
-    ensures round { (part : List Tri) → SayStraight job.now part visits.now straight.now
+    requires stock { FollowStock job.now [] rows.old }
+    requires rows_ok { All (IsRowOf job.now) rows.old }
+    requires visits_ok { All (λ visit. IsInUnitRange job.now.unit visit.at) visits.now }
+    requires both { length clear.now ≡ length visits.now }
+    ensures round { (part : List Tri) → SayClear job.now part visits.now clear.now
         → IfOk result (λ moves. IsRound job.now part visits.now moves.items) }
     ensures few { IfOk result (λ moves. length moves.items ≤ MAX_MOVES) }
-    ensures fault { (part : List Tri) → SayStraight job.now part visits.now straight.now
+    ensures fault { (part : List Tri) → SayClear job.now part visits.now clear.now
         → IfErr result (IsRoundFault job.now part visits.now) }
 {
     let mut moves = Vec::new(alloc);
     let mut place = job.home();
     for number in 0..visits.len() {
         let visit = visits[number];
-        link_known(job, place, visit, straight[number], &mut moves)?;
+        link_known(job, rows, place, visit, clear[number], &mut moves)?;
         check_moves(&moves)?;
         place = visit.at;
     }

@@ -27,6 +27,10 @@ use std::thread::Threads;
 /// finishing path (mill_paths), each by its link, and goes home. The text is that of `mill_post` in the
 /// job's unit; it reads back as these moves, which the verifier accepts, with the numbers that are told.
 ///
+/// Where the job limits the depth of cut (`max_cut`), the way down to a place goes by pecks, none of
+/// them deeper, and a straight feed is made only where it cuts no column deeper than that, as the moves
+/// before it left the column. The rows of the stock, a top for each column, are held meanwhile.
+///
 /// The verifying is handed to `workers` threads, from 1 to 64; the drop heights, the waterlines and the
 /// straight feeds to as many as the machine has; the answer doesn't depend on their number. The part
 /// is nowhere higher than the uncut stock. Lengths are in the job's units.

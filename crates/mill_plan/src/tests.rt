@@ -124,6 +124,44 @@ fn wide_job(levels: Levels) -> Job
     }
 }
 
+/// A block from 0 to 300 over a square of 200, nine columns and finishing nodes in it, and a cutter that
+/// reaches the nodes next to its own, also across.
+fn shallow_job(layer: i32, max_cut: i32) -> Job
+    requires layer_least { pos 0 ≤ℤ layer }
+    requires layer_most { layer ≤ℤ pos 300 }
+    requires max_cut_least { pos 0 ≤ℤ max_cut }
+    requires max_cut_most { max_cut ≤ℤ pos 300 }
+    ensures job { IsJob result }
+    ensures top { result.top ≡ pos 300 }
+{
+    Job {
+        unit: Unit::Hundredth,
+        cutter: Cutter::Flat { radius: 150 },
+        floor: 0,
+        top: 300,
+        clear: 400,
+        area: Box2 {
+            x0: 0,
+            y0: 0,
+            x1: 200,
+            y1: 200,
+        },
+        home: Place { x: 100, y: 100 },
+        pitch: 100,
+        sample: 50,
+        allowance: 0,
+        band: 0,
+        lift: 0,
+        raster: 100,
+        rough_raster: 100,
+        layer,
+        rough_stock: 0,
+        levels: Levels::NONE,
+        snap: Snap::Nearest,
+        max_cut,
+    }
+}
+
 /// A block of 0.3 mm over a square of 0.005 mm, in thousandths, farther out than hundredths reach, and
 /// four columns and finishing nodes in it.
 fn thousandths_job() -> Job
@@ -261,6 +299,34 @@ fn plans_a_plate(rt: HostRuntime) -> Result<(), Fail> {
         assert!(rt; planned.program.ends_with(end));
         assert_eq!(rt; planned.moves, moves);
         assert_eq!(rt; planned.columns, 16);
+        assert_eq!(rt; planned.most_left, 0);
+    }
+    Ok(())
+}
+
+// Nine feeds and two rapids home. With a depth of cut the cutter goes down by pecks, and goes round to the
+// first node and to the three others at which it reaches columns that aren't cut yet. Layers as deep as
+// that need no way round, and layers twice as deep need the four on each level.
+#[test]
+fn keeps_the_depth_of_cut(rt: HostRuntime) -> Result<(), Fail> {
+    let alloc = rt.alloc();
+    let part = plate(alloc, 0, 300)?;
+    let straight: &[u8] = b"%\nG17 G21 G90\nG1 X0.00 Y0.00 Z2.00\nG1 X1.00 Y0.00 Z2.00\n";
+    let pecks: &[u8] =
+        b"%\nG17 G21 G90\nG0 X0.00 Y0.00 Z4.00\nG0 X0.00 Y0.00 Z3.00\nG1 X0.00 Y0.00 Z2.50\nG1 X0.00 Y0.00 Z2.00\n";
+    let layers: &[u8] = b"%\nG17 G21 G90\nG1 X0.00 Y0.00 Z2.50\nG1 X1.00 Y0.00 Z2.50\n";
+    let both: &[u8] =
+        b"%\nG17 G21 G90\nG0 X0.00 Y0.00 Z4.00\nG0 X0.00 Y0.00 Z3.00\nG1 X0.00 Y0.00 Z2.75\nG1 X0.00 Y0.00 Z2.50\n";
+    for (layer, max_cut, start, moves) in [
+        (0, 0, straight, 11),
+        (0, 50, pecks, 26),
+        (50, 50, layers, 29),
+        (50, 25, both, 68),
+    ] {
+        let planned = plan(&rt, alloc, &shallow_job(layer, max_cut), &part, 2)?;
+        assert!(rt; planned.program.starts_with(start));
+        assert_eq!(rt; planned.moves, moves);
+        assert_eq!(rt; planned.columns, 9);
         assert_eq!(rt; planned.most_left, 0);
     }
     Ok(())

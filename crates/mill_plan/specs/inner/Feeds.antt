@@ -1,4 +1,4 @@
--- Which of a plan's links need no way round, one visit at a time. It serves the functions within.
+-- Which of a plan's links are clear, one visit at a time. It serves the functions within.
 use Rattle.std.specs.Prelude.{◌≡◌, ℕ, ◌<◌, Bool, pos, List, length, take, slice_index_or, All}
 use Rattle.std.specs.List.{AllZip, range_with_len}
 use Rattle.mill_base.specs.Points.{point_at}
@@ -8,7 +8,7 @@ use Rattle.mill_cells.specs.Sorted.{Sorted, sorted_of}
 use Rattle.mill_job.specs.Columns.{home}
 use Rattle.mill_job.specs.Jobs.{IsJob}
 use Rattle.mill_job.specs.declared.job.Job.{Job}
-use Rattle.mill_paths.specs.Links.{SaysStraight}
+use Rattle.mill_paths.specs.Links.{SaysClear}
 use Rattle.mill_paths.specs.Tours.{last_place}
 use Rattle.mill_paths.specs.Visits.{IsVisit}
 use Rattle.mill_paths.specs.declared.visit.Visit.{Visit}
@@ -25,13 +25,13 @@ visit_number visits number = slice_index_or visits number no_visit
 abbrev pub place_before : Job → List Visit → ℕ → Pt3
 place_before job visits number = last_place (home job) (take number visits)
 
--- the answer says whether the link to the visit of this number needs no way round
-abbrev pub SaysStraightTo : Job → List Tri → List Visit → ℕ → Bool → Type 0
-SaysStraightTo job part visits number answer = SaysStraight job part (place_before job visits number) (visit_number visits number) answer
+-- the answer says whether the link to the visit of this number is clear
+abbrev pub SaysClearTo : Job → List Tri → List Visit → ℕ → Bool → Type 0
+SaysClearTo job part visits number answer = SaysClear job part (place_before job visits number) (visit_number visits number) answer
 
 -- the answers say so of each visit, in their order
-abbrev pub SayStraight : Job → List Tri → List Visit → List Bool → Type 0
-SayStraight job part visits answers = AllZip (SaysStraightTo job part visits) (range_with_len 0 (length visits)) answers
+abbrev pub SayClear : Job → List Tri → List Visit → List Bool → Type 0
+SayClear job part visits answers = AllZip (SaysClearTo job part visits) (range_with_len 0 (length visits)) answers
 
 -- what the answer for the visit of this number needs
 pub record IsLinkTask (job : Job) (part : List Tri) (cells : Sorted) (visits : List Visit) (number : ℕ) : Type 0 where

@@ -1,5 +1,5 @@
 -- What the planner's steps come to. It serves the functions within.
-use Rattle.std.specs.Prelude.{◌≡◌, ◌⊎◌, ◌<◌, List, ◌++◌, length, ⊤}
+use Rattle.std.specs.Prelude.{◌≡◌, ◌⊎◌, ◌<◌, List, [], ◌++◌, length, ⊤}
 use Rattle.mill_base.specs.declared.points.Tri.{Tri}
 use Rattle.mill_base.specs.declared.motion.Move.{Move}
 use Rattle.mill_job.specs.Columns.{home}
@@ -29,7 +29,7 @@ pub record IsTourOver (job : Job) (part : List Tri) (visits : List Visit) : Type
 -- the moves go from home through the visits, and home again
 pub record IsRound (job : Job) (part : List Tri) (visits : List Visit) (moves : List Move) : Type 0 where
   pub toured : List Move
-  pub tour : IsTour job part (home job) visits toured
+  pub tour : IsTour job part [] (home job) visits toured
   pub joined : moves ≡ toured ++ way_home job (last_place (home job) visits)
 
 -- the moves of a round are too many

@@ -1,41 +1,61 @@
 use Rattle.std.proofs.Common.{◌≡◌, ◌+◌, ◌<◌, List, [], inl, inr, length, take, refl}
+use Rattle.std.proofs.lemmas.List.Elements.{All-get_or}
 use Rattle.std.proofs.lemmas.Result.{err_from_is_err_and}
+use Rattle.mill_base.proofs.Ranges.{in_range_of_unit}
+use Rattle.mill_base.specs.Ranges.{IsInUnitRange}
 use Rattle.mill_base.specs.declared.motion.Move.{Move}
 use Rattle.mill_base.specs.declared.points.Tri.{Tri}
 use Rattle.mill_base.specs.declared.limits.TheConstants.{MAX_MOVES}
 use Rattle.mill_job.specs.Columns.{home}
 use Rattle.mill_paths.specs.Tours.{IsTour}
 use Rattle.mill_paths.proofs.Steps.{tour_nil}
-use Rattle.mill_plan.specs.inner.Feeds.{SayStraight}
+use Rattle.mill_plan.specs.inner.Feeds.{SayClear}
 use Rattle.mill_plan.specs.inner.Steps.{IsRound}
 use Rattle.mill_plan.proofs.Feeding.{says_at}
-use Rattle.mill_plan.proofs.Touring.{long_round, over_at, place_after, round_made, tour_more}
+use Rattle.mill_plan.proofs.Touring.{long_round, over_at, place_after, round_made, stock_more, tour_more}
 use Rattle.mill_plan.proofs.moves.round_of.Goals as goal
 
 pub loop-number-init : goal.loop-number-init
 loop-number-init c = record {
   place = c.home-place.ensures.value;
-  tour = λ part say. rw c.new-moves.ensures.items (tour_nil c.args.job.now part (home c.args.job.now));
+  tour = λ part say. rw c.new-moves.ensures.items (tour_nil c.args.job.now part [] (home c.args.job.now));
+  stock = λ part say. rw c.new-moves.ensures.items c.requires.stock;
+  rows_ok = c.requires.rows_ok;
+  in_range = c.home-place.ensures.in_range;
 }
+
+pub link_known-requires-clause-from_ok : goal.link_known-requires-clause-from_ok
+link_known-requires-clause-from_ok c = in_range_of_unit c.args.job.now.unit c.loop-number.place c.loop-number.invariant.in_range
+
+pub link_known-requires-clause-to_ok : goal.link_known-requires-clause-to_ok
+link_known-requires-clause-to_ok c =
+    in_range_of_unit c.args.job.now.unit _ (All-get_or (λ v. IsInUnitRange c.args.job.now.unit v.at) c.args.visits.now c.loop-number.number _ c.loop-number-test.true c.requires.visits_ok)
 
 pub loop-number-preserved : goal.loop-number-preserved
 loop-number-preserved c =
     let so_far = c.loop-number.invariant in
+    let says = λ part say.
+    says_at c.args.job.now part c.args.visits.now c.args.clear.now c.loop-number.number _ _ c.loop-number.place say c.loop-number-test.true so_far.place in
+    let adds = λ part say. c.in_ok-link_known.ensures.ok part c.loop-number.moves.items (says part say) (so_far.stock part say) in
     record {
       place = place_after c.args.job.now c.args.visits.now c.loop-number.number _ c.loop-number-test.true;
       tour = λ part say. tour_more c.args.job.now part c.args.visits.now c.loop-number.number _ c.loop-number.place c.loop-number.moves.items c.link_known.new.out.items
-          c.loop-number-test.true so_far.place (so_far.tour part say)
-          (c.in_ok-link_known.ensures.ok part (says_at c.args.job.now part c.args.visits.now c.args.straight.now c.loop-number.number _ _ c.loop-number.place say c.loop-number-test.true so_far.place));
+          c.loop-number-test.true so_far.place (so_far.tour part say) (adds part say);
+      stock = λ part say. stock_more c.args.job.now part c.loop-number.place _ c.loop-number.moves.items c.link_known.new.out.items c.link_known.new.rows (adds part say)
+          (c.in_ok-link_known.ensures.stock c.loop-number.moves.items (adds part say).moves (so_far.stock part say) (adds part say).joined);
+      rows_ok = c.link_known.ensures.rows_ok;
+      in_range = All-get_or (λ v. IsInUnitRange c.args.job.now.unit v.at) c.args.visits.now c.loop-number.number _ c.loop-number-test.true c.requires.visits_ok;
     }
 
 pub returns-in_err-check_moves-clause-fault : goal.returns-in_err-check_moves-clause-fault
 returns-in_err-check_moves-clause-fault c = λ part say.
     let p = err_from_is_err_and c.from_residual-in_err-check_moves.result c.from_residual-in_err-check_moves.ensures.1 in
     let so_far = c.loop-number.invariant in
-    let tour : IsTour c.args.job.now part (home c.args.job.now) (take (c.loop-number.number + 1) c.args.visits.now) c.link_known.new.out.items =
+    let tour : IsTour c.args.job.now part [] (home c.args.job.now) (take (c.loop-number.number + 1) c.args.visits.now) c.link_known.new.out.items =
     tour_more c.args.job.now part c.args.visits.now c.loop-number.number _ c.loop-number.place c.loop-number.moves.items c.link_known.new.out.items
     c.loop-number-test.true so_far.place (so_far.tour part say)
-    (c.in_ok-link_known.ensures.ok part (says_at c.args.job.now part c.args.visits.now c.args.straight.now c.loop-number.number _ _ c.loop-number.place say c.loop-number-test.true so_far.place)) in
+    (c.in_ok-link_known.ensures.ok part c.loop-number.moves.items
+    (says_at c.args.job.now part c.args.visits.now c.args.clear.now c.loop-number.number _ _ c.loop-number.place say c.loop-number-test.true so_far.place) (so_far.stock part say)) in
     let many : MAX_MOVES < length c.link_known.new.out.items = rw c.deref.ensures.value at c.in_err-check_moves.ensures.many in
     rw (p.1, p.2, c.in_err-check_moves.ensures.fault)
     (inl (over_at c.args.job.now part c.args.visits.now c.loop-number.number c.link_known.new.out.items tour many))

@@ -4,9 +4,9 @@ use Rattle.std.specs.List.{AllZip, range_with_len}
 use Rattle.rayon.specs.Numbers.{nat_range}
 use Rattle.rayon.proofs.ListFacts.{IfOk-then}
 use Rattle.rayon.proofs.ToStd.{nat_range-All}
-use Rattle.mill_plan.specs.inner.Feeds.{IsLinkTask, SayStraight, SaysStraightTo}
+use Rattle.mill_plan.specs.inner.Feeds.{IsLinkTask, SayClear, SaysClearTo}
 use Rattle.mill_plan.proofs.Feeding.{as_many}
-use Rattle.mill_plan.proofs.feeds.straight_links.Goals as goal
+use Rattle.mill_plan.proofs.feeds.clear_links.Goals as goal
 
 pub collect-requires-clause-ready : goal.collect-requires-clause-ready
 collect-requires-clause-ready g c κs =
@@ -19,12 +19,12 @@ pub returns-clause-say : goal.returns-clause-say
 returns-clause-say g c =
     let ends = c.into_par_iter.ensures in
     let whole : length c.args.visits.now - 0 ≡ length c.args.visits.now = omega arith in
-    let all : IfOk c.collect.result (λ answers. SayStraight c.args.job.now c.args.part.now c.args.visits.now answers.items) =
+    let all : IfOk c.collect.result (λ answers. SayClear c.args.job.now c.args.part.now c.args.visits.now answers.items) =
     IfOk-then c.collect.result _ _ c.collect.ensures (λ v h.
     let chain = rw (c.map.ensures.base, c.map.ensures.f) at h.1 in
     let numbers : chain.0 ≡ range_with_len 0 (length c.args.visits.now) = chain.1 ∙ (λ i. nat_range (ends.0 i) (ends.1 i)) ∙ ap (range_with_len 0) whole in
-    let each = subst (λ ks. AllZip (SaysStraightTo c.args.job.now c.args.part.now c.args.visits.now) ks h.0) numbers chain.2 in
-    subst (λ zs. SayStraight c.args.job.now c.args.part.now c.args.visits.now zs) (sym h.2) each) in
+    let each = subst (λ ks. AllZip (SaysClearTo c.args.job.now c.args.part.now c.args.visits.now) ks h.0) numbers chain.2 in
+    subst (λ zs. SayClear c.args.job.now c.args.part.now c.args.visits.now zs) (sym h.2) each) in
     rw c.in_ok-answers.was at all
 
 pub returns-clause-each : goal.returns-clause-each
@@ -35,6 +35,6 @@ returns-clause-each g c =
     IfOk-then c.collect.result _ _ c.collect.ensures (λ v h.
     let chain = rw (c.map.ensures.base, c.map.ensures.f) at h.1 in
     let numbers : chain.0 ≡ range_with_len 0 (length c.args.visits.now) = chain.1 ∙ (λ i. nat_range (ends.0 i) (ends.1 i)) ∙ ap (range_with_len 0) whole in
-    let each = subst (λ ks. AllZip (SaysStraightTo c.args.job.now c.args.part.now c.args.visits.now) ks h.0) numbers chain.2 in
-    ap (λ zs. length zs) h.2 ∙ as_many (SaysStraightTo c.args.job.now c.args.part.now c.args.visits.now) 0 (length c.args.visits.now) h.0 each) in
+    let each = subst (λ ks. AllZip (SaysClearTo c.args.job.now c.args.part.now c.args.visits.now) ks h.0) numbers chain.2 in
+    ap (λ zs. length zs) h.2 ∙ as_many (SaysClearTo c.args.job.now c.args.part.now c.args.visits.now) 0 (length c.args.visits.now) h.0 each) in
     rw c.in_ok-answers.was at all
