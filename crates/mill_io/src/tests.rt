@@ -1,11 +1,17 @@
 // Whole reads and writes over each shelf and sink, with ample memory and with a call that fails.
+//
+// Each table is one text: the proof of a test then costs the same however many rows there are. A
+// row is a line with acts, and behind `=>` what comes of each. An act is a file's name and one of
+// `creates`, `appends TEXT`, `stores TEXT`, `reads LIMIT` of the whole file, `pieces LIMIT` and
+// `from PLACE`. Texts that may be empty have quotes.
 use crate::{
-    Failed, FileShelf, MemFile, MemShelf, MemSink, PieceEnd, Pieces, ReadEnd, Shelf, StdSink,
-    read_whole, store, write_whole,
+    Failed, FileShelf, MemFile, MemShelf, MemSink, Pieces, Shelf, StdSink, read_whole, store,
+    write_whole,
 };
 use std::alloc::{AllocError, Global};
+use std::process::Abort;
 use std::test::Fail;
-use std::{env, fs, process};
+use std::{env, fs, process, str};
 
 fn file(alloc: Global, name: &str, bytes: &[u8]) -> Result<MemFile, AllocError> {
     Ok(MemFile {
@@ -25,103 +31,154 @@ fn shelf(alloc: Global, out_name: &str, fails: &[u64]) -> Result<MemShelf, Fail>
     Ok(MemShelf::new(alloc, files, out_name, 3, fails)?)
 }
 
-#[test]
-fn reads_whole_files_in_memory(rt: HostRuntime) -> Result<(), Fail> {
-    let none: &[u64] = &[];
-    let rows: [(&str, u64, &[u64], Result<&[u8], ReadEnd>); 7] = [
-        ("a", 3, none, Ok(b"one")),
-        ("a", 2, none, Err(ReadEnd::TooLong)),
-        ("b", 0, none, Ok(b"")),
-        ("c", 9, none, Err(ReadEnd::ReadFault)),
-        ("a", 3, &[0], Err(ReadEnd::ReadFault)),
-        ("a", 3, &[1], Err(ReadEnd::ReadFault)),
-        ("a", 3, &[2], Ok(b"one")),
-    ];
-    for (name, limit, fails, want) in rows {
-        let mut shelf = shelf(rt.alloc(), "out", fails)?;
-        let read = read_whole(rt.alloc(), &mut shelf, name, limit);
-        match (&read, want) {
-            (Ok(bytes), Ok(wanted)) => assert_eq!(rt; bytes.as_slice(), wanted, "{name}"),
-            (Err(end), Err(wanted)) => assert_eq!(rt; *end, wanted, "{name} {limit}"),
-            _ => assert!(rt; false, "{name} {limit}"),
+// What a read of the whole file gives.
+fn read<S: Shelf>(alloc: Global, shelf: &mut S, name: &str, limit: u64) -> Result<String, Fail> {
+    match read_whole(alloc, shelf, name, limit) {
+        Ok(bytes) => Ok(format!(in alloc; "{:?}", str::from_utf8(&bytes)?)?),
+        Err(end) => Ok(format!(in alloc; "{end:?}")?),
+    }
+}
+
+// The bytes that are given in pieces of at most two, and the last answer. After its last answer a
+// call answers it again, and reads nothing.
+fn pieces<S: Shelf>(alloc: Global, shelf: &mut S, name: &str, limit: u64) -> Result<String, Fail> {
+    let mut pieces = Pieces::new(shelf, name, limit);
+    let mut given = Vec::new(alloc);
+    let mut last = Ok(0);
+    for _ in 0..6 {
+        let mut buf = [0u8; 2];
+        last = pieces.next(&mut buf);
+        if let Ok(count) = last {
+            given.extend_from_slice(&buf[..count])?;
         }
+    }
+    Ok(format!(in alloc; "{:?} {last:?}", str::from_utf8(&given)?)?)
+}
+
+// What a read of at most three bytes gives: how many they are, and all that they are read into.
+fn three<S: Shelf>(alloc: Global, shelf: &mut S, name: &str, from: u64) -> Result<String, Fail> {
+    let mut buf = [0u8; 3];
+    match shelf.read(name, from, &mut buf) {
+        Ok(count) => Ok(format!(in alloc; "{count} {:?}", str::from_utf8(&buf)?)?),
+        Err(Failed) => Ok(String::from_str(alloc, "Failed")?),
+    }
+}
+
+// What an act on a file gives.
+fn act<S: Shelf>(alloc: Global, shelf: &mut S, name: &str, act: &str) -> Result<String, Fail> {
+    let (verb, word) = act.split_once(' ').unwrap_or((act, ""));
+    match verb {
+        "reads" => read(alloc, shelf, name, word.parse()?),
+        "pieces" => pieces(alloc, shelf, name, word.parse()?),
+        "from" => three(alloc, shelf, name, word.parse()?),
+        _ => change(alloc, shelf, name, verb, word.trim_matches('"').as_bytes()),
+    }
+}
+
+fn change<S: Shelf>(
+    alloc: Global,
+    shelf: &mut S,
+    name: &str,
+    verb: &str,
+    bytes: &[u8],
+) -> Result<String, Fail> {
+    let count = match verb {
+        "creates" => shelf.create(name).and(Ok(0)),
+        "stores" => store(shelf, name, bytes).and(Ok(bytes.len())),
+        _ => shelf.append(name, bytes),
+    };
+    Ok(format!(in alloc; "{count:?}")?)
+}
+
+// What acts on the files of a folder give, with a comma between any two.
+fn told<S: Shelf>(alloc: Global, shelf: &mut S, folder: &str, acts: &str) -> Result<String, Fail> {
+    let mut told = String::new(alloc);
+    for each in acts.split(", ") {
+        let (name, doing) = each.split_once(' ').ok_or("an act without a name")?;
+        let name = format!(in alloc; "{folder}{name}")?;
+        if !told.is_empty() {
+            told.push_str(", ")?;
+        }
+        told.push_str(&act(alloc, shelf, &name, doing)?)?;
+    }
+    Ok(told)
+}
+
+// Does the acts of each row on a shelf of its own, in which a call may fail and one file may be
+// written: a row begins with the call's number or `-`, and the file's name and a colon.
+fn each_agrees<R: Abort>(rt: &R, alloc: Global, table: &str) -> Result<(), Fail> {
+    for row in table.lines() {
+        let (acts, wanted) = row.split_once(" => ").ok_or("a row without =>")?;
+        assert_eq!(rt; told_in_memory(alloc, acts)?.as_str(), wanted, "{row}");
     }
     Ok(())
 }
 
-// Pieces of at most two bytes. After its last answer a call answers it again, and reads nothing: in
-// the row before the last that read would fail, and in some others it would succeed.
+fn told_in_memory(alloc: Global, row: &str) -> Result<String, Fail> {
+    let (call, row) = row.split_once(' ').ok_or("a row without a call")?;
+    let (name, acts) = row.split_once(": ").ok_or("a row without a colon")?;
+    let mut shelf = match call.parse() {
+        Ok(call) => shelf(alloc, name, &[call])?,
+        Err(_) => shelf(alloc, name, &[])?,
+    };
+    told(alloc, &mut shelf, "", acts)
+}
+
+#[test]
+fn reads_whole_files_in_memory(rt: HostRuntime) -> Result<(), Fail> {
+    each_agrees(
+        &rt,
+        rt.alloc(),
+        r#"- out: a reads 3 => "one"
+- out: a reads 2 => TooLong
+- out: b reads 0 => ""
+- out: c reads 9 => ReadFault
+0 out: a reads 3 => ReadFault
+1 out: a reads 3 => ReadFault
+2 out: a reads 3 => "one""#,
+    )
+}
+
+// In the row before the last a read behind the last answer would fail, and in some others it would
+// succeed.
 #[test]
 fn gives_a_file_in_pieces(rt: HostRuntime) -> Result<(), Fail> {
-    let none: &[u64] = &[];
-    let rows: [(&str, u64, &[u64], &[u8], Result<usize, PieceEnd>); 9] = [
-        ("a", 3, none, b"one", Ok(0)),
-        ("a", 2, none, b"on", Err(PieceEnd::TooLong)),
-        ("a", 1, none, b"", Err(PieceEnd::TooLong)),
-        ("b", 0, none, b"", Ok(0)),
-        ("c", 9, none, b"", Err(PieceEnd::ReadFault)),
-        ("a", 3, &[0], b"", Err(PieceEnd::ReadFault)),
-        ("a", 3, &[1], b"on", Err(PieceEnd::ReadFault)),
-        ("a", 3, &[3], b"one", Ok(0)),
-        ("a", 3, &[2], b"one", Err(PieceEnd::ReadFault)),
-    ];
-    for (name, limit, fails, want, end) in rows {
-        let mut shelf = shelf(rt.alloc(), "out", fails)?;
-        let mut pieces = Pieces::new(&mut shelf, name, limit);
-        let mut given = Vec::new(rt.alloc());
-        let mut last = Ok(0);
-        for _ in 0..6 {
-            let mut buf = [0u8; 2];
-            last = pieces.next(&mut buf);
-            if let Ok(count) = last {
-                given.extend_from_slice(&buf[..count])?;
-            }
-        }
-        assert_eq!(rt; given.as_slice(), want, "{name} {limit}");
-        assert_eq!(rt; last, end, "{name} {limit}");
-    }
-    Ok(())
+    each_agrees(
+        &rt,
+        rt.alloc(),
+        r#"- out: a pieces 3 => "one" Ok(0)
+- out: a pieces 2 => "on" Err(TooLong)
+- out: a pieces 1 => "" Err(TooLong)
+- out: b pieces 0 => "" Ok(0)
+- out: c pieces 9 => "" Err(ReadFault)
+0 out: a pieces 3 => "" Err(ReadFault)
+1 out: a pieces 3 => "on" Err(ReadFault)
+3 out: a pieces 3 => "one" Ok(0)
+2 out: a pieces 3 => "one" Err(ReadFault)"#,
+    )
 }
 
 #[test]
 fn writes_one_file_in_memory(rt: HostRuntime) -> Result<(), Fail> {
-    let mut shelf = shelf(rt.alloc(), "out", &[3])?;
-    assert_eq!(rt; shelf.create("a"), Err(Failed));
-    assert_eq!(rt; shelf.create("out"), Ok(()));
-    assert_eq!(rt; shelf.append("out", b"12"), Ok(2));
-    assert_eq!(rt; shelf.append("out", b"3"), Err(Failed));
-    assert_eq!(rt; shelf.append("out", b"345"), Ok(1));
-    assert_eq!(rt; shelf.append("out", b"45"), Err(Failed));
-    assert_eq!(rt;
-        read_whole(rt.alloc(), &mut shelf, "out", 9)?.as_slice(),
-        b"123".as_slice()
-    );
-    Ok(())
+    each_agrees(
+        &rt,
+        rt.alloc(),
+        r#"3 out: a creates, out creates, out appends 12, out appends 3, out appends 345, out appends 45, out reads 9 => Err(Failed), Ok(0), Ok(2), Err(Failed), Ok(1), Err(Failed), "123""#,
+    )
 }
 
 #[test]
 fn stores_a_file_in_memory(rt: HostRuntime) -> Result<(), Fail> {
-    let none: &[u64] = &[];
-    let rows: [(&str, &[u64], &[u8], Result<(), Failed>, &[u8]); 6] = [
-        ("out", none, b"123", Ok(()), b"123"),
-        ("out", none, b"12345", Err(Failed), b"123"),
-        ("out", none, b"", Ok(()), b""),
-        ("d", none, b"12", Ok(()), b"12"),
-        ("d", &[0], b"123", Err(Failed), b"old"),
-        ("d", &[1], b"123", Err(Failed), b""),
-    ];
-    for (name, fails, bytes, want, left) in rows {
-        let mut shelf = shelf(rt.alloc(), name, fails)?;
-        assert_eq!(rt; store(&mut shelf, name, bytes), want, "{name}");
-        assert_eq!(rt;
-            read_whole(rt.alloc(), &mut shelf, name, 9)?.as_slice(),
-            left,
-            "{name}"
-        );
-        let other = read_whole(rt.alloc(), &mut shelf, "a", 9)?;
-        assert_eq!(rt; other.as_slice(), b"one".as_slice(), "{name}");
-    }
-    Ok(())
+    each_agrees(
+        &rt,
+        rt.alloc(),
+        r#"- out: out stores "123", out reads 9, a reads 9 => Ok(3), "123", "one"
+- out: out stores "12345", out reads 9, a reads 9 => Err(Failed), "123", "one"
+- out: out stores "", out reads 9, a reads 9 => Ok(0), "", "one"
+- d: d stores "12", d reads 9, a reads 9 => Ok(2), "12", "one"
+0 d: d stores "123", d reads 9, a reads 9 => Err(Failed), "old", "one"
+1 d: d stores "123", d reads 9, a reads 9 => Err(Failed), "", "one""#,
+    )
 }
 
 #[test]
@@ -139,71 +196,59 @@ fn writes_to_memory(rt: HostRuntime) -> Result<(), Fail> {
     Ok(())
 }
 
+// How the names of files begin that are this process's alone, among the files that pass.
+fn folder(rt: &HostRuntime) -> Result<String, Fail> {
+    let name = format!(in rt.alloc(); "mill-io-{}-", process::id(rt.process()))?;
+    let path = env::temp_dir(rt)?.join(rt.alloc(), name.as_str())?;
+    let path = path.to_str().ok_or("a path that is not text")?;
+    Ok(String::from_str(rt.alloc(), path)?)
+}
+
+// What a real file gives for which 70000 bytes are stored.
+fn told_of_a_long_file(rt: &HostRuntime, folder: &str) -> Result<String, Fail> {
+    let long = String::from_utf8(vec![in rt.alloc(); b'7'; 70000]?)?;
+    let acts = format!(in rt.alloc();
+        "long reads 9, long stores what goes, long stores {long}, long reads 69999, long reads 70000"
+    )?;
+    let mut shelf = FileShelf::new(rt.alloc(), rt);
+    let told = told(rt.alloc(), &mut shelf, folder, &acts)?;
+    Ok(told.replace(rt.alloc(), long.as_str(), "LONG")?)
+}
+
 #[test]
 fn stores_and_reads_a_real_file(rt: HostRuntime) -> Result<(), Fail> {
-    let name = format!(in rt.alloc(); "mill-io-{}", process::id(rt.process()))?;
-    let path = env::temp_dir(&rt)?.join(rt.alloc(), name.as_str())?;
-    let path = path.to_str().ok_or("a path that is not text")?;
-    let long = vec![in rt.alloc(); 7u8; 70000]?;
-    let mut shelf = FileShelf::new(rt.alloc(), &rt);
-    let missing = read_whole(rt.alloc(), &mut shelf, path, 9);
-    assert!(rt; matches!(missing, Err(ReadEnd::ReadFault)));
-    let before = store(&mut shelf, path, b"what goes");
-    let stored = store(&mut shelf, path, &long);
-    let read = read_whole(rt.alloc(), &mut shelf, path, 70000);
-    let short = read_whole(rt.alloc(), &mut shelf, path, 69999);
-    fs::remove_file(&rt, path)?;
-    assert_eq!(rt; (before, stored), (Ok(()), Ok(())));
-    assert!(rt; read?.as_slice() == long.as_slice());
-    assert!(rt; matches!(short, Err(ReadEnd::TooLong)));
+    let folder = folder(&rt)?;
+    let told = told_of_a_long_file(&rt, &folder)?;
+    fs::remove_file(&rt, format!(in rt.alloc(); "{folder}long")?.as_str())?;
+    assert_eq!(rt;
+        told.as_str(),
+        r#"ReadFault, Ok(9), Ok(70000), TooLong, "LONG""#
+    );
     Ok(())
 }
 
-// Reads at most three bytes of a file.
-fn read_three<S: Shelf>(shelf: &mut S, name: &str, from: u64) -> Result<([u8; 3], usize), Failed> {
-    let mut buf = [0u8; 3];
-    let count = shelf.read(name, from, &mut buf)?;
-    Ok((buf, count))
+// What reads give around a rename, by which the file `second` comes in place of `first`.
+fn told_around_a_rename(rt: &HostRuntime, folder: &str) -> Result<String, Fail> {
+    let mut shelf = FileShelf::new(rt.alloc(), rt);
+    let acts = "first stores first, second stores other, first from 0";
+    let before = told(rt.alloc(), &mut shelf, folder, acts)?;
+    let first = format!(in rt.alloc(); "{folder}first")?;
+    let second = format!(in rt.alloc(); "{folder}second")?;
+    fs::rename(rt, &second, &first)?;
+    let acts =
+        "first from 3, first from 1, second from 0, first from 2, first stores more, first from 2";
+    let behind = told(rt.alloc(), &mut shelf, folder, acts)?;
+    fs::remove_file(rt, &first)?;
+    Ok(format!(in rt.alloc(); "{before}, {behind}")?)
 }
 
 // A file that is replaced while it is read is read on as it was, also at a place before; a store
 // closes it.
 #[test]
 fn reads_a_replaced_file_as_it_was(rt: HostRuntime) -> Result<(), Fail> {
-    let id = process::id(rt.process());
-    let folder = env::temp_dir(&rt)?;
-    let first = folder.join(
-        rt.alloc(),
-        format!(in rt.alloc(); "mill-io-first-{id}")?.as_str(),
-    )?;
-    let second = folder.join(
-        rt.alloc(),
-        format!(in rt.alloc(); "mill-io-second-{id}")?.as_str(),
-    )?;
-    let first = first.to_str().ok_or("a path that is not text")?;
-    let second = second.to_str().ok_or("a path that is not text")?;
-    let mut shelf = FileShelf::new(rt.alloc(), &rt);
-    let stored = (
-        store(&mut shelf, first, b"first"),
-        store(&mut shelf, second, b"other"),
-    );
-    let begun = read_three(&mut shelf, first, 0);
-    fs::rename(&rt, second, first)?;
-    let rest = read_three(&mut shelf, first, 3);
-    let again = read_three(&mut shelf, first, 1);
-    let missing = read_three(&mut shelf, second, 0);
-    let new = read_three(&mut shelf, first, 2);
-    let written = store(&mut shelf, first, b"more");
-    let end = read_three(&mut shelf, first, 2);
-    fs::remove_file(&rt, first)?;
-    assert_eq!(rt; stored, (Ok(()), Ok(())));
-    assert_eq!(rt; begun, Ok((*b"fir", 3)));
-    assert_eq!(rt; rest, Ok((*b"st\0", 2)));
-    assert_eq!(rt; again, Ok((*b"irs", 3)));
-    assert_eq!(rt; missing, Err(Failed));
-    assert_eq!(rt; new, Ok((*b"her", 3)));
-    assert_eq!(rt; written, Ok(()));
-    assert_eq!(rt; end, Ok((*b"re\0", 2)));
+    let told = told_around_a_rename(&rt, &folder(&rt)?)?;
+    let wanted = r#"Ok(5), Ok(5), 3 "fir", 2 "st\0", 3 "irs", Failed, 3 "her", Ok(4), 2 "re\0""#;
+    assert_eq!(rt; told.as_str(), wanted);
     Ok(())
 }
 

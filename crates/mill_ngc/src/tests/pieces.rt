@@ -4,7 +4,6 @@ ghost use Rattle.std.specs.Prelude.{◌<◌};
 use super::HOME;
 use crate::{NgcFault, Reader};
 use mill_base::{Move, Unit};
-use mill_words::WordFault;
 use std::alloc::{AllocError, Global};
 use std::process::Abort;
 use std::test::Fail;
@@ -79,46 +78,43 @@ fn read_pieces<R: Abort>(rt: &R, alloc: Global, text: &[u8], most: usize, dice: 
     Told { moves, fault: told }
 }
 
-// Small programs, how many moves they make, and their fault: each cut into two.
+// Each cut of a text into two reads the same as the whole.
+fn cuts_agree<R: Abort>(rt: &R, alloc: Global, text: &str, whole: &Told) {
+    for cut in 0..text.len() {
+        let told = read_halves(alloc, text.as_bytes(), cut + 1);
+        let is_same = told.fault == whole.fault && told.moves.as_slice() == whole.moves.as_slice();
+        assert!(rt; is_same, "{text} cut at {cut}");
+    }
+}
+
+// Small programs, how many moves they make, and their fault: each cut into two. `\n`, `\r` and `\t`
+// stand for the byte.
+const PROGRAMS: &str = r"G21 G90\nG1 Z2\nG0 Z4\nM2 => 2 None
+G21 G90\nG1 Z2\nG0 Z4\nM2\n?\n => 2 None
+ \r\n%\r\nG21 G90\n(a\tb) g1 x 1 . 2 5;c\nY1\n% \nG64 => 2 None
+G21 G90 G1 X1\nX2\nX.001\nX3\nM2 => 2 Some(OffGrid { line: 3 })
+G21 G90 G1 X1\n\n %\nM2 => 1 Some(Word { line: 3, fault: BadByte(1) })
+G21 G90\nG1 X1\n => 1 Some(NoEnd { line: 3 })
+G21 G90\nG1 X1 M2 G1 => 0 Some(Group { line: 2, group: 1 })
+ => 0 Some(NoEnd { line: 1 })";
+
 #[test]
 fn every_cut_reads_the_same(rt: HostRuntime) -> Result<(), Fail> {
-    let off_grid = NgcFault::OffGrid { line: 3 };
-    let bad_percent = NgcFault::Word {
-        line: 3,
-        fault: WordFault::BadByte(1),
-    };
-    for (text, count, fault) in [
-        ("G21 G90\nG1 Z2\nG0 Z4\nM2", 2, None),
-        ("G21 G90\nG1 Z2\nG0 Z4\nM2\n?\n", 2, None),
-        (
-            " \r\n%\r\nG21 G90\n(a\tb) g1 x 1 . 2 5;c\nY1\n% \nG64",
-            2,
-            None,
-        ),
-        ("G21 G90 G1 X1\nX2\nX.001\nX3\nM2", 2, Some(off_grid)),
-        ("G21 G90 G1 X1\n\n %\nM2", 1, Some(bad_percent)),
-        ("G21 G90\nG1 X1\n", 1, Some(NgcFault::NoEnd { line: 3 })),
-        (
-            "G21 G90\nG1 X1 M2 G1",
-            0,
-            Some(NgcFault::Group { line: 2, group: 1 }),
-        ),
-        ("", 0, Some(NgcFault::NoEnd { line: 1 })),
-    ] {
+    for row in PROGRAMS.lines() {
+        let (text, wanted) = row.split_once(" => ").ok_or("a row without =>")?;
+        let text = with_bytes(rt.alloc(), text)?;
         let whole = read_halves(rt.alloc(), text.as_bytes(), 0);
-        assert_eq!(rt; whole.moves.len(), count, "{text}");
-        assert_eq!(rt; whole.fault, fault, "{text}");
-        for cut in 0..text.len() {
-            let told = read_halves(rt.alloc(), text.as_bytes(), cut + 1);
-            assert_eq!(rt; told.fault, fault, "{text} cut at {cut}");
-            assert_eq!(rt;
-                told.moves.as_slice(),
-                whole.moves.as_slice(),
-                "{text} cut at {cut}"
-            );
-        }
+        let told = format!(in rt.alloc(); "{} {:?}", whole.moves.len(), whole.fault)?;
+        assert_eq!(rt; told.as_str(), wanted, "{row}");
+        cuts_agree(&rt, rt.alloc(), &text, &whole);
     }
     Ok(())
+}
+
+fn with_bytes(alloc: Global, text: &str) -> Result<String, Fail> {
+    let text = text.replace(alloc, "\\n", "\n")?;
+    let text = text.replace(alloc, "\\r", "\r")?;
+    Ok(text.replace(alloc, "\\t", "\t")?)
 }
 
 // Long lines: the last byte that a line may have, and one more, in each piece.
@@ -133,10 +129,9 @@ fn long_lines_are_cut(rt: HostRuntime) -> Result<(), Fail> {
         (more.as_str(), Some(NgcFault::LongLine { line: 1 })),
         (open.as_str(), Some(NgcFault::LongLine { line: 2 })),
     ] {
-        for cut in 0..text.len() {
-            let told = read_halves(rt.alloc(), text.as_bytes(), cut);
-            assert_eq!(rt; told.fault, fault, "{text} cut at {cut}");
-        }
+        let whole = read_halves(rt.alloc(), text.as_bytes(), 0);
+        assert_eq!(rt; whole.fault, fault, "{text}");
+        cuts_agree(&rt, rt.alloc(), text, &whole);
     }
     Ok(())
 }
