@@ -30,6 +30,7 @@ use Rattle.mill_paths.specs.Links.{at_height, feed_to, rapid_to, is_over_place, 
 use Rattle.mill_paths.specs.Tours.{AreLinks, last_place}
 use Rattle.mill_paths.specs.Safety.{IsSafeMove, AreSafe, Connect, IsFreePlace, IsEndOf, IsReached, GoSafely, LinkIsSafe, TourIsSafe, WayHomeIsSafe}
 use Rattle.mill_paths.specs.declared.visit.Visit.{Visit}
+use Rattle.mill_paths.proofs.Kept.{between}
 use Rattle.mill_paths.proofs.Pecks.{Fit, pecks_connect, pecks_end, pecks_fit}
 use Rattle.mill_paths.proofs.Points.{same_pair}
 
@@ -47,9 +48,6 @@ feed_is_no_rapid e = cc
 
 rapid_is_no_feed : Rapid ≡ Feed → ⊥
 rapid_is_no_feed e = cc
-
-between : (m : ℕ) (a b z : ℤ) → Within m a → Within m b → a ≤ℤ z → z ≤ℤ b → Within m z
-between m a b z a_ok b_ok low high = let p = a_ok.within in let q = b_ok.within in record { within = omega (p, q, low, high, arith, ints) }
 
 lowered : (z depth : ℤ) → (pos 0) ≤ℤ depth → (z -ℤ depth) ≤ℤ z
 lowered z depth least = omega (least, arith, ints)
