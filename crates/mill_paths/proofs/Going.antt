@@ -257,10 +257,11 @@ module _ (job : Job) (part : List Tri) (ok : IsJob job) (under : IsUnder part jo
       → (z ≡ job.top) ⊎ IsEndOf done (at_height at z) → AreSafe job part done (pecks n job.max_cut at z)
   pecks_safe zero done at z free high fit start = (peck_safe done at z at.z free (at_most_itself at.z) fit.0 high fit.1 start, tt)
   pecks_safe (suc n) done at z free high fit start =
-      let down : (z -ℤ job.max_cut) ≤ℤ z = lowered z job.max_cut ok.max_cut_ok.low in
-      (peck_safe done at z (z -ℤ job.max_cut) free fit.0 down high (λ limited. regains z job.max_cut) start,
-      pecks_safe n _ at (z -ℤ job.max_cut) free (through _ _ _ down high) fit.1
-      (inr (last_of done [] (feed_to (at_height at z) (at_height at (z -ℤ job.max_cut))))))
+      let down : (z -ℤ job.max_cut) ≤ℤ z = lowered z job.max_cut ok.max_cut_ok.low in (
+        peck_safe done at z (z -ℤ job.max_cut) free fit.0 down high (λ limited. regains z job.max_cut) start,
+        pecks_safe n _ at (z -ℤ job.max_cut) free (through _ _ _ down high) fit.1
+            (inr (last_of done [] (feed_to (at_height at z) (at_height at (z -ℤ job.max_cut))))),
+      )
 
   plunge_safe : (done : List Move) (at : Pt3) → IsFreePlace job part at → AreSafe job part done (plunge job at)
   plunge_safe done at free =

@@ -25,9 +25,11 @@ fit_so zero d h z low e some all = (over z low h e, λ limited. under z low h d 
     under : (z low : ℤ) (h d : ℕ) → z ≡ low +ℤ pos h → h ≤ 0 * d + d → z ≤ℤ (low +ℤ pos d)
     under z low h d e few = omega (e, few, arith, ints)
 fit_so (suc n) d h z low e some all =
-    let fits : n * d + d ≤ h = subst (λ m. m ≤ h) (suc-mul n d) some in
-    (over z low h d (n * d) e fits, fit_so n d (h - d) (z -ℤ pos d) low (lower z low h d (n * d) e fits) (fewer h d (n * d) fits)
-    (λ limited. less h d (n * d) fits (subst (λ m. h ≤ m + d) (suc-mul n d) (all limited))))
+    let fits : n * d + d ≤ h = subst (λ m. m ≤ h) (suc-mul n d) some in (
+      over z low h d (n * d) e fits,
+      fit_so n d (h - d) (z -ℤ pos d) low (lower z low h d (n * d) e fits) (fewer h d (n * d) fits)
+          (λ limited. less h d (n * d) fits (subst (λ m. h ≤ m + d) (suc-mul n d) (all limited))),
+    )
   where
     over : (z low : ℤ) (h d rest : ℕ) → z ≡ low +ℤ pos h → rest + d ≤ h → low ≤ℤ (z -ℤ pos d)
     over z low h d rest e fits = omega (e, fits, arith, ints)

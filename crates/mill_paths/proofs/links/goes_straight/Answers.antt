@@ -13,9 +13,9 @@ use Rattle.mill_paths.proofs.links.goes_straight.Goals.{then-job-eq0-via-then-jo
 pub returns-then-job-eq0 : goal.returns-then-job-eq0
 returns-then-job-eq0 c = λ part done says follow. elim c.then-job-eq0.branch [
   | then-job-eq0-via-then-job-eq0 w ↦
-    unlimited c.args.job.now part c.args.from c.args.to done c.args.clear says c.if-not-clear.false (no_limit c.args.job.now c.requires.job_ok w.if-job-eq0.true)
+      unlimited c.args.job.now part c.args.from c.args.to done c.args.clear says c.if-not-clear.false (no_limit c.args.job.now c.requires.job_ok w.if-job-eq0.true)
   | then-job-eq0-via-else-job-eq0+then-eq w ↦
-    at_place c.args.job.now part c.args.from c.args.to done (same_point c.args.to.at c.args.from w.eq.result w.eq.ensures w.if-eq.true)
+      at_place c.args.job.now part c.args.from c.args.to done (same_point c.args.to.at c.args.from w.eq.result w.eq.ensures w.if-eq.true)
 ]
 
 pub returns : goal.returns

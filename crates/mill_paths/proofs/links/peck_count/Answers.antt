@@ -25,7 +25,7 @@ returns-then-job-eq0-clause-value c =
     elim c.then-job-eq0.branch [
       | then-job-eq0-via-then-job-eq0 w ↦ sym (no_pecks job.max_cut (job.top -ℤ c.args.at.z) (inl (no_limit job c.requires.job_ok w.if-job-eq0.true)))
       | then-job-eq0-via-else-job-eq0+then-at-job w ↦
-        sym (no_pecks job.max_cut (job.top -ℤ c.args.at.z) (inr (not_under job.top c.args.at.z (rw (top, z) at w.if-at-job.true))))
+          sym (no_pecks job.max_cut (job.top -ℤ c.args.at.z) (inr (not_under job.top c.args.at.z (rw (top, z) at w.if-at-job.true))))
     ]
 
 pub overflow_sub-result : goal.overflow_sub-result
