@@ -17,8 +17,6 @@ mod points;
 mod roots;
 mod rounding;
 mod steps;
-#[cfg(test)]
-mod tests;
 mod unit;
 
 pub use arithmetic::{offset, product, square, square_sum};

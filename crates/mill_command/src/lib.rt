@@ -9,8 +9,6 @@
 mod command;
 mod refusal;
 mod set;
-#[cfg(test)]
-mod tests;
 mod words;
 
 pub use command::Command;

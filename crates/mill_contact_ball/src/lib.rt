@@ -29,8 +29,6 @@ mod face;
 mod gap;
 mod meeting;
 mod plane;
-#[cfg(test)]
-mod tests;
 mod vector;
 mod weights;
 

@@ -19,7 +19,5 @@ mod corner;
 mod edge;
 mod quadratic;
 mod side;
-#[cfg(test)]
-mod tests;
 
 pub use cone::{is_inside, touch};

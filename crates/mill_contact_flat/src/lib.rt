@@ -25,9 +25,6 @@ use mill_geom::{
     Axis, Offset, Touch, box_gap, box_side, highest, offset_from, side, touches_triangle, turned,
 };
 
-#[cfg(test)]
-mod tests;
-
 /// How the triangle lies to the cylinder of `radius` over the level, for positions along x.
 fn touch_along_x(a: Offset, b: Offset, c: Offset, radius: i64) -> Touch
     requires a_ok { OffsetInRange a }

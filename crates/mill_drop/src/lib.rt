@@ -14,8 +14,6 @@ mod map;
 mod near;
 mod once;
 mod search;
-#[cfg(test)]
-mod tests;
 
 pub use drop::drop_at;
 pub use laws::drop_heights_are_unique;

@@ -23,8 +23,6 @@ mod reach;
 mod segment;
 mod spot;
 mod strip;
-#[cfg(test)]
-mod tests;
 mod touch;
 mod triangle;
 mod turn;

@@ -21,9 +21,6 @@ use crate::segment::{form, touches_segment};
 use crate::triangle::{is_over, touches_triangle};
 use mill_base::{Pt3, Tri};
 
-#[cfg(test)]
-mod tests;
-
 /// The corner straight over or under `p` at the height 1: near the axis as `p` is, and over the
 /// level.
 fn raised(p: Offset) -> Offset

@@ -14,6 +14,3 @@ mod top;
 
 pub use clear::clears;
 pub use gouge::{Gouge, first_gouge};
-
-#[cfg(test)]
-mod tests;

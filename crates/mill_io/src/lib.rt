@@ -15,8 +15,6 @@ mod room;
 mod script;
 mod shelf;
 mod storing;
-#[cfg(test)]
-mod tests;
 mod whole;
 
 pub use files::{FileShelf, StdSink};

@@ -21,8 +21,6 @@ mod limits;
 mod name;
 mod positions;
 mod reading;
-#[cfg(test)]
-mod tests;
 mod values;
 
 pub use fault::JobFault;

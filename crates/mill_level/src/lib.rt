@@ -18,8 +18,6 @@ mod laws;
 mod map;
 mod outline;
 mod square;
-#[cfg(test)]
-mod tests;
 mod trace;
 mod trails;
 mod waterlines;

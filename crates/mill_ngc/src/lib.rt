@@ -19,8 +19,6 @@ mod profile;
 mod progress;
 mod reader;
 mod said;
-#[cfg(test)]
-mod tests;
 mod text_reader;
 mod unfinished;
 

@@ -7,7 +7,5 @@
 
 mod line;
 mod program;
-#[cfg(test)]
-mod tests;
 
 pub use program::write_program;

@@ -147,6 +147,3 @@ pub fn read_stl(alloc: Global, text: &[u8], snap: Snap, unit: Unit) -> Result<St
     }
     end_text(cursor.line, progress, tris)
 }
-
-#[cfg(test)]
-mod tests;

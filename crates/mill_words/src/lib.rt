@@ -12,8 +12,6 @@ mod marks;
 mod open_word;
 mod plain;
 mod stage;
-#[cfg(test)]
-mod tests;
 mod word;
 
 pub use line::{read_line, read_line_into};

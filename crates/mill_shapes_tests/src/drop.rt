@@ -1,0 +1,169 @@
+ghost use Rattle.mill_base.specs.Numbers.{Within};
+ghost use Rattle.mill_base.specs.declared.limits.TheConstants.{MAX_COORDINATE};
+ghost use Rattle.mill_base.specs.Ranges.{IsInRange};
+ghost use Rattle.mill_base.specs.Sizes.{IsCutter};
+
+use mill_base::{Box2, Cutter, Lattice, Pt3, Tri};
+use mill_drop::{drop_at, drop_heights_are_unique, drop_map, drop_once};
+use mill_part::{Part, SortedPart};
+use std::test::Fail;
+
+fn at(x: i16, y: i16, z: i16) -> Pt3
+    ensures { IsInRange result }
+{
+    Pt3 {
+        x: i32::from(x),
+        y: i32::from(y),
+        z: i32::from(z),
+    }
+}
+
+/// The part of one triangle.
+fn part_of<R: AllocGlobal>(rt: &R, a: Pt3, b: Pt3, c: Pt3) -> Result<Part, Fail>
+    requires a_ok { IsInRange a }
+    requires b_ok { IsInRange b }
+    requires c_ok { IsInRange c }
+{
+    let mut tris = Vec::new(rt.alloc());
+    tris.push(Tri { a, b, c })?;
+    Ok(Part::new(tris))
+}
+
+/// The drop height of the cutter at (x, y).
+fn drop(shape: &SortedPart<'_>, cutter: Cutter, x: i32, y: i32, floor: i32) -> i32
+    requires cutter_ok { IsCutter cutter }
+    requires x_ok { Within MAX_COORDINATE x }
+    requires y_ok { Within MAX_COORDINATE y }
+    requires floor_ok { Within MAX_COORDINATE floor }
+{
+    drop_at(shape.part(), shape.cells(), cutter, x, y, floor)
+}
+
+// The ball's surface is 80 under its centre at 60 from the axis.
+#[test]
+fn ball_on_a_point(rt: HostRuntime) -> Result<(), Fail> {
+    let part = part_of(&rt, at(0, 0, 300), at(0, 0, 300), at(0, 0, 300))?;
+    let shape = SortedPart::new(rt.alloc(), &part)?;
+    let ball = Cutter::Ball { radius: 100 };
+    assert_eq!(rt; drop(&shape, ball, 60, 0, 0), 280);
+    assert_eq!(rt; drop(&shape, ball, 61, 0, 0), 280);
+    assert_eq!(rt; drop(&shape, ball, 100, 0, 0), 0);
+    assert_eq!(rt; drop(&shape, ball, 60, 0, 281), 281);
+    Ok(())
+}
+
+#[test]
+fn cone_on_an_edge(rt: HostRuntime) -> Result<(), Fail> {
+    let part = part_of(&rt, at(-500, 3, 300), at(500, 3, 300), at(500, 3, 300))?;
+    let shape = SortedPart::new(rt.alloc(), &part)?;
+    let cone = Cutter::Cone {
+        radius: 100,
+        rise: 1,
+        run: 1,
+    };
+    assert_eq!(rt; drop(&shape, cone, 0, 0, 0), 297);
+    Ok(())
+}
+
+// The triangle's plane is z = x.
+#[test]
+fn cutters_on_a_slope(rt: HostRuntime) -> Result<(), Fail> {
+    let part = part_of(
+        &rt,
+        at(-1000, -1000, -1000),
+        at(1000, -1000, 1000),
+        at(0, 2000, 0),
+    )?;
+    let shape = SortedPart::new(rt.alloc(), &part)?;
+    let flat = Cutter::Flat { radius: 100 };
+    let ball = Cutter::Ball { radius: 100 };
+    let cone = Cutter::Cone {
+        radius: 100,
+        rise: 1,
+        run: 2,
+    };
+    assert_eq!(rt; drop(&shape, flat, 0, 0, -2000), 100);
+    assert_eq!(rt; drop(&shape, ball, 0, 0, -2000), 42);
+    assert_eq!(rt; drop(&shape, cone, 0, 0, -2000), 50);
+    Ok(())
+}
+
+fn opposite(z: i32) -> i32
+    requires { Within MAX_COORDINATE z }
+    ensures { Within MAX_COORDINATE result }
+{
+    -z
+}
+
+/// The drop heights at the origin of the three cutters of the greatest radius, and that of the ball
+/// without cells, over a triangle in the plane z = x whose corners are as far out as `far`.
+fn heights_on_wide_slope<R: AllocGlobal>(rt: &R, far: i32) -> Result<[i32; 4], Fail>
+    requires { Within MAX_COORDINATE far }
+{
+    let low = opposite(far);
+    let a = Pt3 {
+        x: low,
+        y: low,
+        z: low,
+    };
+    let b = Pt3 {
+        x: far,
+        y: low,
+        z: far,
+    };
+    let c = Pt3 { x: 0, y: far, z: 0 };
+    let part = part_of(rt, a, b, c)?;
+    let shape = SortedPart::new(rt.alloc(), &part)?;
+    let flat = Cutter::Flat { radius: 10_000 };
+    let ball = Cutter::Ball { radius: 10_000 };
+    let cone = Cutter::Cone {
+        radius: 10_000,
+        rise: 1,
+        run: 2,
+    };
+    Ok([
+        drop(&shape, flat, 0, 0, low),
+        drop(&shape, ball, 0, 0, low),
+        drop(&shape, cone, 0, 0, low),
+        drop_once(&part, ball, 0, 0, low),
+    ])
+}
+
+// The flat cutter touches at its edge, the cone, whose slope is half the plane's, there too, and the
+// ball's centre is the radius times the root of 2 over the plane.
+#[test]
+fn greatest_numbers(rt: HostRuntime) -> Result<(), Fail> {
+    let heights = [10_000, 4_143, 5_000, 4_143];
+    assert_eq!(rt; heights_on_wide_slope(&rt, 131_071)?, heights);
+    assert_eq!(rt; heights_on_wide_slope(&rt, 524_287)?, heights);
+    drop_heights_are_unique();
+    Ok(())
+}
+
+// The step doesn't divide the row: the positions are -200, -125, -50 and 0.
+#[test]
+fn heights_along_a_row(rt: HostRuntime) -> Result<(), Fail> {
+    let part = part_of(&rt, at(0, 0, 200), at(1000, 0, 200), at(0, 1000, 200))?;
+    let shape = SortedPart::new(rt.alloc(), &part)?;
+    let flat = Cutter::Flat { radius: 100 };
+    let lattice = Lattice {
+        area: Box2 {
+            x0: -200,
+            y0: 0,
+            x1: 0,
+            y1: 0,
+        },
+        step: 75,
+    };
+    let heights = drop_map(
+        &rt,
+        rt.alloc(),
+        shape.part(),
+        shape.cells(),
+        flat,
+        &lattice,
+        0,
+    )?;
+    assert_eq!(rt; heights.as_slice(), [0, 0, 200, 200].as_slice());
+    Ok(())
+}

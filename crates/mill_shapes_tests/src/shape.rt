@@ -1,0 +1,3 @@
+mod height;
+mod resize;
+mod solid;

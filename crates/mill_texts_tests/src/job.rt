@@ -1,0 +1,340 @@
+// Jobs that are read, and the faults for which others are refused.
+//
+// Each table is one text: the proof of a test then costs the same however many rows there are. A row
+// is a line `OLD => NEW => SAYS`: EXAMPLE with NEW in the place of OLD, and what is said of it. There
+// `\n` is a line's end.
+use mill_base::{Box2, Cutter, Pt3, Unit};
+use mill_decimal::Snap;
+use mill_job::{Job, JobFault, Key, Levels, Name, Place, read_job};
+use std::alloc::Global;
+use std::process::Abort;
+use std::test::Fail;
+
+const EXAMPLE: &str = "cutter = \"flat\"
+radius = 150
+floor = 0
+top = 300
+clear = 400
+area = [0, 0, 200, 200]
+home = [100, 90]
+pitch = 100
+sample = 50
+allowance = 0
+band = 0
+";
+
+const FAULTY: &str = "cutter = 1
+depth = 1
+radius = 0
+run = \"1\"
+floor = 131072
+top = 300
+area = [0, 9, 131071, 0]
+home = [1.5, 90]
+pitch = 50
+sample = 50
+allowance = 0
+band = -1
+lift = 2.5
+layer = 1
+rough_stock = 10001
+levels = [300, 300]
+snap = \"near\"
+max_cut = -9
+";
+
+/// 64 heights, from the highest to the lowest.
+const LADDER: &str =
+    "63, 62, 61, 60, 59, 58, 57, 56, 55, 54, 53, 52, 51, 50, 49, 48, 47, 46, 45, 44, 43, 42, 41, \
+    40, 39, 38, 37, 36, 35, 34, 33, 32, 31, 30, 29, 28, 27, 26, 25, 24, 23, 22, 21, 20, 19, 18, \
+    17, 16, 15, 14, 13, 12, 11, 10, 9, 8, 7, 6, 5, 4, 3, 2, 1, 0";
+
+const JOB: Job = Job {
+    unit: Unit::Hundredth,
+    cutter: Cutter::Flat { radius: 150 },
+    floor: 0,
+    top: 300,
+    clear: 400,
+    area: Box2 {
+        x0: 0,
+        y0: 0,
+        x1: 200,
+        y1: 200,
+    },
+    home: Place { x: 100, y: 90 },
+    pitch: 100,
+    sample: 50,
+    allowance: 0,
+    band: 0,
+    lift: 0,
+    raster: 100,
+    rough_raster: 100,
+    layer: 0,
+    rough_stock: 0,
+    levels: Levels::NONE,
+    snap: Snap::Nearest,
+    max_cut: 0,
+};
+
+/// What is said of a text: the job as it is, and its levels, or its fault.
+fn answer(alloc: Global, text: &str) -> Result<String, Fail> {
+    match read_job(alloc, text.as_bytes()) {
+        Ok(job) => Ok(format!(in alloc; "{job:?} with levels {:?}", job.levels.as_slice())?),
+        Err(fault) => Ok(format!(in alloc; "{fault}")?),
+    }
+}
+
+/// A row's text, and what is said of it.
+fn text_of_row<'a>(alloc: Global, from: &str, row: &'a str) -> Result<(String, &'a str), Fail> {
+    let (old, rest) = row.split_once(" => ").ok_or("a row without =>")?;
+    let (new, says) = rest.split_once(" => ").ok_or("a row with one =>")?;
+    let new = new.replace(alloc, "\\n", "\n")?;
+    Ok((from.replace(alloc, old, new.as_str())?, says))
+}
+
+fn each_is_refused<R: Abort>(rt: &R, alloc: Global, from: &str, table: &str) -> Result<(), Fail> {
+    for row in table.lines() {
+        let (text, says) = text_of_row(alloc, from, row)?;
+        assert_eq!(rt; answer(alloc, text.as_str())?.as_str(), says, "{row}");
+    }
+    Ok(())
+}
+
+/// Each row's job has this among its values.
+fn each_is_read<R: Abort>(rt: &R, alloc: Global, from: &str, table: &str) -> Result<(), Fail> {
+    for row in table.lines() {
+        let (text, says) = text_of_row(alloc, from, row)?;
+        let told = answer(alloc, text.as_str())?;
+        assert!(rt; told.contains(says), "{row}: {told}");
+    }
+    Ok(())
+}
+
+#[test]
+fn reads_a_job(rt: HostRuntime) -> Result<(), Fail> {
+    let alloc = rt.alloc();
+    let job = read_job(alloc, EXAMPLE.as_bytes())?;
+    assert_eq!(rt; job, JOB);
+    assert_eq!(rt; (job.rows(), job.columns(), job.column_total()), (3, 3, 9));
+    let home = Pt3 {
+        x: 100,
+        y: 90,
+        z: 400,
+    };
+    assert_eq!(rt; job.home(), home);
+    assert!(rt; 2 < job.columns() && 1 < job.rows());
+    assert_eq!(rt; (job.column_x(2), job.row_y(1)), (200, 100));
+    Ok(())
+}
+
+/// The last rows: with a layer of 2 the stock may be 1,001 high, and without roughing too.
+const READ: &str =
+    r#"band = 0 => band = 150 => band: 150, lift: 0, raster: 100, rough_raster: 100, layer: 0, rough_stock: 0, levels
+"flat" => "ball" => cutter: Ball { radius: 150 }, floor
+band = 0 => band = 0\nsnap = "exact" => snap: Exact, max_cut: 0
+band = 0 => band = 0\nlift = 10000 => lift: 10000, raster: 100, rough_raster: 100, layer: 0, rough_stock: 0
+band = 0 => band = 0\nraster = 1 => lift: 0, raster: 1, rough_raster: 1, layer: 0, rough_stock: 0
+band = 0 => band = 0\nrough_raster = 10000 => lift: 0, raster: 100, rough_raster: 10000, layer: 0, rough_stock: 0
+band = 0 => band = 0\nraster = 10000\nrough_raster = 1 => lift: 0, raster: 10000, rough_raster: 1, layer: 0, rough_stock: 0
+band = 0 => band = 0\nlayer = 131071 => lift: 0, raster: 100, rough_raster: 100, layer: 131071, rough_stock: 0
+band = 0 => band = 0\nrough_stock = 10000 => lift: 0, raster: 100, rough_raster: 100, layer: 0, rough_stock: 10000
+band = 0 => band = 0\nlift = 0\nlayer = 0\nrough_stock = 0 => lift: 0, raster: 100, rough_raster: 100, layer: 0, rough_stock: 0
+band = 0 => band = 0\nmax_cut = 131071 => snap: Nearest, max_cut: 131071
+band = 0 => band = 0\nmax_cut = 0 => snap: Nearest, max_cut: 0
+band = 0 => band = 0\nlevels = [] => with levels []
+band = 0 => band = 0\nlevels = [0] => with levels [0]
+band = 0 => band = 0\nlevels = [299] => with levels [299]
+band = 0 => band = 0\nlevels = [299, 298, 1, 0] => with levels [299, 298, 1, 0]
+band = 0 => band = 0\nunit = "hundredth" => unit: Hundredth, cutter: Flat { radius: 150 }, floor: 0, top: 300, clear: 400
+floor = 0 => floor = -700\nlayer = 1 => layer: 1
+floor = 0 => floor = -701\nlayer = 2 => layer: 2
+floor = 0 => floor = -701\nlayer = 0 => floor: -701"#;
+
+#[test]
+fn reads_other_values(rt: HostRuntime) -> Result<(), Fail> {
+    each_is_read(&rt, rt.alloc(), EXAMPLE, READ)
+}
+
+const REFUSED: &str = r#"radius = 150 => clear = 400 => syntax
+radius = 150 => # => missing radius
+clear = 400 => clear = 200 => top doesn't fit clear
+band = 0 => band = 0\ndepth = 1 => unknown depth
+= 150 => = 1.5 => wrong kind of radius
+= 150 => = 10001 => radius out of range
+= 150 => = 99999999999999999999 => syntax
+"flat" => "disc" => cutter out of range
+"flat" => "flat"\nrise = 1 => cutter doesn't fit rise
+"flat" => "ball"\nrun = 1 => cutter doesn't fit run
+"flat" => "ball"\nrise = 99\nrun = 1 => cutter doesn't fit rise
+"flat" => "ball"\nrise = 101 => rise out of range
+[0, 0, 200, 200] => [0, 0, 200] => area out of range
+[0, 0, 200, 200] => [0, 0, 200, "200"] => wrong kind of area
+[100, 90] => [100, 131072] => home out of range
+band = 0 => band = 10001 => band out of range
+band = 0 => band = 151 => band doesn't fit radius
+band = 0 => band = 0\nsnap = "near" => snap out of range
+band = 0 => band = 0\nsnap = 1 => wrong kind of snap
+band = 0 => snap = 1\nsnaps = 1 => unknown snaps
+band = 0 => band = 0\nlift = true => wrong kind of lift
+band = 0 => band = 0\nlift = -1 => lift out of range
+band = 0 => band = 0\nlift = 10001 => lift out of range
+band = 0 => band = 0\nraster = [1] => wrong kind of raster
+band = 0 => band = 0\nraster = 0 => raster out of range
+band = 0 => band = 0\nraster = 10001 => raster out of range
+band = 0 => band = 0\nrough_raster = "1" => wrong kind of rough_raster
+band = 0 => band = 0\nrough_raster = 0 => rough_raster out of range
+band = 0 => band = 0\nrough_raster = 10001 => rough_raster out of range
+band = 0 => band = 0\nlayer = 1.0 => wrong kind of layer
+band = 0 => band = 0\nlayer = -1 => layer out of range
+band = 0 => band = 0\nlayer = 131072 => layer out of range
+band = 0 => band = 0\nrough_stock = {} => wrong kind of rough_stock
+band = 0 => band = 0\nrough_stock = -1 => rough_stock out of range
+band = 0 => band = 0\nrough_stock = 10001 => rough_stock out of range
+band = 0 => band = 0\nmax_cut = 1.5 => wrong kind of max_cut
+band = 0 => band = 0\nmax_cut = -1 => max_cut out of range
+band = 0 => band = 0\nmax_cut = 131072 => max_cut out of range
+band = 0 => band = 0\nsnap = 1\nmax_cut = -1 => wrong kind of snap
+band = 0 => band = 0\nlevel = [1] => unknown level
+band = 0 => band = 0\nlevels = 5 => wrong kind of levels
+band = 0 => band = 0\nlevels = [5, 4.0] => wrong kind of levels
+band = 0 => band = 0\nlevels = [5, "4"] => wrong kind of levels
+band = 0 => band = 0\nlevels = [5, 5, [4]] => wrong kind of levels
+band = 0 => band = 0\nlevels = [5, 5] => levels out of range
+band = 0 => band = 0\nlevels = [5, 3, 4] => levels out of range
+band = 0 => band = 0\nlevels = [131072] => levels out of range
+band = 0 => band = 0\nlevels = [5, -131072] => levels out of range
+band = 0 => band = 0\nlevels = [131071] => levels doesn't fit top
+band = 0 => band = 0\nlevels = [301, 299] => levels doesn't fit top
+band = 0 => band = 0\nlevels = [300, 299] => levels doesn't fit top
+band = 0 => band = 0\nlevels = [299, -1] => levels doesn't fit top
+floor = 0 => floor = -701\nlayer = 1 => layer doesn't fit top"#;
+
+#[test]
+fn refuses_other_texts(rt: HostRuntime) -> Result<(), Fail> {
+    let alloc = rt.alloc();
+    each_is_refused(&rt, alloc, EXAMPLE, REFUSED)?;
+    let wide = EXAMPLE.replace(alloc, "[0, 0, 200, 200]", "[0, 0, 131071, 131071]")?;
+    let fine = wide.replace(alloc, "pitch = 100", "pitch = 1")?;
+    assert_eq!(rt;
+        answer(alloc, fine.as_str())?.as_str(),
+        "area doesn't fit pitch"
+    );
+    assert!(rt; matches!(read_job(alloc, &[0xFF]), Err(JobFault::Syntax)));
+    Ok(())
+}
+
+#[test]
+fn takes_64_levels(rt: HostRuntime) -> Result<(), Fail> {
+    let alloc = rt.alloc();
+    let most = format!(in alloc; "{EXAMPLE}levels = [{LADDER}]\n")?;
+    let job = read_job(alloc, most.as_bytes())?;
+    let heights = job.levels.as_slice();
+    assert_eq!(rt; heights.len(), 64);
+    assert_eq!(rt; (heights.first(), heights.last()), (Some(&63), Some(&0)));
+    let more = format!(in alloc; "{EXAMPLE}levels = [64, {LADDER}]\n")?;
+    assert_eq!(rt;
+        answer(alloc, more.as_str())?.as_str(),
+        "levels out of range"
+    );
+    Ok(())
+}
+
+/// FAULTY's first fault, what mends it, and so on: each repair mends the first of those that are left.
+const REPAIRS: &str = r#"unknown depth => depth = 1 => #
+wrong kind of cutter => cutter = 1 => cutter = "cone"
+radius out of range => radius = 0 => radius = 150
+missing rise => floor => rise = 0\nfloor
+rise out of range => rise = 0 => rise = 17
+wrong kind of run => run = "1" => run = 1
+floor out of range => 131072 => 301
+missing clear => area => clear = 200\narea
+area out of range => 9, 131071, 0] => 0, 131071, 131071]
+wrong kind of home => 1.5 => 100
+band out of range => band = -1 => band = 151
+wrong kind of lift => 2.5 => 10000
+rough_stock out of range => 10001 => 10000
+levels out of range => [300, 300] => [300, 1]
+snap out of range => "near" => "nearest"
+max_cut out of range => -9 => 9
+rise doesn't fit run => rise = 17 => rise = 16
+floor doesn't fit top => floor = 301 => floor = -701
+top doesn't fit clear => clear = 200 => clear = 400
+area doesn't fit pitch => 131071, 131071 => 200, 200
+band doesn't fit radius => band = 151 => band = 0
+layer doesn't fit top => floor = -701 => floor = -700
+levels doesn't fit top => [300, 1] => [299, 1]"#;
+
+#[test]
+fn first_fault_decides(rt: HostRuntime) -> Result<(), Fail> {
+    let alloc = rt.alloc();
+    let mut text = FAULTY.to_string(alloc)?;
+    for row in REPAIRS.lines() {
+        let (fault, repair) = row.split_once(" => ").ok_or("a row without =>")?;
+        assert_eq!(rt; answer(alloc, text.as_str())?.as_str(), fault);
+        let repair = format!(in alloc; "{repair} => ")?;
+        text = text_of_row(alloc, text.as_str(), repair.as_str())?.0;
+    }
+    let mut levels = Levels::NONE;
+    levels.push(299);
+    levels.push(1);
+    let want = Job {
+        cutter: Cutter::Cone {
+            radius: 150,
+            rise: 16,
+            run: 1,
+        },
+        floor: -700,
+        pitch: 50,
+        lift: 10000,
+        raster: 50,
+        rough_raster: 50,
+        layer: 1,
+        rough_stock: 10000,
+        levels,
+        max_cut: 9,
+        ..JOB
+    };
+    assert_eq!(rt; read_job(alloc, text.as_bytes())?, want);
+    Ok(())
+}
+
+#[test]
+fn names_keep_their_bytes(rt: HostRuntime) -> Result<(), Fail> {
+    let name = Name::new(String::from_str(rt.alloc(), "depth")?);
+    assert_eq!(rt; name.as_bytes(), b"depth".as_slice());
+    assert_eq!(rt; name.into_bytes().as_slice(), b"depth".as_slice());
+    assert_eq!(rt; Key::Home.name(), "home");
+    Ok(())
+}
+
+/// Of EXAMPLE in thousandths.
+const FINE: &str =
+    r#"clear = 400 => clear = 524287\nlayer = 524287 => unit: Thousandth, cutter: Flat { radius: 150 }, floor: 0, top: 300, clear: 524287
+band = 0 => band = 0\nlayer = 524287 => layer: 524287
+band = 0 => band = 0\nmax_cut = 524287 => max_cut: 524287"#;
+
+const NOT_FINE: &str = r#""thousandth" => "inch" => unit out of range
+"thousandth" => 3 => wrong kind of unit
+clear = 400 => clear = 524288 => clear out of range
+[100, 90] => [-524288, 90] => home out of range
+band = 0 => band = 0\nlayer = 524288 => layer out of range
+band = 0 => band = 0\nlevels = [524288] => levels out of range
+band = 0 => band = 0\nmax_cut = 524288 => max_cut out of range
+unit = "thousandth" => clears = 131072 => unknown clears"#;
+
+#[test]
+fn reads_thousandths(rt: HostRuntime) -> Result<(), Fail> {
+    let alloc = rt.alloc();
+    let fine = format!(in alloc; "{EXAMPLE}unit = \"thousandth\"\n")?;
+    let want = Job {
+        unit: Unit::Thousandth,
+        ..JOB
+    };
+    assert_eq!(rt; read_job(alloc, fine.as_bytes())?, want);
+    each_is_read(&rt, alloc, fine.as_str(), FINE)?;
+    each_is_refused(&rt, alloc, fine.as_str(), NOT_FINE)?;
+    let first = fine.replace(alloc, "\"flat\"", "\"disc\"")?;
+    let both = first.replace(alloc, "\"thousandth\"", "\"inch\"")?;
+    assert_eq!(rt; answer(alloc, both.as_str())?.as_str(), "unit out of range");
+    Ok(())
+}

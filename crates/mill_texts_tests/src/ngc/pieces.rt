@@ -1,0 +1,218 @@
+// Programs in pieces, against the same programs whole.
+ghost use Rattle.std.specs.Prelude.{◌<◌};
+
+use super::HOME;
+use mill_base::{Move, Unit};
+use mill_ngc::{NgcFault, Reader};
+use std::alloc::{AllocError, Global};
+use std::process::Abort;
+use std::test::Fail;
+
+// What a text comes to.
+#[derive(Drop)]
+struct Told {
+    moves: Vec<Move>,
+    fault: Option<NgcFault>,
+}
+
+// Numbers that look like random ones.
+#[derive(Drop)]
+struct Dice {
+    state: u64,
+}
+
+impl Dice {
+    fn roll(&mut self, sides: usize) -> usize
+        requires { 0 < sides }
+        ensures { result < sides }
+    {
+        self.state = self
+            .state
+            .wrapping_mul(6_364_136_223_846_793_005)
+            .wrapping_add(1_442_695_040_888_963_407);
+        (self.state >> 33) as usize % sides
+    }
+}
+
+// Reads a text in two pieces, the first of `cut` bytes.
+fn read_halves(alloc: Global, text: &[u8], cut: usize) -> Told {
+    let mut moves = Vec::new(alloc);
+    let mut reader = Reader::new(HOME, Unit::Hundredth);
+    let (head, tail) = text.split_at(cut.min(text.len()));
+    let first = reader.feed(head, &mut moves).err();
+    let second = reader.feed(tail, &mut moves).err();
+    let last = reader.finish(&mut moves).err();
+    Told {
+        moves,
+        fault: first.or(second).or(last),
+    }
+}
+
+// Reads a text in pieces of at most this many bytes. Each call behind a fault has to answer it
+// again, and to add nothing.
+fn read_pieces<R: Abort>(rt: &R, alloc: Global, text: &[u8], most: usize, dice: &mut Dice) -> Told
+    requires { 0 < most }
+{
+    let mut moves = Vec::new(alloc);
+    let mut reader = Reader::new(HOME, Unit::Hundredth);
+    let mut fault = None;
+    let mut rest = text;
+    while !rest.is_empty() {
+        let count = (1 + dice.roll(most)).min(rest.len());
+        let (piece, more) = rest.split_at(count);
+        let before = moves.len();
+        let told = reader.feed(piece, &mut moves).err();
+        if fault.is_some() {
+            assert_eq!(rt; told, fault);
+            assert_eq!(rt; moves.len(), before);
+        }
+        fault = told;
+        rest = more;
+    }
+    let before = moves.len();
+    let told = reader.finish(&mut moves).err();
+    if fault.is_some() {
+        assert_eq!(rt; told, fault);
+        assert_eq!(rt; moves.len(), before);
+    }
+    Told { moves, fault: told }
+}
+
+// Each cut of a text into two reads the same as the whole.
+fn cuts_agree<R: Abort>(rt: &R, alloc: Global, text: &str, whole: &Told) {
+    for cut in 0..text.len() {
+        let told = read_halves(alloc, text.as_bytes(), cut + 1);
+        let is_same = told.fault == whole.fault && told.moves.as_slice() == whole.moves.as_slice();
+        assert!(rt; is_same, "{text} cut at {cut}");
+    }
+}
+
+// Small programs, how many moves they make, and their fault: each cut into two. `\n`, `\r` and `\t`
+// stand for the byte.
+const PROGRAMS: &str = r"G21 G90\nG1 Z2\nG0 Z4\nM2 => 2 None
+G21 G90\nG1 Z2\nG0 Z4\nM2\n?\n => 2 None
+ \r\n%\r\nG21 G90\n(a\tb) g1 x 1 . 2 5;c\nY1\n% \nG64 => 2 None
+G21 G90 G1 X1\nX2\nX.001\nX3\nM2 => 2 Some(OffGrid { line: 3 })
+G21 G90 G1 X1\n\n %\nM2 => 1 Some(Word { line: 3, fault: BadByte(1) })
+G21 G90\nG1 X1\n => 1 Some(NoEnd { line: 3 })
+G21 G90\nG1 X1 M2 G1 => 0 Some(Group { line: 2, group: 1 })
+ => 0 Some(NoEnd { line: 1 })";
+
+#[test]
+fn every_cut_reads_the_same(rt: HostRuntime) -> Result<(), Fail> {
+    for row in PROGRAMS.lines() {
+        let (text, wanted) = row.split_once(" => ").ok_or("a row without =>")?;
+        let text = with_bytes(rt.alloc(), text)?;
+        let whole = read_halves(rt.alloc(), text.as_bytes(), 0);
+        let told = format!(in rt.alloc(); "{} {:?}", whole.moves.len(), whole.fault)?;
+        assert_eq!(rt; told.as_str(), wanted, "{row}");
+        cuts_agree(&rt, rt.alloc(), &text, &whole);
+    }
+    Ok(())
+}
+
+fn with_bytes(alloc: Global, text: &str) -> Result<String, Fail> {
+    let text = text.replace(alloc, "\\n", "\n")?;
+    let text = text.replace(alloc, "\\r", "\r")?;
+    Ok(text.replace(alloc, "\\t", "\t")?)
+}
+
+// Long lines: the last byte that a line may have, and one more, in each piece.
+#[test]
+fn long_lines_are_cut(rt: HostRuntime) -> Result<(), Fail> {
+    let blanks = "                                                                                ";
+    let most = format!(in rt.alloc(); "{blanks}{blanks}{blanks}G17            \r\nM2")?;
+    let more = format!(in rt.alloc(); "{blanks}{blanks}{blanks}G17            \r\r\nM2")?;
+    let open = format!(in rt.alloc(); "M6\n{blanks}{blanks}{blanks}G17              ")?;
+    for (text, fault) in [
+        (most.as_str(), None),
+        (more.as_str(), Some(NgcFault::LongLine { line: 1 })),
+        (open.as_str(), Some(NgcFault::LongLine { line: 2 })),
+    ] {
+        let whole = read_halves(rt.alloc(), text.as_bytes(), 0);
+        assert_eq!(rt; whole.fault, fault, "{text}");
+        cuts_agree(&rt, rt.alloc(), text, &whole);
+    }
+    Ok(())
+}
+
+// Lines that a program may have behind `G21 G90`, and lines that are a fault behind an axis word.
+const SOUND: [&str; 12] = [
+    "G1 X1.25 Y-3 Z.5",
+    "g0 z 4",
+    "G1Y+10.X-0",
+    "(a; b) G0 X2 ; (c",
+    "N12 G1 X0 Y0 Z0",
+    " \t\r",
+    "",
+    "(nothing)",
+    "M3 S8000 F300",
+    "G17 G40 G49 G54 G61 G94",
+    "G80 M8\nG0 X7",
+    "N9 G1 X1310.71 Y-1310.71 (1234567890 1234567890 1234567890 1234567890 1234567890)",
+];
+
+const FAULTY: [&str; 15] = [
+    "?",
+    "G1 X",
+    "(a (b) G1 X1",
+    "N1.5 X1",
+    "X1234567890123456789",
+    "M9%",
+    "/G1 X1",
+    "G64",
+    "T2",
+    "X1 Y1 G1 G0",
+    "G1 X1 X2",
+    "G80\nX1",
+    "Y.001",
+    "Z1310.72",
+    "G1",
+];
+
+// A program of such lines, most of them sound.
+fn program(alloc: Global, dice: &mut Dice) -> Result<String, AllocError> {
+    let mut text = String::from_str(alloc, "%\nG21 G90\nG0 X0\n")?;
+    let bad = dice.roll(80);
+    for number in 0..dice.roll(60) {
+        let line = if number == bad {
+            FAULTY[dice.roll(FAULTY.len())]
+        } else {
+            SOUND[dice.roll(SOUND.len())]
+        };
+        text.push_str(line)?;
+        text.push('\n')?;
+    }
+    text.push_str("M5\n%\nnot read")?;
+    Ok(text)
+}
+
+// Long programs, in pieces of several sizes.
+#[test]
+fn random_cuts_read_the_same(rt: HostRuntime) -> Result<(), Fail> {
+    let mut dice = Dice { state: 1 };
+    let mut faults = Vec::new(rt.alloc());
+    for _ in 0..60 {
+        let text = program(rt.alloc(), &mut dice)?;
+        let bytes = text.as_bytes();
+        let whole = read_halves(rt.alloc(), bytes, 0);
+        if let Some(fault) = whole.fault {
+            faults.push(fault)?;
+        }
+        for most in [1, 7, 40, 400] {
+            let told = read_pieces(&rt, rt.alloc(), bytes, most, &mut dice);
+            assert_eq!(rt; told.fault, whole.fault, "pieces of {most}");
+            assert_eq!(rt;
+                told.moves.as_slice(),
+                whole.moves.as_slice(),
+                "pieces of {most}"
+            );
+        }
+    }
+    assert!(rt;
+        faults.len() > 9 && faults.len() < 50,
+        "{} faults",
+        faults.len()
+    );
+    Ok(())
+}
