@@ -67,8 +67,8 @@ pub not_stopped : (job : Job) (part : List Tri) (moves : List Move) (kind : Kind
     → FailsStock job part moves kind k j i leaf → ⊥
 not_stopped job part moves kind k j i leaf good fails =
     let passes : PassesPoint job.cutter (move_at moves k) (tested_point job kind (take k moves) j i) =
-        subst (λ (v : Kind). IsTested job v → (a b : ℕ) → IsColumn job a b → PassesPoint job.cutter (move_at moves k) (tested_point job v (take k moves) a b)) fails.is
-        (good k fails.there).stock fails.tested j i fails.column in
+    subst (λ (v : Kind). IsTested job v → (a b : ℕ) → IsColumn job a b → PassesPoint job.cutter (move_at moves k) (tested_point job v (take k moves) a b)) fails.is
+    (good k fails.there).stock fails.tested j i fails.column in
     fails.fails.fails passes
 
 -- good moves are rejected for nothing but stock that is left
