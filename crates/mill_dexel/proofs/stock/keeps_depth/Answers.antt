@@ -1,25 +1,20 @@
-use Rattle.std.proofs.Common.{rules, ◌≡◌, List, [], ◌∷◌, ◌++◌, All, IfOk, IsTrue, false, ℕ, ◌+◌, ◌-◌, ◌*◌, ◌<◌, ◌≤◌, length, ◌/◌, ◌%◌, Bool, true, nat_eq, nat_lt, slice_index_or, slice_set, bit_and, bit_or, Fits, w8, w32, w64, Bor, MutBor}
-use Rattle.mill_base.specs.Ranges.{MoveInRange}
-use Rattle.mill_base.specs.declared.motion.Move.{Move as OneMove}
-use Rattle.mill_base.specs.declared.motion.Kind.TheVariants.{Feed}
-use Rattle.mill_job.specs.Jobs.{IsJob}
-use Rattle.mill_dexel.specs.Rows.{IsRowOf}
-use Rattle.mill_dexel.specs.Stocks.{IsStock}
-use Rattle.mill_dexel.specs.Tops.{ClearsColumns}
+use Rattle.std.proofs.Common.{◌∙◌, ◌<◌, sym, length, arith}
+use Rattle.mill_dexel.proofs.StockLaws.{stock_passed, stock_stops, passed_more, passed_over, none_found, too_deep}
 use Rattle.mill_dexel.proofs.stock.keeps_depth.Goals as goal
 
--- src/stock.rt:39:5
-pub loop-number-init : goal.loop-number-init
-loop-number-init c = ?
-
--- src/stock.rt:41:13
 pub returns-then-is_some-clause-no : goal.returns-then-is_some-clause-no
-returns-then-is_some-clause-no c = ?
+returns-then-is_some-clause-no c = λ no feed done stock.
+    let there : c.loop-number.number < length c.args.rows.now = omega (arith, c.loop-number-test.true, c.min-number-end.ensures) in
+    stock_stops c.args.job.now c.args.step.now done c.args.rows.now c.loop-number.number c.index-rows-number.result stock there c.index-rows-number.is
+    (too_deep c.args.job.now c.args.step.now c.index-rows-number.result c.cut_test.result (sym c.is_some.ensures ∙ c.if-is_some.true) c.cut_test.ensures.tested c.cut_test.ensures.first) feed
 
--- src/stock.rt:39:5
 pub loop-number-preserved : goal.loop-number-preserved
-loop-number-preserved c = ?
+loop-number-preserved c =
+    let there : c.loop-number.number < length c.args.rows.now = omega (arith, c.loop-number-test.true, c.min-number-end.ensures) in
+    passed_more c.args.job.now c.args.step.now c.args.rows.now c.row_reach-reach.result.first c.loop-number.number c.index-rows-number.result there c.index-rows-number.is
+    (c.cut_test.ensures.none (none_found c.cut_test.result (sym c.is_some.ensures ∙ c.if-is_some.false))) c.loop-number.invariant
 
--- src/stock.rt:31:1
 pub returns-clause-yes : goal.returns-clause-yes
-returns-clause-yes c = ?
+returns-clause-yes c = λ yes feed done stock.
+    stock_passed c.args.job.now c.args.step.now done c.args.rows.now c.row_reach-reach.result.first c.row_reach-reach.result.«end» c.loop-number.number c.requires.job.cutter_ok c.requires.step c.row_reach-reach.ensures stock
+    (passed_over (length c.args.rows.now) c.row_reach-reach.result.«end» c.min-number-end.result c.loop-number.number c.min-number-end.ensures c.loop-number-test.false) c.loop-number.invariant feed
