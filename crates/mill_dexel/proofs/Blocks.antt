@@ -9,13 +9,14 @@ use Rattle.mill_base.specs.Points.{point_at, point_tri}
 use Rattle.mill_base.specs.Ranges.{MoveInRange, MovesInRange}
 use Rattle.mill_base.specs.Sizes.{IsCutter, radius_of}
 use Rattle.mill_base.specs.declared.motion.Move.{Move}
+use Rattle.mill_base.specs.declared.motion.Kind.{Kind}
 use Rattle.mill_base.specs.declared.limits.TheConstants.{MAX_LAST_REACH}
 use Rattle.mill_job.specs.declared.job.Job.{Job}
 use Rattle.mill_job.specs.Jobs.{IsJob}
 use Rattle.mill_job.specs.Columns.{column_x, column_y}
 use Rattle.mill_sweep.specs.Halving.{PassesPoint}
 use Rattle.mill_sweep.proofs.Far.{far_passes}
-use Rattle.mill_dexel.specs.Tops.{tops_after_move}
+use Rattle.mill_dexel.specs.Tops.{tested_height, tops_after_move}
 use Rattle.mill_dexel.specs.Rows.{RowState, IsRowOf, PassesRow, top_at, uncut_row}
 use Rattle.mill_dexel.specs.Cuts.{IsBeyond}
 use Rattle.mill_dexel.specs.Turns.{move_at, ClearsRow, StopsRow, tops_after, row_before, TurnsEndAt, IsRunOn, IsTurned, TurnsEndBy, IsRunUpTo, IsTurnedUpTo}
@@ -147,16 +148,16 @@ turns_end job moves limit old new all = by old.failed
     }
     by (Some fail) same = same
 
--- a move that stays far away from a row passes each of its columns, and so its test
-pub far_passes_row : (job : Job) (r : RowState) (m : Move) → IsCutter job.cutter → MoveInRange m → IsBeyond (radius_of job.cutter +ℤ pos MAX_LAST_REACH) m.from.y m.to.y (column_y job r.row) → PassesRow job r m
-far_passes_row job r m size range beyond = λ i within. by (column_x job i) (column_y job r.row) (top_at r.tops i) beyond
+-- a move that stays far away from a row passes each of its columns, at whatever height it is tested, and so its test
+pub far_passes_row : (job : Job) (kind : Kind) (r : RowState) (m : Move) → IsCutter job.cutter → MoveInRange m → IsBeyond (radius_of job.cutter +ℤ pos MAX_LAST_REACH) m.from.y m.to.y (column_y job r.row) → PassesRow job kind r m
+far_passes_row job kind r m size range beyond = λ i within. by (column_x job i) (column_y job r.row) (tested_height job kind (top_at r.tops i)) beyond
   where
     by : (x y z : ℤ) → IsBeyond (radius_of job.cutter +ℤ pos MAX_LAST_REACH) m.from.y m.to.y y → PassesPoint job.cutter m (point_at x y z)
     by x y z (inl h) = far_passes job.cutter m (point_tri (point_at x y z)) size range (inr (inr (inr (record { a_e = h.first; b_e = h.first; c_e = h.first; a_f = h.second; b_f = h.second; c_f = h.second }))))
     by x y z (inr h) = far_passes job.cutter m (point_tri (point_at x y z)) size range (inr (inr (inl (record { a_e = h.first; b_e = h.first; c_e = h.first; a_f = h.second; b_f = h.second; c_f = h.second }))))
 
 far_clears : (job : Job) (r : RowState) (m : Move) → IsCutter job.cutter → MoveInRange m → IsBeyond (radius_of job.cutter +ℤ pos MAX_LAST_REACH) m.from.y m.to.y (column_y job r.row) → ClearsRow job r m
-far_clears job r m size range beyond rapid = far_passes_row job r m size range beyond
+far_clears job r m size range beyond tested = far_passes_row job m.kind r m size range beyond
 
 -- a band that is widened to one move more
 pub band_more : (moves : List Move) (first t : ℕ) (low high low' high' : ℤ) → ((k : ℕ) → first ≤ k → k < t → IsInBand low high (move_at moves k)) → low' ≤ℤ low → high ≤ℤ high' → IsInBand low' high' (move_at moves t)

@@ -1,6 +1,7 @@
 -- The lesser and the greater of two heights.
 use Rattle.std.proofs.Common.{◌≡◌, ◌⊎◌, inl, inr, refl, Bool, true, false, arith}
 use Rattle.std.specs.Prelude.{ℤ, ◌<ℤ◌, ◌≤ℤ◌, cond, int_lt}
+use Rattle.std.specs.Int.{int_max}
 use Rattle.std.proofs.lemmas.Int.{ints}
 use Rattle.mill_base.specs.Numbers.{lesser, greater}
 
@@ -62,3 +63,7 @@ greater_of_less a b h = by (int_lt a b) refl
     by : (t : Bool) → int_lt a b ≡ t → a ≡ cond t b a
     by true e = absurd (omega (arith, ints))
     by false e = refl
+
+-- the same as the code has it
+pub most_is : (a b : ℤ) → int_max a b ≡ greater a b
+most_is a b = grind (arith, ints)

@@ -12,6 +12,7 @@ mod Beyond
 mod LineCerts
 mod Lines
 mod UncutRows
+mod Stops
 pub mod RunLaws
 mod Blocks
 mod BandLists
@@ -23,4 +24,5 @@ mod LastCerts
 mod Ends
 pub mod Cleared
 pub mod Limits
+mod StockLaws
 pub mod Ranges

@@ -48,7 +48,7 @@ mean_of x0 x1 x across = elim (split_lt x0 x1) [
     same : (p q r : ℤ) → p ≤ℤ q → q ≤ℤ r → r ≤ℤ p → p ≡ q
     same p q r h k l = omega (arith, ints)
 
-same_point : {a b c x y z : ℤ} → a ≡ x → b ≡ y → c ≡ z → point_at a b c ≡ point_at x y z
+pub same_point : {a b c x y z : ℤ} → a ≡ x → b ≡ y → c ≡ z → point_at a b c ≡ point_at x y z
 same_point {a} {b} {c} {x} {y} {z} e f g = ap (λ (v : ℤ). point_at v b c) e ∙ ap (λ (v : ℤ). point_at x v c) f ∙ ap (λ (v : ℤ). point_at x y v) g
 
 -- the point of the line over (x, y), over the denominator (a + b) * n

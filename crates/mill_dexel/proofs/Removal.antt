@@ -5,6 +5,7 @@ use Rattle.std.specs.List.{range_with_len}
 use Rattle.std.proofs.lemmas.Int.{ints}
 use Rattle.std.proofs.lemmas.Nat.{pow_pos}
 use Rattle.std.proofs.lemmas.List.Elements.{Contains-append_right}
+use Rattle.mill_base.proofs.Exit.{split_lt}
 use Rattle.mill_base.proofs.Divisions.{half_low, half_high, ceil_div_high}
 use Rattle.mill_base.specs.Numbers.{square, divides, round_half_up}
 use Rattle.mill_base.specs.Points.{point_at}
@@ -19,11 +20,12 @@ use Rattle.mill_base.specs.declared.limits.TheConstants.{MAX_RADIUS}
 use Rattle.mill_shape.proofs.CutHeights.{cut_height_is_greatest, cutter_is_wide}
 use Rattle.mill_sweep.specs.Leaves.{end_of}
 use Rattle.mill_sweep.proofs.Passing.{radius_least}
+use Rattle.mill_sweep.proofs.Lower.{passing_keeps_point}
 use Rattle.mill_job.specs.declared.job.Job.{Job}
 use Rattle.mill_dexel.specs.declared.sample.Placed.{Placed}
 use Rattle.mill_dexel.specs.Samples.{placed, sample_at, split_of, sample_centre, is_at_whole_place}
 use Rattle.mill_dexel.specs.Tops.{top_after_sample, top_after_move}
-use Rattle.mill_dexel.specs.Laws.{OverTopIsRemoved}
+use Rattle.mill_dexel.specs.Laws.{OverTopIsRemoved, PassedIsLeft}
 use Rattle.mill_dexel.proofs.InnerCerts.{nearest_square}
 use Rattle.mill_dexel.proofs.Inner.{inner_holds, no_raise, raise_of, parts_some}
 use Rattle.mill_dexel.proofs.Places.{narrow_sample, sample_cases, inner_is, whole_place}
@@ -167,3 +169,15 @@ over_top_is_removed job moves x y h size in_range stock sample under top =
       | inl before ↦ absurd (omega (arith, ints))
       | inr removed ↦ removed
     ]
+
+-- a move that passes a point of a column, at or under its top, leaves the column up to there: what it takes it would remove
+pub passed_is_left : PassedIsLeft
+passed_is_left job m x y top h size range top_in in_range sample under passes =
+    elim (split_lt (top_after_move job x y top m) h) [
+      | inl lower ↦ no (move_removes job x y top h m size lower)
+      | inr left ↦ left
+    ]
+  where
+    no : (top <ℤ h) ⊎ Removes job.cutter m (pos 1) (point_at x y h) → h ≤ℤ top_after_move job x y top m
+    no (inl before) = absurd (omega (arith, ints))
+    no (inr removes) = absurd (passing_keeps_point job.cutter m x y h h size range in_range passes (omega (arith, ints)) removes)

@@ -176,13 +176,13 @@ same_fail a b p q l = ap (λ (n : ℕ). record { at = n; col = a.col; leaf = a.l
 stop_is_one : (job : Job) (r : RowState) (m : Move) (a b : RowFail) → StopsRow job r m a → StopsRow job r m b → a ≡ b
 stop_is_one job r m a b h g =
     let col : a.col ≡ b.col = same_number a.col b.col (λ less. h.column.fails.fails (g.column.before a.col less)) (λ less. g.column.fails.fails (h.column.before b.col less)) in
-    let fails = subst (λ (i : ℕ). FailsAt job.cutter m (point_tri (row_point job r i)) b.leaf) (sym col) g.column.fails in
-    same_fail a b (h.move ∙ sym g.move) col (leaf_is_one job.cutter m (point_tri (row_point job r a.col)) a.leaf b.leaf h.column.fails fails)
+    let fails = subst (λ (i : ℕ). FailsAt job.cutter m (point_tri (row_point job m.kind r i)) b.leaf) (sym col) g.column.fails in
+    same_fail a b (h.move ∙ sym g.move) col (leaf_is_one job.cutter m (point_tri (row_point job m.kind r a.col)) a.leaf b.leaf h.column.fails fails)
 
 -- a turn that passes isn't the end
 end_passes : (job : Job) (moves : List Move) (r : RowState) (k : ℕ) (failed : Option RowFail) → TurnsEndAt job moves r k failed → PassesTurn job moves r k → ⊥
 end_passes job moves r k None ends passes = let there = passes.there in omega (arith, ends, there)
-end_passes job moves r k (Some fail) ends passes = ends.1.column.fails.fails (passes.clears ends.1.rapid fail.col ends.1.column.column)
+end_passes job moves r k (Some fail) ends passes = ends.1.column.fails.fails (passes.clears ends.1.tested fail.col ends.1.column.column)
 
 end_is_one : (job : Job) (moves : List Move) (r : RowState) (k : ℕ) (a b : Option RowFail) → TurnsEndAt job moves r k a → TurnsEndAt job moves r k b → a ≡ b
 end_is_one job moves r k None None h g = refl

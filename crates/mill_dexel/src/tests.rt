@@ -1,19 +1,22 @@
-ghost use Rattle.std.specs.Prelude.{◌<◌};
+ghost use Rattle.std.specs.Prelude.{◌<◌, pos};
 ghost use Rattle.mill_base.specs.Numbers.{Within};
 ghost use Rattle.mill_base.specs.declared.limits.TheConstants.{MAX_COORDINATE};
-ghost use Rattle.mill_base.specs.Ranges.{MoveInRange};
+ghost use Rattle.mill_base.specs.Ranges.{MoveInRange, MovesInRange};
 ghost use Rattle.mill_base.specs.Sizes.{IsCutter};
 ghost use Rattle.mill_job.specs.Columns.{row_count};
-ghost use Rattle.mill_job.specs.Jobs.{IsJob};
+ghost use Rattle.mill_job.specs.Jobs.{IsFrom, IsJob};
 
+use crate::fail::RowFail;
 use crate::row::Row;
 use mill_base::{Box2, Cutter, Kind, Move, Pt3, Unit, WantOfMemory};
 use mill_decimal::Snap;
 use mill_job::{Job, Levels, Place};
 use mill_sweep::Leaf;
+use std::alloc::Global;
 
-/// One row of three columns at x = 0, 100 and 200, from 0 to 300.
-fn three_columns() -> Job
+/// One row of three columns at x = 0, 100 and 200, from 0 to 300, with this limit on the depth of cut.
+fn three_columns(max_cut: i32) -> Job
+    requires { IsFrom (pos 0) (pos 500) max_cut }
     ensures job { IsJob result }
     ensures row { 0 < row_count result }
 {
@@ -41,7 +44,7 @@ fn three_columns() -> Job
         rough_stock: 0,
         levels: Levels::NONE,
         snap: Snap::Nearest,
-        max_cut: 0,
+        max_cut,
     }
 }
 
@@ -60,7 +63,7 @@ fn plunge(kind: Kind, x: i32, z: i32) -> Move
 
 #[test]
 fn cuts_and_stops(rt: HostRuntime) -> Result<(), WantOfMemory> {
-    let job = three_columns();
+    let job = three_columns(0);
     let mut row = Row::new(rt.alloc(), &job, 0)?;
     assert_eq!(rt; row.tops(), [300, 300, 300].as_slice());
     row.cut_turn(&job, &plunge(Kind::Feed, 0, 200));
@@ -81,13 +84,123 @@ fn cuts_and_stops(rt: HostRuntime) -> Result<(), WantOfMemory> {
 
 #[test]
 fn cuts_down_to_the_floor(rt: HostRuntime) -> Result<(), WantOfMemory> {
-    let job = three_columns();
+    let job = three_columns(0);
     let mut row = Row::new(rt.alloc(), &job, 0)?;
     row.cut_turn(&job, &plunge(Kind::Feed, 350, 0));
     assert_eq!(rt; row.tops(), [300, 300, 300].as_slice());
     row.cut_turn(&job, &plunge(Kind::Feed, 200, -5));
     assert_eq!(rt; row.tops(), [300, 0, 0].as_slice());
     Ok(())
+}
+
+/// Where a feed straight down to (x, 0, z) cuts the uncut row too deep, with this limit on the depth of cut.
+fn too_deep(
+    alloc: Global,
+    max_cut: i32,
+    x: i32,
+    z: i32,
+) -> Result<Option<(u32, Leaf)>, WantOfMemory>
+    requires max_cut { IsFrom (pos 0) (pos 500) max_cut }
+    requires x_ok { Within MAX_COORDINATE x }
+    requires z_ok { Within MAX_COORDINATE z }
+{
+    let job = three_columns(max_cut);
+    let row = Row::new(alloc, &job, 0)?;
+    Ok(row.cut_test(&job, &plunge(Kind::Feed, x, z)))
+}
+
+// A feed may go down by the limit, and to the floor where the limit is greater than what is left.
+#[test]
+fn feeds_too_deep(rt: HostRuntime) -> Result<(), WantOfMemory> {
+    let alloc = rt.alloc();
+    let leaf = Leaf { d: 8, k: 254 };
+    assert_eq!(rt; too_deep(alloc, 0, 0, 0)?, None);
+    assert_eq!(rt; too_deep(alloc, 50, 0, 250)?, None);
+    assert_eq!(rt; too_deep(alloc, 50, 0, 249)?, Some((0, leaf)));
+    assert_eq!(rt; too_deep(alloc, 50, 200, 249)?, Some((1, leaf)));
+    assert_eq!(rt; too_deep(alloc, 50, 350, 0)?, None);
+    let last = Leaf { d: 9, k: 510 };
+    assert_eq!(rt; too_deep(alloc, 300, 0, 0)?, None);
+    assert_eq!(rt; too_deep(alloc, 300, 0, -1)?, Some((0, last)));
+    assert_eq!(rt; too_deep(alloc, 400, 0, 0)?, None);
+    assert_eq!(rt; too_deep(alloc, 400, 0, -1)?, Some((0, last)));
+    Ok(())
+}
+
+/// Where the uncut row stops a move straight down to (0, 0, z), with this limit on the depth of cut.
+fn stop(alloc: Global, max_cut: i32, kind: Kind, z: i32) -> Result<Option<RowFail>, WantOfMemory>
+    requires max_cut { IsFrom (pos 0) (pos 500) max_cut }
+    requires z_ok { Within MAX_COORDINATE z }
+{
+    let job = three_columns(max_cut);
+    let mut row = Row::new(alloc, &job, 0)?;
+    row.turn(&job, &alone(plunge(kind, 0, z)), 0);
+    Ok(row.failed())
+}
+
+/// A program of one move.
+fn alone(step: Move) -> [Move; 1]
+    requires { MoveInRange step }
+    ensures { MovesInRange result }
+{
+    [step]
+}
+
+/// The first move fails at the first column, in this segment.
+fn at_first(leaf: Leaf) -> Option<RowFail> {
+    Some(RowFail {
+        at: 0,
+        col: 0,
+        leaf,
+    })
+}
+
+// The limit is for feeds: a rapid stops at the top, with a limit and without one.
+#[test]
+fn turns_with_a_limit(rt: HostRuntime) -> Result<(), WantOfMemory> {
+    let alloc = rt.alloc();
+    assert_eq!(rt; stop(alloc, 0, Kind::Feed, 0)?, None);
+    assert_eq!(rt; stop(alloc, 50, Kind::Feed, 250)?, None);
+    let leaf = Leaf { d: 8, k: 254 };
+    assert_eq!(rt; stop(alloc, 50, Kind::Feed, 249)?, at_first(leaf));
+    let leaf = Leaf { d: 7, k: 126 };
+    assert_eq!(rt; stop(alloc, 0, Kind::Rapid, 300)?, None);
+    assert_eq!(rt; stop(alloc, 0, Kind::Rapid, 299)?, at_first(leaf));
+    assert_eq!(rt; stop(alloc, 50, Kind::Rapid, 300)?, None);
+    assert_eq!(rt; stop(alloc, 50, Kind::Rapid, 299)?, at_first(leaf));
+    Ok(())
+}
+
+// Each cut of 50 is as deep as may be, since what the ones before it cut is no more there. Then one of 51
+// is stopped, and cuts nothing.
+#[test]
+fn cuts_step_by_step(rt: HostRuntime) -> Result<(), WantOfMemory> {
+    let job = three_columns(50);
+    let mut row = Row::new(rt.alloc(), &job, 0)?;
+    let moves = steps();
+    assert!(rt; row.turn(&job, &moves, 0));
+    assert!(rt; row.turn(&job, &moves, 1));
+    assert_eq!(rt; row.tops(), [200, 200, 300].as_slice());
+    assert!(rt; !row.turn(&job, &moves, 2));
+    assert_eq!(rt; row.tops(), [200, 200, 300].as_slice());
+    let stop = RowFail {
+        at: 2,
+        col: 0,
+        leaf: Leaf { d: 8, k: 254 },
+    };
+    assert_eq!(rt; row.failed(), Some(stop));
+    Ok(())
+}
+
+/// Cuts to 250 and to 200, and one to 149.
+fn steps() -> [Move; 3]
+    ensures { MovesInRange result }
+{
+    [
+        plunge(Kind::Feed, 0, 250),
+        plunge(Kind::Feed, 0, 200),
+        plunge(Kind::Feed, 0, 149),
+    ]
 }
 
 /// One row of 41 columns, 5 apart, from 0 to 300, sampled at least every 50.

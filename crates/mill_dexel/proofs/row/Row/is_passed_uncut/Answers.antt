@@ -16,18 +16,18 @@ use Rattle.mill_dexel.proofs.row.Row.is_passed_uncut.Goals as goal
 
 pub returns-then-is_apart : goal.returns-then-is_apart
 returns-then-is_apart c = λ passed.
-    far_passes_row c.args.job.now c.args.self.now c.args.step.now c.requires.job.cutter_ok c.requires.step
+    far_passes_row c.args.job.now c.args.kind c.args.self.now c.args.step.now c.requires.job.cutter_ok c.requires.step
     (subst (λ (r : RowState). IsBeyond (radius_of c.args.job.now.cutter +ℤ pos MAX_LAST_REACH) c.args.step.now.from.y c.args.step.now.to.y (column_y c.args.job.now r.row)) c.self.view_is
     (beyond_same _ _ _ _ (radius_of c.args.job.now.cutter +ℤ pos MAX_LAST_REACH) c.args.step.now.from.y c.args.step.now.to.y (column_y c.args.job.now c.self.inside.number)
     (omega (arith, ints)) (omega (arith, ints)) (omega (arith, ints)) (omega (arith, ints)) (c.is_apart.ensures c.if-is_apart.true)))
 
 pub passes_tri-requires-clause-tri_ok : goal.passes_tri-requires-clause-tri_ok
 passes_tri-requires-clause-tri_ok c =
-    let row_is = c.uncut_triangle.ensures ∙ ap (λ (r : RowState). uncut_tri c.args.job.now r.row) c.self.view_is in
-    subst (λ (t : Tri). TriInRange t) (sym row_is) (uncut_in_range c.args.job.now c.args.self.now.row c.requires.job c.requires.row.there)
+    let row_is = c.uncut_triangle.ensures ∙ ap (λ (r : RowState). uncut_tri c.args.job.now c.args.kind r.row) c.self.view_is in
+    subst (λ (t : Tri). TriInRange t) (sym row_is) (uncut_in_range c.args.job.now c.args.kind c.args.self.now.row c.requires.job c.requires.row.there)
 
 pub returns : goal.returns
 returns c = λ passed.
-    let row_is = c.uncut_triangle.ensures ∙ ap (λ (r : RowState). uncut_tri c.args.job.now r.row) c.self.view_is in
-    uncut_passes c.args.job.now c.args.self.now c.args.step.now c.requires.job c.requires.row
+    let row_is = c.uncut_triangle.ensures ∙ ap (λ (r : RowState). uncut_tri c.args.job.now c.args.kind r.row) c.self.view_is in
+    uncut_passes c.args.job.now c.args.kind c.args.self.now c.args.step.now c.requires.job c.requires.row
     (subst (λ (t : Tri). Passes c.args.job.now.cutter c.args.step.now t) row_is (c.passes_tri.ensures.yes passed))
