@@ -17,7 +17,7 @@ use Rattle.mill_dexel.proofs.TopLaws.{top_after_stays}
 use Rattle.mill_verify.proofs.Ranges.{stock_within}
 use Rattle.mill_verify.specs.Tests.{ClearsStock, PassesColumn}
 
--- the greater of a number and a depth under a top that is no lower
+-- the greater of two numbers is at least each
 greater_left : (a b : ℤ) → a ≤ℤ greater a b
 greater_left a b = by (int_lt a b) refl
   where
@@ -32,6 +32,7 @@ greater_right a b = by (int_lt a b) refl
     by true e = omega (arith, ints)
     by false e = omega (e, arith, ints)
 
+-- neither the floor nor what lies some depth under the top is over the top
 greater_under : (floor top depth : ℤ) → floor ≤ℤ top → (pos 0) ≤ℤ depth → greater floor (top -ℤ depth) ≤ℤ top
 greater_under floor top depth order least = by (int_lt floor (top -ℤ depth))
   where
@@ -39,6 +40,7 @@ greater_under floor top depth order least = by (int_lt floor (top -ℤ depth))
     by true = omega (least, arith, ints)
     by false = order
 
+-- a move is tested from the floor to the top, and no deeper under the top than the limit, if there is one
 tested_low : (job : Job) (kind : Kind) (top : ℤ) → job.floor ≤ℤ top → job.floor ≤ℤ tested_height job kind top
 tested_low job Rapid top order = order
 tested_low job Feed top order = greater_left job.floor (top -ℤ job.max_cut)

@@ -287,28 +287,50 @@ fn names_the_part_before_the_stock(rt: HostRuntime) {
     }
 }
 
-// A feed down to the plate cuts exactly 100 deep. Where the plate stops it too, that comes first, and a rapid
-// may cut nothing, whatever the depth of a feed.
+// A feed down to the plate cuts exactly 100 deep.
 #[test]
 fn names_the_leaf_of_a_feed_that_cuts_too_deep(rt: HostRuntime) {
     let alloc = rt.alloc();
+    let as_deep = limited_job(100);
+    let less_deep = limited_job(99);
     let part = plate(alloc, 200).unwrap_or_else(|_| panic!(rt; "want of memory"));
+    let moves = down_and_up(Kind::Feed, 200);
     let accept = Verdict::Accept {
         moves: 2,
         columns: 9,
         most_left: 0,
     };
-    let leaf = Leaf { d: 8, k: 254 };
     let cut = Verdict::Reject(Reason::Cut {
         at: 0,
         row: 0,
         col: 0,
-        leaf,
+        leaf: Leaf { d: 8, k: 254 },
     });
+    for workers in [1, 4, 64] {
+        assert_eq!(rt;
+            verify(&rt, alloc, &as_deep, &part, &moves, workers),
+            Ok(accept),
+            "by {workers}"
+        );
+        assert_eq!(rt;
+            verify(&rt, alloc, &less_deep, &part, &moves, workers),
+            Ok(cut),
+            "by {workers}"
+        );
+    }
+}
+
+// Down to 199 as a feed that cuts too deep, the plate comes first. A rapid may cut nothing, however deep a
+// feed may.
+#[test]
+fn names_the_part_before_a_cut_and_any_cut_of_a_rapid(rt: HostRuntime) {
+    let alloc = rt.alloc();
+    let job = limited_job(99);
+    let part = plate(alloc, 200).unwrap_or_else(|_| panic!(rt; "want of memory"));
     let gouge = Verdict::Reject(Reason::Gouge {
         at: 0,
         tri: 0,
-        leaf,
+        leaf: Leaf { d: 8, k: 254 },
     });
     let rapid = Verdict::Reject(Reason::Rapid {
         at: 0,
@@ -317,18 +339,12 @@ fn names_the_leaf_of_a_feed_that_cuts_too_deep(rt: HostRuntime) {
         leaf: Leaf { d: 7, k: 126 },
     });
     for workers in [1, 4, 64] {
-        for (max_cut, kind, height, want) in [
-            (100, Kind::Feed, 200, accept),
-            (99, Kind::Feed, 200, cut),
-            (99, Kind::Feed, 199, gouge),
-            (99, Kind::Rapid, 299, rapid),
-        ] {
-            let job = limited_job(max_cut);
+        for (kind, height, want) in [(Kind::Feed, 199, gouge), (Kind::Rapid, 299, rapid)] {
             let moves = down_and_up(kind, height);
             assert_eq!(rt;
                 verify(&rt, alloc, &job, &part, &moves, workers),
                 Ok(want),
-                "by {workers} at {height}, by at most {max_cut}"
+                "by {workers} at {height}"
             );
         }
     }
@@ -369,6 +385,8 @@ fn down_in_two_and_up() -> [Move; 3]
 #[test]
 fn measures_a_cut_from_what_is_left(rt: HostRuntime) {
     let alloc = rt.alloc();
+    let as_deep = limited_job(60);
+    let less_deep = limited_job(50);
     let part = plate(alloc, 200).unwrap_or_else(|_| panic!(rt; "want of memory"));
     let moves = down_in_two_and_up();
     let accept = Verdict::Accept {
@@ -382,14 +400,8 @@ fn measures_a_cut_from_what_is_left(rt: HostRuntime) {
         col: 0,
         leaf: Leaf { d: 6, k: 53 },
     });
-    for (max_cut, want) in [(60, accept), (50, cut)] {
-        let job = limited_job(max_cut);
-        assert_eq!(rt;
-            verify(&rt, alloc, &job, &part, &moves, 2),
-            Ok(want),
-            "by at most {max_cut}"
-        );
-    }
+    assert_eq!(rt; verify(&rt, alloc, &as_deep, &part, &moves, 2), Ok(accept));
+    assert_eq!(rt; verify(&rt, alloc, &less_deep, &part, &moves, 2), Ok(cut));
 }
 
 /// In the middle at 200, and at 199 under the plate in these two turns.
