@@ -30,6 +30,7 @@ use Rattle.mill_paths.specs.Links.{at_height, feed_to, rapid_to, is_over_place, 
 use Rattle.mill_paths.specs.Tours.{AreLinks, last_place}
 use Rattle.mill_paths.specs.Safety.{IsSafeMove, AreSafe, Connect, IsFreePlace, IsEndOf, IsReached, GoSafely, LinkIsSafe, TourIsSafe, WayHomeIsSafe}
 use Rattle.mill_paths.specs.declared.visit.Visit.{Visit}
+use Rattle.mill_paths.proofs.Kept.{between}
 use Rattle.mill_paths.proofs.Pecks.{Fit, pecks_connect, pecks_end, pecks_fit}
 use Rattle.mill_paths.proofs.Points.{same_pair}
 
@@ -47,9 +48,6 @@ feed_is_no_rapid e = cc
 
 rapid_is_no_feed : Rapid ≡ Feed → ⊥
 rapid_is_no_feed e = cc
-
-between : (m : ℕ) (a b z : ℤ) → Within m a → Within m b → a ≤ℤ z → z ≤ℤ b → Within m z
-between m a b z a_ok b_ok low high = let p = a_ok.within in let q = b_ok.within in record { within = omega (p, q, low, high, arith, ints) }
 
 lowered : (z depth : ℤ) → (pos 0) ≤ℤ depth → (z -ℤ depth) ≤ℤ z
 lowered z depth least = omega (least, arith, ints)
@@ -259,10 +257,11 @@ module _ (job : Job) (part : List Tri) (ok : IsJob job) (under : IsUnder part jo
       → (z ≡ job.top) ⊎ IsEndOf done (at_height at z) → AreSafe job part done (pecks n job.max_cut at z)
   pecks_safe zero done at z free high fit start = (peck_safe done at z at.z free (at_most_itself at.z) fit.0 high fit.1 start, tt)
   pecks_safe (suc n) done at z free high fit start =
-      let down : (z -ℤ job.max_cut) ≤ℤ z = lowered z job.max_cut ok.max_cut_ok.low in
-      (peck_safe done at z (z -ℤ job.max_cut) free fit.0 down high (λ limited. regains z job.max_cut) start,
-      pecks_safe n _ at (z -ℤ job.max_cut) free (through _ _ _ down high) fit.1
-      (inr (last_of done [] (feed_to (at_height at z) (at_height at (z -ℤ job.max_cut))))))
+      let down : (z -ℤ job.max_cut) ≤ℤ z = lowered z job.max_cut ok.max_cut_ok.low in (
+        peck_safe done at z (z -ℤ job.max_cut) free fit.0 down high (λ limited. regains z job.max_cut) start,
+        pecks_safe n _ at (z -ℤ job.max_cut) free (through _ _ _ down high) fit.1
+            (inr (last_of done [] (feed_to (at_height at z) (at_height at (z -ℤ job.max_cut))))),
+      )
 
   plunge_safe : (done : List Move) (at : Pt3) → IsFreePlace job part at → AreSafe job part done (plunge job at)
   plunge_safe done at free =

@@ -1,5 +1,9 @@
 mod Rows
 mod Pecks
+mod Plunging
+mod Ranged
+mod Straight
+mod Joining
 pub mod Going
 mod Points
 pub mod Changes

@@ -1,6 +1,6 @@
 -- Feeds straight down by pecks: how many they are, how deep each goes, and that they lead on from each other.
-use Rattle.std.specs.Prelude.{◌≡◌, ℕ, zero, suc, ◌+◌, ◌-◌, ◌*◌, ◌/◌, ◌<◌, ◌≤◌, Bool, true, false, ◌&&◌, if◌then◌else◌, ℤ, pos, ◌+ℤ◌, ◌-ℤ◌, ◌<ℤ◌, ◌≤ℤ◌, nat_abs, int_lt, List, [], ◌∷◌, Contains}
-use Rattle.std.proofs.Common.{refl, sym, subst, arith}
+use Rattle.std.specs.Prelude.{◌≡◌, ◌⊎◌, ℕ, zero, suc, ◌+◌, ◌-◌, ◌*◌, ◌/◌, ◌<◌, ◌≤◌, Bool, true, false, ◌&&◌, if◌then◌else◌, ℤ, pos, ◌+ℤ◌, ◌-ℤ◌, ◌<ℤ◌, ◌≤ℤ◌, nat_abs, int_lt, List, [], ◌∷◌, Contains}
+use Rattle.std.proofs.Common.{inl, inr, refl, sym, subst, arith}
 use Rattle.std.proofs.Math.Nat.{div-mul-le_self, lt-div-mul-add, suc-mul}
 use Rattle.std.proofs.lemmas.Int.{ints}
 use Rattle.std.proofs.lemmas.List.Elements.{Contains-append_right}
@@ -25,9 +25,11 @@ fit_so zero d h z low e some all = (over z low h e, λ limited. under z low h d 
     under : (z low : ℤ) (h d : ℕ) → z ≡ low +ℤ pos h → h ≤ 0 * d + d → z ≤ℤ (low +ℤ pos d)
     under z low h d e few = omega (e, few, arith, ints)
 fit_so (suc n) d h z low e some all =
-    let fits : n * d + d ≤ h = subst (λ m. m ≤ h) (suc-mul n d) some in
-    (over z low h d (n * d) e fits, fit_so n d (h - d) (z -ℤ pos d) low (lower z low h d (n * d) e fits) (fewer h d (n * d) fits)
-    (λ limited. less h d (n * d) fits (subst (λ m. h ≤ m + d) (suc-mul n d) (all limited))))
+    let fits : n * d + d ≤ h = subst (λ m. m ≤ h) (suc-mul n d) some in (
+      over z low h d (n * d) e fits,
+      fit_so n d (h - d) (z -ℤ pos d) low (lower z low h d (n * d) e fits) (fewer h d (n * d) fits)
+          (λ limited. less h d (n * d) fits (subst (λ m. h ≤ m + d) (suc-mul n d) (all limited))),
+    )
   where
     over : (z low : ℤ) (h d rest : ℕ) → z ≡ low +ℤ pos h → rest + d ≤ h → low ≤ℤ (z -ℤ pos d)
     over z low h d rest e fits = omega (e, fits, arith, ints)
@@ -90,3 +92,26 @@ pecks_end (suc n) depth at z =
       member = Contains-append_right (feed_to (at_height at z) (at_height at (z -ℤ depth)) ∷ []) (pecks n depth at (z -ℤ depth)) end.move end.member;
       here = end.here;
     }
+
+-- where the depth isn't limited there are none, nor where the place isn't under the start
+pub no_pecks : (depth height : ℤ) → (depth ≡ pos 0) ⊎ (height ≤ℤ pos 0) → peck_count depth height ≡ 0
+no_pecks depth height none = by (int_lt (pos 0) depth && int_lt (pos 0) height) refl
+  where
+    clash : (a b : ℤ) → (int_lt (pos 0) a && int_lt (pos 0) b) ≡ true → (a ≡ pos 0) ⊎ (b ≤ℤ pos 0) → ⊥
+    clash a b e (inl h) = grind (e, h, arith, ints)
+    clash a b e (inr h) = grind (e, h, arith, ints)
+
+    by : (t : Bool) → (int_lt (pos 0) depth && int_lt (pos 0) height) ≡ t → (if t then (nat_abs height - 1) / nat_abs depth else 0) ≡ 0
+    by true e = absurd (clash depth height e none)
+    by false e = refl
+
+pub some_pecks : (depth height : ℤ) → (pos 0) <ℤ depth → (pos 0) <ℤ height → peck_count depth height ≡ (nat_abs height - 1) / nat_abs depth
+some_pecks depth height limited under = by (int_lt (pos 0) depth && int_lt (pos 0) height) refl
+  where
+    clash : (a b : ℤ) → (int_lt (pos 0) a && int_lt (pos 0) b) ≡ false → (pos 0) <ℤ a → (pos 0) <ℤ b → ⊥
+    clash a b e p q = grind (e, p, q, arith, ints)
+
+    by : (t : Bool) → (int_lt (pos 0) depth && int_lt (pos 0) height) ≡ t
+        → (if t then (nat_abs height - 1) / nat_abs depth else 0) ≡ (nat_abs height - 1) / nat_abs depth
+    by true e = refl
+    by false e = absurd (clash depth height e limited under)

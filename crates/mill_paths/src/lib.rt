@@ -2,12 +2,12 @@
 //!
 //! It stands on the job (mill_job), on the drop heights over a lattice (mill_drop) and on the waterlines
 //! at heights (mill_level), and the links between the places on `mill_gouge`, which tries one move
-//! against the part. `specs/Lattices` says
-//! which lattices the paths go over and in which order, `specs/Visits` which places they come to, and
-//! how high, `specs/Limits` how many they may be, `specs/Links` which moves link one place to the
-//! next, and `specs/Tours` which moves make a plan. `specs/Safety` says what each of these moves
-//! keeps, and `specs/Unique` that a job and a part have one plan at most; `specs/Paths` serves the
-//! functions within.
+//! against the part, and on `mill_dexel`, whose rows are the stock that the moves so far leave.
+//! `specs/Lattices` says which lattices the paths go over and in which order, `specs/Visits` which
+//! places they come to, and how high, `specs/Limits` how many they may be, `specs/Links` which moves
+//! link one place to the next, and `specs/Tours` which moves make a plan. `specs/Safety` says what
+//! each of these moves keeps, and `specs/Unique` that a job and a part have one plan at most; what
+//! lies in `specs/inner` serves the functions within.
 #![tactic(auto)]
 
 mod fault;

@@ -1,8 +1,8 @@
 ghost use Rattle.mill_paths.specs.Safety.{LinkIsSafe, TourIsSafe, WayHomeIsSafe};
 
 /// From where the cutter is, a link to a free place goes there safely: its moves lead on from each
-/// other, stay in the unit's range and over the floor, and pass the part, and its rapids pass every
-/// column.
+/// other, stay in the unit's range and over the floor, and pass the part, its rapids pass every
+/// column, and its feeds cut none deeper than the job allows.
 pub fn link_is_safe()
     ensures { LinkIsSafe }
 {}

@@ -6,7 +6,7 @@ use crate::test_shape::{Shape, at, shape_of};
 use crate::{Visit, home, link};
 use mill_base::{Box2, Cutter, Kind, Move, Pt3, Tri, Unit};
 use mill_decimal::Snap;
-use mill_dexel::{Row, uncut_rows};
+use mill_dexel::uncut_rows;
 use mill_job::{Job, Levels, Place};
 use std::test::Fail;
 
@@ -96,8 +96,24 @@ fn near_visits_are_fed_to(rt: HostRuntime) -> Result<(), Fail> {
     let job = job(0);
     let to = visit(-200, 0, 100);
     let mut out = Vec::new(rt.alloc());
-    link(&job, &shape.part, &shape.cells, &mut [], job.home(), to, &mut out)?;
-    link(&job, &shape.part, &shape.cells, &mut [], to.at, to, &mut out)?;
+    link(
+        &job,
+        &shape.part,
+        &shape.cells,
+        &mut [],
+        job.home(),
+        to,
+        &mut out,
+    )?;
+    link(
+        &job,
+        &shape.part,
+        &shape.cells,
+        &mut [],
+        to.at,
+        to,
+        &mut out,
+    )?;
     assert_eq!(rt;
         out.as_slice(),
         [feed(at(-300, 0, 500), at(-200, 0, 200))].as_slice()
@@ -115,7 +131,15 @@ fn others_are_gone_round_to(rt: HostRuntime) -> Result<(), Fail> {
         let from = visit(-200, y, step);
         let to = visit(200, y, step);
         let mut out = Vec::new(rt.alloc());
-        link(&job, &shape.part, &shape.cells, &mut [], from.at, to, &mut out)?;
+        link(
+            &job,
+            &shape.part,
+            &shape.cells,
+            &mut [],
+            from.at,
+            to,
+            &mut out,
+        )?;
         let want = [
             rapid(from.at, at(-200, y, 500)),
             rapid(at(-200, y, 500), at(200, y, 500)),
@@ -127,19 +151,80 @@ fn others_are_gone_round_to(rt: HostRuntime) -> Result<(), Fail> {
     Ok(())
 }
 
-// Without a limit the cutter would feed straight to the visit, which is near.
+/// A feed straight down over (200, 0).
+fn peck(from: i16, to: i16) -> Move {
+    feed(at(200, 0, from), at(200, 0, to))
+}
+
 #[test]
 fn goes_down_by_pecks(rt: HostRuntime) -> Result<(), Fail> {
     let shape = one_post(&rt)?;
-    let to = visit(-200, 0, 100);
-    let place = |z| at(-200, 0, z);
-    for (max_cut, ends) in [(50, [350, 300, 250].as_slice()), (150, [250].as_slice())] {
+    let four = [
+        peck(400, 350),
+        peck(350, 300),
+        peck(300, 250),
+        peck(250, 200),
+    ];
+    let two = [peck(400, 250), peck(250, 200)];
+    for (max_cut, feeds) in [(50, four.as_slice()), (150, two.as_slice())] {
         let job = job(max_cut);
         let mut rows = uncut_rows(rt.alloc(), &job)?;
+        let to = visit(200, 0, 100);
         let mut out = Vec::new(rt.alloc());
-        link(&job, &shape.part, &shape.cells, &mut rows, job.home(), to, &mut out)?;
-        assert_eq!(rt; out.len(), 3 + ends.len());
+        link(
+            &job,
+            &shape.part,
+            &shape.cells,
+            &mut rows,
+            job.home(),
+            to,
+            &mut out,
+        )?;
+        assert_eq!(rt; out.len(), 2 + feeds.len());
+        assert!(rt; out.ends_with(feeds), "at {max_cut}");
     }
+    Ok(())
+}
+
+// Straight to the first visit, which is near, the cutter would cut 200 deep, so it goes round. The stock
+// is lowered there then, and to the second visit, 50 under the first, it may feed straight.
+#[test]
+fn feeds_no_deeper_than_the_limit(rt: HostRuntime) -> Result<(), Fail> {
+    let shape = one_post(&rt)?;
+    let job = job(50);
+    let mut rows = uncut_rows(rt.alloc(), &job)?;
+    let mut out = Vec::new(rt.alloc());
+    let first = visit(-200, 0, 100);
+    link(
+        &job,
+        &shape.part,
+        &shape.cells,
+        &mut rows,
+        job.home(),
+        first,
+        &mut out,
+    )?;
+    assert_eq!(rt; out.len(), 6);
+    let second = Visit {
+        at: at(-200, 0, 150),
+        step: 100,
+    };
+    link(
+        &job,
+        &shape.part,
+        &shape.cells,
+        &mut rows,
+        first.at,
+        second,
+        &mut out,
+    )?;
+    assert_eq!(rt; out.len(), 7);
+    assert_eq!(rt; out.last(), Some(&feed(first.at, second.at)));
+    let middle = rows.get(3).expect(&rt, "there are seven rows");
+    assert_eq!(rt;
+        middle.tops(),
+        [400, 150, 400, 400, 400, 400, 400].as_slice()
+    );
     Ok(())
 }
 
