@@ -24,4 +24,5 @@ mod LastCerts
 mod Ends
 pub mod Cleared
 pub mod Limits
+mod StockLaws
 pub mod Ranges

@@ -29,7 +29,9 @@ mod turns;
 
 pub use bands::Bands;
 pub use fail::RowFail;
-pub use laws::{cut_at_end, over_top_is_removed, passed_is_left, passes_after_cut};
+pub use laws::{
+    cut_at_end, over_top_is_removed, passed_is_left, passes_after_cut, passes_limit_after_cut,
+};
 pub use row::Row;
 pub use rows::{rows_static, share};
 pub use stock::{cut_rows, keeps_depth, uncut_rows};

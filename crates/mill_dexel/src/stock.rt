@@ -7,6 +7,7 @@ ghost use Rattle.mill_dexel.specs.Rows.{IsRowOf};
 ghost use Rattle.mill_dexel.specs.Stocks.{IsStock};
 ghost use Rattle.mill_dexel.specs.Tops.{ClearsColumns};
 
+use crate::reach::row_reach;
 use crate::row::Row;
 use mill_base::{Move, WantOfMemory};
 use mill_job::Job;
@@ -34,8 +35,9 @@ pub fn keeps_depth(job: &Job, rows: &[Row], step: &Move) -> bool
     ensures yes { IsTrue result → step.now.kind ≡ Feed → (done : List OneMove) → IsStock job.now done rows.now → ClearsColumns job.now done step.now }
     ensures no { result ≡ false → step.now.kind ≡ Feed → (done : List OneMove) → IsStock job.now done rows.now → ¬ ClearsColumns job.now done step.now }
 {
-    for row in rows {
-        if row.cut_test(job, step).is_some() {
+    let reach = row_reach(job, step.from, step.to);
+    for number in reach.first as usize..rows.len().min(reach.end as usize) {
+        if rows[number].cut_test(job, step).is_some() {
             return false;
         }
     }
@@ -50,7 +52,8 @@ pub fn cut_rows(job: &Job, rows: &mut [Row], step: &Move)
     ensures stock { (done : List OneMove) → IsStock job.now done rows.old → IsStock job.now (done ++ step.now ∷ []) rows.new }
     ensures rows_ok { All (IsRowOf job.now) rows.new }
 {
-    for row in rows.iter_mut() {
-        row.cut_turn(job, step);
+    let reach = row_reach(job, step.from, step.to);
+    for number in reach.first as usize..rows.len().min(reach.end as usize) {
+        rows[number].cut_turn(job, step);
     }
 }

@@ -1,19 +1,21 @@
-ghost use Rattle.std.specs.Prelude.{◌<◌};
+ghost use Rattle.std.specs.Prelude.{◌<◌, pos};
 ghost use Rattle.mill_base.specs.Numbers.{Within};
 ghost use Rattle.mill_base.specs.declared.limits.TheConstants.{MAX_COORDINATE};
-ghost use Rattle.mill_base.specs.Ranges.{MoveInRange};
+ghost use Rattle.mill_base.specs.Ranges.{MoveInRange, MovesInRange};
 ghost use Rattle.mill_base.specs.Sizes.{IsCutter};
 ghost use Rattle.mill_job.specs.Columns.{row_count};
-ghost use Rattle.mill_job.specs.Jobs.{IsJob};
+ghost use Rattle.mill_job.specs.Jobs.{IsFrom, IsJob};
 
+use crate::fail::RowFail;
 use crate::row::Row;
 use mill_base::{Box2, Cutter, Kind, Move, Pt3, Unit, WantOfMemory};
 use mill_decimal::Snap;
 use mill_job::{Job, Levels, Place};
 use mill_sweep::Leaf;
 
-/// One row of three columns at x = 0, 100 and 200, from 0 to 300.
-fn three_columns() -> Job
+/// One row of three columns at x = 0, 100 and 200, from 0 to 300, with this limit on the depth of cut.
+fn three_columns(max_cut: i32) -> Job
+    requires { IsFrom (pos 0) (pos 500) max_cut }
     ensures job { IsJob result }
     ensures row { 0 < row_count result }
 {
@@ -41,7 +43,7 @@ fn three_columns() -> Job
         rough_stock: 0,
         levels: Levels::NONE,
         snap: Snap::Nearest,
-        max_cut: 0,
+        max_cut,
     }
 }
 
@@ -60,7 +62,7 @@ fn plunge(kind: Kind, x: i32, z: i32) -> Move
 
 #[test]
 fn cuts_and_stops(rt: HostRuntime) -> Result<(), WantOfMemory> {
-    let job = three_columns();
+    let job = three_columns(0);
     let mut row = Row::new(rt.alloc(), &job, 0)?;
     assert_eq!(rt; row.tops(), [300, 300, 300].as_slice());
     row.cut_turn(&job, &plunge(Kind::Feed, 0, 200));
@@ -81,13 +83,94 @@ fn cuts_and_stops(rt: HostRuntime) -> Result<(), WantOfMemory> {
 
 #[test]
 fn cuts_down_to_the_floor(rt: HostRuntime) -> Result<(), WantOfMemory> {
-    let job = three_columns();
+    let job = three_columns(0);
     let mut row = Row::new(rt.alloc(), &job, 0)?;
     row.cut_turn(&job, &plunge(Kind::Feed, 350, 0));
     assert_eq!(rt; row.tops(), [300, 300, 300].as_slice());
     row.cut_turn(&job, &plunge(Kind::Feed, 200, -5));
     assert_eq!(rt; row.tops(), [300, 0, 0].as_slice());
     Ok(())
+}
+
+// Straight down to a height, a feed cuts too deep where that is under the top less the limit, and under the
+// floor where the limit is greater than what is left.
+#[test]
+fn feeds_too_deep(rt: HostRuntime) -> Result<(), WantOfMemory> {
+    for (max_cut, x, z, want) in [
+        (0, 0, 0, None),
+        (50, 0, 250, None),
+        (50, 0, 249, Some((0, Leaf { d: 8, k: 254 }))),
+        (50, 200, 249, Some((1, Leaf { d: 8, k: 254 }))),
+        (50, 350, 0, None),
+        (300, 0, 0, None),
+        (300, 0, -1, Some((0, Leaf { d: 9, k: 510 }))),
+        (400, 0, 0, None),
+        (400, 0, -1, Some((0, Leaf { d: 9, k: 510 }))),
+    ] {
+        let job = three_columns(max_cut);
+        let row = Row::new(rt.alloc(), &job, 0)?;
+        let feed = plunge(Kind::Feed, x, z);
+        assert_eq!(rt; row.cut_test(&job, &feed), want, "at {x}, {z} by {max_cut}");
+    }
+    Ok(())
+}
+
+// The limit is for feeds: a rapid stops at the top, with a limit and without one.
+#[test]
+fn turns_with_a_limit(rt: HostRuntime) -> Result<(), WantOfMemory> {
+    for (max_cut, kind, z, want) in [
+        (0, Kind::Feed, 0, None),
+        (50, Kind::Feed, 250, None),
+        (50, Kind::Feed, 249, Some(Leaf { d: 8, k: 254 })),
+        (0, Kind::Rapid, 300, None),
+        (0, Kind::Rapid, 299, Some(Leaf { d: 7, k: 126 })),
+        (50, Kind::Rapid, 300, None),
+        (50, Kind::Rapid, 299, Some(Leaf { d: 7, k: 126 })),
+    ] {
+        let job = three_columns(max_cut);
+        let mut row = Row::new(rt.alloc(), &job, 0)?;
+        let passed = row.turn(&job, &[plunge(kind, 0, z)], 0);
+        let stop = want.map(|leaf| RowFail {
+            at: 0,
+            col: 0,
+            leaf,
+        });
+        assert_eq!(rt; row.failed(), stop, "{kind:?} to {z} by {max_cut}");
+        assert_eq!(rt; passed, stop.is_none(), "{kind:?} to {z} by {max_cut}");
+    }
+    Ok(())
+}
+
+// Each cut of 50 is as deep as may be, since what the ones before it cut is no more there. Then one of 51
+// is stopped, and cuts nothing.
+#[test]
+fn cuts_step_by_step(rt: HostRuntime) -> Result<(), WantOfMemory> {
+    let job = three_columns(50);
+    let mut row = Row::new(rt.alloc(), &job, 0)?;
+    let moves = steps();
+    assert!(rt; row.turn(&job, &moves, 0));
+    assert!(rt; row.turn(&job, &moves, 1));
+    assert_eq!(rt; row.tops(), [200, 200, 300].as_slice());
+    assert!(rt; !row.turn(&job, &moves, 2));
+    assert_eq!(rt; row.tops(), [200, 200, 300].as_slice());
+    let stop = RowFail {
+        at: 2,
+        col: 0,
+        leaf: Leaf { d: 8, k: 254 },
+    };
+    assert_eq!(rt; row.failed(), Some(stop));
+    Ok(())
+}
+
+/// Cuts to 250 and to 200, and one to 149.
+fn steps() -> [Move; 3]
+    ensures { MovesInRange result }
+{
+    [
+        plunge(Kind::Feed, 0, 250),
+        plunge(Kind::Feed, 0, 200),
+        plunge(Kind::Feed, 0, 149),
+    ]
 }
 
 /// One row of 41 columns, 5 apart, from 0 to 300, sampled at least every 50.

@@ -1,14 +1,7 @@
-use Rattle.std.proofs.Common.{[], ◌∷◌, ◌≤◌, ◌^◌, w64, refl, arith}
-use Rattle.std.specs.Prelude.{nat_abs}
-use Rattle.mill_base.proofs.Machine.{Read, diff_fits}
+use Rattle.std.proofs.Common.{arith}
 use Rattle.std.proofs.lemmas.Int.{ints}
 use Rattle.mill_dexel.proofs.Reaches.{column_inside, column_outside, column_from_first}
 use Rattle.mill_dexel.proofs.reach.places_up_to.Goals as goal
-
-pub overflow_sub-span : goal.overflow_sub-span
-overflow_sub-span c =
-    let near : nat_abs c.from.result ≤ 2 ^ 31 = omega (arith, ints) in
-    diff_fits w64 (c.args.x ∷ c.from.result ∷ []) (2 ^ 40 ∷ 2 ^ 31 ∷ []) (Read w64 0) (Read w64 1) (c.requires.x_ok.within, (near, tt)) refl
 
 pub returns-then-span-lt0-clause-outside : goal.returns-then-span-lt0-clause-outside
 returns-then-span-lt0-clause-outside c = λ i behind within.
