@@ -7,7 +7,7 @@ use Rattle.mill_board.specs.declared.work.Held.{Held}
 use Rattle.mill_dexel.specs.Rows.{RowState}
 use Rattle.mill_dexel.specs.Tops.{row_after}
 use Rattle.mill_verify.specs.inner.Pieces.{IsPieceAt, TestsShown, blocks_of, piece_count, row_in, row_of, turn_limit}
-use Rattle.mill_verify.specs.inner.Stock.{IsRow, IsStock}
+use Rattle.mill_dexel.specs.Stocks.{IsRow, IsStock}
 use Rattle.mill_verify.specs.declared.piece.Piece.{Piece}
 use Rattle.mill_verify.specs.declared.piece.Piece.TheVariants.{Block, Stock}
 use Rattle.mill_verify.proofs.Sharing.{limit_of_row}

@@ -5,7 +5,7 @@ use Rattle.mill_base.specs.declared.motion.Move.{Move}
 use Rattle.mill_job.specs.declared.job.Job.{Job}
 use Rattle.mill_job.specs.Columns.{row_count}
 use Rattle.mill_dexel.specs.Rows.{RowState}
-use Rattle.mill_verify.specs.inner.Stock.{IsRow, IsStock}
+use Rattle.mill_dexel.specs.Stocks.{IsRow, IsStock}
 
 pub row_there : {job : Job} {moves : List Move} {rows : List RowState} {j : ℕ} → IsStock job moves rows → j < length rows → j < row_count job
 row_there {j} stock h = subst (λ (n : ℕ). j < n) stock.count h

@@ -18,7 +18,7 @@ use Rattle.mill_job.specs.Jobs.{IsJob, IsFrom}
 use Rattle.mill_job.specs.Columns.{column_x, column_y, column_count}
 use Rattle.mill_dexel.specs.Tops.{top_after}
 use Rattle.mill_dexel.specs.Rows.{RowState}
-use Rattle.mill_verify.specs.inner.Stock.{IsRow}
+use Rattle.mill_dexel.specs.Stocks.{IsRow}
 use Rattle.mill_verify.specs.Tests.{IsCut}
 use Rattle.mill_verify.specs.inner.Firsts.{IsMostWith, IsRowUncut}
 use Rattle.mill_verify.proofs.Ranges.{top_within}

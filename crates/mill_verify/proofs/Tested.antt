@@ -29,7 +29,7 @@ use Rattle.mill_verify.specs.declared.piece.Piece.TheVariants.{Block, Stock}
 use Rattle.mill_verify.specs.inner.Failures.{IsFirstFailed, IsReasonOf, NoneFailed, stock_reason}
 use Rattle.mill_verify.specs.inner.Firsts.{IsFloorEnd, ShowsBlocks, StopsAt}
 use Rattle.mill_verify.specs.inner.Pieces.{AreTested, IsPieceAt, IsPieceFailed, PassesTest, TestsShown, blocks_of, first_turn, piece_count, row_in, tests, turn_limit}
-use Rattle.mill_verify.specs.inner.Stock.{IsStock}
+use Rattle.mill_dexel.specs.Stocks.{IsStock}
 use Rattle.mill_verify.proofs.Gathered.{gathered}
 use Rattle.mill_verify.proofs.Ranges.{rows_few}
 use Rattle.mill_verify.proofs.ReadLemmas.{move_read}

@@ -1,6 +1,5 @@
 -- What private functions and proofs cite alone: no clause of a public call leads here.
 pub mod Firsts
-pub mod Stock
 pub mod Readiness
 pub mod Pieces
 pub mod Failures

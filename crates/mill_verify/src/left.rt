@@ -5,7 +5,7 @@ ghost use Rattle.mill_base.specs.Covers.{Covered};
 ghost use Rattle.mill_cells.specs.Sorted.{sorted_of};
 ghost use Rattle.mill_job.specs.Jobs.{IsJob, IsFrom};
 ghost use Rattle.mill_job.specs.Columns.{row_count};
-ghost use Rattle.mill_verify.specs.inner.Stock.{IsRow, IsStock};
+ghost use Rattle.mill_dexel.specs.Stocks.{IsRow, IsStock};
 ghost use Rattle.mill_verify.specs.inner.Firsts.{AreRowsTold, IsBoth, IsCutTo, IsFirstUncut, IsMostWith, IsRowLeft, IsRowUncut, IsStockLeft};
 ghost use Rattle.mill_verify.specs.inner.Readiness.{AreRowsReady};
 ghost use denote.Param.Send.{IsSync};

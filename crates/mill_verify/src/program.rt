@@ -11,7 +11,7 @@ ghost use Rattle.mill_sweep.specs.declared.leaf.Leaf.{Leaf};
 ghost use Rattle.mill_verify.specs.Claims.{CutsSafely};
 ghost use Rattle.mill_verify.specs.inner.Firsts.{IsFloorEnd, ShowsBlocks};
 ghost use Rattle.mill_verify.specs.inner.Pieces.{AreReady, AreTested};
-ghost use Rattle.mill_verify.specs.inner.Stock.{IsStock};
+ghost use Rattle.mill_dexel.specs.Stocks.{IsStock};
 ghost use Rattle.mill_verify.specs.Tests.{GoodBefore};
 ghost use Rattle.mill_verify.specs.Verdicts.{BlocksMove, StopsMove, IsVerdict};
 

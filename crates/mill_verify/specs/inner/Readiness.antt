@@ -7,7 +7,7 @@ use Rattle.mill_cells.specs.Sorted.{Sorted, sorted_of}
 use Rattle.mill_job.specs.declared.job.Job.{Job}
 use Rattle.mill_job.specs.Jobs.{IsJob}
 use Rattle.mill_dexel.specs.Rows.{RowState}
-use Rattle.mill_verify.specs.inner.Stock.{IsStock}
+use Rattle.mill_dexel.specs.Stocks.{IsStock}
 
 -- the cells are the part's, the rows are the stock after the moves, s and e bound some of them, and the workers are no more than there may be
 pub record AreRowsReady (job : Job) (part : List Tri) (cells : Sorted) (moves : List Move) (rows : List RowState) (s e workers : ℕ) : Type 0 where

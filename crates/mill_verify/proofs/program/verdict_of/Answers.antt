@@ -3,7 +3,7 @@ use Rattle.mill_board.specs.declared.work.Held.{Held}
 use Rattle.mill_dexel.specs.Rows.{RowState}
 use Rattle.mill_verify.specs.declared.piece.Piece.{Piece}
 use Rattle.mill_verify.specs.inner.Failures.{IsFirstFailed, NoneFailed}
-use Rattle.mill_verify.specs.inner.Stock.{IsStock}
+use Rattle.mill_dexel.specs.Stocks.{IsStock}
 use Rattle.mill_verify.proofs.Tested.{all_good, floor_rejects, in_list, move_there, reason_there, rejected, stock_is}
 use Rattle.mill_verify.proofs.program.verdict_of.Goals as goal
 
