@@ -19,7 +19,7 @@ use Rattle.camtool.specs.Plan.{plan_line}
 use Rattle.camtool.specs.inner.Prints.{Prints, PrintsOutcome, PrintsPlanFault, ShowsPlanOr, fault_outcome}
 use Rattle.camtool.specs.Setup.{setup_texts}
 use Rattle.camtool.proofs.Reading.{rises}
-use Rattle.camtool.proofs.Serving.{printed_shows, answer_shows}
+use Rattle.camtool.proofs.Serving.{same_store, printed_shows, answer_shows}
 
 -- ---- the store is as it was
 
@@ -78,9 +78,6 @@ unstored_shows call unit name text moves columns left status silent room stored 
 }
 
 -- the store isn't touched, and what is printed stores nothing
-pub same_store : (store : StoreView) → ReadsOnly store store
-same_store store = record { contents = λ name. refl; tells = refl; write_faults = refl }
-
 pub made_shows : (s : Setup) (name : List ℕ) (call : Call) (a : PlanAnswer) → IsPlanAnswer s.job s.part a → ShowsOr (answered (planned s.job.unit name a)) call → ShowsPlanOr s name call
 made_shows s name call a is (inl shown) = inl (record { answer = a; is = is; shows = shown })
 made_shows s name call a is (inr m) = inr m

@@ -165,8 +165,8 @@ level_serves job part z call j height s read words under loads (inr m) =
 
 -- ---- words
 
-same_view : (view : StoreView) → ReadsOnly view view
-same_view view = record { contents = λ name. refl; tells = refl; write_faults = refl }
+pub same_store : (store : StoreView) → ReadsOnly store store
+same_store store = record { contents = λ name. refl; tells = refl; write_faults = refl }
 
 pub served_outcome : (words : List (List ℕ)) (asked : Request) (call : Call) → request words ≡ Some asked → Serves asked call → HasOutcome words call
 served_outcome words asked call taken s = record { outcome = s.outcome; is = of_words s.outcome s.is; shows = s.shows }
@@ -198,7 +198,7 @@ pub refused_outcome : (words : List (List ℕ)) (call : Call) (r : Refusal) → 
 refused_outcome words call r h same p = record {
   outcome = refusal_outcome r;
   is = refusal_is words call.store.contents r h;
-  shows = printed_shows call (refusal_outcome r) (refusal_file r) (subst (λ (v : StoreView). ReadsOnly call.store v) (sym same) (same_view call.store))
+  shows = printed_shows call (refusal_outcome r) (refusal_file r) (subst (λ (v : StoreView). ReadsOnly call.store v) (sym same) (same_store call.store))
       (refusal_reads r _ _ (ap (λ (v : StoreView). v.read_faults) same)) p;
 }
 
