@@ -36,8 +36,7 @@ use Rattle.camtool.specs.inner.Loads.{IsSample, IsSize}
 use Rattle.camtool.specs.inner.Prints.{PrintsMade, PrintsPlanFault, TriesSample, sample_start}
 use Rattle.camtool.specs.Outcomes.{no_memory, Serves}
 use Rattle.camtool.specs.Sample.{sample_node, sample_square, sample_row, sample_part, sample_job, sample_line}
-use Rattle.camtool.proofs.Serving.{same_store}
-use Rattle.camtool.proofs.Serving.{answer_serves, answer_shows, made_prints, printed_shows}
+use Rattle.camtool.proofs.Serving.{same_store, answer_serves, answer_shows, made_prints, printed_shows}
 
 -- ---- what holds of what each number gives
 
