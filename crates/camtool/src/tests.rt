@@ -1,9 +1,17 @@
-// The program over files and output in memory: what it prints and how it ends.
+// The program over files and output in memory: what it prints, how it ends and what it stores.
+//
+// Each table is one text: the proof of a test then costs the same however many rows there are. A row
+// is a line with a command's words, and behind `=>` the status and what is printed, but for its last
+// line's end. In a row `\n` is a line's end. A text between `<` and `>` in the place of the last word
+// becomes the file `program`.
 ghost use Rattle.std.specs.Prelude.{◌≡◌, IfOk};
 
-use mill_io::{MemFile, MemShelf, Shelf};
+use crate::run::run;
+use mill_io::{MemFile, MemShelf, MemSink, Shelf, read_whole};
 use std::alloc::{AllocError, Global};
+use std::process::Abort;
 use std::test::Fail;
+use std::thread::Threads;
 
 mod drops;
 mod failures;
@@ -15,66 +23,179 @@ mod samples;
 mod untaken;
 mod verdicts;
 
-const JOB: &[u8] =
-    b"cutter = \"flat\"\nradius = 150\nfloor = 0\ntop = 300\nclear = 400\narea = [0, 0, 200, 200]\nhome = [100, 100]\npitch = 100\nsample = 50\nallowance = 0\nband = 0\n";
+/// The files of every store: behind `#` a name, and then the text. `groove` is two plates, with a
+/// groove between them that is one unit narrower than the cutter of `groove-job`; `peak` is the point
+/// (0, 0, 3); `planned` is what is planned for `job` and `plate`.
+const FILES: &str = r#"# job
+cutter = "flat"
+radius = 150
+floor = 0
+top = 300
+clear = 400
+area = [0, 0, 200, 200]
+home = [100, 100]
+pitch = 100
+sample = 50
+allowance = 0
+band = 0
+# wide
+cutter = "flat"
+radius = 100
+floor = 0
+top = 400
+clear = 400
+area = [0, 0, 1000, 1000]
+home = [0, 0]
+pitch = 100
+sample = 50
+allowance = 50
+band = 0
+# one-key
+cutter = "flat"
+# no-key
+depth = 1
+# plate
+solid plate
+facet normal 0 0 1
+outer loop
+vertex 0 0 2
+vertex 2 0 2
+vertex 2 2 2
+endloop
+endfacet
+facet normal 0 0 1
+outer loop
+vertex 0 0 2
+vertex 2 2 2
+vertex 0 2 2
+endloop
+endfacet
+endsolid plate
+# groove
+solid
+facet normal 0 0 1
+outer loop
+vertex 0 0 2
+vertex 4 0 2
+vertex 4 10 2
+endloop
+endfacet
+facet normal 0 0 1
+outer loop
+vertex 0 0 2
+vertex 4 10 2
+vertex 0 10 2
+endloop
+endfacet
+facet normal 0 0 1
+outer loop
+vertex 5.99 0 2
+vertex 10 0 2
+vertex 10 10 2
+endloop
+endfacet
+facet normal 0 0 1
+outer loop
+vertex 5.99 0 2
+vertex 10 10 2
+vertex 5.99 10 2
+endloop
+endfacet
+endsolid
+# corner
+solid
+facet normal 0 0 1
+outer loop
+vertex 0 0 2
+vertex 10 0 2
+vertex 0 10 2
+endloop
+endfacet
+endsolid
+# peak
+solid
+facet normal 0 0 1
+outer loop
+vertex 0 0 3
+vertex 0 0 3
+vertex 0 0 3
+endloop
+endfacet
+endsolid
+# empty
+solid
+endsolid
+# cut-short
+solid
+# down
+G21 G90
+G1 Z2
+G0 Z4
+M2
+# planned
+%
+G17 G21 G90
+G1 X0.00 Y0.00 Z2.00
+G1 X1.00 Y0.00 Z2.00
+G1 X2.00 Y0.00 Z2.00
+G1 X2.00 Y1.00 Z2.00
+G1 X1.00 Y1.00 Z2.00
+G1 X0.00 Y1.00 Z2.00
+G1 X0.00 Y2.00 Z2.00
+G1 X1.00 Y2.00 Z2.00
+G1 X2.00 Y2.00 Z2.00
+G0 X2.00 Y2.00 Z4.00
+G0 X1.00 Y1.00 Z4.00
+M2
+%
+# out
+before
+"#;
 
-// The same as JOB, in thousandths.
-const THOUSANDTHS_JOB: &[u8] =
-    b"unit = \"thousandth\"\ncutter = \"flat\"\nradius = 1500\nfloor = 0\ntop = 3000\nclear = 4000\narea = [0, 0, 2000, 2000]\nhome = [1000, 1000]\npitch = 1000\nsample = 500\nallowance = 0\nband = 0\n";
+/// More files, made of FILES: `NAME: OF: OLD -> NEW; OLD -> NEW`. `thousandths` is the same as `job`,
+/// and `narrow` ends 0.50 before the last columns.
+const MADE: &str = r#"thousandths: job: cutter -> unit = "thousandth"\ncutter; 00 -> 000; 50 -> 500
+band-50: job: band = 0 -> band = 50
+band-51: job: band = 0 -> band = 51
+band-151: job: band = 0 -> band = 151
+low-clear: job: clear = 400 -> clear = 200
+no-stock: job: 300 -> 0; 400 -> 0; 200, 200 -> 0, 0; 100, 100 -> 0, 0
+cut-99: job: band = 0 -> band = 0\nmax_cut = 99
+cut-100: job: band = 0 -> band = 0\nmax_cut = 100
+cut-131072: job: band = 0 -> band = 0\nmax_cut = 131072
+ball: wide: flat -> ball
+groove-job: wide: top = 400 -> top = 300; allowance = 50 -> allowance = 0
+fine: wide: top = 400 -> top = 300; 1000 -> 2000; band = 0 -> band = 0\nraster = 1
+narrow: plate: vertex 2 -> vertex 1.5
+point: peak: 0 0 3 -> 5 5 3
+high: peak: 0 0 3 -> 0 0 3.01
+abnormal: cut-short: solid\n -> solid\nfacet abnormal"#;
 
-const BAND_50_JOB: &[u8] =
-    b"cutter = \"flat\"\nradius = 150\nfloor = 0\ntop = 300\nclear = 400\narea = [0, 0, 200, 200]\nhome = [100, 100]\npitch = 100\nsample = 50\nallowance = 0\nband = 50\n";
+/// A text with line ends in the place of `\n`.
+fn with_lines(alloc: Global, text: &str) -> Result<String, AllocError> {
+    text.replace(alloc, "\\n", "\n")
+}
 
-const BAND_51_JOB: &[u8] =
-    b"cutter = \"flat\"\nradius = 150\nfloor = 0\ntop = 300\nclear = 400\narea = [0, 0, 200, 200]\nhome = [100, 100]\npitch = 100\nsample = 50\nallowance = 0\nband = 51\n";
+/// The text of one of FILES.
+fn text_of(name: &str) -> Result<&'static str, Fail> {
+    for file in FILES.split("# ") {
+        match file.split_once('\n') {
+            Some((first, text)) if first == name => return Ok(text),
+            _ => {}
+        }
+    }
+    Err("no such file".into())
+}
 
-const BAND_151_JOB: &[u8] =
-    b"cutter = \"flat\"\nradius = 150\nfloor = 0\ntop = 300\nclear = 400\narea = [0, 0, 200, 200]\nhome = [100, 100]\npitch = 100\nsample = 50\nallowance = 0\nband = 151\n";
-
-const WIDE_JOB: &[u8] =
-    b"cutter = \"flat\"\nradius = 100\nfloor = 0\ntop = 400\nclear = 400\narea = [0, 0, 1000, 1000]\nhome = [0, 0]\npitch = 100\nsample = 50\nallowance = 50\nband = 0\n";
-
-const BALL_JOB: &[u8] =
-    b"cutter = \"ball\"\nradius = 100\nfloor = 0\ntop = 400\nclear = 400\narea = [0, 0, 1000, 1000]\nhome = [0, 0]\npitch = 100\nsample = 50\nallowance = 50\nband = 0\n";
-
-const FLAT_JOB: &[u8] =
-    b"cutter = \"flat\"\nradius = 150\nfloor = 0\ntop = 0\nclear = 0\narea = [0, 0, 0, 0]\nhome = [0, 0]\npitch = 100\nsample = 50\nallowance = 0\nband = 0\n";
-
-const LOW_CLEAR_JOB: &[u8] =
-    b"cutter = \"flat\"\nradius = 150\nfloor = 0\ntop = 300\nclear = 200\narea = [0, 0, 200, 200]\nhome = [100, 100]\npitch = 100\nsample = 50\nallowance = 0\nband = 0\n";
-
-const GROOVE_JOB: &[u8] =
-    b"cutter = \"flat\"\nradius = 100\nfloor = 0\ntop = 300\nclear = 400\narea = [0, 0, 1000, 1000]\nhome = [0, 0]\npitch = 100\nsample = 50\nallowance = 0\nband = 0\n";
-
-const FINE_JOB: &[u8] =
-    b"cutter = \"flat\"\nradius = 100\nfloor = 0\ntop = 300\nclear = 400\narea = [0, 0, 2000, 2000]\nhome = [0, 0]\npitch = 100\nsample = 50\nallowance = 50\nband = 0\nraster = 1\n";
-
-const PLATE: &[u8] =
-    b"solid plate\nfacet normal 0 0 1\nouter loop\nvertex 0 0 2\nvertex 2 0 2\nvertex 2 2 2\nendloop\nendfacet\nfacet normal 0 0 1\nouter loop\nvertex 0 0 2\nvertex 2 2 2\nvertex 0 2 2\nendloop\nendfacet\nendsolid plate\n";
-
-// It ends 0.50 before the last columns.
-const NARROW: &[u8] =
-    b"solid plate\nfacet normal 0 0 1\nouter loop\nvertex 0 0 2\nvertex 1.5 0 2\nvertex 1.5 2 2\nendloop\nendfacet\nfacet normal 0 0 1\nouter loop\nvertex 0 0 2\nvertex 1.5 2 2\nvertex 0 2 2\nendloop\nendfacet\nendsolid plate\n";
-
-// Two plates, with a groove between them that is one unit narrower than the cutter.
-const GROOVE: &[u8] =
-    b"solid\nfacet normal 0 0 1\nouter loop\nvertex 0 0 2\nvertex 4 0 2\nvertex 4 10 2\nendloop\nendfacet\nfacet normal 0 0 1\nouter loop\nvertex 0 0 2\nvertex 4 10 2\nvertex 0 10 2\nendloop\nendfacet\nfacet normal 0 0 1\nouter loop\nvertex 5.99 0 2\nvertex 10 0 2\nvertex 10 10 2\nendloop\nendfacet\nfacet normal 0 0 1\nouter loop\nvertex 5.99 0 2\nvertex 10 10 2\nvertex 5.99 10 2\nendloop\nendfacet\nendsolid\n";
-
-const CORNER: &[u8] =
-    b"solid\nfacet normal 0 0 1\nouter loop\nvertex 0 0 2\nvertex 10 0 2\nvertex 0 10 2\nendloop\nendfacet\nendsolid\n";
-
-// The point (0, 0, 3).
-const PEAK: &[u8] =
-    b"solid\nfacet normal 0 0 1\nouter loop\nvertex 0 0 3\nvertex 0 0 3\nvertex 0 0 3\nendloop\nendfacet\nendsolid\n";
-
-// The point (5, 5, 3).
-const POINT: &[u8] =
-    b"solid\nfacet normal 0 0 1\nouter loop\nvertex 5 5 3\nvertex 5 5 3\nvertex 5 5 3\nendloop\nendfacet\nendsolid\n";
-
-const HIGH: &[u8] =
-    b"solid\nfacet normal 0 0 1\nouter loop\nvertex 0 0 3.01\nvertex 0 0 3.01\nvertex 0 0 3.01\nendloop\nendfacet\nendsolid\n";
-
-const EMPTY: &[u8] = b"solid\nendsolid\n";
+/// The text of a row of MADE.
+fn made_text(alloc: Global, of: &str, changes: &str) -> Result<String, Fail> {
+    let mut text = String::from_str(alloc, text_of(of)?)?;
+    for change in with_lines(alloc, changes)?.split("; ") {
+        let (old, new) = change.split_once(" -> ").ok_or("a change without ->")?;
+        text = text.replace(alloc, old, new)?;
+    }
+    Ok(text)
+}
 
 fn file(alloc: Global, name: &str, bytes: &[u8]) -> Result<MemFile, AllocError> {
     Ok(MemFile {
@@ -83,22 +204,124 @@ fn file(alloc: Global, name: &str, bytes: &[u8]) -> Result<MemFile, AllocError> 
     })
 }
 
-// A store with these three files, whose numbered calls fail.
-fn store(alloc: Global, texts: (&[u8], &[u8], &[u8]), fails: &[u64]) -> Result<MemShelf, Fail>
+/// All files: `program` with these bytes, `garbled`, which isn't a text, FILES and MADE.
+fn files(alloc: Global, program: Vec<u8>) -> Result<Vec<MemFile>, Fail> {
+    let mut files = Vec::new(alloc);
+    files.push(MemFile {
+        name: Vec::from_slice(alloc, b"program")?,
+        bytes: program,
+    })?;
+    files.push(file(alloc, "garbled", b"\xff")?)?;
+    for text in FILES.split("# ") {
+        if let Some((name, text)) = text.split_once('\n') {
+            files.push(file(alloc, name, text.as_bytes())?)?;
+        }
+    }
+    for row in MADE.lines() {
+        let (name, rest) = row.split_once(": ").ok_or("a row without a file")?;
+        let (of, changes) = rest.split_once(": ").ok_or("a row without changes")?;
+        let text = made_text(alloc, of, changes)?;
+        files.push(file(alloc, name, text.as_bytes())?)?;
+    }
+    Ok(files)
+}
+
+/// The store's file that can be written, and the numbered calls of the store and of the sink that
+/// fail, and how many bytes that file and the sink hold.
+#[derive(Clone, Copy)]
+struct Outside<'a> {
+    out: &'a str,
+    store_fails: &'a [u64],
+    store_room: usize,
+    sink_fails: &'a [u64],
+    sink_room: usize,
+}
+
+/// Nothing fails.
+const SOUND: Outside<'static> = Outside {
+    out: "out",
+    store_fails: &[],
+    store_room: 1000,
+    sink_fails: &[],
+    sink_room: 200,
+};
+
+fn store(alloc: Global, program: Vec<u8>, outside: &Outside<'_>) -> Result<MemShelf, Fail>
     ensures reads { IfOk result (λ s. (⟦<MemShelf as Shelf>⟧.shows s).read_faults ≡ 0) }
     ensures writes { IfOk result (λ s. (⟦<MemShelf as Shelf>⟧.shows s).write_faults ≡ 0) }
 {
-    let mut files = Vec::new(alloc);
-    files.push(file(alloc, "job", texts.0)?)?;
-    files.push(file(alloc, "part", texts.1)?)?;
-    files.push(file(alloc, "program", texts.2)?)?;
-    Ok(MemShelf::new(alloc, files, "out", 0, fails)?)
+    let files = files(alloc, program)?;
+    Ok(MemShelf::new(
+        alloc,
+        files,
+        outside.out,
+        outside.store_room,
+        outside.store_fails,
+    )?)
 }
 
-fn words(alloc: Global, words: &[&str]) -> Result<Vec<String>, Fail> {
+/// The status and what was printed, as in a row, and the store as it was left.
+#[derive(Drop)]
+struct Ended {
+    told: String,
+    shelf: MemShelf,
+}
+
+/// The text that a file holds at the end.
+fn held(alloc: Global, shelf: &mut MemShelf, name: &str) -> Result<String, Fail> {
+    let bytes = read_whole(alloc, shelf, name, 1000)?;
+    Ok(String::from_str(alloc, str::from_utf8(&bytes)?)?)
+}
+
+/// Calls the program, with these bytes as the file `program`.
+fn call<R: Threads + Sync>(
+    rt: &R,
+    alloc: Global,
+    words: &[String],
+    program: Vec<u8>,
+    outside: &Outside<'_>,
+) -> Result<Ended, Fail> {
+    let mut shelf = store(alloc, program, outside)?;
+    let mut sink = MemSink::new(alloc, outside.sink_room, outside.sink_fails)?;
+    let code = run(rt, alloc, words, &mut shelf, &mut sink).code();
+    let printed = str::from_utf8(sink.written())?;
+    let told = format!(in alloc; "{code} {printed}")?;
+    Ok(Ended { told, shelf })
+}
+
+fn words(alloc: Global, command: &str) -> Result<Vec<String>, Fail> {
     let mut all = Vec::new(alloc);
-    for word in words {
+    for word in command.split_whitespace() {
         all.push(String::from_str(alloc, word)?)?;
     }
     Ok(all)
+}
+
+/// Calls the program with a row's words.
+fn answer<R: Threads + Sync>(
+    rt: &R,
+    alloc: Global,
+    command: &str,
+    outside: &Outside<'_>,
+) -> Result<Ended, Fail> {
+    let Some((command, program)) = command.split_once('<') else {
+        return call(rt, alloc, &words(alloc, command)?, Vec::new(alloc), outside);
+    };
+    let mut words = words(alloc, command)?;
+    words.push(String::from_str(alloc, "program")?)?;
+    let program = with_lines(alloc, program.trim_end_matches('>'))?;
+    call(rt, alloc, &words, program.into_bytes(), outside)
+}
+
+/// Asserts that each row says what is told, and that `out` is left as it was.
+fn each_says<R: Threads + Sync + Abort>(rt: &R, alloc: Global, table: &str) -> Result<(), Fail> {
+    for row in table.lines() {
+        let (command, says) = row.split_once(" => ").ok_or("a row without =>")?;
+        let says = format!(in alloc; "{}\n", with_lines(alloc, says)?)?;
+        let mut ended = answer(rt, alloc, command, &SOUND)?;
+        assert_eq!(rt; ended.told.as_str(), says.as_str(), "{row}");
+        let left = held(alloc, &mut ended.shelf, "out")?;
+        assert_eq!(rt; left.as_str(), text_of("out")?, "{row}");
+    }
+    Ok(())
 }

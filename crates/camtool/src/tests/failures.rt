@@ -1,135 +1,120 @@
 // Each call on the outside that a command makes, refused in turn.
-ghost use Rattle.std.specs.Prelude.{◌≡◌, IfOk};
-
-use crate::run::run;
-use crate::status::Status;
-use crate::tests::plans::PROGRAM;
-use crate::tests::{JOB, PLATE, file, words};
-use mill_io::{MemShelf, MemSink, Shelf, read_whole};
+//
+// A row has a command, the number of the store's call that fails, if one does, and its room, and the
+// same of the sink; what is printed; and what OUT holds then. A name is the text of that file.
+use crate::tests::{Outside, SOUND, answer, held, text_of, with_lines};
 use std::alloc::Global;
+use std::process::Abort;
 use std::test::Fail;
 use std::thread::Threads;
 
-const VERIFY: &[&str] = &["verify", "job", "part", "program"];
-
-const PLAN: &[&str] = &["plan", "job", "part", "out"];
-
-const DROP: &[&str] = &["drop", "job", "part", "--x=1", "--y=1"];
-
-const LEVEL: &[&str] = &["level", "job", "part", "--z=0"];
-
-const SAMPLE: &[&str] = &["sample", "1"];
-
-// What OUT holds before each call.
-const BEFORE: &[u8] = b"before";
-
-// A store of all files, of which `out` can be written. It has this much room, and the numbered calls
-// fail.
-fn shelf(alloc: Global, room: usize, fails: &[u64]) -> Result<MemShelf, Fail>
-    ensures reads { IfOk result (λ s. (⟦<MemShelf as Shelf>⟧.shows s).read_faults ≡ 0) }
-    ensures writes { IfOk result (λ s. (⟦<MemShelf as Shelf>⟧.shows s).write_faults ≡ 0) }
-{
-    let mut files = Vec::new(alloc);
-    files.push(file(alloc, "job", JOB)?)?;
-    files.push(file(alloc, "part", PLATE)?)?;
-    files.push(file(alloc, "program", b"M2")?)?;
-    files.push(file(alloc, "out", BEFORE)?)?;
-    Ok(MemShelf::new(alloc, files, "out", room, fails)?)
+// The call that fails, which is `-` where none does, and the room.
+fn limits(alloc: Global, words: &str) -> Result<(Vec<u64>, usize), Fail> {
+    let (call, room) = words.split_once(' ').ok_or("limits without a room")?;
+    let mut fails = Vec::new(alloc);
+    if call != "-" {
+        fails.push(call.parse::<u64>()?)?;
+    }
+    Ok((fails, room.parse::<usize>()?))
 }
 
-// How a call ended, what it printed, and what OUT holds then.
-#[derive(Drop)]
-struct Ended {
-    status: Status,
-    printed: Vec<u8>,
-    left: Vec<u8>,
+// The text between `<` and `>`, or that of a file.
+fn text(alloc: Global, word: &str) -> Result<String, Fail> {
+    match word.strip_prefix('<') {
+        Some(text) => Ok(with_lines(alloc, text.trim_end_matches('>'))?),
+        None => Ok(String::from_str(alloc, text_of(word)?)?),
+    }
 }
 
-// Calls the program: the store's and the sink's numbered calls fail, and both have this much room.
-fn call<R: Threads + Sync>(
+// What is told of a row's command, and what OUT holds then.
+fn told_and_left<R: Threads + Sync>(
     rt: &R,
     alloc: Global,
-    given: &[&str],
-    store: (&[u64], usize),
-    sink: (&[u64], usize),
-) -> Result<Ended, Fail> {
-    let mut shelf = shelf(alloc, store.1, store.0)?;
-    let mut out = MemSink::new(alloc, sink.1, sink.0)?;
-    let words = words(alloc, given)?;
-    let status = run(rt, alloc, &words, &mut shelf, &mut out);
-    Ok(Ended {
-        status,
-        printed: Vec::from_slice(alloc, out.written())?,
-        left: read_whole(alloc, &mut shelf, "out", 1000)?,
-    })
+    row: &str,
+) -> Result<(String, String), Fail> {
+    let (command, outside) = row.split_once(", ").ok_or("a row without the store")?;
+    let (store, sink) = outside.split_once(", ").ok_or("a row without the sink")?;
+    let (store_fails, store_room) = limits(alloc, store)?;
+    let (sink_fails, sink_room) = limits(alloc, sink)?;
+    let outside = Outside {
+        store_fails: &store_fails,
+        store_room,
+        sink_fails: &sink_fails,
+        sink_room,
+        ..SOUND
+    };
+    let mut ended = answer(rt, alloc, command, &outside)?;
+    let left = held(alloc, &mut ended.shelf, "out")?;
+    Ok((ended.told, left))
+}
+
+fn each_ends<R: Threads + Sync + Abort>(rt: &R, alloc: Global, table: &str) -> Result<(), Fail> {
+    for row in table.lines() {
+        let (given, rest) = row.split_once(" => ").ok_or("a row without =>")?;
+        let (says, leaves) = rest.split_once(" => ").ok_or("a row with one =>")?;
+        let (code, printed) = says.split_once(' ').ok_or("a row without a status")?;
+        let says = format!(in alloc; "{code} {}", text(alloc, printed)?)?;
+        let leaves = text(alloc, leaves)?;
+        let (told, left) = told_and_left(rt, alloc, given)?;
+        assert_eq!(rt; told.as_str(), says.as_str(), "{row}");
+        assert_eq!(rt; left.as_str(), leaves.as_str(), "{row}");
+    }
+    Ok(())
 }
 
 // The store's reads are two a file; where the sink fails too, that is what is blamed.
+const READS: &str = r"verify job plate <M2>, 0 1000, - 200 => 6 <read fault job\n> => out
+verify job plate <M2>, 0 1000, 0 200 => 7 <> => out
+verify job plate <M2>, 1 1000, - 200 => 6 <read fault job\n> => out
+verify job plate <M2>, 1 1000, 0 200 => 7 <> => out
+verify job plate <M2>, 2 1000, - 200 => 6 <read fault part\n> => out
+verify job plate <M2>, 2 1000, 0 200 => 7 <> => out
+verify job plate <M2>, 3 1000, - 200 => 6 <read fault part\n> => out
+verify job plate <M2>, 3 1000, 0 200 => 7 <> => out
+verify job plate <M2>, 4 1000, - 200 => 6 <read fault program\n> => out
+verify job plate <M2>, 4 1000, 0 200 => 7 <> => out
+verify job plate <M2>, 5 1000, - 200 => 6 <read fault program\n> => out
+verify job plate <M2>, 5 1000, 0 200 => 7 <> => out
+plan job plate out, 0 1000, - 200 => 6 <read fault job\n> => out
+plan job plate out, 0 1000, 0 200 => 7 <> => out
+plan job plate out, 1 1000, - 200 => 6 <read fault job\n> => out
+plan job plate out, 1 1000, 0 200 => 7 <> => out
+plan job plate out, 2 1000, - 200 => 6 <read fault part\n> => out
+plan job plate out, 2 1000, 0 200 => 7 <> => out
+plan job plate out, 3 1000, - 200 => 6 <read fault part\n> => out
+plan job plate out, 3 1000, 0 200 => 7 <> => out
+drop job plate --x=1 --y=1, 1 1000, - 200 => 6 <read fault job\n> => out
+drop job plate --x=1 --y=1, 1 1000, 0 200 => 7 <> => out
+drop job plate --x=1 --y=1, 3 1000, - 200 => 6 <read fault part\n> => out
+drop job plate --x=1 --y=1, 3 1000, 0 200 => 7 <> => out
+level job plate --z=0, 1 1000, - 200 => 6 <read fault job\n> => out
+level job plate --z=0, 1 1000, 0 200 => 7 <> => out
+level job plate --z=0, 3 1000, - 200 => 6 <read fault part\n> => out
+level job plate --z=0, 3 1000, 0 200 => 7 <> => out";
+
 #[test]
 fn blames_each_failed_read(rt: HostRuntime) -> Result<(), Fail> {
-    let alloc = rt.alloc();
-    let table: [(&[&str], u64, &[u8]); 14] = [
-        (VERIFY, 0, b"read fault job\n"),
-        (VERIFY, 1, b"read fault job\n"),
-        (VERIFY, 2, b"read fault part\n"),
-        (VERIFY, 3, b"read fault part\n"),
-        (VERIFY, 4, b"read fault program\n"),
-        (VERIFY, 5, b"read fault program\n"),
-        (PLAN, 0, b"read fault job\n"),
-        (PLAN, 1, b"read fault job\n"),
-        (PLAN, 2, b"read fault part\n"),
-        (PLAN, 3, b"read fault part\n"),
-        (DROP, 1, b"read fault job\n"),
-        (DROP, 3, b"read fault part\n"),
-        (LEVEL, 1, b"read fault job\n"),
-        (LEVEL, 3, b"read fault part\n"),
-    ];
-    for (given, number, line) in table {
-        let ended = call(&rt, alloc, given, (&[number], 1000), (&[], 200))?;
-        assert_eq!(rt; ended.status, Status::ReadFault);
-        assert_eq!(rt; ended.printed.as_slice(), line);
-        assert_eq!(rt; ended.left.as_slice(), BEFORE);
-        let ended = call(&rt, alloc, given, (&[number], 1000), (&[0], 200))?;
-        assert_eq!(rt; ended.status, Status::WriteFault);
-        assert_eq!(rt; ended.printed.as_slice(), b"".as_slice());
-        assert_eq!(rt; ended.left.as_slice(), BEFORE);
-    }
-    Ok(())
+    each_ends(&rt, rt.alloc(), READS)
 }
 
 // Of `plan`, the store's call 4 creates OUT, and call 5 is the first append. A failed write leaves a
 // prefix of the program, or what was there, and then nothing is printed.
+const WRITES: &str = r"plan job plate out, 4 1000, - 200 => 7 <> => out
+plan job plate out, 5 1000, - 200 => 7 <> => <>
+plan job plate out, - 5, - 200 => 7 <> => <%\nG17>
+plan job plate out, - 100, - 200 => 7 <> => <%\nG17 G21 G90\nG1 X0.00 Y0.00 Z2.00\nG1 X1.00 Y0.00 Z2.00\nG1 X2.00 Y0.00 Z2.00\nG1 X2.00 Y1.00 Z2.00\nG1>
+plan job plate out, - 1000, 0 200 => 7 <> => planned
+plan job plate out, - 1000, - 8 => 7 <planned > => planned
+verify job plate <M2>, - 1000, 0 200 => 7 <> => out
+verify job plate <M2>, - 1000, - 9 => 7 <rejected > => out
+drop job plate --x=1 --y=1, - 1000, 0 200 => 7 <> => out
+drop job plate --x=1 --y=1, - 1000, - 5 => 7 <drop > => out
+level job plate --z=0, - 1000, 0 200 => 7 <> => out
+level job plate --z=0, - 1000, - 7 => 7 <chains > => out
+sample 1, - 1000, 0 200 => 7 <> => out
+sample 1, - 1000, - 7 => 7 <sample > => out";
+
 #[test]
 fn blames_each_failed_write(rt: HostRuntime) -> Result<(), Fail> {
-    let alloc = rt.alloc();
-    let none: &[u64] = &[];
-    let table: [(&[&str], (&[u64], usize), (&[u64], usize), &[u8], &[u8]); 14] = [
-        (PLAN, (&[4], 1000), (none, 200), b"", BEFORE),
-        (PLAN, (&[5], 1000), (none, 200), b"", b""),
-        (PLAN, (none, 5), (none, 200), b"", b"%\nG17"),
-        (
-            PLAN,
-            (none, 100),
-            (none, 200),
-            b"",
-            b"%\nG17 G21 G90\nG1 X0.00 Y0.00 Z2.00\nG1 X1.00 Y0.00 Z2.00\nG1 X2.00 Y0.00 Z2.00\nG1 X2.00 Y1.00 Z2.00\nG1",
-        ),
-        (PLAN, (none, 1000), (&[0], 200), b"", PROGRAM),
-        (PLAN, (none, 1000), (none, 8), b"planned ", PROGRAM),
-        (VERIFY, (none, 1000), (&[0], 200), b"", BEFORE),
-        (VERIFY, (none, 1000), (none, 9), b"rejected ", BEFORE),
-        (DROP, (none, 1000), (&[0], 200), b"", BEFORE),
-        (DROP, (none, 1000), (none, 5), b"drop ", BEFORE),
-        (LEVEL, (none, 1000), (&[0], 200), b"", BEFORE),
-        (LEVEL, (none, 1000), (none, 7), b"chains ", BEFORE),
-        (SAMPLE, (none, 1000), (&[0], 200), b"", BEFORE),
-        (SAMPLE, (none, 1000), (none, 7), b"sample ", BEFORE),
-    ];
-    for (given, store, sink, printed, left) in table {
-        let ended = call(&rt, alloc, given, store, sink)?;
-        assert_eq!(rt; ended.status, Status::WriteFault);
-        assert_eq!(rt; ended.printed.as_slice(), printed);
-        assert_eq!(rt; ended.left.as_slice(), left);
-    }
-    Ok(())
+    each_ends(&rt, rt.alloc(), WRITES)
 }
