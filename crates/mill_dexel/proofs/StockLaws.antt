@@ -1,9 +1,11 @@
 -- The whole stock, row by row: a further feed is tested at the rows in its reach, and a further move cuts these.
-use Rattle.std.proofs.Common.{◌≡◌, ◌≢◌, ◌⊎◌, inl, inr, ℕ, ◌+◌, ◌<◌, ◌≤◌, refl, sym, subst, ap, ◌∙◌, length, get_or, set, length-set, get_or-set_same, get_or-set_other, arith}
+use Rattle.std.proofs.Common.{◌≡◌, ◌⊎◌, inl, inr, ℕ, zero, suc, ◌+◌, ◌<◌, ◌≤◌, refl, sym, subst, ap, ◌∙◌, length, get_or, arith}
 use Rattle.std.specs.Prelude.{ℤ, pos, ◌+ℤ◌, ◌≤ℤ◌, List, [], ◌∷◌, ◌++◌, All, min, replicate, Bool, true, false, Option, Some, None, IfSome, is_some}
 use Rattle.std.proofs.lemmas.Bool.{cases_lt}
 use Rattle.std.proofs.lemmas.Int.{ints}
-use Rattle.std.proofs.lemmas.List.{get_or_default}
+use Rattle.std.proofs.lemmas.List.{get_or_default, get_or_append_left, length-append}
+use Rattle.std.proofs.lemmas.List.Elements.{All-append}
+use Rattle.std.proofs.Math.Seq.{get_or-append_seam}
 use Rattle.mill_base.specs.Points.{point_at}
 use Rattle.mill_base.specs.Ranges.{MoveInRange}
 use Rattle.mill_base.specs.Sizes.{IsCutter, radius_of}
@@ -133,55 +135,6 @@ pub record AreCutTo (job : Job) (m : Move) (first n : ℕ) (old new : List RowSt
   pub cut : (j : ℕ) (other : RowState) → first ≤ j → j < n → j < length old → get_or new j other ≡ cut_by job m (get_or old j other)
   pub rest : (j : ℕ) (other : RowState) → (j < first) ⊎ (n ≤ j) → get_or new j other ≡ get_or old j other
 
--- no row is cut yet
-pub cut_none : (job : Job) (m : Move) (first : ℕ) (rows : List RowState) → AreCutTo job m first first rows rows
-cut_none job m first rows = record {
-  count = refl;
-  cut = λ j other from to there. absurd (omega (arith, from, to));
-  rest = λ j other out. refl;
-}
-
--- a row that is still to be cut is one of the job's
-pub uncut_is_row : (job : Job) (m : Move) (first n : ℕ) (old new : List RowState) (r : RowState) → All (IsRowOf job) old → AreCutTo job m first n old new → n < length old → r ≡ get_or new n r → IsRowOf job r
-uncut_is_row job m first n old new r rows so_far there read =
-    subst (IsRowOf job) (sym (read ∙ so_far.rest n r (inr (same n)))) (rows n r there)
-  where
-    same : (a : ℕ) → a ≤ a
-    same a = omega arith
-
--- one row more is cut
-pub cut_more : (job : Job) (m : Move) (first n : ℕ) (old new : List RowState) (r after : RowState) → AreCutTo job m first n old new → first ≤ n → n < length old → r ≡ get_or new n r → after ≡ cut_by job m r
-    → AreCutTo job m first (n + 1) old (set new n after)
-cut_more job m first n old new r after so_far from there read is = record {
-  count = length-set new n after ∙ so_far.count;
-  cut = λ j other low high within. by j other (cases_lt j n) low high within;
-  rest = λ j other out. get_or-set_other new n j after other (other_one j out) ∙ so_far.rest j other (still j out);
-}
-  where
-    in_new : n < length new
-    in_new = subst (λ (k : ℕ). n < k) (sym so_far.count) there
-
-    here : (other : RowState) → get_or (set new n after) n other ≡ cut_by job m (get_or old n other)
-    here other =
-        get_or-set_same new n after other in_new ∙ is
-        ∙ ap (cut_by job m) (read ∙ get_or_default new n r other in_new ∙ so_far.rest n other (inr (same n)))
-      where
-        same : (a : ℕ) → a ≤ a
-        same a = omega arith
-
-    by : (j : ℕ) (other : RowState) → (j < n) ⊎ (n ≤ j) → first ≤ j → j < n + 1 → j < length old → get_or (set new n after) j other ≡ cut_by job m (get_or old j other)
-    by j other (inl before) low high within = get_or-set_other new n j after other (omega (arith, before)) ∙ so_far.cut j other low before within
-    by j other (inr behind) low high within =
-        subst (λ (k : ℕ). get_or (set new n after) k other ≡ cut_by job m (get_or old k other)) (this_one n j behind high) (here other)
-
-    other_one : (j : ℕ) → (j < first) ⊎ (n + 1 ≤ j) → j ≢ n
-    other_one j (inl h) = omega (arith, h, from)
-    other_one j (inr h) = omega (arith, h)
-
-    still : (j : ℕ) → (j < first) ⊎ (n + 1 ≤ j) → (j < first) ⊎ (n ≤ j)
-    still j (inl h) = inl h
-    still j (inr h) = inr (omega (arith, h))
-
 -- what is beyond the distance at which a move passes is beyond the radius
 beyond_radius : (r a b y : ℤ) → IsBeyond (r +ℤ pos MAX_LAST_REACH) a b y → IsBeyond r a b y
 beyond_radius r a b y (inl h) = let l = h.first in let k = h.second in inl (record { first = omega (arith, ints); second = omega (arith, ints) })
@@ -236,7 +189,33 @@ module _ (job : Job) (m : Move) (first «end» n : ℕ) (old new : List RowState
 
 -- ---- the uncut stock
 
--- the rows before n are the uncut stock's
+-- the rows are the uncut stock's from the first on, before row n
 pub record AreUncutTo (job : Job) (n : ℕ) (rows : List RowState) : Type 0 where
   pub count : length rows ≡ n
-  pub rows_ok : (j : ℕ) (other : RowState) → j < n → get_or rows j other ≡ uncut_row job j
+  pub uncut : (j : ℕ) (other : RowState) → j < n → get_or rows j other ≡ uncut_row job j
+  pub rows_ok : All (IsRowOf job) rows
+
+-- one row more
+pub uncut_more : (job : Job) (n : ℕ) (rows : List RowState) (r : RowState) → AreUncutTo job n rows → IsRowOf job r → r ≡ uncut_row job n → AreUncutTo job (n + 1) (rows ++ r ∷ [])
+uncut_more job n rows r so_far is_row is = record {
+  count = length-append rows (r ∷ []) ∙ ap (λ (k : ℕ). k + 1) so_far.count;
+  uncut = λ j other below. by j other (cases_lt j n) below;
+  rows_ok = All-append (IsRowOf job) rows (r ∷ []) so_far.rows_ok (one r is_row);
+}
+  where
+    one : (r : RowState) → IsRowOf job r → All (IsRowOf job) (r ∷ [])
+    one r h zero d there = h
+    one r h (suc k) d there = absurd (omega (arith, there))
+
+    by : (j : ℕ) (other : RowState) → (j < n) ⊎ (n ≤ j) → j < n + 1 → get_or (rows ++ r ∷ []) j other ≡ uncut_row job j
+    by j other (inl before) below = get_or_append_left rows (r ∷ []) other j (subst (λ (k : ℕ). j < k) (sym so_far.count) before) ∙ so_far.uncut j other before
+    by j other (inr here) below =
+        subst (λ (k : ℕ). get_or (rows ++ r ∷ []) k other ≡ uncut_row job k) (this_one n j here below)
+        (subst (λ (k : ℕ). get_or (rows ++ r ∷ []) k other ≡ uncut_row job n) so_far.count (get_or-append_seam rows r [] other ∙ is))
+
+-- all of them are the stock before the first move
+pub stock_uncut : (job : Job) (n : ℕ) (rows : List RowState) → n ≡ row_count job → AreUncutTo job n rows → IsStock job [] rows
+stock_uncut job n rows all so_far = record {
+  count = so_far.count ∙ all;
+  rows_ok = λ j other there. subst (IsRow job [] j) (sym (so_far.uncut j other (subst (λ (k : ℕ). j < k) (sym all) there))) (record { number = refl; after = sym (row_after_none job j) });
+}

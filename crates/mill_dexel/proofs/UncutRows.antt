@@ -1,4 +1,4 @@
--- A move that passes the uncut row passes every column of the row, however far it is cut.
+-- Where a row is tested: in range, and never higher than the uncut row. So a move that passes the uncut row passes every column of the row, however far it is cut.
 use Rattle.std.proofs.Common.{◌≡◌, get_or, ℕ, ◌+◌, ◌/◌, ◌<◌, ◌≤◌, length, refl, sym, subst, ap, ◌∙◌, arith}
 use Rattle.std.specs.Int.{int_max}
 use mir.Syntax.{w32}
@@ -49,7 +49,7 @@ row_within : (job : Job) (j : ℕ) → IsJob job → j < row_count job → Withi
 row_within job j is_job there =
     between_within job.unit job.area.y0 job.area.y1 (column_y job j) is_job.y0_ok is_job.y1_ok (steps_within j job.area.y0 job.area.y1 job.pitch is_job.y_order is_job.pitch_ok.low there)
 
--- a move is tested from the floor to the top, and the higher the top, the higher it is tested
+-- a move is tested from the floor to the top, and the higher the top, the higher
 pub tested_from_floor : (job : Job) (kind : Kind) (top : ℤ) → job.floor ≤ℤ top → (pos 0) ≤ℤ job.max_cut → IsFrom job.floor top (tested_height job kind top)
 tested_from_floor job Rapid top low some = record { low = low; high = omega (arith, ints) }
 tested_from_floor job Feed top low some = record { low = greater_left job.floor (top -ℤ job.max_cut); high = greater_least job.floor (top -ℤ job.max_cut) top low (less top job.max_cut some) }

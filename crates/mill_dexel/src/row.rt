@@ -71,7 +71,7 @@ impl Row {
         self.done
     }
 
-    /// Where the row stopped a rapid, if it did.
+    /// Where the row stopped a move, if it did.
     pub fn failed(&self) -> Option<RowFail>
         ensures { result ≡ self.now.failed }
     {

@@ -12,6 +12,7 @@ use mill_base::{Box2, Cutter, Kind, Move, Pt3, Unit, WantOfMemory};
 use mill_decimal::Snap;
 use mill_job::{Job, Levels, Place};
 use mill_sweep::Leaf;
+use std::alloc::Global;
 
 /// One row of three columns at x = 0, 100 and 200, from 0 to 300, with this limit on the depth of cut.
 fn three_columns(max_cut: i32) -> Job
@@ -92,52 +93,81 @@ fn cuts_down_to_the_floor(rt: HostRuntime) -> Result<(), WantOfMemory> {
     Ok(())
 }
 
-// Straight down to a height, a feed cuts too deep where that is under the top less the limit, and under the
-// floor where the limit is greater than what is left.
+/// Where a feed straight down to (x, 0, z) cuts the uncut row too deep, with this limit on the depth of cut.
+fn too_deep(
+    alloc: Global,
+    max_cut: i32,
+    x: i32,
+    z: i32,
+) -> Result<Option<(u32, Leaf)>, WantOfMemory>
+    requires max_cut { IsFrom (pos 0) (pos 500) max_cut }
+    requires x_ok { Within MAX_COORDINATE x }
+    requires z_ok { Within MAX_COORDINATE z }
+{
+    let job = three_columns(max_cut);
+    let row = Row::new(alloc, &job, 0)?;
+    Ok(row.cut_test(&job, &plunge(Kind::Feed, x, z)))
+}
+
+// A feed may go down by the limit, and to the floor where the limit is greater than what is left.
 #[test]
 fn feeds_too_deep(rt: HostRuntime) -> Result<(), WantOfMemory> {
-    for (max_cut, x, z, want) in [
-        (0, 0, 0, None),
-        (50, 0, 250, None),
-        (50, 0, 249, Some((0, Leaf { d: 8, k: 254 }))),
-        (50, 200, 249, Some((1, Leaf { d: 8, k: 254 }))),
-        (50, 350, 0, None),
-        (300, 0, 0, None),
-        (300, 0, -1, Some((0, Leaf { d: 9, k: 510 }))),
-        (400, 0, 0, None),
-        (400, 0, -1, Some((0, Leaf { d: 9, k: 510 }))),
-    ] {
-        let job = three_columns(max_cut);
-        let row = Row::new(rt.alloc(), &job, 0)?;
-        let feed = plunge(Kind::Feed, x, z);
-        assert_eq!(rt; row.cut_test(&job, &feed), want, "at {x}, {z} by {max_cut}");
-    }
+    let alloc = rt.alloc();
+    let leaf = Leaf { d: 8, k: 254 };
+    assert_eq!(rt; too_deep(alloc, 0, 0, 0)?, None);
+    assert_eq!(rt; too_deep(alloc, 50, 0, 250)?, None);
+    assert_eq!(rt; too_deep(alloc, 50, 0, 249)?, Some((0, leaf)));
+    assert_eq!(rt; too_deep(alloc, 50, 200, 249)?, Some((1, leaf)));
+    assert_eq!(rt; too_deep(alloc, 50, 350, 0)?, None);
+    let last = Leaf { d: 9, k: 510 };
+    assert_eq!(rt; too_deep(alloc, 300, 0, 0)?, None);
+    assert_eq!(rt; too_deep(alloc, 300, 0, -1)?, Some((0, last)));
+    assert_eq!(rt; too_deep(alloc, 400, 0, 0)?, None);
+    assert_eq!(rt; too_deep(alloc, 400, 0, -1)?, Some((0, last)));
     Ok(())
+}
+
+/// Where the uncut row stops a move straight down to (0, 0, z), with this limit on the depth of cut.
+fn stop(alloc: Global, max_cut: i32, kind: Kind, z: i32) -> Result<Option<RowFail>, WantOfMemory>
+    requires max_cut { IsFrom (pos 0) (pos 500) max_cut }
+    requires z_ok { Within MAX_COORDINATE z }
+{
+    let job = three_columns(max_cut);
+    let mut row = Row::new(alloc, &job, 0)?;
+    row.turn(&job, &alone(plunge(kind, 0, z)), 0);
+    Ok(row.failed())
+}
+
+/// A program of one move.
+fn alone(step: Move) -> [Move; 1]
+    requires { MoveInRange step }
+    ensures { MovesInRange result }
+{
+    [step]
+}
+
+/// The first move fails at the first column, in this segment.
+fn at_first(leaf: Leaf) -> Option<RowFail> {
+    Some(RowFail {
+        at: 0,
+        col: 0,
+        leaf,
+    })
 }
 
 // The limit is for feeds: a rapid stops at the top, with a limit and without one.
 #[test]
 fn turns_with_a_limit(rt: HostRuntime) -> Result<(), WantOfMemory> {
-    for (max_cut, kind, z, want) in [
-        (0, Kind::Feed, 0, None),
-        (50, Kind::Feed, 250, None),
-        (50, Kind::Feed, 249, Some(Leaf { d: 8, k: 254 })),
-        (0, Kind::Rapid, 300, None),
-        (0, Kind::Rapid, 299, Some(Leaf { d: 7, k: 126 })),
-        (50, Kind::Rapid, 300, None),
-        (50, Kind::Rapid, 299, Some(Leaf { d: 7, k: 126 })),
-    ] {
-        let job = three_columns(max_cut);
-        let mut row = Row::new(rt.alloc(), &job, 0)?;
-        let passed = row.turn(&job, &[plunge(kind, 0, z)], 0);
-        let stop = want.map(|leaf| RowFail {
-            at: 0,
-            col: 0,
-            leaf,
-        });
-        assert_eq!(rt; row.failed(), stop, "{kind:?} to {z} by {max_cut}");
-        assert_eq!(rt; passed, stop.is_none(), "{kind:?} to {z} by {max_cut}");
-    }
+    let alloc = rt.alloc();
+    assert_eq!(rt; stop(alloc, 0, Kind::Feed, 0)?, None);
+    assert_eq!(rt; stop(alloc, 50, Kind::Feed, 250)?, None);
+    let leaf = Leaf { d: 8, k: 254 };
+    assert_eq!(rt; stop(alloc, 50, Kind::Feed, 249)?, at_first(leaf));
+    let leaf = Leaf { d: 7, k: 126 };
+    assert_eq!(rt; stop(alloc, 0, Kind::Rapid, 300)?, None);
+    assert_eq!(rt; stop(alloc, 0, Kind::Rapid, 299)?, at_first(leaf));
+    assert_eq!(rt; stop(alloc, 50, Kind::Rapid, 300)?, None);
+    assert_eq!(rt; stop(alloc, 50, Kind::Rapid, 299)?, at_first(leaf));
     Ok(())
 }
 

@@ -1,0 +1,5 @@
+use Rattle.mill_dexel.proofs.StockLaws.{AreUncutTo}
+use Rattle.mill_dexel.proofs.stock.uncut_rows.Given as goal
+
+abbrev pub invariant-loop-number : goal.invariant-loop-number
+invariant-loop-number l = AreUncutTo l.job l.number l.rows.items
