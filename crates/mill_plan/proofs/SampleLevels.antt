@@ -1,6 +1,6 @@
 -- The level of the tests is one of their job.
 use Rattle.std.proofs.Common.{[], ◌∷◌, arith}
-use Rattle.std.specs.Prelude.{ℤ, ◌<ℤ◌, ◌≤ℤ◌, AllPairs}
+use Rattle.std.specs.Prelude.{ℤ, ◌<ℤ◌, ◌≤ℤ◌}
 use Rattle.std.proofs.lemmas.List.Elements.{All-cons, All-nil}
 use Rattle.std.proofs.lemmas.List.Kept.{AllPairs-cons}
 use Rattle.mill_job.specs.Jobs.{AreLevels, IsLevel}

@@ -1,9 +1,8 @@
-use Rattle.std.proofs.Common.{◌≡◌, ◌+◌, ◌<◌, List, [], inl, inr, length, take, refl}
+use Rattle.std.proofs.Common.{◌+◌, ◌<◌, List, [], inl, inr, length, take}
 use Rattle.std.proofs.lemmas.List.Elements.{All-get_or}
 use Rattle.std.proofs.lemmas.Result.{err_from_is_err_and}
 use Rattle.mill_base.proofs.Ranges.{in_range_of_unit}
 use Rattle.mill_base.specs.Ranges.{IsInUnitRange}
-use Rattle.mill_base.specs.declared.motion.Move.{Move}
 use Rattle.mill_base.specs.declared.points.Tri.{Tri}
 use Rattle.mill_base.specs.declared.limits.TheConstants.{MAX_MOVES}
 use Rattle.mill_job.specs.Columns.{home}
@@ -34,9 +33,10 @@ link_known-requires-clause-to_ok c =
 pub loop-number-preserved : goal.loop-number-preserved
 loop-number-preserved c =
     let so_far = c.loop-number.invariant in
-    let says = λ part say.
+    let says = λ (part : List Tri) (say : SayClear c.args.job.now part c.args.visits.now c.args.clear.now).
     says_at c.args.job.now part c.args.visits.now c.args.clear.now c.loop-number.number _ _ c.loop-number.place say c.loop-number-test.true so_far.place in
-    let adds = λ part say. c.in_ok-link_known.ensures.ok part c.loop-number.moves.items (says part say) (so_far.stock part say) in
+    let adds = λ (part : List Tri) (say : SayClear c.args.job.now part c.args.visits.now c.args.clear.now).
+    c.in_ok-link_known.ensures.ok part c.loop-number.moves.items (says part say) (so_far.stock part say) in
     record {
       place = place_after c.args.job.now c.args.visits.now c.loop-number.number _ c.loop-number-test.true;
       tour = λ part say. tour_more c.args.job.now part c.args.visits.now c.loop-number.number _ c.loop-number.place c.loop-number.moves.items c.link_known.new.out.items
