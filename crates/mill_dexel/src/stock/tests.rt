@@ -1,9 +1,10 @@
-ghost use Rattle.std.specs.Prelude.{◌≡◌, ◌<◌, pos, length, IfOk};
+ghost use Rattle.std.specs.Prelude.{◌≡◌, ◌<◌, pos, length, All, IfOk};
 ghost use Rattle.mill_base.specs.Numbers.{Within};
 ghost use Rattle.mill_base.specs.declared.limits.TheConstants.{MAX_COORDINATE};
 ghost use Rattle.mill_base.specs.Ranges.{MoveInRange};
 ghost use Rattle.mill_job.specs.Columns.{row_count};
 ghost use Rattle.mill_job.specs.Jobs.{IsFrom, IsJob};
+ghost use Rattle.mill_dexel.specs.Rows.{IsRowOf};
 
 use super::*;
 use mill_base::{Box2, Cutter, Kind, Pt3, Unit};
@@ -122,18 +123,26 @@ fn along() -> Move
     }
 }
 
-/// All rows after a cut straight down and one along the last row.
+/// Makes a cut straight down and one along the last row.
+fn cut_twice(job: &Job, rows: &mut [Row])
+    requires job { IsJob job.now }
+    requires rows_ok { All (IsRowOf job.now) rows.old }
+{
+    cut_rows(job, rows, &plunge(300, 200));
+    cut_rows(job, rows, &along());
+}
+
+/// All rows after both cuts.
 fn cut_stock(alloc: Global) -> Result<Vec<Row>, WantOfMemory>
     ensures { IfOk result (λ rows. length rows.items ≡ 7) }
 {
     let job = seven_rows(0);
     let mut rows = uncut_rows(alloc, &job)?;
-    cut_rows(&job, &mut rows, &plunge(300, 200));
-    cut_rows(&job, &mut rows, &along());
+    cut_twice(&job, &mut rows);
     Ok(rows)
 }
 
-/// One row after the same, by itself.
+/// One row after both cuts, by itself.
 fn cut_alone(alloc: Global, number: u64) -> Result<Row, WantOfMemory>
     requires { number < 7 }
 {
