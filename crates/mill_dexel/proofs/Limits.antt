@@ -1,10 +1,8 @@
 -- A feed straight down from a move's end, by at most the greatest depth of cut, passes every column as low as it may cut.
 use Rattle.std.specs.Prelude.{◌≡◌, ℤ, pos, ◌-ℤ◌, ◌*ℤ◌, ◌≤ℤ◌}
-use Rattle.std.proofs.Common.{refl, arith}
+use Rattle.std.proofs.Common.{arith}
 use Rattle.std.proofs.lemmas.Int.{ints}
-use Rattle.mill_base.specs.Points.{point_at, minus, times}
-use Rattle.mill_base.specs.Contact.{Holds}
-use Rattle.mill_base.specs.Cutters.{Inside}
+use Rattle.mill_base.specs.Points.{point_at}
 use Rattle.mill_base.specs.declared.points.Pt3.{Pt3}
 use Rattle.mill_base.specs.declared.motion.Move.{Move}
 use Rattle.mill_base.specs.declared.cutter.Cutter.{Cutter}

@@ -1,12 +1,11 @@
 -- The whole stock, row by row: a further feed is tested at the rows in its reach, and a further move cuts these.
 use Rattle.std.proofs.Common.{◌≡◌, ◌⊎◌, inl, inr, ℕ, zero, suc, ◌+◌, ◌<◌, ◌≤◌, refl, sym, subst, ap, ◌∙◌, length, get_or, arith}
-use Rattle.std.specs.Prelude.{ℤ, pos, ◌+ℤ◌, ◌≤ℤ◌, List, [], ◌∷◌, ◌++◌, All, min, replicate, Bool, true, false, Option, Some, None, IfSome, is_some}
+use Rattle.std.specs.Prelude.{ℤ, pos, ◌+ℤ◌, List, [], ◌∷◌, ◌++◌, All, min, true, false, Option, Some, None, IfSome, is_some}
 use Rattle.std.proofs.lemmas.Bool.{cases_lt}
 use Rattle.std.proofs.lemmas.Int.{ints}
 use Rattle.std.proofs.lemmas.List.{get_or_default, get_or_append_left, length-append}
 use Rattle.std.proofs.lemmas.List.Elements.{All-append}
 use Rattle.std.proofs.Math.Seq.{get_or-append_seam}
-use Rattle.mill_base.specs.Points.{point_at}
 use Rattle.mill_base.specs.Ranges.{MoveInRange}
 use Rattle.mill_base.specs.Sizes.{IsCutter, radius_of}
 use Rattle.mill_base.specs.declared.limits.TheConstants.{MAX_LAST_REACH}
@@ -15,12 +14,11 @@ use Rattle.mill_base.specs.declared.motion.Move.{Move}
 use Rattle.mill_base.specs.declared.motion.Kind.{Kind}
 use Rattle.mill_base.specs.declared.motion.Kind.TheVariants.{Feed}
 use Rattle.mill_job.specs.declared.job.Job.{Job}
-use Rattle.mill_job.specs.Columns.{IsColumn, row_count, column_count, column_x, column_y}
-use Rattle.mill_job.specs.Jobs.{IsJob}
+use Rattle.mill_job.specs.Columns.{IsColumn, row_count, column_count, column_y}
 use Rattle.mill_sweep.specs.Halving.{PassesPoint}
 use Rattle.mill_sweep.specs.declared.leaf.Leaf.{Leaf}
 use Rattle.mill_dexel.specs.Cuts.{IsBeyond, IsRowReach}
-use Rattle.mill_dexel.specs.Tops.{IsTested, ClearsColumns, tested_height, tested_point, row_after, tops_after_move}
+use Rattle.mill_dexel.specs.Tops.{IsTested, ClearsColumns, tested_point, row_after, tops_after_move}
 use Rattle.mill_dexel.specs.Rows.{RowState, IsRowOf, IsFirstStop, PassesRow, row_point, uncut_row}
 use Rattle.mill_dexel.specs.Stocks.{IsRow, IsStock}
 use Rattle.mill_dexel.proofs.Beyond.{move_keeps}
