@@ -159,6 +159,7 @@ job_ok n few = record {
   rough_stock_ok = record { low = omega (arith, ints); high = omega (arith, ints) };
   layers = λ some. omega (arith, ints);
   levels_ok = no_levels (pos 0) (pos 200);
+  max_cut_ok = record { low = omega (arith, ints); high = omega (arith, ints) };
 }
 
 -- the job and the part of a size are such that a plan can be made

@@ -1,6 +1,7 @@
 use Rattle.std.proofs.Common.{ℕ, List, Option, Result, refl, rules, subst, w32}
 use Rattle.std.specs.Prelude.{Ok, Err, FitsSigned}
 use Rattle.std.proofs.lemmas.Int.{to_z-of_z}
+use Rattle.mill_base.proofs.Ranges.{within_of_unit}
 use Rattle.mill_command.specs.Requests.{level}
 use Rattle.camtool.specs.declared.load.LoadFault.{LoadFault}
 use Rattle.camtool.specs.declared.load.Setup.{Setup}
@@ -30,6 +31,11 @@ returns-in-Err-read_height g c =
     let f = c.in-Err-read_height.fault in
     height_word_serves c.args.job.now c.args.part.now c.args.z.now call c.in-Ok.job f.coordinate f.fault c.in-Ok.ensures.told c.in-Err-read_height.ensures.told c.in-Ok.ensures.store
     (made_prints c.line_of_word_fault.result (refused_word f.coordinate f.fault) _ _ _ _ refl c.line_of_word_fault.ensures c.tell_made.ensures)
+
+pub tell_level-requires-clause-height_ok : goal.tell_level-requires-clause-height_ok
+tell_level-requires-clause-height_ok g c =
+    let height_fits : FitsSigned w32 c.in-Ok-read_height.height = search rules in
+    simp to_z-of_z (within_of_unit c.in-Ok.job.unit c.in-Ok-read_height.height c.in-Ok-read_height.ensures.in_range)
 
 pub returns-in-Ok-load_under : goal.returns-in-Ok-load_under
 returns-in-Ok-load_under g c =
