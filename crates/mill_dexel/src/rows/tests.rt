@@ -1,4 +1,4 @@
-ghost use Rattle.std.specs.Prelude.{◌≡◌, ◌<◌, ◌≤◌, length, All, IfOk, None};
+ghost use Rattle.std.specs.Prelude.{◌≡◌, ◌<◌, ◌≤◌, length, IfOk, None};
 ghost use Rattle.mill_base.specs.Numbers.{Within};
 ghost use Rattle.mill_base.specs.declared.limits.TheConstants.{MAX_COORDINATE};
 ghost use Rattle.mill_base.specs.Points.{point_at};
@@ -11,6 +11,7 @@ ghost use Rattle.mill_dexel.specs.Turns.{row_before};
 use super::*;
 use crate::bands::Bands;
 use crate::fail::RowFail;
+use crate::stock::uncut_rows;
 use mill_base::{Box2, Cutter, Kind, Pt3, Unit, WantOfMemory};
 use mill_decimal::Snap;
 use mill_job::{Levels, Place};
@@ -103,18 +104,6 @@ fn stops_at_a_rapid_that_fails(rt: HostRuntime) -> Result<(), WantOfMemory> {
     Ok(())
 }
 
-/// All rows of the uncut stock.
-fn uncut(alloc: Global, job: &Job) -> Result<Vec<Row>, WantOfMemory>
-    requires { IsJob job.now }
-    ensures { IfOk result (λ rows. All (IsRowOf job.now) rows.items) }
-{
-    let mut rows = Vec::new(alloc);
-    for number in 0..job.rows() {
-        rows.push(Row::new(alloc, job, u64::from(number))?)?;
-    }
-    Ok(rows)
-}
-
 /// All rows after the program, by so many workers.
 fn turned<R: Threads + Sync>(rt: &R, alloc: Global, workers: u32) -> Result<Vec<Row>, WantOfMemory>
     requires some { 1 ≤ workers }
@@ -122,7 +111,7 @@ fn turned<R: Threads + Sync>(rt: &R, alloc: Global, workers: u32) -> Result<Vec<
 {
     let job = five_rows();
     let moves = program();
-    let rows = uncut(alloc, &job)?;
+    let rows = uncut_rows(alloc, &job)?;
     let rows = rows_static(rt, &job, rows, &moves, workers);
     Ok(rows_static(rt, &job, rows, &moves, workers))
 }
