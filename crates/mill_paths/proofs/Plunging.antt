@@ -1,6 +1,6 @@
 -- Feeds straight down that are added to a list, peck by peck.
-use Rattle.std.specs.Prelude.{◌≡◌, ◌⊎◌, ℕ, zero, suc, ◌<◌, ℤ, pos, ◌-ℤ◌, ◌<ℤ◌, ◌≤ℤ◌, nat_abs, List, [], ◌∷◌, ◌++◌}
-use Rattle.std.proofs.Common.{inl, inr, refl, sym, ap, ◌∙◌, subst, FitsSigned, w32, arith}
+use Rattle.std.specs.Prelude.{◌≡◌, ℕ, suc, ◌<◌, ℤ, pos, ◌-ℤ◌, ◌≤ℤ◌, nat_abs, List, [], ◌∷◌, ◌++◌}
+use Rattle.std.proofs.Common.{refl, ap, ◌∙◌, FitsSigned, w32, arith}
 use Rattle.std.proofs.lemmas.Int.{ints, fits_signed_from_abs}
 use Rattle.std.proofs.lemmas.List.{append_assoc}
 use Rattle.mill_base.specs.Numbers.{Within}

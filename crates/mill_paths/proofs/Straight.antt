@@ -1,15 +1,13 @@
 -- Whether a link goes straight, and so which link it is.
-use Rattle.std.specs.Prelude.{◌≡◌, ◌≢◌, Bool, true, false, if◌then◌else◌, ℤ, pos, ◌<ℤ◌, List, [], ◌∷◌, IsTrue}
-use Rattle.std.proofs.Common.{inl, inr, refl, sym, ap, ◌∙◌, subst, arith}
-use Rattle.std.proofs.lemmas.Int.{ints}
-use Rattle.mill_base.specs.declared.motion.Kind.TheVariants.{Feed}
+use Rattle.std.specs.Prelude.{◌≡◌, ◌≢◌, Bool, true, false, if◌then◌else◌, pos, List, [], ◌∷◌, IsTrue}
+use Rattle.std.proofs.Common.{inl, inr, refl, sym, ap, ◌∙◌}
 use Rattle.mill_base.specs.declared.motion.Move.{Move}
 use Rattle.mill_base.specs.declared.points.Pt3.{Pt3}
 use Rattle.mill_base.specs.declared.points.Tri.{Tri}
-use Rattle.mill_dexel.specs.Tops.{ClearsColumns, IsTested}
+use Rattle.mill_dexel.specs.Tops.{ClearsColumns}
 use Rattle.mill_job.specs.declared.job.Job.{Job}
 use Rattle.mill_paths.specs.Limits.{is_same_point}
-use Rattle.mill_paths.specs.Links.{GoesClear, IsClear, IsLink, MayFeed, SaysClear, detour, feed_to}
+use Rattle.mill_paths.specs.Links.{GoesClear, IsClear, IsLink, SaysClear, detour, feed_to}
 use Rattle.mill_paths.specs.declared.visit.Visit.{Visit}
 use Rattle.mill_paths.specs.inner.Linking.{GoesStraight, SaysStraight, link_moves}
 use Rattle.mill_paths.proofs.Kept.{untested}

@@ -156,37 +156,47 @@ fn peck(from: i16, to: i16) -> Move {
     feed(at(200, 0, from), at(200, 0, to))
 }
 
+/// The link from home to the visit over (200, 0), in the uncut stock.
+fn link_from_home<R: AllocGlobal>(rt: &R, max_cut: i32) -> Result<Vec<Move>, Fail>
+    requires least { pos 0 ≤ℤ max_cut }
+    requires most { max_cut ≤ℤ pos 400 }
+{
+    let shape = one_post(rt)?;
+    let job = job(max_cut);
+    let mut rows = uncut_rows(rt.alloc(), &job)?;
+    let to = visit(200, 0, 100);
+    let mut out = Vec::new(rt.alloc());
+    link(
+        &job,
+        &shape.part,
+        &shape.cells,
+        &mut rows,
+        job.home(),
+        to,
+        &mut out,
+    )?;
+    Ok(out)
+}
+
 #[test]
 fn goes_down_by_pecks(rt: HostRuntime) -> Result<(), Fail> {
-    let shape = one_post(&rt)?;
+    let across = rapid(at(-300, 0, 500), at(200, 0, 500));
+    let down = rapid(at(200, 0, 500), at(200, 0, 400));
     let four = [
+        across,
+        down,
         peck(400, 350),
         peck(350, 300),
         peck(300, 250),
         peck(250, 200),
     ];
-    let two = [peck(400, 250), peck(250, 200)];
-    for (max_cut, feeds) in [(50, four.as_slice()), (150, two.as_slice())] {
-        let job = job(max_cut);
-        let mut rows = uncut_rows(rt.alloc(), &job)?;
-        let to = visit(200, 0, 100);
-        let mut out = Vec::new(rt.alloc());
-        link(
-            &job,
-            &shape.part,
-            &shape.cells,
-            &mut rows,
-            job.home(),
-            to,
-            &mut out,
-        )?;
-        assert_eq!(rt; out.len(), 2 + feeds.len());
-        assert!(rt; out.ends_with(feeds), "at {max_cut}");
-    }
+    assert_eq!(rt; link_from_home(&rt, 50)?.as_slice(), four.as_slice());
+    let two = [across, down, peck(400, 250), peck(250, 200)];
+    assert_eq!(rt; link_from_home(&rt, 150)?.as_slice(), two.as_slice());
     Ok(())
 }
 
-// Straight to the first visit, which is near, the cutter would cut 200 deep, so it goes round. The stock
+// Straight to the first visit, which is near, the cutter would cut 200 deep, and so it goes round. The stock
 // is lowered there then, and to the second visit, 50 under the first, it may feed straight.
 #[test]
 fn feeds_no_deeper_than_the_limit(rt: HostRuntime) -> Result<(), Fail> {
@@ -220,7 +230,7 @@ fn feeds_no_deeper_than_the_limit(rt: HostRuntime) -> Result<(), Fail> {
     )?;
     assert_eq!(rt; out.len(), 7);
     assert_eq!(rt; out.last(), Some(&feed(first.at, second.at)));
-    let middle = rows.get(3).expect(&rt, "there are seven rows");
+    let middle = rows.get(3).expect(&rt, "there are seven");
     assert_eq!(rt;
         middle.tops(),
         [400, 150, 400, 400, 400, 400, 400].as_slice()

@@ -1,7 +1,6 @@
 use Rattle.std.specs.Prelude.{[], ◌∷◌, ◌++◌}
-use Rattle.std.proofs.Common.{sym, ap, ◌∙◌, subst}
+use Rattle.std.proofs.Common.{sym, ap, ◌∙◌}
 use Rattle.std.proofs.lemmas.List.{append-nil}
-use Rattle.mill_base.specs.declared.motion.Move.{Move}
 use Rattle.mill_paths.specs.Links.{detour}
 use Rattle.mill_paths.proofs.Joining.{all_stands, none_stands, ok_gives}
 use Rattle.mill_paths.proofs.Straight.{no_moves, one_feed, round_moves}

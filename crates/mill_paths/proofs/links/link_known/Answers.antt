@@ -1,4 +1,4 @@
-use Rattle.std.specs.Prelude.{◌≡◌, List, ◌++◌, length, ◌-◌, take, drop}
+use Rattle.std.specs.Prelude.{List, ◌++◌}
 use Rattle.std.proofs.Common.{sym, ◌∙◌, subst}
 use Rattle.mill_base.specs.Ranges.{MovesInRange}
 use Rattle.mill_base.specs.declared.motion.Move.{Move}

@@ -1,5 +1,5 @@
-use Rattle.std.specs.Prelude.{◌≡◌, ◌-◌, ◌<◌, ◌≤◌, true, false, ℤ, pos, nat_abs, ◌-ℤ◌, ◌<ℤ◌, ◌≤ℤ◌}
-use Rattle.std.proofs.Common.{inl, inr, sym, ◌∙◌, ap, arith}
+use Rattle.std.specs.Prelude.{◌≡◌, ◌≤◌, true, false, ℤ, pos, nat_abs, ◌-ℤ◌, ◌<ℤ◌, ◌≤ℤ◌}
+use Rattle.std.proofs.Common.{inl, inr, sym, arith}
 use Rattle.std.proofs.lemmas.Int.{ints}
 use Rattle.mill_base.proofs.Ranges.{coordinate}
 use Rattle.mill_paths.proofs.Kept.{limit_stored, no_limit, some_limit, unit_coordinate}
