@@ -7,7 +7,7 @@
 ghost use Rattle.std.specs.Prelude.{◌≡◌, IfOk};
 
 use crate::run::run;
-use mill_io::{MemFile, MemShelf, MemSink, Shelf, read_whole};
+use mill_io::{MemFile, MemShelf, MemSink, Shelf, Sink, read_whole};
 use std::alloc::{AllocError, Global};
 use std::process::Abort;
 use std::test::Fail;
@@ -226,38 +226,35 @@ fn files(alloc: Global, program: Vec<u8>) -> Result<Vec<MemFile>, Fail> {
     Ok(files)
 }
 
-/// The store's file that can be written, and the numbered calls of the store and of the sink that
-/// fail, and how many bytes that file and the sink hold.
-#[derive(Clone, Copy)]
-struct Outside<'a> {
-    out: &'a str,
-    store_fails: &'a [u64],
-    store_room: usize,
-    sink_fails: &'a [u64],
-    sink_room: usize,
+/// What the outside allows: the store's file that can be written, its room, and the store's calls that
+/// fail; the sink's room, and the sink's calls that fail. Here no call fails.
+const SOUND: &str = "out 1000, 200";
+
+fn numbers(alloc: Global, words: &str) -> Result<Vec<u64>, Fail> {
+    let mut all = Vec::new(alloc);
+    for word in words.split_whitespace() {
+        all.push(word.parse::<u64>()?)?;
+    }
+    Ok(all)
 }
 
-/// Nothing fails.
-const SOUND: Outside<'static> = Outside {
-    out: "out",
-    store_fails: &[],
-    store_room: 1000,
-    sink_fails: &[],
-    sink_room: 200,
-};
-
-fn store(alloc: Global, program: Vec<u8>, outside: &Outside<'_>) -> Result<MemShelf, Fail>
+fn store(alloc: Global, program: Vec<u8>, allowed: &str) -> Result<MemShelf, Fail>
     ensures reads { IfOk result (λ s. (⟦<MemShelf as Shelf>⟧.shows s).read_faults ≡ 0) }
     ensures writes { IfOk result (λ s. (⟦<MemShelf as Shelf>⟧.shows s).write_faults ≡ 0) }
 {
+    let (out, limits) = allowed.split_once(' ').ok_or("a store without a room")?;
+    let limits = numbers(alloc, limits)?;
+    let (room, fails) = limits.split_first().ok_or("a store without a room")?;
     let files = files(alloc, program)?;
-    Ok(MemShelf::new(
-        alloc,
-        files,
-        outside.out,
-        outside.store_room,
-        outside.store_fails,
-    )?)
+    Ok(MemShelf::new(alloc, files, out, *room as usize, fails)?)
+}
+
+fn sink(alloc: Global, allowed: &str) -> Result<MemSink, Fail>
+    ensures { IfOk result (λ s. (⟦<MemSink as Sink>⟧.shows s).faults ≡ 0) }
+{
+    let limits = numbers(alloc, allowed)?;
+    let (room, fails) = limits.split_first().ok_or("a sink without a room")?;
+    Ok(MemSink::new(alloc, *room as usize, fails)?)
 }
 
 /// The status and what was printed, as in a row, and the store as it was left.
@@ -279,10 +276,11 @@ fn call<R: Threads + Sync>(
     alloc: Global,
     words: &[String],
     program: Vec<u8>,
-    outside: &Outside<'_>,
+    allowed: &str,
 ) -> Result<Ended, Fail> {
-    let mut shelf = store(alloc, program, outside)?;
-    let mut sink = MemSink::new(alloc, outside.sink_room, outside.sink_fails)?;
+    let (to_store, to_sink) = allowed.split_once(", ").ok_or("nothing of the sink")?;
+    let mut shelf = store(alloc, program, to_store)?;
+    let mut sink = sink(alloc, to_sink)?;
     let code = run(rt, alloc, words, &mut shelf, &mut sink).code();
     let printed = str::from_utf8(sink.written())?;
     let told = format!(in alloc; "{code} {printed}")?;
@@ -302,24 +300,25 @@ fn answer<R: Threads + Sync>(
     rt: &R,
     alloc: Global,
     command: &str,
-    outside: &Outside<'_>,
+    allowed: &str,
 ) -> Result<Ended, Fail> {
     let Some((command, program)) = command.split_once('<') else {
-        return call(rt, alloc, &words(alloc, command)?, Vec::new(alloc), outside);
+        return call(rt, alloc, &words(alloc, command)?, Vec::new(alloc), allowed);
     };
     let mut words = words(alloc, command)?;
     words.push(String::from_str(alloc, "program")?)?;
     let program = with_lines(alloc, program.trim_end_matches('>'))?;
-    call(rt, alloc, &words, program.into_bytes(), outside)
+    call(rt, alloc, &words, program.into_bytes(), allowed)
 }
 
 /// Asserts that each row says what is told, and that `out` is left as it was.
 fn each_says<R: Threads + Sync + Abort>(rt: &R, alloc: Global, table: &str) -> Result<(), Fail> {
     for row in table.lines() {
         let (command, says) = row.split_once(" => ").ok_or("a row without =>")?;
-        let says = format!(in alloc; "{}\n", with_lines(alloc, says)?)?;
-        let mut ended = answer(rt, alloc, command, &SOUND)?;
-        assert_eq!(rt; ended.told.as_str(), says.as_str(), "{row}");
+        let says = with_lines(alloc, says)?;
+        let mut ended = answer(rt, alloc, command, SOUND)?;
+        let told = ended.told.strip_suffix('\n');
+        assert_eq!(rt; told, Some(says.as_str()), "{row}");
         let left = held(alloc, &mut ended.shelf, "out")?;
         assert_eq!(rt; left.as_str(), text_of("out")?, "{row}");
     }

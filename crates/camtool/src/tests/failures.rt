@@ -1,22 +1,12 @@
 // Each call on the outside that a command makes, refused in turn.
 //
-// A row has a command, the number of the store's call that fails, if one does, and its room, and the
-// same of the sink; what is printed; and what OUT holds then. A name is the text of that file.
-use crate::tests::{Outside, SOUND, answer, held, text_of, with_lines};
+// A row has a command and what the outside allows, as in SOUND; the status and what is printed; and
+// what OUT holds then. A name is the text of that file.
+use crate::tests::{answer, held, text_of, with_lines};
 use std::alloc::Global;
 use std::process::Abort;
 use std::test::Fail;
 use std::thread::Threads;
-
-// The call that fails, which is `-` where none does, and the room.
-fn limits(alloc: Global, words: &str) -> Result<(Vec<u64>, usize), Fail> {
-    let (call, room) = words.split_once(' ').ok_or("limits without a room")?;
-    let mut fails = Vec::new(alloc);
-    if call != "-" {
-        fails.push(call.parse::<u64>()?)?;
-    }
-    Ok((fails, room.parse::<usize>()?))
-}
 
 // The text between `<` and `>`, or that of a file.
 fn text(alloc: Global, word: &str) -> Result<String, Fail> {
@@ -26,71 +16,51 @@ fn text(alloc: Global, word: &str) -> Result<String, Fail> {
     }
 }
 
-// What is told of a row's command, and what OUT holds then.
-fn told_and_left<R: Threads + Sync>(
-    rt: &R,
-    alloc: Global,
-    row: &str,
-) -> Result<(String, String), Fail> {
-    let (command, outside) = row.split_once(", ").ok_or("a row without the store")?;
-    let (store, sink) = outside.split_once(", ").ok_or("a row without the sink")?;
-    let (store_fails, store_room) = limits(alloc, store)?;
-    let (sink_fails, sink_room) = limits(alloc, sink)?;
-    let outside = Outside {
-        store_fails: &store_fails,
-        store_room,
-        sink_fails: &sink_fails,
-        sink_room,
-        ..SOUND
-    };
-    let mut ended = answer(rt, alloc, command, &outside)?;
-    let left = held(alloc, &mut ended.shelf, "out")?;
-    Ok((ended.told, left))
-}
-
 fn each_ends<R: Threads + Sync + Abort>(rt: &R, alloc: Global, table: &str) -> Result<(), Fail> {
     for row in table.lines() {
         let (given, rest) = row.split_once(" => ").ok_or("a row without =>")?;
         let (says, leaves) = rest.split_once(" => ").ok_or("a row with one =>")?;
+        let (command, allowed) = given.split_once(", ").ok_or("a row without limits")?;
         let (code, printed) = says.split_once(' ').ok_or("a row without a status")?;
         let says = format!(in alloc; "{code} {}", text(alloc, printed)?)?;
         let leaves = text(alloc, leaves)?;
-        let (told, left) = told_and_left(rt, alloc, given)?;
-        assert_eq!(rt; told.as_str(), says.as_str(), "{row}");
+        let mut ended = answer(rt, alloc, command, allowed)?;
+        let left = held(alloc, &mut ended.shelf, "out")?;
+        assert_eq!(rt; ended.told.as_str(), says.as_str(), "{row}");
         assert_eq!(rt; left.as_str(), leaves.as_str(), "{row}");
     }
     Ok(())
 }
 
 // The store's reads are two a file; where the sink fails too, that is what is blamed.
-const READS: &str = r"verify job plate <M2>, 0 1000, - 200 => 6 <read fault job\n> => out
-verify job plate <M2>, 0 1000, 0 200 => 7 <> => out
-verify job plate <M2>, 1 1000, - 200 => 6 <read fault job\n> => out
-verify job plate <M2>, 1 1000, 0 200 => 7 <> => out
-verify job plate <M2>, 2 1000, - 200 => 6 <read fault part\n> => out
-verify job plate <M2>, 2 1000, 0 200 => 7 <> => out
-verify job plate <M2>, 3 1000, - 200 => 6 <read fault part\n> => out
-verify job plate <M2>, 3 1000, 0 200 => 7 <> => out
-verify job plate <M2>, 4 1000, - 200 => 6 <read fault program\n> => out
-verify job plate <M2>, 4 1000, 0 200 => 7 <> => out
-verify job plate <M2>, 5 1000, - 200 => 6 <read fault program\n> => out
-verify job plate <M2>, 5 1000, 0 200 => 7 <> => out
-plan job plate out, 0 1000, - 200 => 6 <read fault job\n> => out
-plan job plate out, 0 1000, 0 200 => 7 <> => out
-plan job plate out, 1 1000, - 200 => 6 <read fault job\n> => out
-plan job plate out, 1 1000, 0 200 => 7 <> => out
-plan job plate out, 2 1000, - 200 => 6 <read fault part\n> => out
-plan job plate out, 2 1000, 0 200 => 7 <> => out
-plan job plate out, 3 1000, - 200 => 6 <read fault part\n> => out
-plan job plate out, 3 1000, 0 200 => 7 <> => out
-drop job plate --x=1 --y=1, 1 1000, - 200 => 6 <read fault job\n> => out
-drop job plate --x=1 --y=1, 1 1000, 0 200 => 7 <> => out
-drop job plate --x=1 --y=1, 3 1000, - 200 => 6 <read fault part\n> => out
-drop job plate --x=1 --y=1, 3 1000, 0 200 => 7 <> => out
-level job plate --z=0, 1 1000, - 200 => 6 <read fault job\n> => out
-level job plate --z=0, 1 1000, 0 200 => 7 <> => out
-level job plate --z=0, 3 1000, - 200 => 6 <read fault part\n> => out
-level job plate --z=0, 3 1000, 0 200 => 7 <> => out";
+const READS: &str = r"verify job plate <M2>, out 1000 0, 200 => 6 <read fault job\n> => out
+verify job plate <M2>, out 1000 0, 200 0 => 7 <> => out
+verify job plate <M2>, out 1000 1, 200 => 6 <read fault job\n> => out
+verify job plate <M2>, out 1000 1, 200 0 => 7 <> => out
+verify job plate <M2>, out 1000 2, 200 => 6 <read fault part\n> => out
+verify job plate <M2>, out 1000 2, 200 0 => 7 <> => out
+verify job plate <M2>, out 1000 3, 200 => 6 <read fault part\n> => out
+verify job plate <M2>, out 1000 3, 200 0 => 7 <> => out
+verify job plate <M2>, out 1000 4, 200 => 6 <read fault program\n> => out
+verify job plate <M2>, out 1000 4, 200 0 => 7 <> => out
+verify job plate <M2>, out 1000 5, 200 => 6 <read fault program\n> => out
+verify job plate <M2>, out 1000 5, 200 0 => 7 <> => out
+plan job plate out, out 1000 0, 200 => 6 <read fault job\n> => out
+plan job plate out, out 1000 0, 200 0 => 7 <> => out
+plan job plate out, out 1000 1, 200 => 6 <read fault job\n> => out
+plan job plate out, out 1000 1, 200 0 => 7 <> => out
+plan job plate out, out 1000 2, 200 => 6 <read fault part\n> => out
+plan job plate out, out 1000 2, 200 0 => 7 <> => out
+plan job plate out, out 1000 3, 200 => 6 <read fault part\n> => out
+plan job plate out, out 1000 3, 200 0 => 7 <> => out
+drop job plate --x=1 --y=1, out 1000 1, 200 => 6 <read fault job\n> => out
+drop job plate --x=1 --y=1, out 1000 1, 200 0 => 7 <> => out
+drop job plate --x=1 --y=1, out 1000 3, 200 => 6 <read fault part\n> => out
+drop job plate --x=1 --y=1, out 1000 3, 200 0 => 7 <> => out
+level job plate --z=0, out 1000 1, 200 => 6 <read fault job\n> => out
+level job plate --z=0, out 1000 1, 200 0 => 7 <> => out
+level job plate --z=0, out 1000 3, 200 => 6 <read fault part\n> => out
+level job plate --z=0, out 1000 3, 200 0 => 7 <> => out";
 
 #[test]
 fn blames_each_failed_read(rt: HostRuntime) -> Result<(), Fail> {
@@ -99,20 +69,20 @@ fn blames_each_failed_read(rt: HostRuntime) -> Result<(), Fail> {
 
 // Of `plan`, the store's call 4 creates OUT, and call 5 is the first append. A failed write leaves a
 // prefix of the program, or what was there, and then nothing is printed.
-const WRITES: &str = r"plan job plate out, 4 1000, - 200 => 7 <> => out
-plan job plate out, 5 1000, - 200 => 7 <> => <>
-plan job plate out, - 5, - 200 => 7 <> => <%\nG17>
-plan job plate out, - 100, - 200 => 7 <> => <%\nG17 G21 G90\nG1 X0.00 Y0.00 Z2.00\nG1 X1.00 Y0.00 Z2.00\nG1 X2.00 Y0.00 Z2.00\nG1 X2.00 Y1.00 Z2.00\nG1>
-plan job plate out, - 1000, 0 200 => 7 <> => planned
-plan job plate out, - 1000, - 8 => 7 <planned > => planned
-verify job plate <M2>, - 1000, 0 200 => 7 <> => out
-verify job plate <M2>, - 1000, - 9 => 7 <rejected > => out
-drop job plate --x=1 --y=1, - 1000, 0 200 => 7 <> => out
-drop job plate --x=1 --y=1, - 1000, - 5 => 7 <drop > => out
-level job plate --z=0, - 1000, 0 200 => 7 <> => out
-level job plate --z=0, - 1000, - 7 => 7 <chains > => out
-sample 1, - 1000, 0 200 => 7 <> => out
-sample 1, - 1000, - 7 => 7 <sample > => out";
+const WRITES: &str = r"plan job plate out, out 1000 4, 200 => 7 <> => out
+plan job plate out, out 1000 5, 200 => 7 <> => <>
+plan job plate out, out 5, 200 => 7 <> => <%\nG17>
+plan job plate out, out 100, 200 => 7 <> => <%\nG17 G21 G90\nG1 X0.00 Y0.00 Z2.00\nG1 X1.00 Y0.00 Z2.00\nG1 X2.00 Y0.00 Z2.00\nG1 X2.00 Y1.00 Z2.00\nG1>
+plan job plate out, out 1000, 200 0 => 7 <> => planned
+plan job plate out, out 1000, 8 => 7 <planned > => planned
+verify job plate <M2>, out 1000, 200 0 => 7 <> => out
+verify job plate <M2>, out 1000, 9 => 7 <rejected > => out
+drop job plate --x=1 --y=1, out 1000, 200 0 => 7 <> => out
+drop job plate --x=1 --y=1, out 1000, 5 => 7 <drop > => out
+level job plate --z=0, out 1000, 200 0 => 7 <> => out
+level job plate --z=0, out 1000, 7 => 7 <chains > => out
+sample 1, out 1000, 200 0 => 7 <> => out
+sample 1, out 1000, 7 => 7 <sample > => out";
 
 #[test]
 fn blames_each_failed_write(rt: HostRuntime) -> Result<(), Fail> {

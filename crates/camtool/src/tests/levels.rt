@@ -2,7 +2,8 @@
 use crate::tests::each_says;
 use std::test::Fail;
 
-const LEVELS: &str = r"level --workers=2 wide point --z=0 => 0 closed 4\n4.00 5.00\n5.00 4.00\n6.00 5.00\n5.00 6.00\nchains 1
+const LEVELS: &str =
+    r"level --workers=2 wide point --z=0 => 0 closed 4\n4.00 5.00\n5.00 4.00\n6.00 5.00\n5.00 6.00\nchains 1
 level --workers=2 wide point --z=2.99 => 0 closed 4\n4.00 5.00\n5.00 4.00\n6.00 5.00\n5.00 6.00\nchains 1
 level --workers=2 wide point --z=-1310.71 => 0 closed 4\n4.00 5.00\n5.00 4.00\n6.00 5.00\n5.00 6.00\nchains 1
 level --workers=2 wide point --z=0.3e1 => 0 chains 0

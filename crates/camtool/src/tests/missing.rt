@@ -27,7 +27,7 @@ fn refuses_a_long_part_before_a_missing_program(rt: HostRuntime) -> Result<(), F
     let alloc = rt.alloc();
     let part = vec![in alloc; b' '; 67_108_865]?;
     let words = words(alloc, "verify job program absent")?;
-    let ended = call(&rt, alloc, &words, part, &SOUND)?;
+    let ended = call(&rt, alloc, &words, part, SOUND)?;
     assert_eq!(rt; ended.told.as_str(), "4 refused too-long part\n");
     Ok(())
 }

@@ -1,5 +1,5 @@
 // `plan`: the line, the status and the stored text of each answer.
-use crate::tests::{Outside, SOUND, answer, each_says, held, text_of};
+use crate::tests::{answer, each_says, held, text_of};
 use std::test::Fail;
 
 // The last stores it in the place of the job.
@@ -12,7 +12,8 @@ fn stores_a_program(rt: HostRuntime) -> Result<(), Fail> {
     let alloc = rt.alloc();
     for row in STORED.lines() {
         let (_, out) = row.rsplit_once(' ').ok_or("a row without OUT")?;
-        let mut ended = answer(&rt, alloc, row, &Outside { out, ..SOUND })?;
+        let allowed = format!(in alloc; "{out} 1000, 200")?;
+        let mut ended = answer(&rt, alloc, row, allowed.as_str())?;
         assert_eq!(rt;
             ended.told.as_str(),
             "0 planned moves 11 columns 9 left 0.00\n",

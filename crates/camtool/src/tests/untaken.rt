@@ -1,6 +1,6 @@
 // Words that aren't taken as a command. Clap's text isn't part of any promise: a row has only a piece
 // of it.
-use crate::tests::{Outside, SOUND, answer, with_lines};
+use crate::tests::{answer, with_lines};
 use std::test::Fail;
 
 const UNTAKEN: &str = r"--help => 0 Usage: camtool <COMMAND>
@@ -42,16 +42,12 @@ sample 101 => 2 101 is not in 1..=100";
 fn answers_untaken_words(rt: HostRuntime) -> Result<(), Fail> {
     let alloc = rt.alloc();
     // Every read would fail: no file is read.
-    let outside = Outside {
-        store_fails: &[0, 1, 2, 3, 4, 5],
-        sink_room: 2000,
-        ..SOUND
-    };
+    let allowed = "out 1000 0 1 2 3 4 5, 2000";
     for row in UNTAKEN.lines() {
         let (command, says) = row.split_once("=> ").ok_or("a row without =>")?;
         let (code, piece) = says.split_once(' ').ok_or("a row without a status")?;
         let piece = with_lines(alloc, piece)?;
-        let ended = answer(&rt, alloc, command, &outside)?;
+        let ended = answer(&rt, alloc, command, allowed)?;
         let (told, text) = ended.told.split_once(' ').ok_or("no status")?;
         assert_eq!(&rt; told, code, "{row}");
         assert!(&rt; text.contains(piece.as_str()), "{row}: {text}");

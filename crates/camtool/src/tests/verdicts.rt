@@ -2,7 +2,8 @@
 use crate::tests::{SOUND, call, each_says, words};
 use std::test::Fail;
 
-const VERDICTS: &str = r"verify job plate down => 0 accepted moves 2 columns 9 left 0.00 band 0.00 allowance 0.00
+const VERDICTS: &str =
+    r"verify job plate down => 0 accepted moves 2 columns 9 left 0.00 band 0.00 allowance 0.00
 verify job plate <G21 G90\nG1 Z2.01\nG0 Z4\nM2\n> => 3 rejected left row 0 column 0 top 2.01
 verify job plate <G21 G90\nG1 Z1.99\nM2\n> => 3 rejected gouge move 0 triangle 0 leaf 8 254
 verify job plate <G21 G90\nG0 Z2.99\nM2> => 3 rejected rapid move 0 row 0 column 0 leaf 7 126
@@ -36,7 +37,8 @@ fn prints_each_answer(rt: HostRuntime) -> Result<(), Fail> {
     each_says(&rt, rt.alloc(), VERDICTS)
 }
 
-const ALIKE: &str = r"verify --workers=1 job plate down => 0 accepted moves 2 columns 9 left 0.00 band 0.00 allowance 0.00
+const ALIKE: &str =
+    r"verify --workers=1 job plate down => 0 accepted moves 2 columns 9 left 0.00 band 0.00 allowance 0.00
 verify --workers=4 job plate down => 0 accepted moves 2 columns 9 left 0.00 band 0.00 allowance 0.00
 verify --workers=64 job plate down => 0 accepted moves 2 columns 9 left 0.00 band 0.00 allowance 0.00
 verify --workers=1 job plate <G21 G90\nG0 Z1.99\nM2\n> => 3 rejected gouge move 0 triangle 0 leaf 8 254
@@ -61,7 +63,7 @@ fn reads_a_program_of_two_pieces(rt: HostRuntime) -> Result<(), Fail> {
     }
     program.extend_from_slice(b"M2\n")?;
     let words = words(alloc, "verify job plate program")?;
-    let ended = call(&rt, alloc, &words, program, &SOUND)?;
+    let ended = call(&rt, alloc, &words, program, SOUND)?;
     assert_eq!(rt;
         ended.told.as_str(),
         "0 accepted moves 20000 columns 9 left 0.00 band 0.00 allowance 0.00\n"
