@@ -5,16 +5,14 @@ use Rattle.std.proofs.Common.{refl}
 use mir.Syntax.{w32}
 use Rattle.mill_base.specs.Numbers.{Within}
 use Rattle.mill_base.specs.Units.{greatest_of}
-use Rattle.mill_base.specs.Ranges.{IsInRange, TriInRange, MoveInRange, TrisInRange, MovesInRange, IsInUnitRange, TriInUnitRange, MoveInUnitRange, TrisInUnitRange, MovesInUnitRange, IsInTextRange, TriInTextRange, MoveInTextRange, TrisInTextRange, MovesInTextRange}
-use Rattle.mill_base.specs.declared.limits.TheConstants.{MAX_COORDINATE, MAX_TEXT_COORDINATE}
+use Rattle.mill_base.specs.Ranges.{IsInRange, TriInRange, MoveInRange, TrisInRange, MovesInRange, IsInUnitRange, TriInUnitRange, MoveInUnitRange, TrisInUnitRange, MovesInUnitRange}
+use Rattle.mill_base.specs.declared.limits.TheConstants.{MAX_COORDINATE}
 use Rattle.mill_base.specs.declared.points.Pt3.{Pt3}
 use Rattle.mill_base.specs.declared.points.Tri.{Tri}
 use Rattle.mill_base.specs.declared.motion.Move.{Move}
 use Rattle.mill_base.specs.declared.unit.Unit.{Unit}
 use Rattle.mill_base.specs.declared.unit.Unit.TheVariants.{Hundredth, Thousandth}
 use Rattle.mill_base.proofs.Machine.{stored, kept}
-
--- ---- in each unit
 
 pub greatest_of-le : (unit : Unit) → greatest_of unit ≤ MAX_COORDINATE
 greatest_of-le Hundredth = omega arith
@@ -39,26 +37,6 @@ tris_of_unit unit tris h = λ tri member. tri_of_unit unit tri (h tri member)
 
 pub moves_of_unit : (unit : Unit) (moves : List Move) → MovesInUnitRange unit moves → MovesInRange moves
 moves_of_unit unit moves h = λ move member. move_of_unit unit move (h move member)
-
--- ---- in hundredths
-
-pub within_of_text : (a : ℤ) → Within MAX_TEXT_COORDINATE a → Within MAX_COORDINATE a
-within_of_text = within_of_unit Hundredth
-
-pub in_range_of_text : (p : Pt3) → IsInTextRange p → IsInRange p
-in_range_of_text = in_range_of_unit Hundredth
-
-pub tri_of_text : (tri : Tri) → TriInTextRange tri → TriInRange tri
-tri_of_text = tri_of_unit Hundredth
-
-pub move_of_text : (move : Move) → MoveInTextRange move → MoveInRange move
-move_of_text = move_of_unit Hundredth
-
-pub tris_of_text : (tris : List Tri) → TrisInTextRange tris → TrisInRange tris
-tris_of_text = tris_of_unit Hundredth
-
-pub moves_of_text : (moves : List Move) → MovesInTextRange moves → MovesInRange moves
-moves_of_text = moves_of_unit Hundredth
 
 -- a coordinate is stored as it is
 pub coordinate : (z : ℤ) → Within MAX_COORDINATE z → stored w32 z ≡ z

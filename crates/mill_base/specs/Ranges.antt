@@ -7,7 +7,6 @@ use Rattle.mill_base.specs.declared.points.Pt3.{Pt3}
 use Rattle.mill_base.specs.declared.points.Tri.{Tri}
 use Rattle.mill_base.specs.declared.motion.Move.{Move}
 use Rattle.mill_base.specs.declared.unit.Unit.{Unit}
-use Rattle.mill_base.specs.declared.unit.Unit.TheVariants.{Hundredth}
 
 -- ---- what calls take
 
@@ -62,25 +61,3 @@ TrisInUnitRange unit tris = (tri : Tri) → Contains tris tri → TriInUnitRange
 -- so is each move of a list
 abbrev pub MovesInUnitRange : Unit → List Move → Type 0
 MovesInUnitRange unit moves = (m : Move) → Contains moves m → MoveInUnitRange unit m
-
--- ---- the same in hundredths
-
--- each coordinate of the point is one that a text in hundredths may give
-abbrev pub IsInTextRange : Pt3 → Type 0
-IsInTextRange = IsInUnitRange Hundredth
-
--- so is each of a triangle's corners
-abbrev pub TriInTextRange : Tri → Type 0
-TriInTextRange = TriInUnitRange Hundredth
-
--- so are a move's two ends
-abbrev pub MoveInTextRange : Move → Type 0
-MoveInTextRange = MoveInUnitRange Hundredth
-
--- so is each triangle of a list
-abbrev pub TrisInTextRange : List Tri → Type 0
-TrisInTextRange = TrisInUnitRange Hundredth
-
--- so is each move of a list
-abbrev pub MovesInTextRange : List Move → Type 0
-MovesInTextRange = MovesInUnitRange Hundredth

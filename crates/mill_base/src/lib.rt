@@ -17,6 +17,7 @@ mod points;
 mod roots;
 mod rounding;
 mod steps;
+mod tool;
 mod unit;
 
 pub use arithmetic::{offset, product, square, square_sum};
@@ -33,4 +34,5 @@ pub use points::{Box2, Pt3, Tri};
 pub use roots::{ceil_root, floor_root};
 pub use rounding::{power_of_two, round_half_up};
 pub use steps::Steps;
+pub use tool::{Holder, Tool};
 pub use unit::Unit;
