@@ -13,7 +13,6 @@ pub mod Passing
 pub mod Placements
 pub mod SizeLemmas
 pub mod Summing
-pub mod TestLemmas
 pub mod UpTo
 pub mod WalkLemmas
 pub mod Walked

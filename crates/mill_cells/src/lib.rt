@@ -19,8 +19,6 @@ mod near_over;
 mod near_rising;
 mod placing;
 mod size;
-#[cfg(test)]
-mod tests;
 mod walk;
 
 pub use cells::Cells;

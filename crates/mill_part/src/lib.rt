@@ -20,6 +20,3 @@ mod whole;
 pub use laws::covered_below;
 pub use part::Part;
 pub use sorted_part::SortedPart;
-
-#[cfg(test)]
-mod tests;

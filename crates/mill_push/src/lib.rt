@@ -14,8 +14,6 @@ mod near;
 mod reach;
 mod runs;
 mod stretch;
-#[cfg(test)]
-mod tests;
 mod union;
 mod window;
 

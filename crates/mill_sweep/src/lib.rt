@@ -23,8 +23,6 @@ mod moments;
 mod move_depth;
 mod reach;
 mod sweep;
-#[cfg(test)]
-mod tests;
 
 pub use contact::{holds_some, touch};
 pub use ends::{end_at, nearest};
