@@ -6,12 +6,12 @@ ghost use Rattle.mill_base.specs.Ranges.{IsInRange, TriInRange};
 ghost use Rattle.mill_base.specs.Sizes.{IsCutter};
 ghost use Rattle.mill_push.specs.Touches.{IsFiber};
 
-use crate::{
+use mill_base::{Cutter, Pt3, Steps, Tri};
+use mill_part::{Part, SortedPart};
+use mill_push::{
     Axis, Fiber, Run, Side, Touch, counted_touch, one_list_of_runs, one_stretch, push,
     runs_hold_blocked,
 };
-use mill_base::{Cutter, Pt3, Steps, Tri};
-use mill_part::{Part, SortedPart};
 use std::marker::Brand;
 use std::process::Abort;
 use std::sync::ledger::{Blank, Ledger};
