@@ -8,4 +8,3 @@ mod Reach
 mod Telling
 mod Answering
 mod Never
-mod SampleLevels

@@ -21,8 +21,6 @@ mod left;
 mod piece;
 mod program;
 mod stock;
-#[cfg(test)]
-mod test_shape;
 mod verdict;
 mod work;
 

@@ -272,6 +272,3 @@ fn last_verdict<R: Threads + Sync>(
         }),
     }
 }
-
-#[cfg(test)]
-mod tests;
