@@ -1,6 +1,7 @@
 mod NodeLimits
 mod Feeding
 mod Touring
+mod Homing
 mod Planning
 mod Good
 mod Ends
