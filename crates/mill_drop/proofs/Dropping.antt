@@ -17,7 +17,7 @@ use Rattle.mill_cells.specs.Boxes.{Meet, IsNear, box_of, boxes_of, origin_box}
 use Rattle.mill_cells.specs.Ahead.{Ahead, Comes, NoneComes, AreDealt}
 use Rattle.mill_cells.specs.Sorted.{Sorted, sorted_of, top_at}
 use Rattle.mill_cells.proofs.PassedLemmas.{deals_on, deals_last, top_is}
-use Rattle.mill_drop.specs.Drops.{TouchesAt, GougesAt, IsRaised, IsDropHeight}
+use Rattle.mill_drop.specs.inner.Cutters.{TouchesAt, CutterGougesAt, IsRaised, IsCutterDrop}
 use Rattle.mill_drop.specs.inner.Near.{AreFree, square_about}
 use Rattle.mill_drop.proofs.Heights.{lowered, has_radius, over_top_free}
 use Rattle.mill_drop.proofs.NearLemmas.{touching_meets}
@@ -38,7 +38,7 @@ pub raised_twice : (cutter : Cutter) (part : List Tri) (x y a b c : ℤ) → IsR
 raised_twice cutter part x y a b c h k = record {
   kept = through a b c h.kept k.kept;
   reached = elim k.reached [
-    | inl same ↦ subst (λ z. (z ≡ a) ⊎ GougesAt cutter part x y (z -ℤ pos 1)) (sym same) h.reached
+    | inl same ↦ subst (λ z. (z ≡ a) ⊎ CutterGougesAt cutter part x y (z -ℤ pos 1)) (sym same) h.reached
     | inr g ↦ inr g
   ];
 }
@@ -114,7 +114,7 @@ raise_ends cutter part d area x y from near later height ok none s tri m meet t 
 
 -- where the triangles in the square about the place are free, it is the drop height
 pub drop_is : (cutter : Cutter) (part : List Tri) (x y floor height : ℤ) → IsCutter cutter → IsRaised cutter part x y floor height → AreFree cutter part (square_about cutter x y) x y height
-    → IsDropHeight cutter part x y floor height
+    → IsCutterDrop cutter part x y floor height
 drop_is cutter part x y floor height ok h free = record {
   kept = h.kept;
   free = λ higher over g. free g.tri g.member (touching_meets cutter g.tri x y higher (has_radius cutter ok) g.touches) (lowered cutter g.tri x y higher height over g.touches);

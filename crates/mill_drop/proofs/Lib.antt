@@ -5,5 +5,6 @@ pub mod NearCerts
 pub mod NearLemmas
 pub mod Dropping
 pub mod Scanning
+pub mod Holders
 pub mod Listed
 pub mod Uniqueness

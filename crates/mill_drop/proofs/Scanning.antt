@@ -7,13 +7,13 @@ use lib.IntN.{ℤ, pos, ◌-ℤ◌}
 use lib.Signed.{◌<ℤ◌, ◌≤ℤ◌}
 use Rattle.mill_base.specs.declared.points.Tri.{Tri}
 use Rattle.mill_base.specs.declared.cutter.Cutter.{Cutter}
-use Rattle.mill_drop.specs.Drops.{TouchesAt, GougesAt, IsDropHeight}
+use Rattle.mill_drop.specs.inner.Cutters.{TouchesAt, CutterGougesAt, IsCutterDrop}
 use Rattle.mill_drop.proofs.Heights.{lowered}
 
 -- no triangle of the first k is held at this height, and some part point is at the one under it, unless it is the floor
 pub record DropsBefore (cutter : Cutter) (part : List Tri) (x y floor : ℤ) (k : ℕ) (height : ℤ) : Type 0 where
   pub kept : floor ≤ℤ height
-  pub reached : (height ≡ floor) ⊎ GougesAt cutter part x y (height -ℤ pos 1)
+  pub reached : (height ≡ floor) ⊎ CutterGougesAt cutter part x y (height -ℤ pos 1)
   pub free : All (λ t. ¬ TouchesAt cutter t x y height) (take k part)
 
 pub none_yet : (cutter : Cutter) (part : List Tri) (x y floor : ℤ) → DropsBefore cutter part x y floor 0 floor
@@ -29,7 +29,7 @@ pub one_more : (cutter : Cutter) (part : List Tri) (x y floor : ℤ) (k : ℕ) (
 one_more cutter part x y floor k d height new here before more free least = record {
   kept = through floor height new before.kept more;
   reached = elim least [
-    | inl same ↦ subst (λ z. (z ≡ floor) ⊎ GougesAt cutter part x y (z -ℤ pos 1)) (sym same) before.reached
+    | inl same ↦ subst (λ z. (z ≡ floor) ⊎ CutterGougesAt cutter part x y (z -ℤ pos 1)) (sym same) before.reached
     | inr t ↦ inr (record { tri = get_or part k d; member = Contains-get_or part k d here; touches = t })
   ];
   free = All-more (λ t. ¬ TouchesAt cutter t x y new) part k d here
@@ -42,7 +42,7 @@ one_more cutter part x y floor k d height new here before more free least = reco
 
 -- after the last triangle it is the drop height
 pub drop_after : (cutter : Cutter) (part : List Tri) (x y floor : ℤ) (k : ℕ) (height : ℤ) → length part ≤ k → DropsBefore cutter part x y floor k height
-    → IsDropHeight cutter part x y floor height
+    → IsCutterDrop cutter part x y floor height
 drop_after cutter part x y floor k height end before = record {
   kept = before.kept;
   free = λ higher over g. All-contains (λ t. ¬ TouchesAt cutter t x y height) part g.tri all g.member (lowered cutter g.tri x y higher height over g.touches);

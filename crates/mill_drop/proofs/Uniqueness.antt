@@ -3,8 +3,8 @@ use Rattle.std.specs.Prelude.{◌≡◌, Bool, true, false, ℤ, ◌<ℤ◌, ◌
 use Rattle.std.specs.List.{AllZip}
 use Rattle.std.proofs.Common.{refl, ap, ◌∙◌, arith}
 use Rattle.std.proofs.lemmas.Int.{ints}
-use Rattle.mill_base.specs.declared.cutter.Cutter.{Cutter}
 use Rattle.mill_base.specs.declared.points.Tri.{Tri}
+use Rattle.mill_base.specs.declared.tool.Tool.{Tool}
 use Rattle.mill_drop.specs.Drops.{IsDropHeight}
 use Rattle.mill_base.specs.Lattices.{nodes_of}
 use Rattle.mill_drop.specs.Maps.{IsHeightAt}
@@ -30,8 +30,8 @@ same_height z w h k = equal (not_under z w h) (not_under w z k)
     equal p q = omega (p, q, arith, ints)
 
 -- each of two drop heights is the least
-pub one_height : (cutter : Cutter) (part : List Tri) (x y floor z w : ℤ) → IsDropHeight cutter part x y floor z → IsDropHeight cutter part x y floor w → z ≡ w
-one_height cutter part x y floor z w h g =
+pub one_height : (tool : Tool) (part : List Tri) (x y floor z w : ℤ) → IsDropHeight tool part x y floor z → IsDropHeight tool part x y floor w → z ≡ w
+one_height tool part x y floor z w h g =
     same_height z w (λ low. h.free z (level z) (g.least z h.kept low)) (λ low. g.free w (level w) (h.least w g.kept low))
 
 -- lists that each item of another settles place by place
@@ -46,5 +46,5 @@ one_list R one (x ∷ xs) (y ∷ ys) (z ∷ zs) h g = ap (λ w. w ∷ ys) (one x
 
 -- a lattice has one list of drop heights at most
 pub one_map : OneListOfHeights
-one_map cutter part floor lattice a b h g =
-    one_list (IsHeightAt cutter part floor) (λ node z w p q. one_height cutter part node.0 node.1 floor z w p q) (nodes_of lattice) a b h g
+one_map tool part floor lattice a b h g =
+    one_list (IsHeightAt tool part floor) (λ node z w p q. one_height tool part node.0 node.1 floor z w p q) (nodes_of lattice) a b h g

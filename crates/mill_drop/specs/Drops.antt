@@ -1,25 +1,16 @@
--- How far a cutter can go down over a place until it would gouge.
-use Rattle.std.specs.Prelude.{◌≡◌, ◌⊎◌, ℤ, pos, ◌-ℤ◌, ◌<ℤ◌, ◌≤ℤ◌, List}
+-- How far a tool can go down over a place until it would gouge.
+use Rattle.std.specs.Prelude.{ℤ, pos, ◌<ℤ◌, ◌≤ℤ◌, List}
 use Rattle.mill_base.specs.Points.{point_at}
-use Rattle.mill_base.specs.Contact.{Touches, Gouges}
+use Rattle.mill_base.specs.Tools.{ToolGouges}
 use Rattle.mill_base.specs.declared.points.Tri.{Tri}
-use Rattle.mill_base.specs.declared.cutter.Cutter.{Cutter}
+use Rattle.mill_base.specs.declared.tool.Tool.{Tool}
 
--- some point of the triangle is strictly inside the cutter with its tip at (x, y, z)
-abbrev pub TouchesAt : Cutter → Tri → ℤ → ℤ → ℤ → Type 0
-TouchesAt cutter tri x y z = Touches cutter (pos 1) (point_at x y z) tri
+-- with the tool's tip at (x, y, z), some part point is strictly inside its cutter or its holder
+abbrev pub GougesAt : Tool → List Tri → ℤ → ℤ → ℤ → Type 0
+GougesAt tool part x y z = ToolGouges tool (pos 1) (point_at x y z) part
 
--- some part point is strictly inside the cutter with its tip at (x, y, z)
-abbrev pub GougesAt : Cutter → List Tri → ℤ → ℤ → ℤ → Type 0
-GougesAt cutter part x y z = Gouges cutter (pos 1) (point_at x y z) part
-
--- z is the least whole height, from the floor on, at which the cutter over (x, y) doesn't gouge; nor does it at any greater height
-pub record IsDropHeight (cutter : Cutter) (part : List Tri) (x y floor z : ℤ) : Type 0 where
+-- z is the least whole height, from the floor on, at which the tool over (x, y) doesn't gouge; nor does it at any greater height
+pub record IsDropHeight (tool : Tool) (part : List Tri) (x y floor z : ℤ) : Type 0 where
   pub kept : floor ≤ℤ z
-  pub free : (higher : ℤ) → z ≤ℤ higher → ¬ GougesAt cutter part x y higher
-  pub least : (lower : ℤ) → floor ≤ℤ lower → lower <ℤ z → GougesAt cutter part x y lower
-
--- the height was raised from the first to the second no more than some part point makes it: one unit lower it is strictly inside the cutter
-pub record IsRaised (cutter : Cutter) (part : List Tri) (x y from to : ℤ) : Type 0 where
-  pub kept : from ≤ℤ to
-  pub reached : (to ≡ from) ⊎ GougesAt cutter part x y (to -ℤ pos 1)
+  pub free : (higher : ℤ) → z ≤ℤ higher → ¬ GougesAt tool part x y higher
+  pub least : (lower : ℤ) → floor ≤ℤ lower → lower <ℤ z → GougesAt tool part x y lower

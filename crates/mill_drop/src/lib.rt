@@ -1,14 +1,18 @@
-//! The drop height: how far a cutter can go down over a place until it touches the part.
+//! The drop height: how far a tool can go down over a place until its cutter or its holder touches the
+//! part.
 //!
 //! It stands on the part and its cells (mill_part, mill_cells) and on mill_sweep, which chooses the
 //! contact test of a cutter. It promises that `drop_at` gives the least whole height at which the
-//! cutter doesn't gouge, exactly, for every triangle and cutter, and `drop_once` the same without
-//! cells; `drop_map` gives the list of them over a lattice, whatever the number of threads.
+//! tool doesn't gouge, exactly, for every triangle and tool, and `drop_once` the same without cells;
+//! `drop_map` gives the list of them over a lattice, whatever the number of threads.
+//!
+//! A holder is dropped as a flat cutter of its own, from the height of the cutter alone on.
 //! `specs/Drops` says what a drop height is, `specs/Maps` what the drop heights over a lattice are, and
 //! `specs/Unique` that a lattice has one list of them at most.
 #![tactic(auto)]
 
 mod drop;
+mod holder;
 mod laws;
 mod map;
 mod near;

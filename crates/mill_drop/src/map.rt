@@ -1,13 +1,13 @@
 ghost use Rattle.std.specs.Prelude.{◌≡◌, IfOk};
 ghost use Rattle.mill_base.specs.Numbers.{Within};
 ghost use Rattle.mill_base.specs.declared.limits.TheConstants.{MAX_COORDINATE};
-ghost use Rattle.mill_base.specs.Sizes.{IsCutter};
 ghost use Rattle.mill_cells.specs.Sorted.{sorted_of};
 ghost use Rattle.mill_base.specs.Lattices.{node_at, IsMapLattice};
+ghost use Rattle.mill_base.specs.Tools.{IsTool};
 ghost use Rattle.mill_drop.specs.Maps.{AreDropHeights, IsHeightAt, IsNodeTask};
 
 use crate::drop::drop_at;
-use mill_base::{Cutter, Lattice, WantOfMemory};
+use mill_base::{Lattice, Tool, WantOfMemory};
 use mill_cells::Cells;
 use mill_part::Part;
 use rayon::prelude::*;
@@ -24,24 +24,24 @@ pub fn drop_map<R: Threads + Sync>(
     alloc: Global,
     part: &Part,
     cells: &Cells,
-    cutter: Cutter,
+    tool: &Tool,
     lattice: &Lattice,
     floor: i32,
 ) -> Result<Vec<i32>, WantOfMemory>
     requires cells_ok { cells.now ≡ sorted_of part.now }
-    requires cutter_ok { IsCutter cutter }
+    requires tool_ok { IsTool tool.now }
     requires lattice_ok { IsMapLattice lattice.now }
     requires floor_ok { Within MAX_COORDINATE floor }
-    ensures { IfOk result (λ heights. AreDropHeights cutter part.now floor lattice.now heights.items) }
+    ensures { IfOk result (λ heights. AreDropHeights tool.now part.now floor lattice.now heights.items) }
 {
     let nodes = lattice.nodes() as u32;
     let heights = (0..nodes)
         .into_par_iter()
         .map(
             |number: u32| -> i32
-                requires { IsNodeTask part.now cells.now cutter lattice.now floor number }
-                ensures { IsHeightAt cutter part.entry.now floor (node_at lattice.entry.now number) result }
-            { height_at(part, cells, cutter, lattice, floor, number) },
+                requires { IsNodeTask part.now cells.now tool.now lattice.now floor number }
+                ensures { IsHeightAt tool.entry.now part.entry.now floor (node_at lattice.entry.now number) result }
+            { height_at(part, cells, tool, lattice, floor, number) },
         )
         .collect(rt, alloc)?;
     Ok(heights)
@@ -51,14 +51,14 @@ pub fn drop_map<R: Threads + Sync>(
 fn height_at(
     part: &Part,
     cells: &Cells,
-    cutter: Cutter,
+    tool: &Tool,
     lattice: &Lattice,
     floor: i32,
     number: u32,
 ) -> i32
-    requires { IsNodeTask part.now cells.now cutter lattice.now floor number }
-    ensures { IsHeightAt cutter part.now floor (node_at lattice.now number) result }
+    requires { IsNodeTask part.now cells.now tool.now lattice.now floor number }
+    ensures { IsHeightAt tool.now part.now floor (node_at lattice.now number) result }
 {
     let (x, y) = lattice.node(number);
-    drop_at(part, cells, cutter, x, y, floor)
+    drop_at(part, cells, tool, x, y, floor)
 }

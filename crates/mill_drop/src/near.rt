@@ -3,7 +3,7 @@ ghost use Rattle.mill_base.specs.Numbers.{Within};
 ghost use Rattle.mill_base.specs.declared.limits.TheConstants.{MAX_COORDINATE};
 ghost use Rattle.mill_base.specs.Sizes.{IsCutter};
 ghost use Rattle.mill_cells.specs.Sorted.{sorted_of};
-ghost use Rattle.mill_drop.specs.Drops.{IsRaised};
+ghost use Rattle.mill_drop.specs.inner.Cutters.{IsRaised};
 ghost use Rattle.mill_drop.specs.inner.Near.{AreFree, point_box, square_about};
 ghost use Rattle.mill_drop.specs.inner.Spindles.{IsSpindle};
 

@@ -1,26 +1,59 @@
 ghost use Rattle.mill_base.specs.Numbers.{Within};
 ghost use Rattle.mill_base.specs.declared.limits.TheConstants.{MAX_COORDINATE};
 ghost use Rattle.mill_base.specs.Sizes.{IsCutter};
+ghost use Rattle.mill_base.specs.Tools.{IsHolder, IsTool};
 ghost use Rattle.mill_drop.specs.Drops.{IsDropHeight};
+ghost use Rattle.mill_drop.specs.inner.Cutters.{IsCutterDrop, IsHolderDrop};
 
+use crate::holder::{face_from, tip_from};
 use crate::search::Spindle;
-use mill_base::Cutter;
+use mill_base::{Cutter, Holder, Tool};
 use mill_part::Part;
 
 /// The drop height at (x, y) as `drop_at` gives it, by a look at every triangle of the part. For a
 /// single place that is less work than making cells.
-pub fn drop_once(part: &Part, cutter: Cutter, x: i32, y: i32, floor: i32) -> i32
-    requires cutter_ok { IsCutter cutter }
+pub fn drop_once(part: &Part, tool: &Tool, x: i32, y: i32, floor: i32) -> i32
+    requires tool_ok { IsTool tool.now }
     requires x_ok { Within MAX_COORDINATE x }
     requires y_ok { Within MAX_COORDINATE y }
     requires floor_ok { Within MAX_COORDINATE floor }
-    ensures drop { IsDropHeight cutter part.now x y floor result }
+    ensures drop { IsDropHeight tool.now part.now x y floor result }
+    ensures bound { Within MAX_COORDINATE result }
+{
+    let height = cutter_once(part, tool.cutter, x, y, floor);
+    match tool.holder {
+        Some(holder) => holder_once(part, holder, x, y, height),
+        None => height,
+    }
+}
+
+/// The least height, from `from` on, at which the cutter doesn't gouge.
+fn cutter_once(part: &Part, cutter: Cutter, x: i32, y: i32, from: i32) -> i32
+    requires cutter_ok { IsCutter cutter }
+    requires x_ok { Within MAX_COORDINATE x }
+    requires y_ok { Within MAX_COORDINATE y }
+    requires from_ok { Within MAX_COORDINATE from }
+    ensures drop { IsCutterDrop cutter part.now x y from result }
     ensures bound { Within MAX_COORDINATE result }
 {
     let spindle = Spindle { cutter, x, y };
-    let mut height = floor;
+    let mut height = from;
     for tri in part.tris() {
         height = spindle.raised(tri, height);
     }
     height
+}
+
+/// The least height of the cutter's tip, from `from` on, at which the holder doesn't gouge.
+fn holder_once(part: &Part, holder: Holder, x: i32, y: i32, from: i32) -> i32
+    requires holder_ok { IsHolder holder }
+    requires x_ok { Within MAX_COORDINATE x }
+    requires y_ok { Within MAX_COORDINATE y }
+    requires from_ok { Within MAX_COORDINATE from }
+    ensures drop { IsHolderDrop holder part.now x y from result }
+    ensures bound { Within MAX_COORDINATE result }
+{
+    let start = face_from(holder, from);
+    let face = cutter_once(part, holder.solid(), x, y, start);
+    tip_from(holder, face, from)
 }

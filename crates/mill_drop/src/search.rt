@@ -3,7 +3,7 @@ ghost use Rattle.mill_base.specs.Numbers.{Within};
 ghost use Rattle.mill_base.specs.declared.limits.TheConstants.{MAX_COORDINATE};
 ghost use Rattle.mill_base.specs.Points.{highest as highest_of};
 ghost use Rattle.mill_base.specs.Ranges.{TriInRange};
-ghost use Rattle.mill_drop.specs.Drops.{TouchesAt};
+ghost use Rattle.mill_drop.specs.inner.Cutters.{TouchesAt};
 ghost use Rattle.mill_drop.specs.inner.Spindles.{IsBracket, IsSpindle};
 
 use mill_base::{Cutter, Pt3, Tri};

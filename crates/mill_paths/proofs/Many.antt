@@ -4,6 +4,7 @@ use Rattle.std.specs.Prelude.{◌==◌, ℤ, pos}
 use Rattle.std.specs.List.{AllZip, flat_map}
 use Rattle.std.proofs.lemmas.Bool.{eqb-true}
 use Rattle.std.proofs.lemmas.List.{nil_from_length}
+use Rattle.mill_base.specs.Tools.{bare}
 use Rattle.mill_base.specs.declared.points.Tri.{Tri}
 use Rattle.mill_drop.specs.Maps.{AreDropHeights}
 use Rattle.mill_drop.proofs.Uniqueness.{one_map}
@@ -22,17 +23,17 @@ over n few many = omega arith
 none_over : most_changes < 0 → ⊥
 none_over many = omega arith
 
-pub few_finish : (job : Job) (part : List Tri) (heights : List ℤ) (list : List Visit) → AreDropHeights job.cutter part job.floor (finish_lattice job) heights
+pub few_finish : (job : Job) (part : List Tri) (heights : List ℤ) (list : List Visit) → AreDropHeights (bare job.cutter) part job.floor (finish_lattice job) heights
     → list ≡ finish_visits_of job heights → change_count list ≤ most_changes → ¬ HaveManyFinishVisits job part
 few_finish job part heights list are is few many =
     over (change_count list) few (subst (λ (visits : List Visit). most_changes < change_count visits) (sym is)
-    (subst (λ (hs : List ℤ). most_changes < change_count (finish_visits_of job hs)) (one_map job.cutter part job.floor (finish_lattice job) many.heights heights many.are are) many.many))
+    (subst (λ (hs : List ℤ). most_changes < change_count (finish_visits_of job hs)) (one_map (bare job.cutter) part job.floor (finish_lattice job) many.heights heights many.are are) many.many))
 
-pub few_rough : (job : Job) (part : List Tri) (heights : List ℤ) (list : List Visit) → AreDropHeights job.cutter part job.floor (rough_lattice job) heights
+pub few_rough : (job : Job) (part : List Tri) (heights : List ℤ) (list : List Visit) → AreDropHeights (bare job.cutter) part job.floor (rough_lattice job) heights
     → list ≡ rough_visits_of job heights → change_count list ≤ most_changes → ¬ HaveManyRoughVisits job part
 few_rough job part heights list are is few many =
     over (change_count list) few (subst (λ (visits : List Visit). most_changes < change_count visits) (sym is)
-    (subst (λ (hs : List ℤ). most_changes < change_count (rough_visits_of job hs)) (one_map job.cutter part job.floor (rough_lattice job) many.heights heights many.are are) many.many))
+    (subst (λ (hs : List ℤ). most_changes < change_count (rough_visits_of job hs)) (one_map (bare job.cutter) part job.floor (rough_lattice job) many.heights heights many.are are) many.many))
 
 -- without a layer there are none
 pub none_rough : (job : Job) (part : List Tri) → job.layer ≡ pos 0 → ¬ HaveManyRoughVisits job part

@@ -1,6 +1,7 @@
 ghost use Rattle.std.specs.Prelude.{◌≡◌, ◌↔◌, ℕ, ◌<◌, ◌≤◌, ◌++◌, pos, ◌<ℤ◌, length, slice_index_or, All, IfErr, IfOk, IsErrOf, OnOk};
 ghost use Rattle.mill_cells.specs.Sorted.{sorted_of};
 ghost use Rattle.mill_base.specs.Lattices.{nodes_of, IsMapLattice};
+ghost use Rattle.mill_base.specs.Tools.{bare};
 ghost use Rattle.mill_drop.specs.Maps.{AreDropHeights};
 ghost use Rattle.mill_job.specs.Jobs.{IsFrom, IsJob};
 ghost use Rattle.mill_paths.specs.Lattices.{finish_lattice, lattice_by, rough_lattice};
@@ -13,7 +14,7 @@ use crate::path::Path;
 use crate::visit::Visit;
 use crate::visit_list::VisitList;
 use crate::zigzag::add_path;
-use mill_base::{Lattice, MAX_NODES};
+use mill_base::{Lattice, MAX_NODES, Tool};
 use mill_cells::Cells;
 use mill_drop::drop_map;
 use mill_job::Job;
@@ -106,7 +107,7 @@ fn drop_heights<R: Threads + Sync>(
     requires job_ok { IsJob job.now }
     requires cells_ok { cells.now ≡ sorted_of part.now }
     requires step_ok { IsFrom (pos 1) (pos 10000) step }
-    ensures heights { IfOk result (λ heights. AreDropHeights job.now.cutter part.now job.now.floor (lattice_by job.now step) heights.items) }
+    ensures heights { IfOk result (λ heights. AreDropHeights (bare job.now.cutter) part.now job.now.floor (lattice_by job.now step) heights.items) }
     ensures lattice_ok { IfOk result (λ _. IsMapLattice (lattice_by job.now step)) }
     ensures fault { IfErr result (IsHeightsFault (lattice_by job.now step)) }
 {
@@ -118,7 +119,8 @@ fn drop_heights<R: Threads + Sync>(
     if nodes > MAX_NODES {
         return Err(PathFault::TooManyNodes { nodes });
     }
-    Ok(drop_map(rt, alloc, part, cells, job.cutter, &lattice, job.floor)?)
+    let tool = Tool::bare(job.cutter);
+    Ok(drop_map(rt, alloc, part, cells, &tool, &lattice, job.floor)?)
 }
 
 /// Adds the visits of all levels. `heights` are the drop heights at the nodes of the rough lattice.

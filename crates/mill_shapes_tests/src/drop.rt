@@ -1,9 +1,11 @@
+ghost use Rattle.std.specs.Prelude.{◌≤◌};
 ghost use Rattle.mill_base.specs.Numbers.{Within};
 ghost use Rattle.mill_base.specs.declared.limits.TheConstants.{MAX_COORDINATE};
 ghost use Rattle.mill_base.specs.Ranges.{IsInRange};
 ghost use Rattle.mill_base.specs.Sizes.{IsCutter};
+ghost use Rattle.mill_base.specs.Tools.{IsTool};
 
-use mill_base::{Box2, Cutter, Lattice, Pt3, Tri};
+use mill_base::{Box2, Cutter, Holder, Lattice, Pt3, Tool, Tri};
 use mill_drop::{drop_at, drop_heights_are_unique, drop_map, drop_once};
 use mill_part::{Part, SortedPart};
 use std::test::Fail;
@@ -29,14 +31,15 @@ fn part_of<R: AllocGlobal>(rt: &R, a: Pt3, b: Pt3, c: Pt3) -> Result<Part, Fail>
     Ok(Part::new(tris))
 }
 
-/// The drop height of the cutter at (x, y).
+/// The drop height of the cutter alone at (x, y).
 fn drop(shape: &SortedPart<'_>, cutter: Cutter, x: i32, y: i32, floor: i32) -> i32
     requires cutter_ok { IsCutter cutter }
     requires x_ok { Within MAX_COORDINATE x }
     requires y_ok { Within MAX_COORDINATE y }
     requires floor_ok { Within MAX_COORDINATE floor }
 {
-    drop_at(shape.part(), shape.cells(), cutter, x, y, floor)
+    let tool = Tool::bare(cutter);
+    drop_at(shape.part(), shape.cells(), &tool, x, y, floor)
 }
 
 // The ball's surface is 80 under its centre at 60 from the axis.
@@ -125,7 +128,7 @@ fn heights_on_wide_slope<R: AllocGlobal>(rt: &R, far: i32) -> Result<[i32; 4], F
         drop(&shape, flat, 0, 0, low),
         drop(&shape, ball, 0, 0, low),
         drop(&shape, cone, 0, 0, low),
-        drop_once(&part, ball, 0, 0, low),
+        drop_once(&part, &Tool::bare(ball), 0, 0, low),
     ])
 }
 
@@ -145,7 +148,7 @@ fn greatest_numbers(rt: HostRuntime) -> Result<(), Fail> {
 fn heights_along_a_row(rt: HostRuntime) -> Result<(), Fail> {
     let part = part_of(&rt, at(0, 0, 200), at(1000, 0, 200), at(0, 1000, 200))?;
     let shape = SortedPart::new(rt.alloc(), &part)?;
-    let flat = Cutter::Flat { radius: 100 };
+    let tool = Tool::bare(Cutter::Flat { radius: 100 });
     let lattice = Lattice {
         area: Box2 {
             x0: -200,
@@ -160,10 +163,41 @@ fn heights_along_a_row(rt: HostRuntime) -> Result<(), Fail> {
         rt.alloc(),
         shape.part(),
         shape.cells(),
-        flat,
+        &tool,
         &lattice,
         0,
     )?;
     assert_eq!(rt; heights.as_slice(), [0, 0, 200, 200].as_slice());
+    Ok(())
+}
+
+/// A flat cutter of radius 150 in a holder of radius 200 whose lower face is at `stickout`.
+fn held(stickout: u16) -> Tool
+    requires { 1 ≤ stickout }
+    ensures { IsTool result }
+{
+    Tool {
+        cutter: Cutter::Flat { radius: 150 },
+        holder: Some(Holder {
+            radius: 200,
+            stickout: i32::from(stickout),
+        }),
+    }
+}
+
+// The point is 180 from the axis: out of the cutter's reach, and in the holder's.
+#[test]
+fn holder_on_a_point(rt: HostRuntime) -> Result<(), Fail> {
+    let part = part_of(&rt, at(280, 100, 300), at(280, 100, 300), at(280, 100, 300))?;
+    let shape = SortedPart::new(rt.alloc(), &part)?;
+    let short = held(50);
+    let long = held(300);
+    assert_eq!(rt;
+        drop_at(shape.part(), shape.cells(), &short, 100, 100, 0),
+        250
+    );
+    assert_eq!(rt; drop_at(shape.part(), shape.cells(), &long, 100, 100, 0), 0);
+    assert_eq!(rt; drop_once(&part, &short, 100, 100, 0), 250);
+    assert_eq!(rt; drop_once(&part, &long, 100, 100, 0), 0);
     Ok(())
 }

@@ -5,6 +5,7 @@ use Rattle.mill_base.specs.declared.memory.WantOfMemory.{WantOfMemory}
 use Rattle.mill_base.specs.declared.unit.Unit.{Unit as LengthUnit}
 use Rattle.mill_command.specs.declared.refusal.Refusal.{Refusal}
 use Rattle.mill_command.specs.declared.refusal.Refusal.TheVariants as refusal
+use Rattle.mill_base.specs.Tools.{bare}
 use Rattle.mill_drop.specs.Drops.{IsDropHeight}
 use Rattle.mill_io.specs.Contents.{AppendedPart}
 use Rattle.mill_io.specs.Views.{SinkView, IsWritten}
@@ -98,7 +99,7 @@ TriesVerdict l status sink sink_after = PrintsVerdict l status sink sink_after �
 -- the drop height at a place is printed, or that memory was short
 pub record PrintsHeight (s : Setup) (place : Place) (status : ℕ) (sink sink_after : SinkView) : Type 0 where
   pub height : ℤ
-  pub is : IsDropHeight s.job.cutter s.part place.x place.y s.job.floor height
+  pub is : IsDropHeight (bare s.job.cutter) s.part place.x place.y s.job.floor height
   pub printed : PrintsOr (answered (dropped s.job.unit height)) status sink sink_after
 
 -- the answer at a height is printed, or that memory was short

@@ -4,7 +4,7 @@ use Rattle.mill_base.specs.Numbers.{Within}
 use Rattle.mill_base.specs.declared.limits.TheConstants.{MAX_COORDINATE}
 use Rattle.mill_base.specs.Sizes.{IsCutter}
 use Rattle.mill_base.specs.declared.points.Tri.{Tri}
-use Rattle.mill_drop.specs.Drops.{TouchesAt}
+use Rattle.mill_drop.specs.inner.Cutters.{TouchesAt}
 use Rattle.mill_drop.specs.declared.search.Spindle.{Spindle}
 
 -- the cutter is one of a job, and the place is in range

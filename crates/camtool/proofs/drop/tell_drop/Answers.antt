@@ -1,6 +1,7 @@
 use Rattle.std.proofs.Common.{◌≡◌, refl, rules, w32}
 use Rattle.std.specs.Prelude.{FitsSigned, IfOk}
 use Rattle.std.proofs.lemmas.Int.{to_z-of_z}
+use Rattle.mill_base.specs.Tools.{bare}
 use Rattle.mill_drop.specs.Drops.{IsDropHeight}
 use Rattle.camtool.specs.Answers.{answer_line, dropped}
 use Rattle.camtool.proofs.Serving.{made_prints}
@@ -12,7 +13,7 @@ returns g c =
     let y_fits : FitsSigned w32 c.args.place.y = search rules in
     let floor_fits : FitsSigned w32 c.args.setup.now.job.floor = search rules in
     let height_fits : FitsSigned w32 c.drop_once-height.result = search rules in
-    let least : IsDropHeight c.args.setup.now.job.cutter c.args.setup.now.part c.args.place.x c.args.place.y c.args.setup.now.job.floor c.drop_once-height.result =
+    let least : IsDropHeight (bare c.args.setup.now.job.cutter) c.args.setup.now.part c.args.place.x c.args.place.y c.args.setup.now.job.floor c.drop_once-height.result =
     simp to_z-of_z at c.drop_once-height.ensures.drop in
     let line : IfOk c.line_of_height.result (λ line. line.items ≡ answer_line (dropped c.args.setup.now.job.unit c.drop_once-height.result)) = simp to_z-of_z at c.line_of_height.ensures in
     record {

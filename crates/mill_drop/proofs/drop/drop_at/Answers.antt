@@ -1,18 +1,26 @@
 use Rattle.std.proofs.Common.{FitsSigned, rules}
 use mir.Syntax.{w32}
 use Rattle.std.proofs.lemmas.Int.{to_z-of_z}
-use Rattle.mill_drop.proofs.Dropping.{raised_twice, drop_is}
+use Rattle.mill_drop.specs.inner.Cutters.{IsCutterDrop, IsHolderDrop}
+use Rattle.mill_drop.proofs.Holders.{bare_drop_is, held_drop_is}
 use Rattle.mill_drop.proofs.drop.drop_at.Goals as goal
 
-pub returns-clause-drop : goal.returns-clause-drop
-returns-clause-drop c =
-    let x = to_z-of_z w32 c.args.x c.ranges.x in
-    let y = to_z-of_z w32 c.args.y c.ranges.y in
-    let start : FitsSigned w32 c.start_height-start.result = search rules in
-    let last : FitsSigned w32 c.raised_near.result = search rules in
-    let first = rw (x, y, to_z-of_z w32 c.args.floor c.ranges.floor) at c.start_height-start.ensures.raised in
-    let second = rw (x, y, to_z-of_z w32 c.start_height-start.result start) at c.raised_near.ensures.raised in
-    let square = rw (x, y) at c.square_around.ensures in
-    let free = rw (x, y, square) at c.raised_near.ensures.free in
-    let raised = raised_twice c.args.cutter c.args.part.now c.args.x c.args.y c.args.floor _ _ first second in
-    rw (to_z-of_z w32 c.raised_near.result last) (drop_is c.args.cutter c.args.part.now c.args.x c.args.y c.args.floor c.raised_near.result c.requires.cutter_ok raised free)
+pub returns-in-Some-clause-drop : goal.returns-in-Some-clause-drop
+returns-in-Some-clause-drop c =
+    let x = c.ranges.x in
+    let y = c.ranges.y in
+    let floor = c.ranges.floor in
+    let height : FitsSigned w32 c.cutter_drop-height.result = search rules in
+    let tip : FitsSigned w32 c.holder_drop.result = search rules in
+    let cutter : IsCutterDrop c.args.tool.now.cutter c.args.part.now c.args.x c.args.y c.args.floor c.cutter_drop-height.result = simp to_z-of_z at c.cutter_drop-height.ensures.drop in
+    let holder : IsHolderDrop c.in-Some.holder c.args.part.now c.args.x c.args.y c.cutter_drop-height.result c.holder_drop.result = simp to_z-of_z at c.holder_drop.ensures.drop in
+    rw (to_z-of_z w32 c.holder_drop.result tip) (held_drop_is c.args.tool.now c.in-Some.holder c.args.part.now c.args.x c.args.y c.args.floor _ _ c.in-Some.is cutter holder)
+
+pub returns-in-None-clause-drop : goal.returns-in-None-clause-drop
+returns-in-None-clause-drop c =
+    let x = c.ranges.x in
+    let y = c.ranges.y in
+    let floor = c.ranges.floor in
+    let height : FitsSigned w32 c.cutter_drop-height.result = search rules in
+    let cutter : IsCutterDrop c.args.tool.now.cutter c.args.part.now c.args.x c.args.y c.args.floor c.cutter_drop-height.result = simp to_z-of_z at c.cutter_drop-height.ensures.drop in
+    rw (to_z-of_z w32 c.cutter_drop-height.result height) (bare_drop_is c.args.tool.now c.args.part.now c.args.x c.args.y c.args.floor _ c.in-None.is cutter)

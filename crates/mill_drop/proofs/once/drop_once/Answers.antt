@@ -1,33 +1,26 @@
-use Rattle.std.proofs.Common.{FitsSigned, rules, to_z}
-use Rattle.std.proofs.lemmas.List.Elements.{Contains-get_or}
+use Rattle.std.proofs.Common.{FitsSigned, rules}
 use mir.Syntax.{w32}
 use Rattle.std.proofs.lemmas.Int.{to_z-of_z}
-use Rattle.mill_base.proofs.Ranges.{coordinate}
-use Rattle.mill_drop.proofs.Scanning.{one_more, drop_after}
+use Rattle.mill_drop.specs.inner.Cutters.{IsCutterDrop, IsHolderDrop}
+use Rattle.mill_drop.proofs.Holders.{bare_drop_is, held_drop_is}
 use Rattle.mill_drop.proofs.once.drop_once.Goals as goal
 
-pub raised-height-requires-clause-tri_ok : goal.raised-height-requires-clause-tri_ok
-raised-height-requires-clause-tri_ok c = c.tris-tri-items.ensures.in_range _ (rw (← c.tris-tri-items.ensures.list) (Contains-get_or _ _ _ c.loop-tri-test.true))
+pub returns-in-Some-clause-drop : goal.returns-in-Some-clause-drop
+returns-in-Some-clause-drop c =
+    let x = c.ranges.x in
+    let y = c.ranges.y in
+    let floor = c.ranges.floor in
+    let height : FitsSigned w32 c.cutter_once-height.result = search rules in
+    let tip : FitsSigned w32 c.holder_once.result = search rules in
+    let cutter : IsCutterDrop c.args.tool.now.cutter c.args.part.now c.args.x c.args.y c.args.floor c.cutter_once-height.result = simp to_z-of_z at c.cutter_once-height.ensures.drop in
+    let holder : IsHolderDrop c.in-Some.holder c.args.part.now c.args.x c.args.y c.cutter_once-height.result c.holder_once.result = simp to_z-of_z at c.holder_once.ensures.drop in
+    rw (to_z-of_z w32 c.holder_once.result tip) (held_drop_is c.args.tool.now c.in-Some.holder c.args.part.now c.args.x c.args.y c.args.floor _ _ c.in-Some.is cutter holder)
 
-pub loop-tri-preserved : goal.loop-tri-preserved
-loop-tri-preserved c =
-    let fits : FitsSigned w32 c.raised-height.result = search rules in
-    let stored = to_z-of_z w32 c.raised-height.result fits in
-    let x = coordinate c.args.x c.requires.x_ok in
-    let y = coordinate c.args.y c.requires.y_ok in
-    let before = rw (x, y) at c.loop-tri.invariant.0 in
-    let free = rw (x, y) at c.raised-height.ensures.free in
-    let least = rw (x, y) at c.raised-height.ensures.least in
-    rw (stored, x, y) (
-      one_more c.args.cutter c.tris-tri-items.result.now c.args.x c.args.y _ c.loop-tri.tri-index _ (to_z w32 c.loop-tri.height-bits) c.raised-height.result
-          c.loop-tri-test.true before c.raised-height.ensures.kept free least,
-      c.raised-height.ensures.bound,
-    )
-
-pub returns-clause-drop : goal.returns-clause-drop
-returns-clause-drop c =
-    let floor = coordinate c.args.floor c.requires.floor_ok in
-    let x = coordinate c.args.x c.requires.x_ok in
-    let y = coordinate c.args.y c.requires.y_ok in
-    let before = rw (floor, x, y, c.tris-tri-items.ensures.list) at c.loop-tri.invariant.0 in
-    drop_after c.args.cutter c.args.part.now c.args.x c.args.y c.args.floor c.loop-tri.tri-index _ (rw c.tris-tri-items.ensures.list at c.loop-tri-test.false) before
+pub returns-in-None-clause-drop : goal.returns-in-None-clause-drop
+returns-in-None-clause-drop c =
+    let x = c.ranges.x in
+    let y = c.ranges.y in
+    let floor = c.ranges.floor in
+    let height : FitsSigned w32 c.cutter_once-height.result = search rules in
+    let cutter : IsCutterDrop c.args.tool.now.cutter c.args.part.now c.args.x c.args.y c.args.floor c.cutter_once-height.result = simp to_z-of_z at c.cutter_once-height.ensures.drop in
+    rw (to_z-of_z w32 c.cutter_once-height.result height) (bare_drop_is c.args.tool.now c.args.part.now c.args.x c.args.y c.args.floor _ c.in-None.is cutter)

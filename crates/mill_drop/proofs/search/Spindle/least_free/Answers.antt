@@ -5,7 +5,7 @@ use lib.Signed.{◌<ℤ◌, ◌≤ℤ◌, lt_z}
 use Rattle.std.proofs.lemmas.Int.{ints, to_z-of_z, fits_signed_from_abs}
 use Rattle.mill_base.specs.Numbers.{Within}
 use Rattle.mill_base.specs.declared.limits.TheConstants.{MAX_COORDINATE}
-use Rattle.mill_drop.specs.Drops.{TouchesAt}
+use Rattle.mill_drop.specs.inner.Cutters.{TouchesAt}
 use Rattle.mill_drop.proofs.search.Spindle.least_free.Goals as goal
 
 from_over : (a b c : ℤ) → a ≤ℤ b → b <ℤ c → a ≤ℤ c
