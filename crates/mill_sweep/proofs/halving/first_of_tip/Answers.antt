@@ -4,7 +4,7 @@ use Rattle.mill_base.specs.declared.motion.Move.{Move}
 use Rattle.mill_base.specs.declared.cutter.Cutter.{Cutter}
 use Rattle.mill_sweep.specs.Halving.{Blocks, FailsAt, Passes}
 use Rattle.mill_sweep.specs.Leaves.{span_of}
-use Rattle.mill_sweep.proofs.halving.first_block.Goals as goal
+use Rattle.mill_sweep.proofs.halving.first_of_tip.Goals as goal
 
 pub returns : goal.returns
 returns c =
