@@ -94,14 +94,19 @@ named unit line (Some units) None axis = absurd axis
 named-now : (unit : LengthUnit) (line : ℕ) (units : Option ℤ) (n : Num) → IsAxis unit line units (Some n) → is_some units ≡ true
 named-now unit line units n axis = sym (named unit line units (Some n) axis)
 
-
 pub goes-x : (unit : LengthUnit) (line : ℕ) (positioned : Bool) (w : Word) (s : Said) (plain : PlainLine) (x : Option ℤ) → w.letter ≡ 88 → plain.x ≡ None
     → IsAxis unit line x (Some w.num) → Says unit line plain s → Goes unit line positioned w s (record plain { x = x })
 goes-x unit line positioned w s plain x letter new axis says = record {
   said = record s { groups = s.groups ++ record { letter = 88; number = 0 } ∷ []; x = Some w.num };
   taken = taken-by line positioned s w (row 0 X) (record { letter = 88; number = 0 }) (row-x w letter) (rw letter refl) refl refl (says.free.x (rw new refl));
   says = record {
-    x = axis; y = says.y; z = says.z; mode = says.mode; millimetres = says.millimetres; absolute = says.absolute; ends = says.ends;
+    x = axis;
+    y = says.y;
+    z = says.z;
+    mode = says.mode;
+    millimetres = says.millimetres;
+    absolute = says.absolute;
+    ends = says.ends;
     free = record {
       x = not-free (is_some x) 88 0 (s.groups ++ record { letter = 88; number = 0 } ∷ []) (named-now unit line x w.num axis);
       y = still-free (is_some plain.y) 89 0 s.groups (record { letter = 88; number = 0 }) refl says.free.y;
@@ -118,7 +123,13 @@ goes-y unit line positioned w s plain y letter new axis says = record {
   said = record s { groups = s.groups ++ record { letter = 89; number = 0 } ∷ []; y = Some w.num };
   taken = taken-by line positioned s w (row 0 Y) (record { letter = 89; number = 0 }) (row-y w letter) (rw letter refl) refl refl (says.free.y (rw new refl));
   says = record {
-    x = says.x; y = axis; z = says.z; mode = says.mode; millimetres = says.millimetres; absolute = says.absolute; ends = says.ends;
+    x = says.x;
+    y = axis;
+    z = says.z;
+    mode = says.mode;
+    millimetres = says.millimetres;
+    absolute = says.absolute;
+    ends = says.ends;
     free = record {
       x = still-free (is_some plain.x) 88 0 s.groups (record { letter = 89; number = 0 }) refl says.free.x;
       y = not-free (is_some y) 89 0 (s.groups ++ record { letter = 89; number = 0 } ∷ []) (named-now unit line y w.num axis);
@@ -135,7 +146,13 @@ goes-z unit line positioned w s plain z letter new axis says = record {
   said = record s { groups = s.groups ++ record { letter = 90; number = 0 } ∷ []; z = Some w.num };
   taken = taken-by line positioned s w (row 0 Z) (record { letter = 90; number = 0 }) (row-z w letter) (rw letter refl) refl refl (says.free.z (rw new refl));
   says = record {
-    x = says.x; y = says.y; z = axis; mode = says.mode; millimetres = says.millimetres; absolute = says.absolute; ends = says.ends;
+    x = says.x;
+    y = says.y;
+    z = axis;
+    mode = says.mode;
+    millimetres = says.millimetres;
+    absolute = says.absolute;
+    ends = says.ends;
     free = record {
       x = still-free (is_some plain.x) 88 0 s.groups (record { letter = 90; number = 0 }) refl says.free.x;
       y = still-free (is_some plain.y) 89 0 s.groups (record { letter = 90; number = 0 }) refl says.free.y;
@@ -161,7 +178,13 @@ goes-feed unit line positioned w s plain had letter new has says = record {
   said = record s { groups = s.groups ++ record { letter = 70; number = 0 } ∷ [] };
   taken = taken-by line positioned s w (row 0 Nothing) (record { letter = 70; number = 0 }) (row-feed w letter) (rw letter refl) refl refl (says.free.feed new);
   says = record {
-    x = says.x; y = says.y; z = says.z; mode = says.mode; millimetres = says.millimetres; absolute = says.absolute; ends = says.ends;
+    x = says.x;
+    y = says.y;
+    z = says.z;
+    mode = says.mode;
+    millimetres = says.millimetres;
+    absolute = says.absolute;
+    ends = says.ends;
     free = record {
       x = still-free (is_some plain.x) 88 0 s.groups (record { letter = 70; number = 0 }) refl says.free.x;
       y = still-free (is_some plain.y) 89 0 s.groups (record { letter = 70; number = 0 }) refl says.free.y;
@@ -179,7 +202,13 @@ goes-motion unit line positioned w s plain (Some kind) letter new motion says = 
   said = record s { groups = s.groups ++ record { letter = 71; number = 1 } ∷ []; mode = Some (On kind) };
   taken = taken-by line positioned s w (row 1 (Motion (On kind))) (record { letter = 71; number = 1 }) (row-motion w kind letter motion) (rw letter refl) refl refl (says.free.motion (rw new refl));
   says = record {
-    x = says.x; y = says.y; z = says.z; mode = refl; millimetres = says.millimetres; absolute = says.absolute; ends = says.ends;
+    x = says.x;
+    y = says.y;
+    z = says.z;
+    mode = refl;
+    millimetres = says.millimetres;
+    absolute = says.absolute;
+    ends = says.ends;
     free = record {
       x = still-free (is_some plain.x) 88 0 s.groups (record { letter = 71; number = 1 }) refl says.free.x;
       y = still-free (is_some plain.y) 89 0 s.groups (record { letter = 71; number = 1 }) refl says.free.y;
@@ -211,8 +240,20 @@ acted-plain : (p : Progress) (s : Said) (plain : PlainLine) (m : PlainMove) → 
 unfolding acted moved target
 acted-plain p s plain m ready says end =
     let some : has_axis s ≡ true = rw (named p.unit p.line plain.x s.x says.x, named p.unit p.line plain.y s.y says.y, named p.unit p.line plain.z s.z says.z) end.some in
-    rw (some, says.mode, end.mode, says.millimetres, says.absolute, says.ends, ready.millimetres, ready.absolute,
-    ends-at p.unit p.line p.here.x plain.x s.x says.x, ends-at p.unit p.line p.here.y plain.y s.y says.y, ends-at p.unit p.line p.here.z plain.z s.z says.z, end.to) refl
+    rw (
+      some,
+      says.mode,
+      end.mode,
+      says.millimetres,
+      says.absolute,
+      says.ends,
+      ready.millimetres,
+      ready.absolute,
+      ends-at p.unit p.line p.here.x plain.x s.x says.x,
+      ends-at p.unit p.line p.here.y plain.y s.y says.y,
+      ends-at p.unit p.line p.here.z plain.z s.z says.z,
+      end.to,
+    ) refl
 
 -- and so does the line with those words
 after-plain : (p : Progress) (l : Line) (s : Said) → l.slash ≡ false → IsReady p → said_from p.line p.positioned nothing_said l.words ≡ Ok s → after_words p l ≡ acted p s
