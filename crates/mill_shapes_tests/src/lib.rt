@@ -19,6 +19,8 @@ mod geom;
 #[cfg(test)]
 mod gouge;
 #[cfg(test)]
+mod holder;
+#[cfg(test)]
 mod level;
 #[cfg(test)]
 mod part;

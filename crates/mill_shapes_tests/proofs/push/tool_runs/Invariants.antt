@@ -1,4 +1,4 @@
-use Rattle.mill_shapes_tests.proofs.push.runs.Given as goal
+use Rattle.mill_shapes_tests.proofs.push.tool_runs.Given as goal
 
 -- the counter is of the ledger of this blank
 abbrev pub ghosts-counted : goal.ghosts-counted
