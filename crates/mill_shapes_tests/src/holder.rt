@@ -71,7 +71,11 @@ fn holder_stops_at_a_triangle(rt: HostRuntime) {
             b: at(300, z),
             c: at(400, 0),
         };
-        assert_eq!(rt; holder_passes_tri(&holder(), &step, &tri), want.is_none(), "at {x}, {z}");
+        assert_eq!(rt;
+            holder_passes_tri(&holder(), &step, &tri),
+            want.is_none(),
+            "at {x}, {z}"
+        );
         assert_eq!(rt; holder_block(&holder(), &step, &tri), want, "at {x}, {z}");
         assert_eq!(rt; sweep.first_block(&tri), want, "at {x}, {z}");
     }
