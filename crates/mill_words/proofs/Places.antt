@@ -1,5 +1,5 @@
 -- What a line says from one of its places on, where a plain word stands there.
-use Rattle.std.proofs.Common.{◌≡◌, ℕ, ◌+◌, ◌*◌, ◌<◌, ◌≤◌, List, ◌∷◌, length, get_or, drop, arith, Option, Some, None, IfSome, Bool, true, false, not, ◌&&◌, cond, Result, Ok, Err, refl, sym, ap, ◌∙◌, add-one, drop-cons}
+use Rattle.std.proofs.Common.{◌≡◌, ℕ, ◌+◌, ◌*◌, ◌<◌, ◌≤◌, List, ◌∷◌, length, get_or, drop, arith, Bool, true, false, not, ◌&&◌, cond, Result, Ok, Err, refl, sym, ap, ◌∙◌, add-one, drop-cons}
 use Rattle.std.proofs.Math.ListN.{drop_of_length-le}
 use Rattle.std.specs.Prelude.{◌==◌}
 use Rattle.std.specs.Char.{is_ascii_digit, is_ascii_alphabetic, to_ascii_uppercase, digit_value}
@@ -233,10 +233,3 @@ starts-plain l bytes some begins =
 pub between-end : (l : Line) (bytes : List ℕ) (p : ℕ) → length bytes ≤ p → rest_of Outside Between l bytes p ≡ Ok l
 unfolding read_marks marks_from finished
 between-end l bytes p end = rw (drop_of_length-le bytes {i = p} end) refl
-
--- where a word that a place is in ends, also from the blank before that place
-pub ended-behind : (r : Option ℕ) (bytes : List ℕ) (p q : ℕ) → ((s : Stage) (l : Line) → rest_of Outside s l bytes p ≡ rest_of Outside s l bytes q)
-    → IfSome r (λ end. (w : OpenWord) (l : Line) → 0 < w.digits → rest_of Outside (InWord w) l bytes q ≡ rest_of Outside Between (with_word w l) bytes end)
-    → IfSome r (λ end. (w : OpenWord) (l : Line) → 0 < w.digits → rest_of Outside (InWord w) l bytes p ≡ rest_of Outside Between (with_word w l) bytes end)
-ended-behind None bytes p q skips ends = ends
-ended-behind (Some end) bytes p q skips ends = λ w l some. skips (InWord w) l ∙ ends w l some

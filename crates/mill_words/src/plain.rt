@@ -80,8 +80,7 @@ fn take_plain_word(line: &[u8], place: usize, words: &mut LineWords) -> usize
     }
 }
 
-// Where a word with digits ends: behind a blank or none, at the line's end or at a letter. Most end
-// behind a space, or at the line's end.
+// Where a word with digits ends: behind a blank or none, at the line's end or at a letter.
 fn word_end(line: &[u8], place: usize) -> Option<usize>
     requires within { place ≤ length line.now }
     ensures same { IfSome result (λ end. (w : OpenWord) (l : Line) → 0 < w.digits →
@@ -90,45 +89,33 @@ fn word_end(line: &[u8], place: usize) -> Option<usize>
     ensures within { IfSome result (λ end. end ≤ length line.now) }
     ensures letter { IfSome result (λ end. end < length line.now → is_ascii_alphabetic (slice_index line.now end) ≡ true) }
 {
-    if has_byte(line, place, b' ') {
-        return end_at(line, place + 1);
-    }
-    if place == line.len() {
-        return end_at(line, place);
-    }
-    end_behind_blank(line, place)
-}
-
-// The same where no space stands there. It is kept apart, so that the compiler doesn't test for each
-// blank where a space is.
-#[inline(never)]
-fn end_behind_blank(line: &[u8], place: usize) -> Option<usize>
-    requires within { place ≤ length line.now }
-    ensures same { IfSome result (λ end. (w : OpenWord) (l : Line) → 0 < w.digits →
-        rest_of Outside (InWord w) l line.now place ≡ rest_of Outside Between (with_word w l) line.now end) }
-    ensures forward { IfSome result (λ end. place ≤ end) }
-    ensures within { IfSome result (λ end. end ≤ length line.now) }
-    ensures letter { IfSome result (λ end. end < length line.now → is_ascii_alphabetic (slice_index line.now end) ≡ true) }
-{
-    end_at(line, behind_blank(line, place))
-}
-
-// The same where no blank counts.
-fn end_at(line: &[u8], end: usize) -> Option<usize>
-    requires within { end ≤ length line.now }
-    ensures same { IfSome result (λ behind. (w : OpenWord) (l : Line) → 0 < w.digits →
-        rest_of Outside (InWord w) l line.now end ≡ rest_of Outside Between (with_word w l) line.now behind) }
-    ensures here { IfSome result (λ behind. behind ≡ end) }
-    ensures letter { IfSome result (λ behind. behind < length line.now → is_ascii_alphabetic (slice_index line.now behind) ≡ true) }
-{
+    let end = behind_blank(line, place);
     if end == line.len() || line[end].is_ascii_alphabetic() {
         return Some(end);
     }
     None
 }
 
-// Behind the blank at a place, if one stands there.
+// Behind the blank at a place, if one stands there. Mostly that is a space, or the line ends there.
 fn behind_blank(line: &[u8], place: usize) -> usize
+    requires within { place ≤ length line.now }
+    ensures same { (s : Stage) (l : Line) → rest_of Outside s l line.now place ≡ rest_of Outside s l line.now result }
+    ensures forward { place ≤ result }
+    ensures within { result ≤ length line.now }
+{
+    if has_byte(line, place, b' ') {
+        return place + 1;
+    }
+    if place == line.len() {
+        return place;
+    }
+    behind_any_blank(line, place)
+}
+
+// The same of any blank. It is kept apart, so that the compiler branches where a space stands: the
+// place behind a word is known sooner then than by a sum.
+#[inline(never)]
+fn behind_any_blank(line: &[u8], place: usize) -> usize
     requires within { place ≤ length line.now }
     ensures same { (s : Stage) (l : Line) → rest_of Outside s l line.now place ≡ rest_of Outside s l line.now result }
     ensures forward { place ≤ result }

@@ -1,10 +1,14 @@
-use Rattle.std.proofs.Common.{◌≡◌, true, get_or, ◌+◌, refl}
-use Rattle.mill_words.specs.Marks.{is_blank}
-use Rattle.mill_words.proofs.Places.{blank-at, ended-behind}
+use Rattle.std.proofs.Common.{◌∙◌, arith, rules}
+use Rattle.mill_words.specs.declared.stage.Stage.TheVariants.{InWord}
+use Rattle.mill_words.proofs.Places.{word-before, word-last}
 use Rattle.mill_words.proofs.plain.word_end.Goals as goal
+use Rattle.mill_words.proofs.plain.word_end.Goals.{then-end-line-via-then-end-line, then-end-line-via-else-end-line+then-is_ascii_alphabetic}
 
-pub returns-then-has_byte-clause-same : goal.returns-then-has_byte-clause-same
-returns-then-has_byte-clause-same c =
-    let blank : is_blank (get_or c.args.line.now c.args.place 0) ≡ true = rw (c.if-has_byte.ensures.byte refl) refl in
-    ended-behind c.end_at.result c.args.line.now c.args.place (c.args.place + 1)
-    (λ s l. blank-at s l c.args.line.now c.args.place (c.if-has_byte.ensures.within refl) blank) c.end_at.ensures.same
+pub returns-then-end-line-clause-same : goal.returns-then-end-line-clause-same
+returns-then-end-line-clause-same c w l some =
+    c.behind_blank-end.ensures.same (InWord w) l
+    ∙ elim c.then-end-line.branch [
+      | then-end-line-via-then-end-line v ↦ word-last w l c.args.line.now c.behind_blank-end.result some (omega (arith, v.if-end-line.true))
+      | then-end-line-via-else-end-line+then-is_ascii_alphabetic v ↦
+          word-before w l c.args.line.now c.behind_blank-end.result some (omega (arith, c.behind_blank-end.ensures.within, v.if-end-line.false)) (search rules)
+    ]
