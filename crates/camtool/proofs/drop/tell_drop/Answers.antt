@@ -14,7 +14,7 @@ returns g c =
     let floor_fits : FitsSigned w32 c.args.setup.now.job.floor = search rules in
     let height_fits : FitsSigned w32 c.drop_once-height.result = search rules in
     let least : IsDropHeight (bare c.args.setup.now.job.cutter) c.args.setup.now.part c.args.place.x c.args.place.y c.args.setup.now.job.floor c.drop_once-height.result =
-    simp to_z-of_z at c.drop_once-height.ensures.drop in
+    simp (to_z-of_z, c.bare-tool.ensures) at c.drop_once-height.ensures.drop in
     let line : IfOk c.line_of_height.result (λ line. line.items ≡ answer_line (dropped c.args.setup.now.job.unit c.drop_once-height.result)) = simp to_z-of_z at c.line_of_height.ensures in
     record {
       height = c.drop_once-height.result;
