@@ -1,5 +1,5 @@
 -- Lines that are only a move: what their words say, and what they do.
-use Rattle.std.proofs.Common.{◌≡◌, ℕ, ℤ, ◌+◌, ◌-◌, ◌*◌, ◌<◌, ◌≤◌, List, [], ◌∷◌, ◌++◌, length, drop, get_or, arith, Bool, true, false, ◌||◌, Option, Some, None, IfSome, is_some, unwrap_or, Result, Ok, refl, sym, ap, ◌∙◌}
+use Rattle.std.proofs.Common.{◌≡◌, ℕ, ℤ, ◌+◌, ◌*◌, ◌<◌, ◌≤◌, List, [], ◌∷◌, ◌++◌, length, get_or, arith, Bool, true, false, Option, Some, None, IfSome, is_some, unwrap_or, Ok, refl, sym, ap, ◌∙◌}
 use Rattle.std.specs.Prelude.{nat_lt}
 use Rattle.std.specs.List.{list_any}
 use Rattle.std.proofs.lemmas.List.Folds.{list_any-append}
@@ -15,7 +15,6 @@ use Rattle.mill_base.specs.declared.unit.Unit.TheVariants.{Hundredth, Thousandth
 use Rattle.mill_words.specs.Words.{Line, is_blank}
 use Rattle.mill_words.specs.declared.word.Num.{Num}
 use Rattle.mill_words.specs.declared.word.Word.{Word}
-use Rattle.mill_ngc.specs.declared.fault.NgcFault.{NgcFault}
 use Rattle.mill_ngc.specs.declared.groups.Group.{Group}
 use Rattle.mill_ngc.specs.declared.plain_move.PlainLine.{PlainLine}
 use Rattle.mill_ngc.specs.declared.plain_move.PlainMove.{PlainMove}
@@ -27,9 +26,9 @@ use Rattle.mill_ngc.specs.declared.said.Said.{Said}
 use Rattle.mill_ngc.specs.Motion.{acted, coordinate, made_move, moved, target}
 use Rattle.mill_ngc.specs.Numbers.{axis_units, signed, whole_of}
 use Rattle.mill_ngc.specs.Profile.{entry_in, entry_of, g_entry, is_same_group, is_tool, may_repeat, row}
-use Rattle.mill_ngc.specs.Programs.{after_words, with_line}
+use Rattle.mill_ngc.specs.Programs.{after_words}
 use Rattle.mill_ngc.specs.Said.{after_entry, after_word, group_of, has_axis, noted, nothing_said, said_from}
-use Rattle.mill_ngc.specs.inner.PlainMoves.{AreFree, Goes, IsAxis, IsEnd, IsFree, IsMotion, IsReady, IsUnits, MovesTo, Says, TakenTo, mode_of, plain_target}
+use Rattle.mill_ngc.specs.inner.PlainMoves.{Goes, IsAxis, IsEnd, IsFree, IsMotion, IsReady, MovesTo, Says, TakenTo}
 use Rattle.mill_ngc.proofs.SaidLemmas.{row-x, row-y, row-z, said_from-end, said_from-next}
 
 -- ---- numbers
@@ -94,14 +93,19 @@ named unit line (Some units) None axis = absurd axis
 named-now : (unit : LengthUnit) (line : ℕ) (units : Option ℤ) (n : Num) → IsAxis unit line units (Some n) → is_some units ≡ true
 named-now unit line units n axis = sym (named unit line units (Some n) axis)
 
-
 pub goes-x : (unit : LengthUnit) (line : ℕ) (positioned : Bool) (w : Word) (s : Said) (plain : PlainLine) (x : Option ℤ) → w.letter ≡ 88 → plain.x ≡ None
     → IsAxis unit line x (Some w.num) → Says unit line plain s → Goes unit line positioned w s (record plain { x = x })
 goes-x unit line positioned w s plain x letter new axis says = record {
   said = record s { groups = s.groups ++ record { letter = 88; number = 0 } ∷ []; x = Some w.num };
   taken = taken-by line positioned s w (row 0 X) (record { letter = 88; number = 0 }) (row-x w letter) (rw letter refl) refl refl (says.free.x (rw new refl));
   says = record {
-    x = axis; y = says.y; z = says.z; mode = says.mode; millimetres = says.millimetres; absolute = says.absolute; ends = says.ends;
+    x = axis;
+    y = says.y;
+    z = says.z;
+    mode = says.mode;
+    millimetres = says.millimetres;
+    absolute = says.absolute;
+    ends = says.ends;
     free = record {
       x = not-free (is_some x) 88 0 (s.groups ++ record { letter = 88; number = 0 } ∷ []) (named-now unit line x w.num axis);
       y = still-free (is_some plain.y) 89 0 s.groups (record { letter = 88; number = 0 }) refl says.free.y;
@@ -118,7 +122,13 @@ goes-y unit line positioned w s plain y letter new axis says = record {
   said = record s { groups = s.groups ++ record { letter = 89; number = 0 } ∷ []; y = Some w.num };
   taken = taken-by line positioned s w (row 0 Y) (record { letter = 89; number = 0 }) (row-y w letter) (rw letter refl) refl refl (says.free.y (rw new refl));
   says = record {
-    x = says.x; y = axis; z = says.z; mode = says.mode; millimetres = says.millimetres; absolute = says.absolute; ends = says.ends;
+    x = says.x;
+    y = axis;
+    z = says.z;
+    mode = says.mode;
+    millimetres = says.millimetres;
+    absolute = says.absolute;
+    ends = says.ends;
     free = record {
       x = still-free (is_some plain.x) 88 0 s.groups (record { letter = 89; number = 0 }) refl says.free.x;
       y = not-free (is_some y) 89 0 (s.groups ++ record { letter = 89; number = 0 } ∷ []) (named-now unit line y w.num axis);
@@ -135,7 +145,13 @@ goes-z unit line positioned w s plain z letter new axis says = record {
   said = record s { groups = s.groups ++ record { letter = 90; number = 0 } ∷ []; z = Some w.num };
   taken = taken-by line positioned s w (row 0 Z) (record { letter = 90; number = 0 }) (row-z w letter) (rw letter refl) refl refl (says.free.z (rw new refl));
   says = record {
-    x = says.x; y = says.y; z = axis; mode = says.mode; millimetres = says.millimetres; absolute = says.absolute; ends = says.ends;
+    x = says.x;
+    y = says.y;
+    z = axis;
+    mode = says.mode;
+    millimetres = says.millimetres;
+    absolute = says.absolute;
+    ends = says.ends;
     free = record {
       x = still-free (is_some plain.x) 88 0 s.groups (record { letter = 90; number = 0 }) refl says.free.x;
       y = still-free (is_some plain.y) 89 0 s.groups (record { letter = 90; number = 0 }) refl says.free.y;
@@ -161,7 +177,13 @@ goes-feed unit line positioned w s plain had letter new has says = record {
   said = record s { groups = s.groups ++ record { letter = 70; number = 0 } ∷ [] };
   taken = taken-by line positioned s w (row 0 Nothing) (record { letter = 70; number = 0 }) (row-feed w letter) (rw letter refl) refl refl (says.free.feed new);
   says = record {
-    x = says.x; y = says.y; z = says.z; mode = says.mode; millimetres = says.millimetres; absolute = says.absolute; ends = says.ends;
+    x = says.x;
+    y = says.y;
+    z = says.z;
+    mode = says.mode;
+    millimetres = says.millimetres;
+    absolute = says.absolute;
+    ends = says.ends;
     free = record {
       x = still-free (is_some plain.x) 88 0 s.groups (record { letter = 70; number = 0 }) refl says.free.x;
       y = still-free (is_some plain.y) 89 0 s.groups (record { letter = 70; number = 0 }) refl says.free.y;
@@ -179,7 +201,13 @@ goes-motion unit line positioned w s plain (Some kind) letter new motion says = 
   said = record s { groups = s.groups ++ record { letter = 71; number = 1 } ∷ []; mode = Some (On kind) };
   taken = taken-by line positioned s w (row 1 (Motion (On kind))) (record { letter = 71; number = 1 }) (row-motion w kind letter motion) (rw letter refl) refl refl (says.free.motion (rw new refl));
   says = record {
-    x = says.x; y = says.y; z = says.z; mode = refl; millimetres = says.millimetres; absolute = says.absolute; ends = says.ends;
+    x = says.x;
+    y = says.y;
+    z = says.z;
+    mode = refl;
+    millimetres = says.millimetres;
+    absolute = says.absolute;
+    ends = says.ends;
     free = record {
       x = still-free (is_some plain.x) 88 0 s.groups (record { letter = 71; number = 1 }) refl says.free.x;
       y = still-free (is_some plain.y) 89 0 s.groups (record { letter = 71; number = 1 }) refl says.free.y;
@@ -211,8 +239,20 @@ acted-plain : (p : Progress) (s : Said) (plain : PlainLine) (m : PlainMove) → 
 unfolding acted moved target
 acted-plain p s plain m ready says end =
     let some : has_axis s ≡ true = rw (named p.unit p.line plain.x s.x says.x, named p.unit p.line plain.y s.y says.y, named p.unit p.line plain.z s.z says.z) end.some in
-    rw (some, says.mode, end.mode, says.millimetres, says.absolute, says.ends, ready.millimetres, ready.absolute,
-    ends-at p.unit p.line p.here.x plain.x s.x says.x, ends-at p.unit p.line p.here.y plain.y s.y says.y, ends-at p.unit p.line p.here.z plain.z s.z says.z, end.to) refl
+    rw (
+      some,
+      says.mode,
+      end.mode,
+      says.millimetres,
+      says.absolute,
+      says.ends,
+      ready.millimetres,
+      ready.absolute,
+      ends-at p.unit p.line p.here.x plain.x s.x says.x,
+      ends-at p.unit p.line p.here.y plain.y s.y says.y,
+      ends-at p.unit p.line p.here.z plain.z s.z says.z,
+      end.to,
+    ) refl
 
 -- and so does the line with those words
 after-plain : (p : Progress) (l : Line) (s : Said) → l.slash ≡ false → IsReady p → said_from p.line p.positioned nothing_said l.words ≡ Ok s → after_words p l ≡ acted p s
