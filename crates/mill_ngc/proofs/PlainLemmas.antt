@@ -1,5 +1,5 @@
 -- Lines that are only a move: what their words say, and what they do.
-use Rattle.std.proofs.Common.{◌≡◌, ℕ, ℤ, ◌+◌, ◌-◌, ◌*◌, ◌<◌, ◌≤◌, List, [], ◌∷◌, ◌++◌, length, drop, get_or, arith, Bool, true, false, ◌||◌, Option, Some, None, IfSome, is_some, unwrap_or, Result, Ok, refl, sym, ap, ◌∙◌}
+use Rattle.std.proofs.Common.{◌≡◌, ℕ, ℤ, ◌+◌, ◌*◌, ◌<◌, ◌≤◌, List, [], ◌∷◌, ◌++◌, length, get_or, arith, Bool, true, false, Option, Some, None, IfSome, is_some, unwrap_or, Ok, refl, sym, ap, ◌∙◌}
 use Rattle.std.specs.Prelude.{nat_lt}
 use Rattle.std.specs.List.{list_any}
 use Rattle.std.proofs.lemmas.List.Folds.{list_any-append}
@@ -15,7 +15,6 @@ use Rattle.mill_base.specs.declared.unit.Unit.TheVariants.{Hundredth, Thousandth
 use Rattle.mill_words.specs.Words.{Line, is_blank}
 use Rattle.mill_words.specs.declared.word.Num.{Num}
 use Rattle.mill_words.specs.declared.word.Word.{Word}
-use Rattle.mill_ngc.specs.declared.fault.NgcFault.{NgcFault}
 use Rattle.mill_ngc.specs.declared.groups.Group.{Group}
 use Rattle.mill_ngc.specs.declared.plain_move.PlainLine.{PlainLine}
 use Rattle.mill_ngc.specs.declared.plain_move.PlainMove.{PlainMove}
@@ -27,9 +26,9 @@ use Rattle.mill_ngc.specs.declared.said.Said.{Said}
 use Rattle.mill_ngc.specs.Motion.{acted, coordinate, made_move, moved, target}
 use Rattle.mill_ngc.specs.Numbers.{axis_units, signed, whole_of}
 use Rattle.mill_ngc.specs.Profile.{entry_in, entry_of, g_entry, is_same_group, is_tool, may_repeat, row}
-use Rattle.mill_ngc.specs.Programs.{after_words, with_line}
+use Rattle.mill_ngc.specs.Programs.{after_words}
 use Rattle.mill_ngc.specs.Said.{after_entry, after_word, group_of, has_axis, noted, nothing_said, said_from}
-use Rattle.mill_ngc.specs.inner.PlainMoves.{AreFree, Goes, IsAxis, IsEnd, IsFree, IsMotion, IsReady, IsUnits, MovesTo, Says, TakenTo, mode_of, plain_target}
+use Rattle.mill_ngc.specs.inner.PlainMoves.{Goes, IsAxis, IsEnd, IsFree, IsMotion, IsReady, MovesTo, Says, TakenTo}
 use Rattle.mill_ngc.proofs.SaidLemmas.{row-x, row-y, row-z, said_from-end, said_from-next}
 
 -- ---- numbers

@@ -1,5 +1,5 @@
 -- What a line that is only a move has said so far, and its move.
-use Rattle.std.specs.Prelude.{◌≡◌, ℕ, ℤ, Bool, true, false, ◌||◌, List, drop, Option, Some, None, is_some, unwrap_or, Result, Ok}
+use Rattle.std.specs.Prelude.{◌≡◌, ℕ, ℤ, Bool, true, false, ◌||◌, List, drop, Option, Some, None, is_some, unwrap_or, Ok}
 use Rattle.std.specs.List.{list_any}
 use Rattle.mill_base.specs.Numbers.{Within}
 use Rattle.mill_base.specs.Ranges.{IsInUnitRange}

@@ -1,4 +1,4 @@
-use Rattle.std.proofs.Common.{◌≡◌, false, arith, rules}
+use Rattle.std.proofs.Common.{arith, rules}
 use Rattle.mill_ngc.proofs.PlainLemmas.{rapid, feed}
 use Rattle.mill_ngc.proofs.plain_move.take_motion.Goals as goal
 

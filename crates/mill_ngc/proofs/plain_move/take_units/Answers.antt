@@ -1,4 +1,4 @@
-use Rattle.std.proofs.Common.{◌≡◌, ◌≤◌, arith, rules, ◌∙◌}
+use Rattle.std.proofs.Common.{◌≤◌, rules}
 use Rattle.mill_base.specs.Units.{greatest_of}
 use Rattle.mill_ngc.proofs.PlainLemmas.{units-at}
 use Rattle.mill_ngc.proofs.plain_move.take_units.Goals as goal

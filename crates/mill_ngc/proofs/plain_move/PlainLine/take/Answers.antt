@@ -1,4 +1,3 @@
-use Rattle.std.proofs.Common.{refl}
 use Rattle.mill_ngc.proofs.PlainLemmas.{goes-x, goes-y, goes-z, goes-motion, goes-feed}
 use Rattle.mill_ngc.proofs.plain_move.PlainLine.take.Goals as goal
 

@@ -1,5 +1,5 @@
 use Rattle.std.proofs.Common.{◌≡◌, true, false, rules, ◌≤◌, length, arith}
-use Rattle.mill_ngc.specs.inner.PlainMoves.{IsReady, TakenTo}
+use Rattle.mill_ngc.specs.inner.PlainMoves.{TakenTo}
 use Rattle.mill_ngc.proofs.PlainLemmas.{none-taken, one-more-taken, moves-if-ended}
 use Rattle.mill_ngc.proofs.progress.Progress.plain_move.Goals as goal
 
