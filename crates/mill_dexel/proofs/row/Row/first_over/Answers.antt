@@ -17,13 +17,13 @@ loop-column-preserved c =
     let stays : stored w32 c.height_at.result ≡ c.height_at.result = omega (arith, ints) in
     let value = stays ∙ c.height_at.ensures in
     λ k from before. elim (cases_lt k c.loop-column.column) [
-  | inl early ↦ c.loop-column.invariant k from early
-  | inr late ↦ subst (PassesAt c.args.job.now c.args.kind c.args.self.now c.args.step.now) (same k c.loop-column.column late before)
-      (low_passes c.args.job.now.cutter c.args.step.now (column_x c.args.job.now c.loop-column.column) (column_y c.args.job.now c.args.self.now.row)
-      (tested_height c.args.job.now c.args.kind (top_at c.args.self.now.tops c.loop-column.column)) c.requires.job.cutter_ok c.requires.step
-      (subst (λ (z : ℤ). z ≤ℤ c.args.step.now.from.z) value (c.is_under.ensures.from c.if-not-is_under.false))
-      (subst (λ (z : ℤ). z ≤ℤ c.args.step.now.to.z) value (c.is_under.ensures.to c.if-not-is_under.false)))
-]
+      | inl early ↦ c.loop-column.invariant k from early
+      | inr late ↦ subst (PassesAt c.args.job.now c.args.kind c.args.self.now c.args.step.now) (same k c.loop-column.column late before)
+          (low_passes c.args.job.now.cutter c.args.step.now (column_x c.args.job.now c.loop-column.column) (column_y c.args.job.now c.args.self.now.row)
+          (tested_height c.args.job.now c.args.kind (top_at c.args.self.now.tops c.loop-column.column)) c.requires.job.cutter_ok c.requires.step
+          (subst (λ (z : ℤ). z ≤ℤ c.args.step.now.from.z) value (c.is_under.ensures.from c.if-not-is_under.false))
+          (subst (λ (z : ℤ). z ≤ℤ c.args.step.now.to.z) value (c.is_under.ensures.to c.if-not-is_under.false)))
+    ]
   where
     same : (k n : ℕ) → n ≤ k → k < n + 1 → n ≡ k
     same k n h g = omega (h, g, arith)
