@@ -84,7 +84,7 @@ pub cut-requires-clause-moves_ok : goal.cut-requires-clause-moves_ok
 cut-requires-clause-moves_ok c =
     let way = way_home c.args.job.now c.loop-number.place in
     subst MovesInRange
-    (sym (past_old c.loop-number.moves.items way c.deref-3.result.now c.len-first.result c.len-first.ensures (c.deref-3.ensures.value ∙ c.in_ok-home.ensures.ok)))
+    (sym (past_old c.loop-number.moves.items way c.deref-3.result.now c.len-first.result (c.len-first.ensures ∙ c.loop-number.moves.ok.0) (c.deref-3.ensures.value ∙ c.in_ok-home.ensures.ok)))
     (way_home_ranged c.args.job.now c.loop-number.place c.requires.job_ok (in_range_of_unit c.args.job.now.unit c.loop-number.place c.loop-number.invariant.in_range)
     (subst IsInRange c.home-place.ensures.value (in_range_of_unit c.args.job.now.unit c.home-place.result c.home-place.ensures.in_range)))
 
@@ -93,6 +93,6 @@ returns-clause-stock c = λ part say tested.
     let way = way_home c.args.job.now c.loop-number.place in
     subst (λ (ms : List Move). IsStock c.args.job.now ms c.cut.new.rows)
     (ap (λ ms. c.loop-number.moves.items ++ ms)
-    (past_old c.loop-number.moves.items way c.deref-3.result.now c.len-first.result c.len-first.ensures (c.deref-3.ensures.value ∙ c.in_ok-home.ensures.ok))
+    (past_old c.loop-number.moves.items way c.deref-3.result.now c.len-first.result (c.len-first.ensures ∙ c.loop-number.moves.ok.0) (c.deref-3.ensures.value ∙ c.in_ok-home.ensures.ok))
     ∙ sym c.in_ok-home.ensures.ok)
     (c.cut.ensures c.loop-number.moves.items (c.loop-number.invariant.stock part say) tested)
