@@ -21,6 +21,8 @@ mod gouge;
 #[cfg(test)]
 mod holder;
 #[cfg(test)]
+mod holder;
+#[cfg(test)]
 mod level;
 #[cfg(test)]
 mod part;
