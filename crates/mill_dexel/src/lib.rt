@@ -23,8 +23,6 @@ mod row;
 mod rows;
 mod sample;
 mod stock;
-#[cfg(test)]
-mod tests;
 mod turns;
 
 pub use bands::Bands;

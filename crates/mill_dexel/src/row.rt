@@ -7,14 +7,14 @@ ghost use Rattle.mill_dexel.specs.inner.Passing.{PassesOver};
 ghost use Rattle.mill_dexel.specs.inner.Readiness.{IsNext};
 ghost use Rattle.mill_dexel.specs.Cuts.{IsCutAt};
 ghost use Rattle.mill_dexel.specs.Tops.{IsTested, tested_height as tested_height_of, tops_after_move};
-ghost use Rattle.mill_dexel.specs.Rows.{IsRowOf, PassesRow, IsFirstStop, IsColumnBlocked, row_point, uncut_row, uncut_tri};
+ghost use Rattle.mill_dexel.specs.Rows.{IsRowOf, PassesAt, PassesRow, IsFirstStop, IsColumnBlocked, row_point, top_at, uncut_row, uncut_tri};
 ghost use Rattle.mill_dexel.specs.Turns.{ClearsRow, IsRowStopped, StopsRow, move_at, row_before, turned};
 
 use crate::band::Band;
 use crate::bands::Bands;
 use crate::cut::cut_move;
 use crate::fail::RowFail;
-use crate::reach::{is_apart, reach_of};
+use crate::reach::{Reach, is_apart, reach_of};
 use mill_base::{Kind, Move, Pt3, Tri, WantOfMemory};
 use mill_job::Job;
 use mill_sweep::{Leaf, Sweep, passes_tri};
@@ -278,8 +278,12 @@ impl Row {
             return None;
         }
         let reach = reach_of(job, step.from, step.to);
+        let first = self.first_over(job, kind, step, reach);
+        if first >= reach.end {
+            return None;
+        }
         let sweep = Sweep::new(job.cutter, step);
-        for column in reach.first..reach.end {
+        for column in first..reach.end {
             let point = self.tested_point(job, kind, column);
             if let Some(leaf) = sweep.first_block_point(point) {
                 return Some((column, leaf));
@@ -288,8 +292,30 @@ impl Row {
         None
     }
 
+    /// The first of these columns whose tested point is over the move's lower end; the end of them where
+    /// there is none. The move passes those before it. Most feeds go where the column's top was cut near
+    /// to them already, so all their points are as low, and nothing else has to be known of the move.
+    fn first_over(&self, job: &Job, kind: Kind, step: &Move, reach: Reach) -> u32
+        requires job { IsJob job.now }
+        requires row { IsRowOf job.now self.now }
+        requires step { MoveInRange step.now }
+        requires columns { reach.end ≤ column_count job.now }
+        ensures bound { result ≤ reach.end }
+        ensures before { (k : ℕ) → reach.first ≤ k → k < result → PassesAt job.now kind self.now step.now k }
+    {
+        for column in reach.first..reach.end {
+            if !is_under(step, self.height_at(job, kind, column)) {
+                return column;
+            }
+        }
+        reach.end
+    }
+
     /// Whether the move passes even the uncut row, and so every column of this one. Most moves are far
     /// away in y, and that is seen first.
+    ///
+    /// A feed is tested only under a limit on the depth of cut, and it seldom passes the uncut row but
+    /// by its height, so it isn't halved for that.
     fn is_passed_uncut(&self, job: &Job, kind: Kind, step: &Move) -> bool
         requires job { IsJob job.now }
         requires row { IsRowOf job.now self.now }
@@ -300,7 +326,10 @@ impl Row {
         if is_apart(job, y, step.from.y, step.to.y) {
             return true;
         }
-        passes_tri(job.cutter, step, &uncut_triangle(job, kind, self.number))
+        match kind {
+            Kind::Rapid => passes_tri(job.cutter, step, &uncut_triangle(job, kind, self.number)),
+            Kind::Feed => is_under(step, tested_height(job, kind, job.top)),
+        }
     }
 
     /// The point of a column at which a move of this kind is tested.
@@ -313,9 +342,27 @@ impl Row {
         Pt3 {
             x: job.column_x(column),
             y: job.row_y(self.number),
-            z: tested_height(job, kind, self.tops[column as usize]),
+            z: self.height_at(job, kind, column),
         }
     }
+
+    /// The height at which a move of this kind is tested at a column.
+    fn height_at(&self, job: &Job, kind: Kind, column: u32) -> i32
+        requires job { IsJob job.now }
+        requires row { IsRowOf job.now self.now }
+        requires column { column < column_count job.now }
+        ensures { result ≡ tested_height_of job.now kind (top_at self.now.tops column) }
+    {
+        tested_height(job, kind, self.tops[column as usize])
+    }
+}
+
+/// Whether a height isn't over the move's lower end.
+fn is_under(step: &Move, height: i32) -> bool
+    ensures from { IsTrue result → height ≤ℤ step.now.from.z }
+    ensures to { IsTrue result → height ≤ℤ step.now.to.z }
+{
+    height <= step.from.z.min(step.to.z)
 }
 
 /// Where the move before move `t` ends; none before the first.

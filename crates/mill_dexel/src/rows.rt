@@ -128,6 +128,3 @@ fn run_block(job: &Job, moves: &[Move], band: &Band, rows: &mut [Row])
         run_to(row, job, moves, band);
     }
 }
-
-#[cfg(test)]
-mod tests;

@@ -57,6 +57,3 @@ pub fn cut_rows(job: &Job, rows: &mut [Row], step: &Move)
         rows[number].cut_turn(job, step);
     }
 }
-
-#[cfg(test)]
-mod tests;

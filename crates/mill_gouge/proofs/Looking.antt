@@ -6,9 +6,9 @@ use Rattle.std.proofs.lemmas.Bool.Decides.{eqb_tells}
 use Rattle.std.proofs.lemmas.Int.{ints}
 use Rattle.std.proofs.lemmas.List.{length-map, get_or-map}
 use Rattle.std.proofs.lemmas.List.Elements.{Contains-get_or}
-use lib.IntN.{ℤ}
+use lib.IntN.{ℤ, ◌+ℤ◌}
 use lib.Signed.{◌<ℤ◌, ◌≤ℤ◌}
-use Rattle.mill_base.specs.Numbers.{greater}
+use Rattle.mill_base.specs.Numbers.{greater, lesser}
 use Rattle.mill_base.specs.Points.{highest, tri_at}
 use Rattle.mill_base.specs.Covers.{IsUnder}
 use Rattle.mill_base.specs.Ranges.{MoveInRange, TriInRange, TrisInRange}
@@ -17,17 +17,24 @@ use Rattle.mill_base.specs.declared.points.Tri.{Tri}
 use Rattle.mill_base.specs.declared.points.Box2.{Box2}
 use Rattle.mill_base.specs.declared.motion.Move.{Move}
 use Rattle.mill_base.specs.declared.cutter.Cutter.{Cutter}
+use Rattle.mill_base.specs.declared.tool.Holder.{Holder}
+use Rattle.mill_base.specs.Tools.{IsHolder, solid_of}
 use Rattle.mill_cells.specs.Boxes.{Meet, IsNear, box_of, origin_box}
 use Rattle.mill_cells.specs.Sorted.{Sorted, sorted_of, top_at, IsNearOver}
 use Rattle.mill_cells.proofs.Lists.{nothing_in_nil, here, there, cons_cases}
 use Rattle.mill_cells.proofs.PassedLemmas.{top_is}
 use Rattle.mill_sweep.specs.Halving.{FailsAt, Passes, Blocks}
 use Rattle.mill_sweep.specs.Leaves.{span_of}
-use Rattle.mill_sweep.specs.Reach.{OutOfReachPasses, reach_box_of, low_end_of}
+use Rattle.mill_sweep.specs.Holders.{lifted}
+use Rattle.mill_sweep.specs.Reach.{reach_box_of, low_end_of}
 use Rattle.mill_sweep.specs.Sweeps.{Swept}
 use Rattle.mill_sweep.specs.declared.leaf.Leaf.{Leaf}
 use Rattle.mill_gouge.specs.declared.gouge.Gouge.{Gouge}
 use Rattle.mill_gouge.specs.Gouges.{PassesPart, IsFirstGouge}
+use Rattle.mill_sweep.proofs.Far.{top_passes}
+use Rattle.mill_sweep.proofs.Holding.{holder_out_of_reach_passes}
+use Rattle.mill_sweep.proofs.OutOfReach.{out_of_reach_passes}
+use Rattle.mill_gouge.specs.inner.Reaches.{PassesOutside}
 use Rattle.mill_gouge.specs.inner.Firsts.{ComesBefore, IsEarlier, IsGouge}
 
 -- each triangle of a part in range is in range
@@ -35,14 +42,20 @@ pub part_in_range : (part : List Tri) (t : ℕ) → TrisInRange part → t < len
 part_in_range part t ok inside = ok (tri_at part t) (Contains-get_or part t _ inside)
 
 -- a move that stays over the part's top clears the part
-pub over_clears : (cutter : Cutter) (m : Move) (part : List Tri) (top : ℤ) → OutOfReachPasses → IsCutter cutter → MoveInRange m → TrisInRange part → IsUnder part top → top ≤ℤ low_end_of m
-    → PassesPart cutter m part
-over_clears cutter m part top out ok ranged tris under over t inside =
+pub over_clears : (cutter : Cutter) (m : Move) (part : List Tri) (top : ℤ) → IsUnder part top → top ≤ℤ low_end_of m → PassesPart cutter m part
+over_clears cutter m part top under over t inside =
     let h = under (tri_at part t) (Contains-get_or part t _ inside) in
-    out cutter m (tri_at part t) ok ranged (part_in_range part t tris inside) (inr (most _ _ _ top (low_end_of m) h.0 h.1 h.2 over))
+    let high = most (tri_at part t).a.z (tri_at part t).b.z (tri_at part t).c.z top (low_end_of m) h.0 h.1 h.2 over in
+    top_passes cutter m (tri_at part t) (up _ _ _ high (ends m.from.z m.to.z).0) (up _ _ _ high (ends m.from.z m.to.z).1)
   where
     most : (a b c top low : ℤ) → a ≤ℤ top → b ≤ℤ top → c ≤ℤ top → top ≤ℤ low → greater a (greater b c) ≤ℤ low
     most a b c top low p q r s = grind (p, q, r, s, arith, ints)
+
+    up : (a b c : ℤ) → a ≤ℤ b → b ≤ℤ c → a ≤ℤ c
+    up a b c p q = omega (p, q, arith, ints)
+
+    ends : (a b : ℤ) → (lesser a b ≤ℤ a) × (lesser a b ≤ℤ b)
+    ends a b = grind (arith, ints)
 
 -- the test whether it does, of the two heights as they are stored
 pub is_over : (top low end stored_top stored_low : ℤ) → stored_top ≡ top → stored_low ≡ low → low ≡ end → int_le stored_top stored_low ≡ true → top ≤ℤ end
@@ -77,10 +90,10 @@ is_one (x ∷ xs) i = elim (eqb_tells x i) [
   ]
 ]
 
--- a triangle of the part that isn't near and over the lower end is passed
-out_passes : (cutter : Cutter) (m : Move) (part : List Tri) (t : ℕ) → OutOfReachPasses → IsCutter cutter → MoveInRange m → TrisInRange part → t < length part
-    → (IsNearOver (sorted_of part) (reach_box_of cutter m) (low_end_of m) t → ⊥) → Passes cutter m (tri_at part t)
-out_passes cutter m part t out ok ranged tris inside none = by (int_lt (low_end_of m) (top_at (map highest part) t)) refl
+-- a triangle of the part that isn't near the area and over the height is passed, where those are that lie outside
+out_passes : (cutter : Cutter) (m : Move) (part : List Tri) (area : Box2) (low : ℤ) (t : ℕ) → PassesOutside cutter m area low → TrisInRange part → t < length part
+    → (IsNearOver (sorted_of part) area low t → ⊥) → Passes cutter m (tri_at part t)
+out_passes cutter m part area low t out tris inside none = by (int_lt low (top_at (map highest part) t)) refl
   where
     tri_ok : TriInRange (tri_at part t)
     tri_ok = part_in_range part t tris inside
@@ -91,38 +104,52 @@ out_passes cutter m part t out ok ranged tris inside none = by (int_lt (low_end_
     under_it : (a b : ℤ) → int_lt a b ≡ false → b ≤ℤ a
     under_it a b e = omega (e, arith, ints)
 
-    near : Meet (box_of (tri_at part t)) (reach_box_of cutter m) → IsNear (map box_of part) (reach_box_of cutter m) t
+    near : Meet (box_of (tri_at part t)) area → IsNear (map box_of part) area t
     near meet = record {
       within = subst (λ n. t < n) (sym (length-map part box_of)) inside;
-      meets = subst (λ (b : Box2). Meet b (reach_box_of cutter m)) (sym (get_or-map box_of part t _ origin_box inside)) meet;
+      meets = subst (λ (b : Box2). Meet b area) (sym (get_or-map box_of part t _ origin_box inside)) meet;
     }
 
-    by : (b : Bool) → int_lt (low_end_of m) (top_at (map highest part) t) ≡ b → Passes cutter m (tri_at part t)
-    by true e = out cutter m (tri_at part t) ok ranged tri_ok (inl (λ meet. none (record { near = near meet; over = over_it _ _ e })))
-    by false e = out cutter m (tri_at part t) ok ranged tri_ok (inr (subst (λ (h : ℤ). h ≤ℤ low_end_of m) (top_is part t _ inside) (under_it _ _ e)))
+    by : (b : Bool) → int_lt low (top_at (map highest part) t) ≡ b → Passes cutter m (tri_at part t)
+    by true e = out (tri_at part t) tri_ok (inl (λ meet. none (record { near = near meet; over = over_it _ _ e })))
+    by false e = out (tri_at part t) tri_ok (inr (subst (λ (h : ℤ). h ≤ℤ low) (top_is part t _ inside) (under_it _ _ e)))
 
 -- before the first triangle, those in reach are left
-pub look_starts : (cutter : Cutter) (m : Move) (part : List Tri) (sorted : Sorted) (left : List ℕ) → OutOfReachPasses → IsCutter cutter → MoveInRange m → TrisInRange part → sorted ≡ sorted_of part
-    → ((i : ℕ) → Contains left i ↔ IsNearOver sorted (reach_box_of cutter m) (low_end_of m) i) → IsLooking cutter m part left None
-look_starts cutter m part sorted left out ok ranged tris e each = record {
+pub look_starts : (cutter : Cutter) (m : Move) (part : List Tri) (sorted : Sorted) (left : List ℕ) (area : Box2) (low : ℤ) → PassesOutside cutter m area low → TrisInRange part → sorted ≡ sorted_of part
+    → ((i : ℕ) → Contains left i ↔ IsNearOver sorted area low i) → IsLooking cutter m part left None
+look_starts cutter m part sorted left area low out tris e each = record {
   within = λ t c. subst (λ n. t < n) (length-map part box_of) ((near t).0 c).near.within;
   found = λ gouge same. absurd (cc);
   others = λ t inside before. elim (is_one left t) [
     | inl c ↦ inr c
-    | inr none ↦ inl (out_passes cutter m part t out ok ranged tris inside (λ n. none ((near t).1 n)))
+    | inr none ↦ inl (out_passes cutter m part area low t out tris inside (λ n. none ((near t).1 n)))
   ];
 }
   where
-    near : (i : ℕ) → Contains left i ↔ IsNearOver (sorted_of part) (reach_box_of cutter m) (low_end_of m) i
-    near = subst (λ (s : Sorted). (i : ℕ) → Contains left i ↔ IsNearOver s (reach_box_of cutter m) (low_end_of m) i) e each
+    near : (i : ℕ) → Contains left i ↔ IsNearOver (sorted_of part) area low i
+    near = subst (λ (s : Sorted). (i : ℕ) → Contains left i ↔ IsNearOver s area low i) e each
 
--- what comes of the cells is in the move's reach
-pub reach_each : (cutter : Cutter) (m : Move) (sorted : Sorted) (items left : List ℕ) (area : Box2) (low : ℤ) → left ≡ items → area ≡ reach_box_of cutter m → low ≡ low_end_of m
-    → ((i : ℕ) → Contains items i ↔ IsNearOver sorted area low i) → (i : ℕ) → Contains left i ↔ IsNearOver sorted (reach_box_of cutter m) (low_end_of m) i
-reach_each cutter m sorted items left area low same area_is low_is each =
-    subst (λ (l : List ℕ). (i : ℕ) → Contains l i ↔ IsNearOver sorted (reach_box_of cutter m) (low_end_of m) i) (sym same)
-    (subst (λ (b : Box2). (i : ℕ) → Contains items i ↔ IsNearOver sorted b (low_end_of m) i) area_is
-    (subst (λ (z : ℤ). (i : ℕ) → Contains items i ↔ IsNearOver sorted area z i) low_is each))
+-- what comes of the cells is near the area and over the height
+pub reach_each : (sorted : Sorted) (items left : List ℕ) (area : Box2) (stored_low low : ℤ) → left ≡ items → stored_low ≡ low
+    → ((i : ℕ) → Contains items i ↔ IsNearOver sorted area stored_low i) → (i : ℕ) → Contains left i ↔ IsNearOver sorted area low i
+reach_each sorted items left area stored_low low same low_is each =
+    subst (λ (l : List ℕ). (i : ℕ) → Contains l i ↔ IsNearOver sorted area low i) (sym same)
+    (subst (λ (z : ℤ). (i : ℕ) → Contains items i ↔ IsNearOver sorted area z i) low_is each)
+
+-- a cutter's move passes what lies outside its reach, and a holder outside its own
+pub outside_move : (s : Swept) (cutter : Cutter) (m : Move) (area : Box2) (low : ℤ) → s ≡ record { cutter = cutter; move = m } → area ≡ reach_box_of cutter m → low ≡ low_end_of m
+    → IsCutter cutter → MoveInRange m → PassesOutside s.cutter s.move area low
+outside_move s cutter m area low same area_is low_is ok ranged =
+    subst (λ (v : Swept). PassesOutside v.cutter v.move area low) (sym same)
+    (subst (λ (b : Box2). PassesOutside cutter m b low) (sym area_is)
+    (subst (λ (z : ℤ). PassesOutside cutter m (reach_box_of cutter m) z) (sym low_is) (λ tri inside out. out_of_reach_passes cutter m tri ok ranged inside out)))
+
+pub outside_holder : (s : Swept) (holder : Holder) (m : Move) (area : Box2) (low : ℤ) → s ≡ record { cutter = solid_of holder; move = lifted holder m } → area ≡ reach_box_of (solid_of holder) m
+    → low ≡ low_end_of m +ℤ holder.stickout → IsHolder holder → MoveInRange m → PassesOutside s.cutter s.move area low
+outside_holder s holder m area low same area_is low_is ok ranged =
+    subst (λ (v : Swept). PassesOutside v.cutter v.move area low) (sym same)
+    (subst (λ (b : Box2). PassesOutside (solid_of holder) (lifted holder m) b low) (sym area_is)
+    (subst (λ (z : ℤ). PassesOutside (solid_of holder) (lifted holder m) (reach_box_of (solid_of holder) m) z) (sym low_is) (λ tri inside out. holder_out_of_reach_passes holder m tri ok ranged inside out)))
 
 -- each triangle that comes is one of the part's
 pub next_within : (cutter : Cutter) (m : Move) (part : List Tri) (left later : List ℕ) (i : ℕ) (first : Option Gouge) → left ≡ i ∷ later → IsLooking cutter m part left first → i < length part
@@ -132,16 +159,13 @@ next_within cutter m part left later i first next h = h.within i (subst (λ (l :
 pub tri_in_range : (tris part : List Tri) (i : ℕ) (d : Tri) → tris ≡ part → i < length tris → TrisInRange part → TriInRange (get_or tris i d)
 tri_in_range tris part i d e h ok = ok _ (subst (λ (l : List Tri). Contains l (get_or tris i d)) e (Contains-get_or tris i d h))
 
--- what a sweep of the move says of a triangle, the move says
-pub passes_swept : (s : Swept) (cutter : Cutter) (m : Move) (t : Tri) → s ≡ record { cutter = cutter; move = m } → Passes s.cutter s.move t → Passes cutter m t
-passes_swept s cutter m t same h = subst (λ (v : Swept). Passes v.cutter v.move t) same h
+-- what a sweep clears, its cutter clears on its move, and what it finds first, that does
+pub clears_swept : (b : Bool) (s t : Swept) (part : List Tri) → s ≡ t → ((b ≡ true) ↔ PassesPart s.cutter s.move part) → (b ≡ true) ↔ PassesPart t.cutter t.move part
+clears_swept b s t part same h = subst (λ (v : Swept). (b ≡ true) ↔ PassesPart v.cutter v.move part) same h
 
-pub fails_swept : (s : Swept) (cutter : Cutter) (m : Move) (t : Tri) → s ≡ record { cutter = cutter; move = m } → ¬ Passes s.cutter s.move t → ¬ Passes cutter m t
-fails_swept s cutter m t same h = subst (λ (v : Swept). ¬ Passes v.cutter v.move t) same h
-
-pub earlier_swept : (s : Swept) (cutter : Cutter) (m : Move) (t : Tri) (i : ℕ) (first next : Option Gouge) → s ≡ record { cutter = cutter; move = m }
-    → IsEarlier s.cutter s.move t i first next → IsEarlier cutter m t i first next
-earlier_swept s cutter m t i first next same h = subst (λ (v : Swept). IsEarlier v.cutter v.move t i first next) same h
+pub first_swept : (o : Option Gouge) (s t : Swept) (part : List Tri) → s ≡ t → MatchOption o (PassesPart s.cutter s.move part) (IsFirstGouge s.cutter s.move part)
+    → MatchOption o (PassesPart t.cutter t.move part) (IsFirstGouge t.cutter t.move part)
+first_swept o s t part same h = subst (λ (v : Swept). MatchOption o (PassesPart v.cutter v.move part) (IsFirstGouge v.cutter v.move part)) same h
 
 -- one more triangle
 pub look_goes_on : (cutter : Cutter) (m : Move) (part : List Tri) (left later : List ℕ) (i : ℕ) (first next : Option Gouge) → left ≡ i ∷ later → IsLooking cutter m part left first

@@ -3,9 +3,12 @@ use Rattle.std.specs.Prelude.{ℕ, ◌<◌, List, length}
 use Rattle.mill_base.specs.declared.points.Tri.{Tri}
 use Rattle.mill_base.specs.declared.motion.Move.{Move}
 use Rattle.mill_base.specs.declared.cutter.Cutter.{Cutter}
+use Rattle.mill_base.specs.declared.tool.Holder.{Holder}
 use Rattle.mill_base.specs.Points.{tri_at}
+use Rattle.mill_base.specs.Tools.{solid_of}
 use Rattle.mill_sweep.specs.Leaves.{span_of}
 use Rattle.mill_sweep.specs.Halving.{Passes, FailsAt, Blocks}
+use Rattle.mill_sweep.specs.Holders.{lifted}
 use Rattle.mill_gouge.specs.declared.gouge.Gouge.{Gouge}
 
 -- the move passes each triangle of the part, by halving
@@ -18,3 +21,10 @@ pub record IsFirstGouge (cutter : Cutter) (m : Move) (part : List Tri) (gouge : 
   pub first : (e : ℕ) → e < gouge.tri → Passes cutter m (tri_at part e)
   pub fails : FailsAt cutter m (tri_at part gouge.tri) gouge.leaf
   pub blocked : Blocks cutter (span_of m gouge.leaf.d gouge.leaf.k) (tri_at part gouge.tri)
+
+-- the same of a holder, as a solid of its own on the move of its own tip
+abbrev pub HolderPassesPart : Holder → Move → List Tri → Type 0
+HolderPassesPart holder m part = PassesPart (solid_of holder) (lifted holder m) part
+
+abbrev pub IsFirstHolderGouge : Holder → Move → List Tri → Gouge → Type 0
+IsFirstHolderGouge holder m part gouge = IsFirstGouge (solid_of holder) (lifted holder m) part gouge

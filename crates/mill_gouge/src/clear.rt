@@ -1,12 +1,15 @@
 ghost use Rattle.std.specs.Prelude.{◌≡◌, ◌↔◌, IsTrue, false};
 ghost use Rattle.mill_base.specs.Ranges.{MoveInRange, TriInRange};
 ghost use Rattle.mill_base.specs.Sizes.{IsCutter};
+ghost use Rattle.mill_base.specs.Tools.{IsHolder};
 ghost use Rattle.mill_cells.specs.Sorted.{sorted_of};
 ghost use Rattle.mill_sweep.specs.Halving.{Passes};
-ghost use Rattle.mill_gouge.specs.Gouges.{PassesPart};
+ghost use Rattle.mill_gouge.specs.inner.Reaches.{PassesOutside};
+ghost use Rattle.mill_gouge.specs.Gouges.{HolderPassesPart, PassesPart};
 
+use crate::reach::holder_reach;
 use crate::top::lid;
-use mill_base::{Cutter, Move, Tri};
+use mill_base::{Box2, Cutter, Holder, Move, Tri};
 use mill_cells::Cells;
 use mill_part::Part;
 use mill_sweep::{Sweep, reach_box};
@@ -21,14 +24,39 @@ pub fn clears(cutter: Cutter, part: &Part, cells: &Cells, step: &Move) -> bool
     requires move_ok { MoveInRange step.now }
     ensures { IsTrue result ↔ PassesPart cutter step.now part.now }
 {
-    let tris = part.tris();
     let (area, low) = reach_box(cutter, step);
     if low >= lid(part) {
         return true;
     }
-    let sweep = Sweep::new(cutter, step);
+    passes_each(&Sweep::new(cutter, step), part, cells, area, low)
+}
+
+/// Whether the holder passes each triangle of the part on the cutter's move.
+///
+/// It takes what `first_holder_gouge` takes.
+pub fn holder_clears(holder: &Holder, part: &Part, cells: &Cells, step: &Move) -> bool
+    requires holder_ok { IsHolder holder.now }
+    requires cells_ok { cells.now ≡ sorted_of part.now }
+    requires move_ok { MoveInRange step.now }
+    ensures { IsTrue result ↔ HolderPassesPart holder.now step.now part.now }
+{
+    let (area, low) = holder_reach(holder, step);
+    if low >= lid(part) {
+        return true;
+    }
+    passes_each(&Sweep::of_holder(holder, step), part, cells, area, low)
+}
+
+/// Whether the sweep passes each triangle of the part, where it passes those whose box doesn't meet
+/// the area or that don't come over the height.
+fn passes_each(sweep: &Sweep, part: &Part, cells: &Cells, area: Box2, low: i32) -> bool
+    requires cells_ok { cells.now ≡ sorted_of part.now }
+    requires outside { PassesOutside sweep.now.cutter sweep.now.move area low }
+    ensures { IsTrue result ↔ PassesPart sweep.now.cutter sweep.now.move part.now }
+{
+    let tris = part.tris();
     for tri in cells.near_over(area, low) {
-        if !passes(&sweep, &tris[tri as usize]) {
+        if !passes(sweep, &tris[tri as usize]) {
             return false;
         }
     }

@@ -4,7 +4,7 @@ use Rattle.std.proofs.Common.{sym, subst, ap, ◌∙◌}
 use Rattle.std.proofs.lemmas.List.{append-nil, append_assoc}
 use Rattle.mill_base.specs.Lattices.{lattice_xs, lattice_ys}
 use Rattle.mill_base.specs.declared.points.Tri.{Tri}
-use Rattle.mill_base.specs.declared.cutter.Cutter.{Cutter}
+use Rattle.mill_base.specs.declared.tool.Tool.{Tool}
 use Rattle.mill_base.specs.declared.lattice.Lattice.{Lattice}
 use Rattle.mill_base.specs.Numbers.{Within}
 use Rattle.mill_base.specs.declared.limits.TheConstants.{MAX_COORDINATE}
@@ -14,7 +14,7 @@ use Rattle.mill_push.specs.Fibers.{IsBlocked}
 use Rattle.mill_level.specs.inner.Fibers.{AreAdded, ArePositions, Places, Tells}
 use Rattle.mill_level.proofs.Tables.{IsTable, no_rows, one_row}
 
-module _ (cutter : Cutter) (part : List Tri) (z : ℤ) (lattice : Lattice) where
+module _ (tool : Tool) (part : List Tri) (z : ℤ) (lattice : Lattice) where
   abbrev pub row_fiber : ℕ → Fiber
   row_fiber j = record { axis = X; at = slice_index_or (lattice_ys lattice) j (pos 0); z = z }
 
@@ -22,13 +22,13 @@ module _ (cutter : Cutter) (part : List Tri) (z : ℤ) (lattice : Lattice) where
   column_fiber i = record { axis = Y; at = slice_index_or (lattice_xs lattice) i (pos 0); z = z }
 
   abbrev pub TellRow : ℕ → ℕ → Bool → Type 0
-  TellRow j = Tells (IsBlocked cutter part (row_fiber j)) (lattice_xs lattice)
+  TellRow j = Tells (IsBlocked tool part (row_fiber j)) (lattice_xs lattice)
 
   abbrev pub PlaceRow : ℕ → ℕ → ℤ → Type 0
-  PlaceRow j = Places (IsBlocked cutter part (row_fiber j)) (lattice_xs lattice)
+  PlaceRow j = Places (IsBlocked tool part (row_fiber j)) (lattice_xs lattice)
 
   abbrev pub PlaceColumn : ℕ → ℕ → ℤ → Type 0
-  PlaceColumn i = Places (IsBlocked cutter part (column_fiber i)) (lattice_ys lattice)
+  PlaceColumn i = Places (IsBlocked tool part (column_fiber i)) (lattice_ys lattice)
 
   -- so many rows are done
   pub record RowsDone (count : ℕ) (blocked : List Bool) (places : List ℤ) : Type 0 where

@@ -72,13 +72,13 @@ module _ (grid : Grid) (apart : JoinsAreApart) (P : Crossing → Type 0) (one_pl
 
 -- two waterlines of a part at a height are equal
 pub one_waterline : JoinsAreApart → OneWaterline
-one_waterline apart cutter part z lattice outlines others h g =
-    let same : g.grid ≡ h.grid = same_grid cutter part z lattice g.grid h.grid g.tells h.tells in
-    let P = HasLastFree cutter part z lattice h.grid in
-    let one_place : (c d : Crossing) → P c → P d → c.edge ≡ d.edge → c ≡ d = same_crossing cutter part z lattice h.grid in
+one_waterline apart tool part z lattice outlines others h g =
+    let same : g.grid ≡ h.grid = same_grid tool part z lattice g.grid h.grid g.tells h.tells in
+    let P = HasLastFree tool part z lattice h.grid in
+    let one_place : (c d : Crossing) → P c → P d → c.edge ≡ d.edge → c ≡ d = same_crossing tool part z lattice h.grid in
     let ours : ArePlaced h.grid apart P one_place h.chains = record { are = h.are_chains; places = h.places } in
     let theirs : ArePlaced h.grid apart P one_place g.chains = record {
       are = subst (λ (x : Grid). AreChains x g.chains) same g.are_chains;
-      places = λ chain c k m. subst (λ (x : Grid). HasLastFree cutter part z lattice x c) same (g.places chain c k m);
+      places = λ chain c k m. subst (λ (x : Grid). HasLastFree tool part z lattice x c) same (g.places chain c k m);
     } in
     h.points ∙ ap (map (outline z)) (same_chains h.grid apart P one_place h.chains g.chains ours theirs) ∙ sym g.points

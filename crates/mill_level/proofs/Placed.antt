@@ -5,7 +5,7 @@ use Rattle.std.specs.Prelude.{All}
 use Rattle.mill_base.specs.Numbers.{Within}
 use Rattle.mill_base.specs.declared.limits.TheConstants.{MAX_COORDINATE}
 use Rattle.mill_base.specs.declared.points.Tri.{Tri}
-use Rattle.mill_base.specs.declared.cutter.Cutter.{Cutter}
+use Rattle.mill_base.specs.declared.tool.Tool.{Tool}
 use Rattle.mill_base.specs.declared.lattice.Lattice.{Lattice}
 use Rattle.mill_push.proofs.Stored.{stored}
 use Rattle.mill_level.specs.declared.edge.Edge.{Edge}
@@ -66,18 +66,18 @@ same_outlines level z [] = refl
 same_outlines level z (trail ∷ trails) = ap (λ os. outline z (chain_of level trail) ∷ os) (same_outlines level z trails)
 
 -- what was found of a lattice at a height, which the machine stores, makes its waterline
-pub waterline_of : (cutter : Cutter) (part : List Tri) (z : ℤ) (lattice : Lattice) (level : LevelMap) (trails : List Trail) (outlines : List Outline)
-    → Within MAX_COORDINATE z → IsMapOf cutter part (to_z w32 (of_z w32 z)) lattice level → All (IsTrail level) trails
+pub waterline_of : (tool : Tool) (part : List Tri) (z : ℤ) (lattice : Lattice) (level : LevelMap) (trails : List Trail) (outlines : List Outline)
+    → Within MAX_COORDINATE z → IsMapOf tool part (to_z w32 (of_z w32 z)) lattice level → All (IsTrail level) trails
     → AreChains (grid_of level) (chains_of level trails) → outlines ≡ map (λ trail. outline (to_z w32 (of_z w32 z)) (chain_of level trail)) trails
-    → IsWaterline cutter part z lattice outlines
-waterline_of cutter part z lattice level trails outlines z_ok found each chains are =
+    → IsWaterline tool part z lattice outlines
+waterline_of tool part z lattice level trails outlines z_ok found each chains are =
     let same = stored z z_ok in
-    let h : IsMapOf cutter part z lattice level = subst (λ (w : ℤ). IsMapOf cutter part w lattice level) same found in
+    let h : IsMapOf tool part z lattice level = subst (λ (w : ℤ). IsMapOf tool part w lattice level) same found in
     record {
       grid = grid_of level;
       tells = h.tells;
       chains = chains_of level trails;
       are_chains = chains;
-      places = placed level (HasLastFree cutter part z lattice (grid_of level)) h.places trails each chains;
+      places = placed level (HasLastFree tool part z lattice (grid_of level)) h.places trails each chains;
       points = are ∙ ap (λ (w : ℤ). map (λ trail. outline w (chain_of level trail)) trails) same ∙ same_outlines level z trails;
     }

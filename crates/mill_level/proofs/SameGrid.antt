@@ -4,10 +4,10 @@ use Rattle.std.proofs.Math.Nat.{div-lt_iff_lt-mul}
 use Rattle.std.proofs.lemmas.List.{ext_get_or}
 use Rattle.std.proofs.lemmas.Nat.{div-add-mod'}
 use Rattle.mill_base.specs.Points.{point_at}
-use Rattle.mill_base.specs.Contact.{Gouges}
+use Rattle.mill_base.specs.Tools.{ToolGouges}
 use Rattle.mill_base.specs.declared.points.Pt3.{Pt3}
 use Rattle.mill_base.specs.declared.points.Tri.{Tri}
-use Rattle.mill_base.specs.declared.cutter.Cutter.{Cutter}
+use Rattle.mill_base.specs.declared.tool.Tool.{Tool}
 use Rattle.mill_base.specs.declared.lattice.Lattice.{Lattice}
 use Rattle.mill_level.specs.declared.edge.Edge.{Edge}
 use Rattle.mill_level.specs.Grids.{Grid, is_blocked}
@@ -26,8 +26,8 @@ grids_made : (columns rows others more : ℕ) (bs cs : List Bool) → columns �
     → ◌≡◌ {A = Grid} (record { columns = columns; rows = rows; blocked = bs }) (record { columns = others; rows = more; blocked = cs })
 grids_made columns rows others more bs cs p q r = cc
 
-module _ (cutter : Cutter) (part : List Tri) (z : ℤ) (lattice : Lattice) where
-  module _ (g h : Grid) (t : TellsBlocked cutter part z lattice g) (u : TellsBlocked cutter part z lattice h) where
+module _ (tool : Tool) (part : List Tri) (z : ℤ) (lattice : Lattice) where
+  module _ (g h : Grid) (t : TellsBlocked tool part z lattice g) (u : TellsBlocked tool part z lattice h) where
     same_columns : g.columns ≡ h.columns
     same_columns = t.columns ∙ sym u.columns
 
@@ -38,7 +38,7 @@ module _ (cutter : Cutter) (part : List Tri) (z : ℤ) (lattice : Lattice) where
     same_node i j left low =
         let e = same_columns in
         let f = same_rows in
-        same_answer (Gouges cutter (pos 1) (node_tip lattice z i j) part) (is_blocked g i j) (is_blocked h i j) (t.tells i j left low) (u.tells i j (omega arith) (omega arith))
+        same_answer (ToolGouges tool (pos 1) (node_tip lattice z i j) part) (is_blocked g i j) (is_blocked h i j) (t.tells i j left low) (u.tells i j (omega arith) (omega arith))
 
     -- the node with number k stands in this column of this row
     same_place : (k : ℕ) → k < length g.blocked → get_or g.blocked k false ≡ get_or h.blocked k false
@@ -58,14 +58,14 @@ module _ (cutter : Cutter) (part : List Tri) (z : ℤ) (lattice : Lattice) where
         grids_made g.columns g.rows h.columns h.rows g.blocked h.blocked same_columns same_rows (ext_get_or false g.blocked h.blocked sizes same_place)
 
   module _ (grid : Grid) where
-    not_sooner : (c d : Crossing) (h : HasLastFree cutter part z lattice grid c) (g : HasLastFree cutter part z lattice grid d) → c.edge ≡ d.edge → ¬ (h.k < g.k)
-    not_sooner c d h g e less = g.free (h.k + 1) (omega (less, arith)) (subst (λ (f : Edge). Gouges cutter (pos 1) (on_the_way lattice z grid f (h.k + 1)) part) e h.blocked)
+    not_sooner : (c d : Crossing) (h : HasLastFree tool part z lattice grid c) (g : HasLastFree tool part z lattice grid d) → c.edge ≡ d.edge → ¬ (h.k < g.k)
+    not_sooner c d h g e less = g.free (h.k + 1) (omega (less, arith)) (subst (λ (f : Edge). ToolGouges tool (pos 1) (on_the_way lattice z grid f (h.k + 1)) part) e h.blocked)
 
     same_number : (a b : ℕ) → ¬ (a < b) → ¬ (b < a) → a ≡ b
     same_number a b h k = omega (h, k, arith)
 
     -- two crossings of one edge, each at its last free position, are equal
-    pub same_crossing : (c d : Crossing) → HasLastFree cutter part z lattice grid c → HasLastFree cutter part z lattice grid d → c.edge ≡ d.edge → c ≡ d
+    pub same_crossing : (c d : Crossing) → HasLastFree tool part z lattice grid c → HasLastFree tool part z lattice grid d → c.edge ≡ d.edge → c ≡ d
     same_crossing c d h g e =
         let k : h.k ≡ g.k = same_number h.k g.k (not_sooner c d h g e) (not_sooner d c g h (sym e)) in
         let p : point_at c.x c.y z ≡ point_at d.x d.y z =

@@ -2,11 +2,11 @@
 use Rattle.std.specs.Prelude.{◌≡◌, ℕ, ◌+◌, ◌≤◌, nat_abs, ℤ, pos, ◌+ℤ◌, ◌-ℤ◌, ◌≤ℤ◌, List}
 use Rattle.std.proofs.Common.{arith, sym, subst, ap, ◌∙◌}
 use Rattle.std.proofs.lemmas.Int.{ints}
-use Rattle.mill_base.specs.Contact.{Gouges}
+use Rattle.mill_base.specs.Tools.{ToolGouges}
 use Rattle.mill_base.specs.Points.{point_at}
 use Rattle.mill_base.specs.declared.points.Pt3.{Pt3}
 use Rattle.mill_base.specs.declared.points.Tri.{Tri}
-use Rattle.mill_base.specs.declared.cutter.Cutter.{Cutter}
+use Rattle.mill_base.specs.declared.tool.Tool.{Tool}
 use Rattle.mill_base.specs.declared.lattice.Lattice.{Lattice}
 use Rattle.mill_level.specs.Crossings.{Crossing, HasLastFree, on_the_way}
 use Rattle.mill_level.specs.Grids.{Grid}
@@ -61,12 +61,12 @@ module _ (Blocked : ℤ → Type 0) (low high place : ℤ) where
       next a b h = omega (h, arith, ints)
 
 -- a crossing that is such a place
-pub last_free : (cutter : Cutter) (part : List Tri) (z : ℤ) (lattice : Lattice) (grid : Grid) (c : Crossing) (tip : ℤ → Pt3) (way : ℕ → ℤ) (place : ℤ)
-    → IsOnWay (λ v. Gouges cutter (pos 1) (tip v) part) way place → ((n : ℕ) → on_the_way lattice z grid c.edge n ≡ tip (way n)) → point_at c.x c.y z ≡ tip place
-    → HasLastFree cutter part z lattice grid c
-last_free cutter part z lattice grid c tip way place h goes is = record {
+pub last_free : (tool : Tool) (part : List Tri) (z : ℤ) (lattice : Lattice) (grid : Grid) (c : Crossing) (tip : ℤ → Pt3) (way : ℕ → ℤ) (place : ℤ)
+    → IsOnWay (λ v. ToolGouges tool (pos 1) (tip v) part) way place → ((n : ℕ) → on_the_way lattice z grid c.edge n ≡ tip (way n)) → point_at c.x c.y z ≡ tip place
+    → HasLastFree tool part z lattice grid c
+last_free tool part z lattice grid c tip way place h goes is = record {
   k = h.k;
   place = is ∙ ap tip (sym h.here) ∙ sym (goes h.k);
-  free = λ n upto. subst (λ p. ¬ Gouges cutter (pos 1) p part) (sym (goes n)) (h.free n upto);
-  blocked = subst (λ p. Gouges cutter (pos 1) p part) (sym (goes (h.k + 1))) h.blocked;
+  free = λ n upto. subst (λ p. ¬ ToolGouges tool (pos 1) p part) (sym (goes n)) (h.free n upto);
+  blocked = subst (λ p. ToolGouges tool (pos 1) p part) (sym (goes (h.k + 1))) h.blocked;
 }

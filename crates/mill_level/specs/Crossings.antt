@@ -1,11 +1,11 @@
 -- Where a crossing is.
 use Rattle.std.specs.Prelude.{◌≡◌, ℕ, ◌+◌, ◌*◌, ◌≤◌, ◌<◌, if◌then◌else◌, ℤ, pos, ◌+ℤ◌, ◌-ℤ◌, List, length, slice_index_or, MatchBool}
 use Rattle.mill_base.specs.Points.{point_at}
-use Rattle.mill_base.specs.Contact.{Gouges}
+use Rattle.mill_base.specs.Tools.{ToolGouges}
 use Rattle.mill_base.specs.Lattices.{lattice_xs, lattice_ys}
 use Rattle.mill_base.specs.declared.points.Pt3.{Pt3}
 use Rattle.mill_base.specs.declared.points.Tri.{Tri}
-use Rattle.mill_base.specs.declared.cutter.Cutter.{Cutter}
+use Rattle.mill_base.specs.declared.tool.Tool.{Tool}
 use Rattle.mill_base.specs.declared.lattice.Lattice.{Lattice}
 use Rattle.mill_geom.specs.declared.touch.Axis.{Axis}
 use Rattle.mill_geom.specs.declared.touch.Axis.TheVariants.{X, Y}
@@ -16,13 +16,13 @@ use Rattle.mill_level.specs.Grids.{Grid, is_blocked, is_lower_blocked, upper_col
 abbrev pub node_tip : Lattice → ℤ → ℕ → ℕ → Pt3
 node_tip lattice z i j = point_at (slice_index_or (lattice_xs lattice) i (pos 0)) (slice_index_or (lattice_ys lattice) j (pos 0)) z
 
--- the grid says of each node of the lattice whether the cutter with its tip there, at height z, gouges the part
-pub record TellsBlocked (cutter : Cutter) (part : List Tri) (z : ℤ) (lattice : Lattice) (grid : Grid) : Type 0 where
+-- the grid says of each node of the lattice whether the tool with its tip there, at height z, gouges the part
+pub record TellsBlocked (tool : Tool) (part : List Tri) (z : ℤ) (lattice : Lattice) (grid : Grid) : Type 0 where
   pub columns : grid.columns ≡ length (lattice_xs lattice)
   pub rows : grid.rows ≡ length (lattice_ys lattice)
   pub size : length grid.blocked ≡ grid.columns * grid.rows
   pub tells : (i j : ℕ) → i < grid.columns → j < grid.rows
-      → MatchBool (is_blocked grid i j) (Gouges cutter (pos 1) (node_tip lattice z i j) part) (¬ Gouges cutter (pos 1) (node_tip lattice z i j) part)
+      → MatchBool (is_blocked grid i j) (ToolGouges tool (pos 1) (node_tip lattice z i j) part) (¬ ToolGouges tool (pos 1) (node_tip lattice z i j) part)
 
 -- the place moved by so much along an axis
 abbrev pub moved_along : Axis → ℤ → Pt3 → Pt3
@@ -42,8 +42,8 @@ pub record Crossing : Type 0 where
   pub y : ℤ
 
 -- the place is the last free position on the way from the edge's free node, before the first blocked one
-pub record HasLastFree (cutter : Cutter) (part : List Tri) (z : ℤ) (lattice : Lattice) (grid : Grid) (c : Crossing) : Type 0 where
+pub record HasLastFree (tool : Tool) (part : List Tri) (z : ℤ) (lattice : Lattice) (grid : Grid) (c : Crossing) : Type 0 where
   pub k : ℕ
   pub place : point_at c.x c.y z ≡ on_the_way lattice z grid c.edge k
-  pub free : (n : ℕ) → n ≤ k → ¬ Gouges cutter (pos 1) (on_the_way lattice z grid c.edge n) part
-  pub blocked : Gouges cutter (pos 1) (on_the_way lattice z grid c.edge (k + 1)) part
+  pub free : (n : ℕ) → n ≤ k → ¬ ToolGouges tool (pos 1) (on_the_way lattice z grid c.edge n) part
+  pub blocked : ToolGouges tool (pos 1) (on_the_way lattice z grid c.edge (k + 1)) part

@@ -5,7 +5,7 @@ use Rattle.mill_base.specs.Lattices.{node_count}
 use Rattle.mill_base.specs.declared.limits.TheConstants.{MAX_NODES}
 use Rattle.mill_base.specs.declared.points.Pt3.{Pt3}
 use Rattle.mill_base.specs.declared.points.Tri.{Tri}
-use Rattle.mill_base.specs.declared.cutter.Cutter.{Cutter}
+use Rattle.mill_base.specs.declared.tool.Tool.{Tool}
 use Rattle.mill_base.specs.declared.lattice.Lattice.{Lattice}
 use Rattle.mill_level.specs.declared.chain.Chain.{Chain as Answer}
 use Rattle.mill_level.specs.Grids.{Grid}
@@ -27,18 +27,18 @@ seen chain = record { closed = chain.closed; points = chain.points.items }
 
 -- the waterline of a part at height z: which nodes of the lattice are blocked, the chains of the crossings between free and blocked ones, each
 -- crossing at its last free position, and the points of these
-pub record IsWaterline (cutter : Cutter) (part : List Tri) (z : ℤ) (lattice : Lattice) (outlines : List Outline) : Type 0 where
+pub record IsWaterline (tool : Tool) (part : List Tri) (z : ℤ) (lattice : Lattice) (outlines : List Outline) : Type 0 where
   pub grid : Grid
-  pub tells : TellsBlocked cutter part z lattice grid
+  pub tells : TellsBlocked tool part z lattice grid
   pub chains : List Chain
   pub are_chains : AreChains grid chains
-  pub places : (chain : Chain) (c : Crossing) → Contains chains chain → Contains (crossings_of chain) c → HasLastFree cutter part z lattice grid c
+  pub places : (chain : Chain) (c : Crossing) → Contains chains chain → Contains (crossings_of chain) c → HasLastFree tool part z lattice grid c
   pub points : outlines ≡ map (outline z) chains
 
 -- a part has at most one waterline at a height
 abbrev pub OneWaterline : Type 0
-OneWaterline = (cutter : Cutter) (part : List Tri) (z : ℤ) (lattice : Lattice) (outlines others : List Outline)
-    → IsWaterline cutter part z lattice outlines → IsWaterline cutter part z lattice others → outlines ≡ others
+OneWaterline = (tool : Tool) (part : List Tri) (z : ℤ) (lattice : Lattice) (outlines others : List Outline)
+    → IsWaterline tool part z lattice outlines → IsWaterline tool part z lattice others → outlines ≡ others
 
 -- the lattice has this many nodes, which are more than a lattice may have
 pub record HasManyNodes (lattice : Lattice) (nodes : ℕ) : Type 0 where

@@ -62,7 +62,7 @@ pub fn add_column(
     add_places(&runs, ys, places)
 }
 
-/// The runs of a fiber, from the first of the positions to the last, at which the cutter gouges the
+/// The runs of a fiber, from the first of the positions to the last, at which the tool gouges the
 /// part. The touches aren't counted.
 fn fiber_runs(
     alloc: Global,
@@ -100,11 +100,11 @@ fn counted_runs<L: Ledger>(
     requires name { blank.name ≡ L.name }
     requires parts { blank.parts ≡ L.parts }
     requires some { 0 < blank.parts }
-    ensures runs { IfOk result (λ runs. AreRuns cut.now.cutter cut.now.part.now fiber from to runs.items) }
+    ensures runs { IfOk result (λ runs. AreRuns cut.now.tool cut.now.part.now fiber from to runs.items) }
 {
     let mut steps = Steps::<L>::new(blank);
     push(
-        alloc, cut.part, cut.cells, cut.cutter, fiber, from, to, &mut steps,
+        alloc, cut.part, cut.cells, &cut.tool, fiber, from, to, &mut steps,
     )
 }
 

@@ -1,4 +1,4 @@
-//! Waterlines: the places round a part, chain by chain, up to which a cutter can come at one height.
+//! Waterlines: the places round a part, chain by chain, up to which a tool can come at one height.
 //! Each place is free; the way from one to the next isn't looked at.
 //!
 //! It stands on the push-cutter (mill_push). `waterline` promises the chains of a lattice's crossings,

@@ -15,7 +15,7 @@ use std::alloc::Global;
 pub fn level_map(alloc: Global, cut: &Cut<'_>, lattice: &Lattice) -> Result<LevelMap, WantOfMemory>
     requires cut_ok { IsCut cut.now }
     requires lattice_ok { IsMapLattice lattice.now }
-    ensures { IfOk result (IsMapOf cut.now.cutter cut.now.part.now cut.now.z lattice.now) }
+    ensures { IfOk result (IsMapOf cut.now.tool cut.now.part.now cut.now.z lattice.now) }
 {
     let xs = xs_of(alloc, lattice)?;
     let ys = ys_of(alloc, lattice)?;

@@ -2,7 +2,7 @@ ghost use Rattle.std.specs.Prelude.{◌≡◌, ◌↔◌, ◌≤◌, ℕ, IfOk, 
 ghost use Rattle.mill_base.specs.Numbers.{Within};
 ghost use Rattle.mill_base.specs.declared.limits.TheConstants.{MAX_COORDINATE, MAX_NODES};
 ghost use Rattle.mill_base.specs.Lattices.{node_count, IsLattice};
-ghost use Rattle.mill_base.specs.Sizes.{IsCutter};
+ghost use Rattle.mill_base.specs.Tools.{IsTool};
 ghost use Rattle.mill_cells.specs.Sorted.{sorted_of};
 ghost use Rattle.mill_level.specs.declared.fault.LevelFault.TheVariants.{TooManyNodes};
 ghost use Rattle.mill_level.specs.Waterlines.{HasManyNodes, IsWaterline, seen};
@@ -13,13 +13,13 @@ use crate::fault::LevelFault;
 use crate::map::level_map;
 use crate::outline::chains_at;
 use crate::trails::trails;
-use mill_base::{Cutter, Lattice, MAX_NODES};
+use mill_base::{Lattice, MAX_NODES, Tool};
 use mill_cells::Cells;
 use mill_part::Part;
 use std::alloc::Global;
 
 /// The waterline of a part at height z: the chains of the places between nodes of the lattice at
-/// which the cutter gouges and neighbours at which it doesn't, each at the last free place before
+/// which the tool gouges and neighbours at which it doesn't, each at the last free place before
 /// the blocked ones, which are on the left of the way. They come in the order of their first points.
 ///
 /// `cells` are those of the part's triangles. Lengths are in units, of at most
@@ -33,15 +33,15 @@ pub fn waterline(
     alloc: Global,
     part: &Part,
     cells: &Cells,
-    cutter: Cutter,
+    tool: &Tool,
     z: i32,
     lattice: &Lattice,
 ) -> Result<Vec<Chain>, LevelFault>
     requires cells_ok { cells.now ≡ sorted_of part.now }
-    requires cutter_ok { IsCutter cutter }
+    requires tool_ok { IsTool tool.now }
     requires z_ok { Within MAX_COORDINATE z }
     requires lattice_ok { IsLattice lattice.now }
-    ensures chains { IfOk result (λ chains. IsWaterline cutter part.now z lattice.now (map_list seen chains.items)) }
+    ensures chains { IfOk result (λ chains. IsWaterline tool.now part.now z lattice.now (map_list seen chains.items)) }
     ensures few { IfOk result (λ _. node_count lattice.now ≤ MAX_NODES) }
     ensures nodes { (nodes : ℕ) → IsErrOf result (TooManyNodes nodes) ↔ HasManyNodes lattice.now nodes }
 {
@@ -52,7 +52,7 @@ pub fn waterline(
     let cut = Cut {
         part,
         cells,
-        cutter,
+        tool: *tool,
         z,
     };
     let map = level_map(alloc, &cut, lattice)?;

@@ -1,6 +1,7 @@
 mod Feeds
 mod LineLemmas
 mod SaidLemmas
+mod PlainLemmas
 mod PercentLemmas
 mod ProgramLemmas
 mod PieceLemmas

@@ -15,6 +15,7 @@ mod line_reader;
 mod lines;
 mod motion;
 mod numbers;
+mod plain_move;
 mod profile;
 mod progress;
 mod reader;

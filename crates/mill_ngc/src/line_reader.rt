@@ -99,8 +99,28 @@ impl LineReader {
 
 impl Progress {
     // Does what the words of the line say.
-    #[tactic(auto, unfolding(crate::specs::Programs::after_words))]
     fn act_words(&mut self, words: &LineWords, said: &mut Said) -> Result<Option<Move>, NgcFault>
+        requires here { IsInUnitRange self.old.unit self.old.here }
+        ensures ok { IfOk result (λ made. after_words self.old words.now ≡ Ok (self.new, made)) }
+        ensures fault { IfErr result (λ f. after_words self.old words.now ≡ Err f) }
+        ensures keeps { IfOk result (λ made. Keeps self.old made self.new) }
+    {
+        if let Some(plain) = self.plain_move(words) {
+            self.mode = Mode::On(plain.kind);
+            self.ended = false;
+            return self.move_to(plain.kind, plain.to);
+        }
+        self.act_any_words(words, said)
+    }
+
+    // The same of any line. It is kept apart, since most lines are only a move.
+    #[inline(never)]
+    #[tactic(auto, unfolding(crate::specs::Programs::after_words))]
+    fn act_any_words(
+        &mut self,
+        words: &LineWords,
+        said: &mut Said,
+    ) -> Result<Option<Move>, NgcFault>
         requires here { IsInUnitRange self.old.unit self.old.here }
         ensures ok { IfOk result (λ made. after_words self.old words.now ≡ Ok (self.new, made)) }
         ensures fault { IfErr result (λ f. after_words self.old words.now ≡ Err f) }

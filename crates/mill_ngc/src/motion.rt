@@ -84,7 +84,8 @@ impl Progress {
         Ok(Pt3 { x, y, z })
     }
 
-    fn move_to(&mut self, kind: Kind, to: Pt3) -> Result<Option<Move>, NgcFault>
+    /// A move to this point, unless there are 1,000,000 already.
+    pub fn move_to(&mut self, kind: Kind, to: Pt3) -> Result<Option<Move>, NgcFault>
         requires here { IsInUnitRange self.old.unit self.old.here }
         requires to { IsInUnitRange self.old.unit to }
         ensures ok { IfOk result (λ made. made_move self.old kind to ≡ Ok (self.new, made)) }

@@ -77,7 +77,8 @@ fn power(scale: u8) -> u64
     10u64.pow(u32::from(scale))
 }
 
-fn signed(neg: bool, units: u32) -> i32
+/// The number of this magnitude, less than 0 or not.
+pub(crate) fn signed(neg: bool, units: u32) -> i32
     requires { units < 2 ^ 31 }
     ensures value { result ≡ signed_by neg units }
     ensures within { Within units result }

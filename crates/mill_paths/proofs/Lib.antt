@@ -13,7 +13,6 @@ pub mod ZigzagLemmas
 pub mod LevelLemmas
 pub mod VisitLemmas
 pub mod OutlineLemmas
-mod SampleLevels
 pub mod FaultLemmas
 pub mod Steps
 pub mod Uniqueness

@@ -52,7 +52,7 @@ no_level levels slice empty same test holds = sym same ∙ nil_from_length slice
 
 -- without levels there are none
 pub no_waterlines : (job : Job) (part : List Tri) → job.levels ≡ [] → AreWaterlines job part []
-no_waterlines job part none = subst (λ (zs : List ℤ). AllZip (λ z outlines. IsWaterline job.cutter part z (finish_lattice job) outlines) zs []) (sym none) tt
+no_waterlines job part none = subst (λ (zs : List ℤ). AllZip (λ z outlines. IsWaterline (bare job.cutter) part z (finish_lattice job) outlines) zs []) (sym none) tt
 
 pub none_level : (job : Job) (part : List Tri) → job.levels ≡ [] → ¬ HaveManyLevelVisits job part
 none_level job part none = few_level job part [] [] (no_waterlines job part none) refl (omega arith)

@@ -9,6 +9,7 @@ use Rattle.mill_base.specs.Contact.{Gouges}
 use Rattle.mill_base.specs.Lattices.{lattice_xs, lattice_ys}
 use Rattle.mill_base.specs.Numbers.{Within}
 use Rattle.mill_base.specs.Points.{point_at}
+use Rattle.mill_base.specs.Tools.{ToolGouges, bare}
 use Rattle.mill_base.specs.Units.{greatest_of}
 use Rattle.mill_base.specs.declared.cutter.Cutter.{Cutter}
 use Rattle.mill_base.specs.declared.lattice.Lattice.{Lattice}
@@ -93,9 +94,9 @@ record IsNear (unit : Unit) (p : Pt3) : Type 0 where
   pub x_ok : Within (greatest_of unit) p.x
   pub y_ok : Within (greatest_of unit) p.y
 
-module _ (cutter : Cutter) (part : List Tri) (z : ℤ) (unit : Unit) (lattice : Lattice) (ok : IsJobLattice unit lattice) (grid : Grid) (tells : TellsBlocked cutter part z lattice grid) where
+module _ (cutter : Cutter) (part : List Tri) (z : ℤ) (unit : Unit) (lattice : Lattice) (ok : IsJobLattice unit lattice) (grid : Grid) (tells : TellsBlocked (bare cutter) part z lattice grid) where
   abbrev Gouged : Pt3 → Type 0
-  Gouged p = Gouges cutter (pos 1) p part
+  Gouged p = ToolGouges (bare cutter) (pos 1) p part
 
   abbrev node_x : ℕ → ℤ
   node_x i = get_or (lattice_xs lattice) i (pos 0)
@@ -139,7 +140,7 @@ module _ (cutter : Cutter) (part : List Tri) (z : ℤ) (unit : Unit) (lattice : 
       subst (λ p. IsNear unit p) (sym found.is) (record { x_ok = x_within i column; y_ok = found.at_ok })
 
   -- so is the place of a crossing
-  crossing_within : (c : Crossing) → is_crossing grid c.edge ≡ true → HasLastFree cutter part z lattice grid c → IsNear unit (point_at c.x c.y z)
+  crossing_within : (c : Crossing) → is_crossing grid c.edge ≡ true → HasLastFree (bare cutter) part z lattice grid c → IsNear unit (point_at c.x c.y z)
   crossing_within c crosses last =
       let parts = and_parts _ _ crosses in
       let ends = and_parts _ _ parts.0 in
@@ -147,10 +148,10 @@ module _ (cutter : Cutter) (part : List Tri) (z : ℤ) (unit : Unit) (lattice : 
       (on_edge c.edge.axis c.edge.column c.edge.row last.k (ltb-true (upper_column c.edge) grid.columns ends.0) (ltb-true (upper_row c.edge) grid.rows ends.1) parts.1 last.free)
 
   -- and the cutter doesn't gouge there, nor higher
-  crossing_free : (c : Crossing) → HasLastFree cutter part z lattice grid c → (higher : ℤ) → z ≤ℤ higher → ¬ Gouged (point_at c.x c.y higher)
+  crossing_free : (c : Crossing) → HasLastFree (bare cutter) part z lattice grid c → (higher : ℤ) → z ≤ℤ higher → ¬ Gouges cutter (pos 1) (point_at c.x c.y higher) part
   crossing_free c last higher over gouges =
       subst (λ p. ¬ Gouged p) (sym last.place) (last.free last.k (itself last.k))
-      (record { tri = gouges.tri; member = gouges.member; touches = lowered cutter gouges.tri c.x c.y higher z over gouges.touches })
+      (inl (record { tri = gouges.tri; member = gouges.member; touches = lowered cutter gouges.tri c.x c.y higher z over gouges.touches }))
     where
       itself : (n : ℕ) → n ≤ n
       itself n = omega arith
@@ -188,7 +189,7 @@ module _ (job : Job) (part : List Tri) (ok : IsJob job) (z : ℤ) (low : job.flo
       by most a b a_ok b_ok h g = let p = a_ok.within in let q = b_ok.within in record { within = omega (arith, ints) }
 
   -- a visit at a crossing of a waterline
-  crossing_ok : (outlines : List Outline) (line : IsWaterline job.cutter part z (finish_lattice job) outlines) (chain : Chain) (c : Crossing) → Contains line.chains chain
+  crossing_ok : (outlines : List Outline) (line : IsWaterline (bare job.cutter) part z (finish_lattice job) outlines) (chain : Chain) (c : Crossing) → Contains line.chains chain
       → Contains (crossings_of chain) c → IsVisit job part (visit_of (point_at c.x c.y z))
   crossing_ok outlines line chain c there on =
       let last = line.places chain c there on in
@@ -211,7 +212,7 @@ module _ (job : Job) (part : List Tri) (ok : IsJob job) (z : ℤ) (low : job.flo
       again true = All-take (λ p. IsVisit job part (visit_of p)) 1 o.points each
       again false = All-nil (λ p. IsVisit job part (visit_of p))
 
-  pub waterline_ok : (outlines : List Outline) → IsWaterline job.cutter part z (finish_lattice job) outlines → All (IsVisit job part) (flat_map (outline_visits job.raster) outlines)
+  pub waterline_ok : (outlines : List Outline) → IsWaterline (bare job.cutter) part z (finish_lattice job) outlines → All (IsVisit job part) (flat_map (outline_visits job.raster) outlines)
   waterline_ok outlines line =
       subst (λ (os : List Outline). All (IsVisit job part) (flat_map (outline_visits job.raster) os)) (sym line.points)
       (all_given (IsVisit job part) (outline_visits job.raster) (map (outline z) line.chains)
@@ -224,7 +225,7 @@ module _ (job : Job) (part : List Tri) (ok : IsJob job) (z : ℤ) (low : job.flo
 -- so are those along all waterlines of a job
 pub level_visits_ok : (job : Job) (part : List Tri) (waterlines : List (List Outline)) → IsJob job → AreWaterlines job part waterlines → All (IsVisit job part) (level_visits_of job waterlines)
 level_visits_ok job part waterlines ok are =
-    zip_given (IsVisit job part) (IsLevel job.floor job.top) (λ z outlines. IsWaterline job.cutter part z (finish_lattice job) outlines) (flat_map (outline_visits job.raster))
+    zip_given (IsVisit job part) (IsLevel job.floor job.top) (λ z outlines. IsWaterline (bare job.cutter) part z (finish_lattice job) outlines) (flat_map (outline_visits job.raster))
     (λ z outlines level line. waterline_ok job part ok z level.over_floor level.under_top outlines line) job.levels waterlines ok.levels_ok.within are
 
 pub level_visits_are_free : LevelVisitsAreFree

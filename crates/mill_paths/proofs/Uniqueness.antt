@@ -55,8 +55,8 @@ one_list R one (x ∷ xs) (y ∷ ys) (z ∷ zs) h g = ap (λ w. w ∷ ys) (one x
 
 pub one_waterlines : (job : Job) (part : List Tri) (a b : List (List Outline)) → AreWaterlines job part a → AreWaterlines job part b → a ≡ b
 one_waterlines job part a b h g =
-    one_list (λ z outlines. IsWaterline job.cutter part z (finish_lattice job) outlines)
-    (λ z ours theirs p q. one_waterline joins_are_apart job.cutter part z (finish_lattice job) ours theirs p q) job.levels a b h g
+    one_list (λ z outlines. IsWaterline (bare job.cutter) part z (finish_lattice job) outlines)
+    (λ z ours theirs p q. one_waterline joins_are_apart (bare job.cutter) part z (finish_lattice job) ours theirs p q) job.levels a b h g
 
 pub one_level : (job : Job) (part : List Tri) (a b : List Visit) → AreLevelVisits job part a → AreLevelVisits job part b → a ≡ b
 one_level job part a b h g =

@@ -65,9 +65,9 @@ outline_visits step outline = map (λ (p : Pt3). record { at = p; step = step })
 abbrev pub level_visits_of : Job → List (List Outline) → List Visit
 level_visits_of job waterlines = flat_map (flat_map (outline_visits job.raster)) waterlines
 
--- these are the waterlines at the job's levels, over the finishing lattice
+-- these are the waterlines of the cutter alone at the job's levels, over the finishing lattice
 abbrev pub AreWaterlines : Job → List Tri → List (List Outline) → Type 0
-AreWaterlines job part waterlines = AllZip (λ z outlines. IsWaterline job.cutter part z (finish_lattice job) outlines) job.levels waterlines
+AreWaterlines job part waterlines = AllZip (λ z outlines. IsWaterline (bare job.cutter) part z (finish_lattice job) outlines) job.levels waterlines
 
 -- these are the roughing visits; without a layer there are none, whatever the heights
 pub record AreRoughVisits (job : Job) (part : List Tri) (list : List Visit) : Type 0 where

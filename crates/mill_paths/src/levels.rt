@@ -1,6 +1,7 @@
 ghost use Rattle.std.specs.Prelude.{◌≡◌, ◌↔◌, ℕ, ◌<◌, ◌≤◌, ◌++◌, [], ◌∷◌, length, map as map_list, All, IfErr, IfOk, IsErrOf, OnOk};
 ghost use Rattle.std.specs.List.{flat_map};
 ghost use Rattle.mill_base.specs.Lattices.{node_count};
+ghost use Rattle.mill_base.specs.Tools.{bare};
 ghost use Rattle.mill_base.specs.declared.limits.TheConstants.{MAX_NODES};
 ghost use Rattle.mill_cells.specs.Sorted.{sorted_of};
 ghost use Rattle.mill_job.specs.Jobs.{IsJob};
@@ -15,7 +16,7 @@ use crate::fault::PathFault;
 use crate::lattices::finish_lattice;
 use crate::visit::Visit;
 use crate::visit_list::VisitList;
-use mill_base::{MAX_NODES, Pt3};
+use mill_base::{MAX_NODES, Pt3, Tool};
 use mill_cells::Cells;
 use mill_job::Job;
 use mill_level::{Chain, waterline};
@@ -86,7 +87,7 @@ fn waterlines_of<R: Threads + Sync>(
         .map(
             |number: usize| -> Result<Vec<Chain>, PathFault>
                 requires { IsLevelTask job.now part.now cells.now number }
-                ensures chains { IfOk result (λ chains. IsWaterline job.entry.now.cutter part.entry.now (level_at job.entry.now number) (finish_lattice_of job.entry.now) (map_list seen chains.items)) }
+                ensures chains { IfOk result (λ chains. IsWaterline (bare job.entry.now.cutter) part.entry.now (level_at job.entry.now number) (finish_lattice_of job.entry.now) (map_list seen chains.items)) }
                 ensures fault { IfErr result (λ fault. fault ≡ WantOfMemory) }
             { waterline_at(alloc, job, part, cells, number) },
         )
@@ -102,13 +103,14 @@ fn waterline_at(
     number: usize,
 ) -> Result<Vec<Chain>, PathFault>
     requires { IsLevelTask job.now part.now cells.now number }
-    ensures chains { IfOk result (λ chains. IsWaterline job.now.cutter part.now (level_at job.now number) (finish_lattice_of job.now) (map_list seen chains.items)) }
+    ensures chains { IfOk result (λ chains. IsWaterline (bare job.now.cutter) part.now (level_at job.now number) (finish_lattice_of job.now) (map_list seen chains.items)) }
     ensures fault { IfErr result (λ fault. fault ≡ WantOfMemory) }
 {
     let z = job.levels.as_slice()[number];
     let lattice = finish_lattice(job);
+    let tool = Tool::bare(job.cutter);
     // The nodes were counted before, and so only memory can be wanting.
-    waterline(alloc, part, cells, job.cutter, z, &lattice).map_err(
+    waterline(alloc, part, cells, &tool, z, &lattice).map_err(
         |_| -> PathFault
             ensures { result ≡ WantOfMemory }
         { PathFault::WantOfMemory },

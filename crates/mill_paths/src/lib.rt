@@ -12,19 +12,11 @@
 
 mod fault;
 mod lattices;
-#[cfg(test)]
-mod level_tests;
 mod levels;
 mod link_laws;
-#[cfg(test)]
-mod link_tests;
 mod links;
 mod path;
 mod plan_laws;
-#[cfg(test)]
-mod test_shape;
-#[cfg(test)]
-mod tests;
 mod visit;
 mod visit_list;
 mod visits;

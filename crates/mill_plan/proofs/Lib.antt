@@ -1,6 +1,7 @@
 mod NodeLimits
 mod Feeding
 mod Touring
+mod Homing
 mod Planning
 mod Good
 mod Ends
@@ -8,4 +9,3 @@ mod Reach
 mod Telling
 mod Answering
 mod Never
-mod SampleLevels

@@ -13,8 +13,6 @@ mod laws;
 mod moves;
 mod planned;
 mod program;
-#[cfg(test)]
-mod tests;
 
 pub use fault::PlanFault;
 pub use laws::{one_plan_answer, plan_never_fails};

@@ -1,8 +1,9 @@
-ghost use Rattle.std.specs.Prelude.{◌≡◌, ◌<◌, ◌≤◌, List, [], length, All, IfErr, IfOk, OnErr, OnOk};
+ghost use Rattle.std.specs.Prelude.{◌≡◌, ◌++◌, ◌<◌, ◌≤◌, List, [], length, All, IfErr, IfOk, OnErr, OnOk};
 ghost use Rattle.mill_base.specs.declared.limits.TheConstants.{MAX_MOVES};
+ghost use Rattle.mill_base.specs.declared.motion.Move.{Move as OneMove};
 ghost use Rattle.mill_base.specs.declared.points.Tri.{Tri};
 ghost use Rattle.mill_base.specs.Covers.{IsUnder};
-ghost use Rattle.mill_base.specs.Ranges.{IsInUnitRange};
+ghost use Rattle.mill_base.specs.Ranges.{IsInUnitRange, MovesInRange};
 ghost use Rattle.mill_cells.specs.Sorted.{sorted_of};
 ghost use Rattle.mill_dexel.specs.Rows.{IsRowOf};
 ghost use Rattle.mill_job.specs.Columns.{home as home_of};
@@ -19,7 +20,7 @@ use crate::fault::PlanFault;
 use crate::feeds::clear_links;
 use mill_base::{MAX_MOVES, MAX_NODES, Move, WantOfMemory};
 use mill_cells::Cells;
-use mill_dexel::{Row, uncut_rows};
+use mill_dexel::{Row, cut_rows, uncut_rows};
 use mill_job::Job;
 use mill_part::Part;
 use mill_paths::{
@@ -53,19 +54,24 @@ pub(crate) fn check_nodes(job: &Job) -> Result<(), PlanFault>
 
 /// The moves of the plan, of which there are at most 1,000,000.
 ///
-/// They go safely from home to home. Where the job limits the depth of cut, the rows of the stock are
-/// held while the moves are made. The error is that there are too many moves, or want of memory.
+/// They go safely from home to home. The rows are those of `rows_for_depth`; where the job limits the
+/// depth of cut, they are then those that all the moves leave. The error is that there are too many
+/// moves, or want of memory.
 pub(crate) fn planned_moves<R: Threads + Sync>(
     rt: &R,
     alloc: Global,
     job: &Job,
     part: &Part,
     cells: &Cells,
+    rows: &mut [Row],
 ) -> Result<Vec<Move>, PlanFault>
     requires job_ok { IsJob job.now }
     requires cells_ok { cells.now ≡ sorted_of part.now }
     requires under { IsUnder part.now job.now.top }
     requires nodes { HasFewNodes job.now }
+    requires stock { FollowStock job.now [] rows.old }
+    requires rows_ok { All (IsRowOf job.now) rows.old }
+    ensures stock { IfOk result (λ moves. FollowStock job.now moves.items rows.new) }
     ensures plan { IfOk result (λ moves. HasPlan job.now part.now moves.items) }
     ensures safe { IfOk
         result
@@ -74,8 +80,7 @@ pub(crate) fn planned_moves<R: Threads + Sync>(
 {
     let visits = plan_visits(rt, alloc, job, part, cells)?;
     let clear = clear_links(rt, alloc, job, part, cells, &visits)?;
-    let mut rows = rows_for_depth(alloc, job)?;
-    round_of(alloc, job, &mut rows, &visits, &clear)
+    round_of(alloc, job, rows, &visits, &clear)
 }
 
 /// The plan's visits: those of its roughing, then those of its levels, then its finishing path.
@@ -103,7 +108,7 @@ fn plan_visits<R: Threads + Sync>(
 
 /// The rows of the uncut stock, by which it is seen how deep a feed cuts; none where the job doesn't
 /// limit that.
-fn rows_for_depth(alloc: Global, job: &Job) -> Result<Vec<Row>, WantOfMemory>
+pub(crate) fn rows_for_depth(alloc: Global, job: &Job) -> Result<Vec<Row>, WantOfMemory>
     requires { IsJob job.now }
     ensures stock { IfOk result (λ rows. FollowStock job.now [] rows.items) }
     ensures rows_ok { IfOk result (λ rows. All (IsRowOf job.now) rows.items) }
@@ -117,8 +122,8 @@ fn rows_for_depth(alloc: Global, job: &Job) -> Result<Vec<Row>, WantOfMemory>
 /// The moves from home through the visits, and home again, of which there are at most 1,000,000.
 ///
 /// `clear` says of each visit whether the link to it is clear: for each part of which it says so, the
-/// links are those of the part's plan. The rows are those of `rows_for_depth`; the moves cut them. It
-/// ends at the first link with which there are too many moves.
+/// links are those of the part's plan. The rows are those of `rows_for_depth`; all the moves cut them,
+/// those of the way home too. It ends at the first link with which there are too many moves.
 fn round_of(
     alloc: Global,
     job: &Job,
@@ -133,6 +138,8 @@ fn round_of(
     requires both { length clear.now ≡ length visits.now }
     ensures round { (part : List Tri) → SayClear job.now part visits.now clear.now
         → IfOk result (λ moves. IsRound job.now part visits.now moves.items) }
+    ensures stock { (part : List Tri) → SayClear job.now part visits.now clear.now
+        → IfOk result (λ moves. FollowStock job.now moves.items rows.new) }
     ensures few { IfOk result (λ moves. length moves.items ≤ MAX_MOVES) }
     ensures fault { (part : List Tri) → SayClear job.now part visits.now clear.now
         → IfErr result (IsRoundFault job.now part visits.now) }
@@ -145,9 +152,24 @@ fn round_of(
         check_moves(&moves)?;
         place = visit.at;
     }
+    let first = moves.len();
     home(job, place, &mut moves)?;
     check_moves(&moves)?;
+    cut(job, rows, &moves[first..]);
     Ok(moves)
+}
+
+/// Lowers the rows to what the cutter leaves after these moves; there are none where the job doesn't
+/// limit the depth of cut.
+fn cut(job: &Job, rows: &mut [Row], moves: &[Move])
+    requires job_ok { IsJob job.now }
+    requires rows_ok { All (IsRowOf job.now) rows.old }
+    requires moves_ok { MovesInRange moves.now }
+    ensures { (done : List OneMove) → FollowStock job.now done rows.old → FollowStock job.now (done ++ moves.now) rows.new }
+{
+    for step in moves {
+        cut_rows(job, rows, step);
+    }
 }
 
 /// Whether there are at most 1,000,000 moves.

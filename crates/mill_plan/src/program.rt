@@ -1,22 +1,26 @@
-ghost use Rattle.std.specs.Prelude.{◌≡◌, ◌↔◌, ℕ, ◌≤◌, [], IfErr, IfOk, IsErrOf};
-ghost use Rattle.mill_base.specs.declared.limits.TheConstants.{MAX_WORKERS};
+ghost use Rattle.std.specs.Prelude.{◌≡◌, ◌↔◌, ℕ, ◌≤◌, ℤ, [], length, Ok, IfErr, IfOk, IsErrOf};
+ghost use Rattle.mill_base.specs.declared.limits.TheConstants.{MAX_MOVES, MAX_WORKERS};
 ghost use Rattle.mill_base.specs.Covers.{IsUnder};
 ghost use Rattle.mill_cells.specs.Sorted.{sorted_of};
 ghost use Rattle.mill_job.specs.Columns.{home};
 ghost use Rattle.mill_job.specs.Jobs.{IsJob};
+ghost use Rattle.mill_paths.specs.Links.{FollowStock};
 ghost use Rattle.mill_paths.specs.Safety.{GoSafely};
+ghost use Rattle.mill_verify.specs.Claims.{CutsSafely};
+ghost use Rattle.mill_verify.specs.Verdicts.{IsVerdict};
 ghost use Rattle.mill_plan.specs.Plans.{HasPlan, IsOverNodes, IsPlanAnswer, IsPlanFault, answer_of};
 ghost use Rattle.mill_plan.specs.declared.fault.PlanFault.TheVariants.{TooManyNodes};
 
 use crate::fault::PlanFault;
-use crate::moves::{check_nodes, planned_moves};
+use crate::moves::{check_nodes, planned_moves, rows_for_depth};
 use crate::planned::Planned;
-use mill_base::Move;
+use mill_base::{Move, WantOfMemory};
 use mill_cells::Cells;
+use mill_dexel::Row;
 use mill_job::Job;
 use mill_part::{Part, SortedPart};
 use mill_post::write_program;
-use mill_verify::{Reason, Verdict, verify_with_cells};
+use mill_verify::{Reason, Verdict, verdict_on_stock, verify_with_cells};
 use std::alloc::Global;
 use std::thread::Threads;
 
@@ -29,7 +33,9 @@ use std::thread::Threads;
 ///
 /// Where the job limits the depth of cut (`max_cut`), the way down to a place goes by pecks, none of
 /// them deeper, and a straight feed is made only where it cuts no column deeper than that, as the moves
-/// before it left the column. The rows of the stock, a top for each column, are held meanwhile.
+/// before it left the column. The rows of the stock, a top for each column, are held meanwhile. Then
+/// the moves aren't tested a second time: it is proved that each of them passes, and what they leave of
+/// the stock, which decides the verdict, is what the rows have come to.
 ///
 /// The verifying is handed to `workers` threads, from 1 to 64; the drop heights, the waterlines and the
 /// straight feeds to as many as the machine has; the answer doesn't depend on their number. The part
@@ -60,8 +66,9 @@ pub fn plan<R: Threads + Sync>(
 {
     check_nodes(job)?;
     let sorted = SortedPart::new(alloc, part)?;
-    let moves = planned_moves(rt, alloc, job, part, sorted.cells())?;
-    verified(rt, alloc, job, part, sorted.cells(), &moves, workers)
+    let mut rows = rows_for_depth(alloc, job)?;
+    let moves = planned_moves(rt, alloc, job, part, sorted.cells(), &mut rows)?;
+    verified(rt, alloc, job, part, sorted.cells(), &moves, &rows, workers)
 }
 
 /// The planner's answer, from the verdict on the plan's moves.
@@ -72,6 +79,7 @@ fn verified<R: Threads + Sync>(
     part: &Part,
     cells: &Cells,
     moves: &[Move],
+    rows: &[Row],
     workers: u32,
 ) -> Result<Planned, PlanFault>
     requires job_ok { IsJob job.now }
@@ -79,6 +87,7 @@ fn verified<R: Threads + Sync>(
     requires under { IsUnder part.now job.now.top }
     requires plan_ok { HasPlan job.now part.now moves.now }
     requires safe { GoSafely job.now part.now [] (home job.now) moves.now (home job.now) }
+    requires stock { FollowStock job.now moves.now rows.now }
     requires some_workers { 1 ≤ workers }
     requires few_workers { workers ≤ MAX_WORKERS }
     ensures planned { IfOk
@@ -86,7 +95,7 @@ fn verified<R: Threads + Sync>(
         (λ planned. IsPlanAnswer job.now part.now (answer_of planned)) }
     ensures fault { IfErr result (IsPlanFault job.now part.now) }
 {
-    match verify_with_cells(rt, alloc, job, part, cells, moves, workers)? {
+    match verdict_on(rt, alloc, job, part, cells, moves, rows, workers)? {
         Verdict::Accept {
             moves: count,
             columns,
@@ -106,4 +115,35 @@ fn verified<R: Threads + Sync>(
             _ => unreachable!(),
         },
     }
+}
+
+/// The verdict on the plan's moves, all of which are good: by all tests where the job doesn't limit the
+/// depth of cut, and else by the last alone, on the rows that the moves have made already.
+fn verdict_on<R: Threads + Sync>(
+    rt: &R,
+    alloc: Global,
+    job: &Job,
+    part: &Part,
+    cells: &Cells,
+    moves: &[Move],
+    rows: &[Row],
+    workers: u32,
+) -> Result<Verdict, WantOfMemory>
+    requires job_ok { IsJob job.now }
+    requires cells_ok { cells.now ≡ sorted_of part.now }
+    requires under { IsUnder part.now job.now.top }
+    requires few { length moves.now ≤ MAX_MOVES }
+    requires safe { GoSafely job.now part.now [] (home job.now) moves.now (home job.now) }
+    requires stock { FollowStock job.now moves.now rows.now }
+    requires some_workers { 1 ≤ workers }
+    requires few_workers { workers ≤ MAX_WORKERS }
+    ensures verdict { IfOk result (IsVerdict job.now part.now moves.now) }
+    ensures safe { (count columns : ℕ) (left : ℤ)
+        → result ≡ Ok (Verdict.Accept count columns left)
+        → CutsSafely job.now part.now moves.now }
+{
+    if job.max_cut == 0 {
+        return verify_with_cells(rt, alloc, job, part, cells, moves, workers);
+    }
+    Ok(verdict_on_stock(rt, job, part, cells, moves, rows, workers))
 }

@@ -26,12 +26,13 @@ use Rattle.mill_cells.proofs.PassedLemmas.{deals_on, deals_last, top_is}
 use Rattle.mill_push.specs.declared.fiber.Fiber.{Fiber}
 use Rattle.mill_push.specs.declared.fiber.Run.{Run}
 use Rattle.mill_push.specs.declared.stretch.Pusher.{Pusher}
-use Rattle.mill_push.specs.Fibers.{IsTouched, IsBlocked}
+use Rattle.mill_push.specs.Fibers.{IsTouched}
 use Rattle.mill_push.specs.Runs.{StandsIn}
 use Rattle.mill_push.specs.Touches.{IsTried, TouchesFew, position_count, strip_along}
 use Rattle.mill_push.specs.inner.Known.{IsGrown, IsKnown, IsNewStretch}
 use Rattle.mill_push.specs.inner.Pushers.{IsPusher}
 use Rattle.mill_push.specs.inner.Reaches.{IsReachForPart}
+use Rattle.mill_push.specs.inner.Solids.{IsCutterBlocked}
 use Rattle.mill_push.specs.inner.Unions.{AreSpans, AreStretches}
 use Rattle.mill_push.proofs.Meeting.{meets_wider, touched_meets, touched_over}
 use Rattle.mill_push.proofs.Reaching.{for_member}
@@ -71,7 +72,7 @@ module _ (p : Pusher) (part : List Tri) (from to : ℤ) where
     pub beside : (i : ℕ) → Contains near.numbers i → IsBeside i
     pub once : IsDistinct nat_eq near.numbers
     pub spans : AreSpans from to found
-    pub sound : (v : ℤ) → StandsIn found v → IsBlocked p.cutter part p.fiber v
+    pub sound : (v : ℤ) → StandsIn found v → IsCutterBlocked p.cutter part p.fiber v
     pub dealt : AreDealt IsBeside (IsDone found) near.numbers
     pub numbers : List ℕ
     pub each_once : IsDistinct nat_eq numbers
@@ -126,7 +127,7 @@ module _ (p : Pusher) (part : List Tri) (from to : ℤ) where
 
   -- what the next triangle leaves: its own positions stand in the runs now, and it was tried
   goes_on : {near later : Ahead} {i : ℕ} {found more : List Run} {old now then : ℕ} → IsPusher p → Comes p.fiber.z near i later → CollectedSoFar near found old now
-      → AreSpans from to more → ((v : ℤ) → StandsIn more v → IsBlocked p.cutter part p.fiber v) → ((v : ℤ) → StandsIn found v → StandsIn more v) → IsDone more i
+      → AreSpans from to more → ((v : ℤ) → StandsIn more v → IsCutterBlocked p.cutter part p.fiber v) → ((v : ℤ) → StandsIn found v → StandsIn more v) → IsDone more i
       → ((n : ℕ) → position_count from to < 2 ^ n → then ≤ now + 2 * n) → CollectedSoFar later more old then
   goes_on {near} {later} {i} {found} {more} {old} {now} {then} ok h s spans sound kept done cost = record {
     tops = h.tops ∙ s.tops;
@@ -167,7 +168,7 @@ module _ (p : Pusher) (part : List Tri) (from to : ℤ) where
   goes_on_with {i = i} {found} {more} {r} ok h s stretch grown cost =
       goes_on ok h s (grown.spans from to s.spans stretch.span) sound grown.kept done cost
     where
-      sound : (v : ℤ) → StandsIn more v → IsBlocked p.cutter part p.fiber v
+      sound : (v : ℤ) → StandsIn more v → IsCutterBlocked p.cutter part p.fiber v
       sound v c = elim (grown.only v c) [
         | inl before ↦ s.sound v before
         | inr new ↦ record {
@@ -185,13 +186,13 @@ module _ (p : Pusher) (part : List Tri) (from to : ℤ) where
           (λ to_it. grown.added v (record { first = from_it; last = to_it })))
 
   -- after the last one
-  pub collect_ends : {near later : Ahead} {found : List Run} {old now : ℕ} → IsPusher p → IsReachForPart p.cutter p.fiber.z p.reach part → NoneComes p.fiber.z near later → CollectedSoFar near found old now → AreStretches p.cutter part p.fiber from to found
+  pub collect_ends : {near later : Ahead} {found : List Run} {old now : ℕ} → IsPusher p → IsReachForPart p.cutter p.fiber.z p.reach part → NoneComes p.fiber.z near later → CollectedSoFar near found old now → AreStretches (IsCutterBlocked p.cutter part p.fiber) from to found
   collect_ends {near} {later} {found} ok reach none s = record { spans = s.spans; blocked = λ v a b. (stands v a b, s.sound v) }
     where
       d : Tri
       d = point_tri (point_at (pos 0) (pos 0) (pos 0))
 
-      stands : (v : ℤ) → from ≤ℤ v → v ≤ℤ to → IsBlocked p.cutter part p.fiber v → StandsIn found v
+      stands : (v : ℤ) → from ≤ℤ v → v ≤ℤ to → IsCutterBlocked p.cutter part p.fiber v → StandsIn found v
       stands v a b g =
           let m = g.member in
           let place : tri_at part m.0 ≡ g.tri = get_or_default part m.0 d g.tri m.1 ∙ m.2 in

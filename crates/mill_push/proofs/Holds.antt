@@ -25,5 +25,5 @@ module _ (blocked : ℤ → Type 0) (to v : ℤ) where
   holds from (r ∷ rs) h (suc k) run less e a b = holds (r.last +ℤ pos 1) rs h.1 k run (omega (less, arith)) e a b
 
 pub runs_hold_blocked : RunsHoldBlocked
-runs_hold_blocked cutter part fiber from to v runs h a c =
-    (in_run (IsBlocked cutter part fiber) to v from runs h a c, λ s. holds (IsBlocked cutter part fiber) to v from runs h s.member.0 s.run s.member.1 s.member.2 s.first s.last)
+runs_hold_blocked tool part fiber from to v runs h a c =
+    (in_run (IsBlocked tool part fiber) to v from runs h a c, λ s. holds (IsBlocked tool part fiber) to v from runs h s.member.0 s.run s.member.1 s.member.2 s.first s.last)

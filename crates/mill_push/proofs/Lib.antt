@@ -16,3 +16,4 @@ pub mod Windows
 pub mod Cutting
 pub mod Growing
 pub mod Collecting
+pub mod BothSolids

@@ -16,11 +16,7 @@ use Rattle.mill_push.specs.declared.fiber.Run.{Run}
 use Rattle.mill_push.specs.Runs.{StandsIn}
 use Rattle.mill_base.specs.Numbers.{Within}
 use Rattle.mill_base.specs.declared.limits.TheConstants.{MAX_COORDINATE}
-use Rattle.mill_base.specs.declared.points.Tri.{Tri}
-use Rattle.mill_base.specs.declared.cutter.Cutter.{Cutter}
-use Rattle.mill_push.specs.declared.fiber.Fiber.{Fiber}
-use Rattle.mill_push.specs.Fibers.{IsBlocked}
-use Rattle.mill_push.specs.Runs.{RunsOf, AreRuns}
+use Rattle.mill_push.specs.Runs.{RunsOf}
 use Rattle.mill_push.specs.inner.Unions.{AreOrdered, AreSpans, AreStretches}
 use Rattle.mill_push.proofs.Joining.{runs_as}
 use Rattle.mill_push.proofs.Stored.{within_between, through}
@@ -70,10 +66,10 @@ pub last_within : (xs : List Run) (from to : ℤ) → Within MAX_COORDINATE from
 last_within xs from to h k spans run c = let s = spans run c in within_between from run.last to h k (through from run.first run.last s.after s.some) s.within
 
 -- the runs of the stretches, in whatever order, are those of the blocked positions
-pub runs_from_stretches : (cutter : Cutter) (part : List Tri) (fiber : Fiber) (from to : ℤ) (xs ys runs : List Run) → AreStretches cutter part fiber from to xs → IsPermutation xs ys
-    → RunsOf (StandsIn ys) from to runs → AreRuns cutter part fiber from to runs
-runs_from_stretches cutter part fiber from to xs ys runs s p h =
-    runs_as (StandsIn ys) (IsBlocked cutter part fiber) from to runs (λ v a b. (λ c. (s.blocked v a b).1 ((stand_moved xs ys v p).1 c), λ g. (stand_moved xs ys v p).0 ((s.blocked v a b).0 g))) h
+pub runs_from_stretches : (Blocked : ℤ → Type 0) (from to : ℤ) (xs ys runs : List Run) → AreStretches Blocked from to xs → IsPermutation xs ys
+    → RunsOf (StandsIn ys) from to runs → RunsOf Blocked from to runs
+runs_from_stretches Blocked from to xs ys runs s p h =
+    runs_as (StandsIn ys) Blocked from to runs (λ v a b. (λ c. (s.blocked v a b).1 ((stand_moved xs ys v p).1 c), λ g. (stand_moved xs ys v p).0 ((s.blocked v a b).0 g))) h
 
 -- what follows from a fact of the value, if there is one
 pub IfOk-more : {T E : Type 0} (r : Result T E) (P Q : T → Type 0) → ((v : T) → P v → Q v) → IfOk r P → IfOk r Q

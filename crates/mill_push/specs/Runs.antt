@@ -1,7 +1,7 @@
--- The runs of a fiber: the maximal stretches of whole positions at which the cutter gouges.
+-- The runs of a fiber: the maximal stretches of whole positions at which the tool gouges.
 use Rattle.std.specs.Prelude.{◌≡◌, ◌↔◌, ℤ, pos, ◌+ℤ◌, ◌<ℤ◌, ◌≤ℤ◌, List, [], ◌∷◌, Contains}
 use Rattle.mill_base.specs.declared.points.Tri.{Tri}
-use Rattle.mill_base.specs.declared.cutter.Cutter.{Cutter}
+use Rattle.mill_base.specs.declared.tool.Tool.{Tool}
 use Rattle.mill_push.specs.declared.fiber.Fiber.{Fiber}
 use Rattle.mill_push.specs.declared.fiber.Run.{Run}
 use Rattle.mill_push.specs.Fibers.{IsBlocked}
@@ -24,14 +24,14 @@ abbrev pub RunsOf : (ℤ → Type 0) → ℤ → ℤ → List Run → Type 0
 RunsOf Blocked from to [] = FreeUpTo Blocked from (to +ℤ pos 1)
 RunsOf Blocked from to (run ∷ runs) = IsNextRun Blocked from to run × RunsOf Blocked (run.last +ℤ pos 1) to runs
 
--- the runs of whole positions at which the cutter gouges the part
-abbrev pub AreRuns : Cutter → List Tri → Fiber → ℤ → ℤ → List Run → Type 0
-AreRuns cutter part fiber from to runs = RunsOf (IsBlocked cutter part fiber) from to runs
+-- the runs of whole positions at which the tool gouges the part
+abbrev pub AreRuns : Tool → List Tri → Fiber → ℤ → ℤ → List Run → Type 0
+AreRuns tool part fiber from to runs = RunsOf (IsBlocked tool part fiber) from to runs
 
 -- a fiber has at most one list of runs
 abbrev pub OneListOfRuns : Type 0
-OneListOfRuns = (cutter : Cutter) (part : List Tri) (fiber : Fiber) (from to : ℤ) (runs others : List Run)
-    → AreRuns cutter part fiber from to runs → AreRuns cutter part fiber from to others → runs ≡ others
+OneListOfRuns = (tool : Tool) (part : List Tri) (fiber : Fiber) (from to : ℤ) (runs others : List Run)
+    → AreRuns tool part fiber from to runs → AreRuns tool part fiber from to others → runs ≡ others
 
 -- the position stands in some run of the list
 pub record StandsIn (runs : List Run) (v : ℤ) : Type 0 where
@@ -42,5 +42,5 @@ pub record StandsIn (runs : List Run) (v : ℤ) : Type 0 where
 
 -- the positions that are blocked are those that stand in a run
 abbrev pub RunsHoldBlocked : Type 0
-RunsHoldBlocked = (cutter : Cutter) (part : List Tri) (fiber : Fiber) (from to v : ℤ) (runs : List Run) → AreRuns cutter part fiber from to runs
-    → from ≤ℤ v → v ≤ℤ to → IsBlocked cutter part fiber v ↔ StandsIn runs v
+RunsHoldBlocked = (tool : Tool) (part : List Tri) (fiber : Fiber) (from to v : ℤ) (runs : List Run) → AreRuns tool part fiber from to runs
+    → from ≤ℤ v → v ≤ℤ to → IsBlocked tool part fiber v ↔ StandsIn runs v

@@ -2,5 +2,6 @@
 pub mod Known
 pub mod Pushers
 pub mod Reaches
+pub mod Solids
 pub mod Unions
 pub mod Windows

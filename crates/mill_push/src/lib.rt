@@ -1,9 +1,11 @@
-//! The push-cutter: the positions along a line at one height at which a cutter gouges.
+//! The push-cutter: the positions along a line at one height at which a tool gouges, with its cutter
+//! or with its holder.
 //!
 //! It stands on the part and its cells (mill_part, mill_cells) and on the contact crates. `push`
-//! promises the maximal runs of those positions, exactly, for every triangle and cutter, and that it
-//! touches each triangle near the line at most 40 times. `specs/Fibers` says when a position is
-//! blocked, `specs/Runs` what its runs are, and `specs/Touches` which triangles are touched.
+//! promises the maximal runs of those positions, exactly, for every triangle and tool, and that it
+//! touches each triangle near the line at most 40 times, and with a holder 80 times. `specs/Fibers`
+//! says when a position is blocked, `specs/Runs` what its runs are, and `specs/Touches` which
+//! triangles are touched.
 #![tactic(auto)]
 
 mod contact;
@@ -13,6 +15,7 @@ mod laws;
 mod near;
 mod reach;
 mod runs;
+mod solids;
 mod stretch;
 mod union;
 mod window;

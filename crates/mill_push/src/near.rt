@@ -7,6 +7,7 @@ ghost use Rattle.mill_push.specs.inner.Known.{IsNewAnswer};
 ghost use Rattle.mill_push.specs.inner.Pushers.{IsPusher};
 ghost use Rattle.mill_push.specs.inner.Reaches.{IsReachForPart};
 ghost use Rattle.mill_push.specs.Touches.{TouchesFew, position_count, strip_along};
+ghost use Rattle.mill_push.specs.inner.Solids.{IsCutterBlocked};
 ghost use Rattle.mill_push.specs.inner.Unions.{AreSpans, AreStretches};
 
 use crate::fiber::Run;
@@ -96,7 +97,7 @@ impl Pusher {
         requires from_ok { Within MAX_COORDINATE from }
         requires to_ok { Within MAX_COORDINATE to }
         requires order { from ≤ℤ to }
-        ensures stretches { IfOk result (λ runs. AreStretches self.cutter part.now self.fiber from to runs.items) }
+        ensures stretches { IfOk result (λ runs. AreStretches (IsCutterBlocked self.cutter part.now self.fiber) from to runs.items) }
         ensures cost { TouchesFew self.cutter part.now self.fiber from to steps.old steps.new }
     {
         let tris = part.tris();

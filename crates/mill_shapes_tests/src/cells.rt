@@ -1,11 +1,11 @@
 ghost use Rattle.std.specs.Prelude.{◌≡◌, ℕ, ◌≤ℤ◌};
+ghost use Rattle.mill_base.specs.Points.{highest};
 ghost use Rattle.mill_base.specs.Ranges.{IsInRange, TrisInRange};
 ghost use Rattle.mill_cells.specs.Boxes.{IsNear};
 ghost use Rattle.mill_cells.specs.Sorted.{top_at, sorted_of};
 
-use crate::Cells;
-use crate::boxes::tri_top;
 use mill_base::{Box2, Pt3, Tri};
+use mill_cells::Cells;
 use std::test::Fail;
 
 fn at(x: i16, y: i16, z: i16) -> Pt3
@@ -63,6 +63,12 @@ fn finds_near_triangles(rt: HostRuntime) -> Result<(), Fail> {
         assert_eq!(rt; near.next(), None, "from {x0}");
     }
     Ok(())
+}
+
+fn tri_top(tri: &Tri) -> i32
+    ensures { result ≡ highest tri.now }
+{
+    tri.a.z.max(tri.b.z.max(tri.c.z))
 }
 
 // The greatest top of the triangles near the area, and the floor where none is over it.

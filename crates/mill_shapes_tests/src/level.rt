@@ -4,8 +4,9 @@ ghost use Rattle.mill_base.specs.declared.limits.TheConstants.{MAX_COORDINATE, M
 ghost use Rattle.mill_base.specs.Ranges.{IsInRange, TriInRange};
 ghost use Rattle.mill_base.specs.Sizes.{HasRadius, IsCutter};
 ghost use Rattle.mill_base.specs.Lattices.{IsLattice};
+ghost use Rattle.mill_base.specs.Tools.{IsTool};
 
-use mill_base::{Box2, Cutter, Lattice, MAX_COORDINATE, Pt3, Tri};
+use mill_base::{Box2, Cutter, Lattice, MAX_COORDINATE, Pt3, Tool, Tri};
 use mill_level::{LevelFault, joins_are_apart, one_waterline, waterline};
 use mill_part::{Part, SortedPart};
 use std::process::Abort;
@@ -70,16 +71,16 @@ fn part_of<R: Abort + AllocGlobal>(rt: &R, tris: &[Tri]) -> Result<Part, Fail> {
 fn numbers<R: Abort + AllocGlobal>(
     rt: &R,
     part: &Part,
-    cutter: Cutter,
+    tool: &Tool,
     z: i32,
     lattice: &Lattice,
 ) -> Result<Vec<i32>, Fail>
-    requires cutter_ok { IsCutter cutter }
+    requires tool_ok { IsTool tool.now }
     requires z_ok { Within MAX_COORDINATE z }
     requires lattice_ok { IsLattice lattice.now }
 {
     let shape = SortedPart::new(rt.alloc(), part)?;
-    let chains = waterline(rt.alloc(), shape.part(), shape.cells(), cutter, z, lattice)?;
+    let chains = waterline(rt.alloc(), shape.part(), shape.cells(), tool, z, lattice)?;
     let mut numbers = Vec::new(rt.alloc());
     for chain in &chains {
         numbers.push(i32::from(chain.closed))?;
@@ -93,7 +94,25 @@ fn numbers<R: Abort + AllocGlobal>(
     Ok(numbers)
 }
 
-/// Whether the cutter's waterline at height z round the triangles is these numbers.
+/// Whether the tool's waterline at height z round the triangles is these numbers.
+fn tool_has_waterline<R: Abort + AllocGlobal>(
+    rt: &R,
+    tris: &[Tri],
+    tool: &Tool,
+    z: i32,
+    lattice: Lattice,
+    wanted: &[i32],
+) -> Result<bool, Fail>
+    requires tool_ok { IsTool tool.now }
+    requires z_ok { Within MAX_COORDINATE z }
+    requires lattice_ok { IsLattice lattice }
+{
+    let part = part_of(rt, tris)?;
+    let found = numbers(rt, &part, tool, z, &lattice)?;
+    Ok(found.as_slice() == wanted)
+}
+
+/// The same of a cutter alone.
 fn has_waterline<R: Abort + AllocGlobal>(
     rt: &R,
     tris: &[Tri],
@@ -106,9 +125,7 @@ fn has_waterline<R: Abort + AllocGlobal>(
     requires z_ok { Within MAX_COORDINATE z }
     requires lattice_ok { IsLattice lattice }
 {
-    let part = part_of(rt, tris)?;
-    let found = numbers(rt, &part, cutter, z, &lattice)?;
-    Ok(found.as_slice() == wanted)
+    tool_has_waterline(rt, tris, &Tool::bare(cutter), z, lattice, wanted)
 }
 
 /// Whether a flat cutter's waterline at height 0 round the triangles is these numbers.
@@ -222,9 +239,9 @@ fn ring(rt: HostRuntime) -> Result<(), Fail> {
 fn too_many_nodes(rt: HostRuntime) -> Result<(), Fail> {
     let part = part_of(&rt, &[point(0, 0)])?;
     let shape = SortedPart::new(rt.alloc(), &part)?;
-    let cutter = Cutter::Flat { radius: 100 };
+    let tool = Tool::bare(Cutter::Flat { radius: 100 });
     let lattice = lattice(20_010, 20_010, 10);
-    let answer = waterline(rt.alloc(), shape.part(), shape.cells(), cutter, 0, &lattice);
+    let answer = waterline(rt.alloc(), shape.part(), shape.cells(), &tool, 0, &lattice);
     let over = LevelFault::TooManyNodes { nodes: 4_008_004 };
     assert_eq!(rt; answer.err(), Some(over));
     joins_are_apart();

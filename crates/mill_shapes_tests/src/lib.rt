@@ -5,6 +5,8 @@
 #![tactic(auto)]
 
 #[cfg(test)]
+mod cells;
+#[cfg(test)]
 mod contact_ball;
 #[cfg(test)]
 mod contact_cone;
@@ -17,6 +19,16 @@ mod geom;
 #[cfg(test)]
 mod gouge;
 #[cfg(test)]
+mod holder;
+#[cfg(test)]
+mod holder;
+#[cfg(test)]
 mod level;
 #[cfg(test)]
+mod part;
+#[cfg(test)]
+mod push;
+#[cfg(test)]
 mod shape;
+#[cfg(test)]
+mod sweep;

@@ -3,9 +3,9 @@ ghost use Rattle.mill_base.specs.Numbers.{Within};
 ghost use Rattle.mill_base.specs.declared.limits.TheConstants.{MAX_COORDINATE, MAX_RADIUS};
 ghost use Rattle.mill_base.specs.Ranges.{IsInRange, TriInRange};
 
-use super::{Part, SortedPart, covered_below};
 use mill_base::{MAX_COORDINATE, MAX_RADIUS, Pt3, Tri};
 use mill_cells::Cells;
+use mill_part::{Part, SortedPart, covered_below};
 use std::process::Abort;
 use std::test::Fail;
 

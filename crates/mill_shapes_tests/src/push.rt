@@ -4,14 +4,15 @@ ghost use Rattle.mill_base.specs.declared.limits.TheConstants.{MAX_COORDINATE};
 ghost use Rattle.mill_base.specs.Points.{point_at, point_tri};
 ghost use Rattle.mill_base.specs.Ranges.{IsInRange, TriInRange};
 ghost use Rattle.mill_base.specs.Sizes.{IsCutter};
+ghost use Rattle.mill_base.specs.Tools.{IsTool};
 ghost use Rattle.mill_push.specs.Touches.{IsFiber};
 
-use crate::{
+use mill_base::{Cutter, Holder, Pt3, Steps, Tool, Tri};
+use mill_part::{Part, SortedPart};
+use mill_push::{
     Axis, Fiber, Run, Side, Touch, counted_touch, one_list_of_runs, one_stretch, push,
     runs_hold_blocked,
 };
-use mill_base::{Cutter, Pt3, Steps, Tri};
-use mill_part::{Part, SortedPart};
 use std::marker::Brand;
 use std::process::Abort;
 use std::sync::ledger::{Blank, Ledger};
@@ -95,16 +96,16 @@ fn part_of_bars<R: AllocGlobal>(rt: &R, bars: [(i16, i16, i16); 4]) -> Result<Pa
     Ok(Part::new(tris))
 }
 
-/// The runs of the cutter, by a counter of its own.
+/// The runs of the tool, by a counter of its own.
 fn counted<L: Ledger, R: AllocGlobal>(
     rt: &R,
     part: &Part,
-    cutter: Cutter,
+    tool: &Tool,
     fiber: Fiber,
     window: (i32, i32),
     blank: Blank,
 ) -> Result<Vec<Run>, Fail>
-    requires cutter_ok { IsCutter cutter }
+    requires tool_ok { IsTool tool.now }
     requires fiber_ok { IsFiber fiber }
     requires from_ok { Within MAX_COORDINATE window.0 }
     requires to_ok { Within MAX_COORDINATE window.1 }
@@ -122,7 +123,7 @@ fn counted<L: Ledger, R: AllocGlobal>(
         rt.alloc(),
         shape.part(),
         shape.cells(),
-        cutter,
+        tool,
         fiber,
         from,
         to,
@@ -131,7 +132,23 @@ fn counted<L: Ledger, R: AllocGlobal>(
     Ok(runs)
 }
 
-/// The runs of the cutter from the first position of the window to the last one.
+/// The runs of the tool from the first position of the window to the last one.
+fn tool_runs<R: AllocGlobal>(
+    rt: &R,
+    part: &Part,
+    tool: &Tool,
+    fiber: Fiber,
+    window: (i16, i16),
+) -> Result<Vec<Run>, Fail>
+    requires tool_ok { IsTool tool.now }
+    requires fiber_ok { IsFiber fiber }
+{
+    let (from, to) = window;
+    let wide = (i32::from(from), i32::from(to));
+    counted::<Brand, R>(rt, part, tool, fiber, wide, Blank::new(1))
+}
+
+/// The same, of a cutter without a holder.
 fn runs<R: AllocGlobal>(
     rt: &R,
     part: &Part,
@@ -142,9 +159,7 @@ fn runs<R: AllocGlobal>(
     requires cutter_ok { IsCutter cutter }
     requires fiber_ok { IsFiber fiber }
 {
-    let (from, to) = window;
-    let wide = (i32::from(from), i32::from(to));
-    counted::<Brand, R>(rt, part, cutter, fiber, wide, Blank::new(1))
+    tool_runs(rt, part, &Tool::bare(cutter), fiber, window)
 }
 
 fn run(first: i32, last: i32) -> Run {
@@ -378,6 +393,37 @@ fn points_of_two_heights(rt: HostRuntime) -> Result<(), Fail> {
     Ok(())
 }
 
+/// The flat cutter in a holder of radius 200 whose lower face is 50 over the tip.
+fn held() -> Tool
+    ensures { IsTool result }
+{
+    Tool {
+        cutter: FLAT,
+        holder: Some(Holder {
+            radius: 200,
+            stickout: 50,
+        }),
+    }
+}
+
+// The point is at the height 300. The holder holds it where it is nearer than 200 to the axis, and over
+// the lower face.
+#[test]
+fn holder_near_a_point(rt: HostRuntime) -> Result<(), Fail> {
+    let part = part_of(&rt, point(500))?;
+    for (across, z, want) in [
+        (0, 249, Some(run(301, 699))),
+        (0, 250, Some(run(401, 599))),
+        (199, 0, Some(run(481, 519))),
+        (200, 0, None),
+    ] {
+        let found = tool_runs(&rt, &part, &held(), fiber(Axis::X, across, z), (0, 1000))?;
+        assert_eq!(rt; found.first().copied(), want, "{across} beside it at {z}");
+        assert_eq!(rt; found.len(), usize::from(want.is_some()));
+    }
+    Ok(())
+}
+
 // Without the window's ends the run is from 401 to 599.
 #[test]
 fn narrow_windows(rt: HostRuntime) -> Result<(), Fail> {
@@ -453,11 +499,12 @@ fn over_point<L: Ledger, R: AllocGlobal>(
 {
     let part = part_of(rt, point(500))?;
     let shape = SortedPart::new(rt.alloc(), &part)?;
+    let tool = Tool::bare(FLAT);
     let runs = push(
         rt.alloc(),
         shape.part(),
         shape.cells(),
-        FLAT,
+        &tool,
         fiber(Axis::X, across, z),
         -far,
         far,

@@ -1,9 +1,9 @@
 ghost use Rattle.mill_base.specs.Ranges.{IsInRange, MoveInRange, TriInRange};
 
-use crate::halving::{first_block, first_block_point, passes_point, passes_tri, triangle_at};
-use crate::leaf::Leaf;
-use crate::reach::reach_box;
 use mill_base::{Cutter, Kind, Move, Pt3, Tri};
+use mill_sweep::{Leaf, first_block, first_block_point, passes_point, passes_tri, reach_box};
+
+mod leaves;
 
 fn at(x: i16, y: i16, z: i16) -> Pt3
     ensures { IsInRange result }
@@ -59,6 +59,18 @@ fn flat_stops_at_a_plate(rt: HostRuntime) {
             want.is_none(),
             "to {z} at {x}"
         );
+    }
+}
+
+/// The triangle of three equal points.
+fn triangle_at(point: Pt3) -> Tri
+    requires { IsInRange point }
+    ensures { TriInRange result }
+{
+    Tri {
+        a: point,
+        b: point,
+        c: point,
     }
 }
 
@@ -129,121 +141,4 @@ fn reach_is_the_box_of_the_ends(rt: HostRuntime) {
         (-524_287, -152, 152, 524_287)
     );
     assert_eq!(rt; low, 0);
-}
-
-// from leaf_span
-#[cfg(test)]
-mod tests {
-    use super::*;
-    use mill_base::{Kind, Pt3};
-
-    fn at(x: i32, y: i32, z: i32) -> Pt3
-        ensures { result ≡ record { x = x; y = y; z = z } }
-    {
-        Pt3 { x, y, z }
-    }
-
-    fn feed(from: Pt3, to: Pt3) -> Move
-        ensures from { result.from ≡ from }
-        ensures to { result.to ≡ to }
-    {
-        Move {
-            kind: Kind::Feed,
-            from,
-            to,
-        }
-    }
-
-    // From 500 down to 279: the last leaf but one is at rest in x and y.
-    #[test]
-    fn span_of_a_leaf(rt: HostRuntime) {
-        let down = feed(at(60, 0, 500), at(60, 0, 279));
-        let want = Span {
-            x: 60,
-            y: 0,
-            reach: 0,
-            zlow: 279,
-        };
-        assert_eq!(rt; span(&down, Leaf { d: 8, k: 254 }), want);
-    }
-
-    // The middle of -3 and 0 is -1, the half rounded up, and the lower end is at -1.
-    #[test]
-    fn span_of_a_whole_move(rt: HostRuntime) {
-        let below = feed(at(-3, 0, 0), at(0, 0, -1));
-        let want = Span {
-            x: -1,
-            y: 0,
-            reach: 2,
-            zlow: -1,
-        };
-        assert_eq!(rt; span(&below, Leaf { d: 0, k: 0 }), want);
-    }
-
-    // The leaves at which a flat and a ball are stopped by a point at (500, 0).
-    #[test]
-    fn spans_at_the_depth(rt: HostRuntime) {
-        let along = feed(at(0, 100, 200), at(1000, 100, 200));
-        let past = Span {
-            x: 486,
-            y: 100,
-            reach: 1,
-            zlow: 200,
-        };
-        assert_eq!(rt; span(&along, Leaf { d: 10, k: 497 }), past);
-        let into = Span {
-            x: 400,
-            y: 100,
-            reach: 1,
-            zlow: 200,
-        };
-        assert_eq!(rt; span(&along, Leaf { d: 10, k: 409 }), into);
-    }
-}
-
-// from move_depth
-#[cfg(test)]
-mod tests {
-    use super::*;
-    use mill_base::{Kind, Pt3};
-
-    #[test]
-    fn halvings_of_lengths(rt: HostRuntime) {
-        for (length, want) in [
-            (0, 0),
-            (1, 0),
-            (2, 1),
-            (3, 2),
-            (4, 2),
-            (5, 3),
-            (221, 8),
-            (1000, 10),
-            (262142, 18),
-            (1048574, 20),
-            (u32::MAX, 32),
-        ] {
-            assert_eq!(rt; halvings(length), want, "of {length}");
-        }
-    }
-
-    // By the longest axis; and of the longest moves that a text gives and that calls take.
-    #[test]
-    fn depth_by_the_longest_axis(rt: HostRuntime) {
-        for (from, to, want) in [
-            ((60, 0, 500), (60, 3, 279), 8),
-            ((-131_071, -131_071, 0), (131_071, 131_071, 0), 18),
-            ((-524_287, -524_287, 0), (524_287, 524_287, 0), 20),
-        ] {
-            let step = Move {
-                kind: Kind::Feed,
-                from: at(from),
-                to: at(to),
-            };
-            assert_eq!(rt; depth(&step), want);
-        }
-    }
-
-    fn at((x, y, z): (i32, i32, i32)) -> Pt3 {
-        Pt3 { x, y, z }
-    }
 }

@@ -4,12 +4,12 @@ use Rattle.std.proofs.Common.{◌≡◌, inl, inr, arith}
 use Rattle.std.proofs.Math.Nat.{mul-le-mul}
 use Rattle.std.proofs.lemmas.Bool.{cases_lt}
 use Rattle.std.proofs.lemmas.Int.{ints}
-use Rattle.mill_base.specs.Ranges.{MoveInRange}
 use Rattle.mill_base.specs.Sizes.{IsCutter, radius_of}
 use Rattle.mill_base.specs.declared.points.Tri.{Tri}
 use Rattle.mill_base.specs.declared.motion.Move.{Move}
 use Rattle.mill_base.specs.declared.cutter.Cutter.{Cutter}
 use Rattle.mill_base.specs.declared.limits.TheConstants.{MAX_LAST_REACH}
+use Rattle.mill_sweep.specs.Lifted.{IsLiftedMove}
 use Rattle.mill_sweep.specs.Leaves.{depth_of, end_of, middle_of, farther_of, diagonal_of}
 use Rattle.mill_sweep.specs.Halving.{LeafPasses}
 use Rattle.mill_sweep.specs.Apart.{LieApart}
@@ -93,7 +93,7 @@ reached f t d k =
     }
 
 -- a leaf passes, where the triangle is at least the radius and the last reach away from both its ends along one axis
-module _ (cutter : Cutter) (move : Move) (tri : Tri) (more d k : ℕ) (cutter_ok : IsCutter cutter) (range : MoveInRange move) (deep : d + more ≡ depth_of move) where
+module _ (cutter : Cutter) (move : Move) (tri : Tri) (more d k : ℕ) (cutter_ok : IsCutter cutter) (range : IsLiftedMove move) (deep : d + more ≡ depth_of move) where
   along : (f t a b c : ℤ)
       → ((i j : ℕ) → LieApart (radius_of cutter +ℤ pos MAX_LAST_REACH) (middle_of f t i j) (middle_of f t i j) a b c → IsBeside (radius_of cutter +ℤ pos MAX_LAST_REACH) move tri i j)
       → LieApart ((radius_of cutter +ℤ pos MAX_LAST_REACH) +ℤ pos (farther_of f t d k)) (middle_of f t d k) (middle_of f t d k) a b c → LeafPasses cutter move tri more d k

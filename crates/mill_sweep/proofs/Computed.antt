@@ -11,8 +11,8 @@ use Rattle.mill_base.proofs.Divisions.{half_within}
 use Rattle.mill_base.proofs.Machine.{Read, Lit, Sum, Prod, exact, kept, stored}
 use Rattle.mill_base.specs.Numbers.{floor_div, round_half_up, lesser}
 use Rattle.mill_base.specs.declared.limits.TheConstants.{MAX_COORDINATE, MAX_DEPTH}
-use Rattle.mill_sweep.proofs.Spans.{parts_twice, parts_small, parts_most, end_small, far_within, max_most, quotient_within, lesser_within}
-use Rattle.mill_sweep.specs.Widths.{longest, end_depth, farthest_end}
+use Rattle.mill_sweep.proofs.Spans.{parts_twice, parts_small, parts_most, end_small, tip_end_small, far_within, max_most, quotient_within, lesser_within}
+use Rattle.mill_sweep.specs.Widths.{longest, end_depth, farthest_end, highest_end, highest_tip}
 
 -- a shift to the right is a quotient rounded down
 pub shift_is : (z : ℤ) (n : ℕ) → shr_z z n ≡ floor_div z n
@@ -51,12 +51,12 @@ up_is a n h = by (div_ceil a n) (div_ceil_times a n h)
     by q p = div-eq_of_lt-le {k = q} n {m = a + (n - 1)} (let least = p.1 in omega arith) (let most = p.0 in omega arith)
 
 -- how far the farther of two ends is from a whole place
-pub farther_is : (first last middle place : ℤ) (d a b m : ℕ) → nat_abs first ≤ 2 ^ d * MAX_COORDINATE → nat_abs last ≤ 2 ^ d * MAX_COORDINATE → d ≤ MAX_DEPTH → nat_abs place ≤ farthest_end
+pub farther_is : (first last middle place : ℤ) (d a b m : ℕ) → nat_abs first ≤ 2 ^ d * MAX_COORDINATE → nat_abs last ≤ 2 ^ d * MAX_COORDINATE → d ≤ MAX_DEPTH → nat_abs place ≤ highest_end
     → place ≡ pos (2 ^ d) *ℤ middle → a ≡ nat_abs (stored w64 first -ℤ stored w64 place) → b ≡ nat_abs (stored w64 last -ℤ stored w64 place) → m ≡ max a b
     → m ≡ max (nat_abs (first -ℤ pos (2 ^ d) *ℤ middle)) (nat_abs (last -ℤ pos (2 ^ d) *ℤ middle))
 farther_is first last middle place d a b m f l less small ep ea eb em =
     em
-    ∙ rw (ea, eb, kept w64 first farthest_end (end_small (nat_abs first) d (omega arith) f) refl, kept w64 last farthest_end (end_small (nat_abs last) d (omega arith) l) refl, kept w64 place farthest_end small refl, ep) refl
+    ∙ rw (ea, eb, kept w64 first farthest_end (end_small (nat_abs first) d (omega arith) f) refl, kept w64 last farthest_end (end_small (nat_abs last) d (omega arith) l) refl, kept w64 place highest_end small refl, ep) refl
 
 -- it is bounded
 pub farther_small : (first last middle : ℤ) (d : ℕ) → nat_abs first ≤ 2 ^ d * MAX_COORDINATE → nat_abs last ≤ 2 ^ d * MAX_COORDINATE → nat_abs middle ≤ MAX_COORDINATE → d ≤ MAX_DEPTH
@@ -70,10 +70,10 @@ farther_small first last middle d f l m less =
     by n h k = omega arith
 
 -- the lower of two ends
-pub lower_is : (first last z : ℤ) (d : ℕ) → nat_abs first ≤ 2 ^ d * MAX_COORDINATE → nat_abs last ≤ 2 ^ d * MAX_COORDINATE → d ≤ MAX_DEPTH → z ≡ int_min (stored w64 first) (stored w64 last)
-    → (floor_div z (2 ^ d) ≡ floor_div (lesser first last) (2 ^ d)) × (nat_abs z ≤ farthest_end) × (nat_abs (floor_div z (2 ^ d)) ≤ MAX_COORDINATE)
+pub lower_is : (first last z : ℤ) (d : ℕ) → nat_abs first ≤ 2 ^ d * highest_tip → nat_abs last ≤ 2 ^ d * highest_tip → d ≤ MAX_DEPTH → z ≡ int_min (stored w64 first) (stored w64 last)
+    → (floor_div z (2 ^ d) ≡ floor_div (lesser first last) (2 ^ d)) × (nat_abs z ≤ highest_end) × (nat_abs (floor_div z (2 ^ d)) ≤ highest_tip)
 lower_is first last z d f l less ez =
-    let first_small = end_small (nat_abs first) d (omega arith) f in
-    let last_small = end_small (nat_abs last) d (omega arith) l in
-    let low : z ≡ int_min first last = ez ∙ rw (kept w64 first farthest_end first_small refl, kept w64 last farthest_end last_small refl) refl in
-    (rw low refl, rw low (lesser_within first last farthest_end first_small last_small), rw low (quotient_within (lesser first last) (2 ^ d) MAX_COORDINATE (pow_pos d) (lesser_within first last (2 ^ d * MAX_COORDINATE) f l)))
+    let first_small = tip_end_small (nat_abs first) d (omega arith) f in
+    let last_small = tip_end_small (nat_abs last) d (omega arith) l in
+    let low : z ≡ int_min first last = ez ∙ rw (kept w64 first highest_end first_small refl, kept w64 last highest_end last_small refl) refl in
+    (rw low refl, rw low (lesser_within first last highest_end first_small last_small), rw low (quotient_within (lesser first last) (2 ^ d) highest_tip (pow_pos d) (lesser_within first last (2 ^ d * highest_tip) f l)))

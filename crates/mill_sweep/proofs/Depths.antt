@@ -8,9 +8,9 @@ use Rattle.std.proofs.lemmas.Int.{ints}
 use Rattle.std.proofs.lemmas.Nat.{leading_length}
 use Rattle.std.specs.Int.Count.{count_leading_zeros}
 use Rattle.mill_base.specs.Numbers.{least_from}
-use Rattle.mill_base.specs.Ranges.{MoveInRange}
 use Rattle.mill_base.specs.declared.motion.Move.{Move}
 use Rattle.mill_base.specs.declared.limits.TheConstants.{MAX_DEPTH}
+use Rattle.mill_sweep.specs.Lifted.{IsLiftedMove}
 use Rattle.mill_sweep.specs.Leaves.{depth_of, length_x, length_y, length_z}
 use Rattle.mill_sweep.specs.Widths.{longest}
 
@@ -85,26 +85,24 @@ least_passes test (suc more) start e low high passes = by (least_passes test mor
       | inr same ↦ let at : e ≡ start = omega arith in absurd (differ (test start) (subst (λ i. test i ≡ true) at passes) q)
     ]
 
--- a move in range is no longer along an axis than two coordinates, so its depth is a move's
-length_within : (m : Move) → MoveInRange m → length_of m ≤ 2 ^ MAX_DEPTH
+-- a tip's move is no longer along an axis than two coordinates, so its depth is a move's
+length_within : (m : Move) → IsLiftedMove m → length_of m ≤ 2 ^ MAX_DEPTH
 length_within m range =
     let a = range.from_ok.x_ok.within in
     let b = range.to_ok.x_ok.within in
     let c = range.from_ok.y_ok.within in
     let d = range.to_ok.y_ok.within in
-    let e = range.from_ok.z_ok.within in
-    let f = range.to_ok.z_ok.within in
-    joined (length_x m) (length_y m) (length_z m) (omega (arith, ints)) (omega (arith, ints)) (omega (arith, ints))
+    joined (length_x m) (length_y m) (length_z m) (omega (arith, ints)) (omega (arith, ints)) range.rise_ok
   where
     joined : (x y z : ℕ) → x ≤ longest → y ≤ longest → z ≤ longest → max (max x y) z ≤ 2 ^ MAX_DEPTH
     joined x y z h k l = omega arith
 
-depth_within : (m : Move) → MoveInRange m → (nat_le (length_x m) (2 ^ depth_of m) && nat_le (length_y m) (2 ^ depth_of m) && nat_le (length_z m) (2 ^ depth_of m) ≡ true) × (depth_of m ≤ MAX_DEPTH)
+depth_within : (m : Move) → IsLiftedMove m → (nat_le (length_x m) (2 ^ depth_of m) && nat_le (length_y m) (2 ^ depth_of m) && nat_le (length_z m) (2 ^ depth_of m) ≡ true) × (depth_of m ≤ MAX_DEPTH)
 depth_within m range = least_passes (λ i. nat_le (length_x m) (2 ^ i) && nat_le (length_y m) (2 ^ i) && nat_le (length_z m) (2 ^ i)) 64 0 MAX_DEPTH (omega arith) (omega arith) (all_within (length_x m) (length_y m) (length_z m) (2 ^ MAX_DEPTH) (length_within m range))
 
-pub depth_most : (m : Move) → MoveInRange m → depth_of m ≤ MAX_DEPTH
+pub depth_most : (m : Move) → IsLiftedMove m → depth_of m ≤ MAX_DEPTH
 depth_most m range = (depth_within m range).1
 
 -- at the depth each length is at most the number of parts
-pub lengths_at_depth : (m : Move) → MoveInRange m → (length_x m ≤ 2 ^ depth_of m) × (length_y m ≤ 2 ^ depth_of m) × (length_z m ≤ 2 ^ depth_of m)
+pub lengths_at_depth : (m : Move) → IsLiftedMove m → (length_x m ≤ 2 ^ depth_of m) × (length_y m ≤ 2 ^ depth_of m) × (length_z m ≤ 2 ^ depth_of m)
 lengths_at_depth m range = within_all (length_x m) (length_y m) (length_z m) (2 ^ depth_of m) (depth_within m range).0

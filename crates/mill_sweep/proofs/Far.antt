@@ -1,5 +1,5 @@
 -- A move passes a triangle that is no higher than both its ends, or that stays far enough from it in x or in y.
-use Rattle.std.specs.Prelude.{◌≡◌, ℕ, zero, suc, ◌+◌, ◌*◌, ◌^◌, ◌<◌, ◌≤◌, ℤ, pos, negsuc, ◌+ℤ◌, ◌-ℤ◌, ◌*ℤ◌, ◌<ℤ◌, ◌≤ℤ◌, int_lt, Bool, true, false, cond}
+use Rattle.std.specs.Prelude.{◌≡◌, ℕ, zero, suc, ◌+◌, ◌*◌, ◌^◌, ◌<◌, ◌≤◌, nat_abs, ℤ, pos, negsuc, ◌+ℤ◌, ◌-ℤ◌, ◌*ℤ◌, ◌<ℤ◌, ◌≤ℤ◌, int_lt, Bool, true, false, cond}
 use Rattle.std.proofs.Common.{inl, inr, refl, subst, sym, arith}
 use Rattle.std.proofs.lemmas.Int.{ints}
 use Rattle.std.proofs.lemmas.Nat.{pow_pos}
@@ -8,23 +8,25 @@ use Rattle.mill_base.proofs.Exit.{split_lt}
 use Rattle.mill_base.specs.Numbers.{lesser, greater}
 use Rattle.mill_base.specs.Points.{highest, plus, times}
 use Rattle.mill_base.specs.Contact.{Holds, Touches}
-use Rattle.mill_base.specs.Ranges.{MoveInRange}
+use Rattle.mill_base.specs.Ranges.{TriInRange}
 use Rattle.mill_base.specs.Sizes.{IsCutter, radius_of, outer}
 use Rattle.mill_base.specs.declared.points.Tri.{Tri}
 use Rattle.mill_base.specs.declared.motion.Move.{Move}
 use Rattle.mill_base.specs.declared.cutter.Cutter.{Cutter}
 use Rattle.mill_base.specs.declared.cutter.Cutter.TheVariants.{Flat, Ball, Cone}
-use Rattle.mill_base.specs.declared.limits.TheConstants.{MAX_LAST_REACH}
+use Rattle.mill_base.specs.declared.limits.TheConstants.{MAX_COORDINATE, MAX_LAST_REACH}
 use Rattle.mill_shape.proofs.Holding.{holds_around}
+use Rattle.mill_sweep.specs.Lifted.{IsLiftedMove}
 use Rattle.mill_sweep.specs.Leaves.{depth_of, end_of, middle_of, lower_of, reach_of, span_of, outer_tip}
 use Rattle.mill_sweep.specs.Halving.{IsFree, LeafPasses, Passes, LiesBeside, middle_point}
-use Rattle.mill_sweep.specs.Moments.{FarPasses}
+use Rattle.mill_sweep.specs.Moments.{FarPasses, IsFar}
 use Rattle.mill_sweep.specs.Apart.{IsUnderMove, LieOver, LieUnder, LieApart}
 use Rattle.mill_sweep.proofs.Halves.{left_place, right_place}
 use Rattle.mill_sweep.proofs.LeafCerts.{end_high, end_least, mean_most, mean_least, quotient_least, point_east, point_west, too_far_east, too_far_west}
 use Rattle.mill_sweep.proofs.Narrow.{reach_at_depth}
 use Rattle.mill_sweep.proofs.Passing.{radius_least}
 use Rattle.mill_sweep.proofs.Spans.{parts_twice}
+use Rattle.mill_sweep.proofs.Lifting.{in_lift}
 
 some : (n : ℕ) → 0 < n → (pos 0) <ℤ pos n
 some n h = omega (arith, ints)
@@ -173,7 +175,7 @@ far_is_clear cutter move tri d k cutter_ok narrow far touches =
 
 -- so a leaf passes if what is so of it is so of its halves, and puts the triangle beside each
 module _ (cutter : Cutter) (move : Move) (tri : Tri) (P : ℕ → ℕ → Type 0) (left : (d k : ℕ) → P d k → P (d + 1) (2 * k)) (right : (d k : ℕ) → P d k → P (d + 1) (2 * k + 1))
-    (beside : (d k : ℕ) → P d k → IsBeside (radius_of cutter +ℤ pos MAX_LAST_REACH) move tri d k) (cutter_ok : IsCutter cutter) (range : MoveInRange move) where
+    (beside : (d k : ℕ) → P d k → IsBeside (radius_of cutter +ℤ pos MAX_LAST_REACH) move tri d k) (cutter_ok : IsCutter cutter) (range : IsLiftedMove move) where
   pub far_leaf : (more d k : ℕ) → d + more ≡ depth_of move → P d k → LeafPasses cutter move tri more d k
   far_leaf zero d k deep p =
       let bottom : d ≡ depth_of move = omega arith in
@@ -190,6 +192,12 @@ least_top a b c h p q r = by (int_lt a (greater b c)) (int_lt b c)
     by true false = q
     by false t = p
 
+pub highest_within : (tri : Tri) → TriInRange tri → highest tri ≤ℤ pos MAX_COORDINATE
+highest_within tri ok = least_top tri.a.z tri.b.z tri.c.z (pos MAX_COORDINATE) (small tri.a.z ok.a_ok.z_ok.within) (small tri.b.z ok.b_ok.z_ok.within) (small tri.c.z ok.c_ok.z_ok.within)
+  where
+    small : (z : ℤ) → nat_abs z ≤ MAX_COORDINATE → z ≤ℤ pos MAX_COORDINATE
+    small z h = omega (arith, ints)
+
 pub top_passes : (cutter : Cutter) (move : Move) (tri : Tri) → highest tri ≤ℤ move.from.z → highest tri ≤ℤ move.to.z → Passes cutter move tri
 top_passes cutter move tri from to = by (depth_of move)
   where
@@ -205,12 +213,15 @@ under_passes cutter move tri under =
     top_passes cutter move tri (least_top _ _ _ _ under.from.a under.from.b under.from.c) (least_top _ _ _ _ under.to.a under.to.b under.to.c)
 
 -- the move passes a triangle at least the radius and 2 beside it
-pub beside_passes : (cutter : Cutter) (move : Move) (tri : Tri) → IsCutter cutter → MoveInRange move → LiesBeside (radius_of cutter +ℤ pos MAX_LAST_REACH) move.from move.to tri → Passes cutter move tri
+pub beside_passes : (cutter : Cutter) (move : Move) (tri : Tri) → IsCutter cutter → IsLiftedMove move → LiesBeside (radius_of cutter +ℤ pos MAX_LAST_REACH) move.from move.to tri → Passes cutter move tri
 beside_passes cutter move tri cutter_ok range (inl x) =
     far_leaf cutter move tri (λ d k. k < 2 ^ d) left_place right_place (λ d k inside. inl (apart_from_middle (radius_of cutter +ℤ pos MAX_LAST_REACH) move.from.x move.to.x tri.a.x tri.b.x tri.c.x d k inside x)) cutter_ok range (depth_of move) 0 0 (omega arith) (omega arith)
 beside_passes cutter move tri cutter_ok range (inr y) =
     far_leaf cutter move tri (λ d k. k < 2 ^ d) left_place right_place (λ d k inside. inr (apart_from_middle (radius_of cutter +ℤ pos MAX_LAST_REACH) move.from.y move.to.y tri.a.y tri.b.y tri.c.y d k inside y)) cutter_ok range (depth_of move) 0 0 (omega arith) (omega arith)
 
+pub lifted_far_passes : (cutter : Cutter) (move : Move) (tri : Tri) → IsCutter cutter → IsLiftedMove move → IsFar cutter move tri → Passes cutter move tri
+lifted_far_passes cutter move tri cutter_ok range (inl under) = under_passes cutter move tri under
+lifted_far_passes cutter move tri cutter_ok range (inr beside) = beside_passes cutter move tri cutter_ok range beside
+
 pub far_passes : FarPasses
-far_passes cutter move tri cutter_ok range (inl under) = under_passes cutter move tri under
-far_passes cutter move tri cutter_ok range (inr beside) = beside_passes cutter move tri cutter_ok range beside
+far_passes cutter move tri cutter_ok range = lifted_far_passes cutter move tri cutter_ok (in_lift move range)

@@ -2,11 +2,11 @@
 use Rattle.std.specs.Prelude.{◌≡◌, ℕ, zero, suc, ◌+◌, ◌*◌, ◌≤◌, pos, ◌≤ℤ◌, Option, None, Some, MatchOption}
 use Rattle.std.proofs.Common.{inl, inr, refl, subst, sym, arith}
 use Rattle.std.proofs.lemmas.Int.{ints}
-use Rattle.mill_base.specs.Ranges.{MoveInRange}
 use Rattle.mill_base.specs.declared.points.Tri.{Tri}
 use Rattle.mill_base.specs.declared.motion.Move.{Move}
 use Rattle.mill_base.specs.declared.cutter.Cutter.{Cutter}
 use Rattle.mill_base.specs.declared.limits.TheConstants.{MAX_REACH, MAX_LAST_REACH}
+use Rattle.mill_sweep.specs.Lifted.{IsLiftedMove}
 use Rattle.mill_sweep.specs.Leaves.{depth_of, reach_of, span_of}
 use Rattle.mill_sweep.specs.Halving.{Blocks, IsFree, IsFreeSpan, LeafPasses, FailsUnder, FailsAt, Passes}
 use Rattle.mill_sweep.specs.declared.leaf.Leaf.{Leaf}
@@ -44,7 +44,7 @@ module _ (cutter : Cutter) (move : Move) (tri : Tri) where
       by (suc rest) free = inl free
 
   -- one at the bottom that isn't free is blocked
-  pub fails_at_bottom : (more : ℕ) (leaf : Leaf) (s : Span) → MoveInRange move → s ≡ span_of move leaf.d leaf.k → more ≡ 0 → leaf.d + more ≡ depth_of move
+  pub fails_at_bottom : (more : ℕ) (leaf : Leaf) (s : Span) → IsLiftedMove move → s ≡ span_of move leaf.d leaf.k → more ≡ 0 → leaf.d + more ≡ depth_of move
       → ¬ IsFreeSpan cutter s tri → (s.reach ≤ℤ pos MAX_REACH → Blocks cutter s tri) → FailsUnder cutter move tri more leaf.d leaf.k leaf
   fails_at_bottom more leaf s range e zero_more deep held blocked =
       let bottom : leaf.d ≡ depth_of move = omega arith in

@@ -7,7 +7,6 @@ use Rattle.mill_base.specs.Numbers.{greater}
 use Rattle.mill_base.specs.Points.{IsPointOf, highest, plus, times}
 use Rattle.mill_base.specs.Motion.{IsMoment, tip_at}
 use Rattle.mill_base.specs.Contact.{Touches}
-use Rattle.mill_base.specs.Ranges.{MoveInRange}
 use Rattle.mill_base.specs.Sizes.{IsCutter}
 use Rattle.mill_base.specs.declared.points.Pt3.{Pt3}
 use Rattle.mill_base.specs.declared.points.Tri.{Tri}
@@ -16,13 +15,15 @@ use Rattle.mill_base.specs.declared.cutter.Cutter.{Cutter}
 use Rattle.mill_base.specs.declared.limits.TheConstants.{MAX_RADIUS}
 use Rattle.mill_shape.proofs.CutHeights.{cutter_is_wide}
 use Rattle.mill_shape.proofs.Holding.{holds_over_tip}
+use Rattle.mill_sweep.specs.Lifted.{IsLiftedMove}
 use Rattle.mill_sweep.specs.Leaves.{depth_of, zlow_of, IsMomentOf}
-use Rattle.mill_sweep.specs.Halving.{IsFree, LeafPasses}
+use Rattle.mill_sweep.specs.Halving.{IsFree, LeafPasses, Passes}
 use Rattle.mill_sweep.specs.Moments.{PassingIsClear}
 use Rattle.mill_sweep.proofs.LeafCerts.{half_from, half_to, point_under, over_low}
-use Rattle.mill_sweep.proofs.Outer.{low_over, outer_holds}
+use Rattle.mill_sweep.proofs.Outer.{low_over, lifted_outer_holds}
 use Rattle.mill_sweep.proofs.Passing.{radius_least}
 use Rattle.mill_sweep.proofs.Spans.{parts_twice}
+use Rattle.mill_sweep.proofs.Lifting.{in_lift}
 
 -- a moment of a leaf is one of its left half or one of its right half
 pub halves : (d j : ℕ) (k n : ℤ) → IsMomentOf d j k n → IsMomentOf (d + 1) (2 * j) k n ⊎ IsMomentOf (d + 1) (2 * j + 1) k n
@@ -76,7 +77,7 @@ touched_over cutter move tri d j k m cutter_ok l touches =
     (under_highest tri touches.n touches.p touches.point)
 
 -- a leaf that passes by itself is clear at each of its moments
-free_is_clear : (cutter : Cutter) (move : Move) (tri : Tri) (d j : ℕ) (k m : ℤ) → IsCutter cutter → MoveInRange move → d ≤ depth_of move → j < 2 ^ d
+free_is_clear : (cutter : Cutter) (move : Move) (tri : Tri) (d j : ℕ) (k m : ℤ) → IsCutter cutter → IsLiftedMove move → d ≤ depth_of move → j < 2 ^ d
     → IsFree cutter move tri d j → IsMomentOf d j k m → Touches cutter m (tip_at move k m) tri → ⊥
 free_is_clear cutter move tri d j k m cutter_ok range deep less (inl free) l touches =
     free.1 (record {
@@ -85,7 +86,7 @@ free_is_clear cutter move tri d j k m cutter_ok range deep less (inl free) l tou
         n = touches.n;
         p = touches.p;
         point = touches.point;
-        inside = outer_holds cutter move d j k m touches.n touches.p (cutter_is_wide cutter MAX_RADIUS (omega (arith, ints)) cutter_ok) range deep less l touches.point.some touches.inside;
+        inside = lifted_outer_holds cutter move d j k m touches.n touches.p (cutter_is_wide cutter MAX_RADIUS (omega (arith, ints)) cutter_ok) range deep less l touches.point.some touches.inside;
       };
     })
 free_is_clear cutter move tri d j k m cutter_ok range deep less (inr under) l touches =
@@ -102,7 +103,7 @@ pub right_place : (d j : ℕ) → j < 2 ^ d → 2 * j + 1 < 2 ^ (d + 1)
 right_place d j h = rw (parts_twice d) (omega arith)
 
 -- so is a leaf whose halves both pass
-leaf_is_clear : (cutter : Cutter) (move : Move) (tri : Tri) (more d j : ℕ) (k m : ℤ) → IsCutter cutter → MoveInRange move → d + more ≤ depth_of move → j < 2 ^ d
+leaf_is_clear : (cutter : Cutter) (move : Move) (tri : Tri) (more d j : ℕ) (k m : ℤ) → IsCutter cutter → IsLiftedMove move → d + more ≤ depth_of move → j < 2 ^ d
     → LeafPasses cutter move tri more d j → IsMomentOf d j k m → Touches cutter m (tip_at move k m) tri → ⊥
 leaf_is_clear cutter move tri zero d j k m cutter_ok range deep less free l touches =
     free_is_clear cutter move tri d j k m cutter_ok range (omega arith) less free l touches
@@ -114,6 +115,9 @@ leaf_is_clear cutter move tri (suc more) d j k m cutter_ok range deep less (inr 
       | inr right ↦ leaf_is_clear cutter move tri more (d + 1) (2 * j + 1) k m cutter_ok range (omega arith) (right_place d j less) both.1 right touches
     ]
 
-pub passing_is_clear : PassingIsClear
-passing_is_clear cutter move tri k m cutter_ok range passes moment touches =
+pub lifted_is_clear : (cutter : Cutter) (move : Move) (tri : Tri) (k m : ℤ) → IsCutter cutter → IsLiftedMove move → Passes cutter move tri → IsMoment k m → ¬ Touches cutter m (tip_at move k m) tri
+lifted_is_clear cutter move tri k m cutter_ok range passes moment touches =
     leaf_is_clear cutter move tri (depth_of move) 0 0 k m cutter_ok range (omega arith) (omega arith) passes (whole k m moment) touches
+
+pub passing_is_clear : PassingIsClear
+passing_is_clear cutter move tri k m cutter_ok range = lifted_is_clear cutter move tri k m cutter_ok (in_lift move range)

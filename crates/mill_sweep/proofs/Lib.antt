@@ -2,6 +2,7 @@ mod LeafCerts
 mod OuterCerts
 mod Spans
 mod Outer
+pub mod Lifting
 mod Depths
 pub mod Halves
 mod Narrow
@@ -22,3 +23,4 @@ pub mod Passing
 mod UnscaledCerts
 mod Unscaled
 pub mod Vertical
+pub mod Holding

@@ -75,7 +75,7 @@ module _ (x y t h : ℤ) (low : h ≤ℤ t) where
   free_lower cutter move d k (inl free) = inl (free.0, λ blocks. free.1 (blocks_rises cutter _ blocks))
   free_lower cutter move d k (inr under) = inr (rw (highest_point (point_at x y h)) (up h t _ low (rw (highest_point (point_at x y t)) at under)))
 
-  passes_lower : (cutter : Cutter) (move : Move) (more d k : ℕ) → LeafPasses cutter move (point_tri (point_at x y t)) more d k → LeafPasses cutter move (point_tri (point_at x y h)) more d k
+  pub passes_lower : (cutter : Cutter) (move : Move) (more d k : ℕ) → LeafPasses cutter move (point_tri (point_at x y t)) more d k → LeafPasses cutter move (point_tri (point_at x y h)) more d k
   passes_lower cutter move zero d k free = free_lower cutter move d k free
   passes_lower cutter move (suc more) d k (inl free) = inl (free_lower cutter move d k free)
   passes_lower cutter move (suc more) d k (inr both) = inr (passes_lower cutter move more (d + 1) (2 * k) both.0, passes_lower cutter move more (d + 1) (2 * k + 1) both.1)

@@ -4,18 +4,19 @@ use Rattle.std.proofs.Common.{inl, inr, refl, subst, sym, arith}
 use Rattle.std.proofs.lemmas.Int.{ints}
 use Rattle.std.proofs.lemmas.Nat.{pow_pos}
 use Rattle.mill_base.proofs.Divisions.{half_low, half_high}
-use Rattle.mill_base.specs.Ranges.{MoveInRange}
 use Rattle.mill_base.specs.declared.points.Tri.{Tri}
 use Rattle.mill_base.specs.declared.motion.Move.{Move}
 use Rattle.mill_base.specs.declared.cutter.Cutter.{Cutter}
 use Rattle.mill_base.specs.declared.limits.TheConstants.{MAX_LAST_REACH}
-use Rattle.mill_sweep.specs.Leaves.{depth_of, end_of, middle_of, farther_of, diagonal_of, reach_of}
-use Rattle.mill_sweep.specs.Halving.{IsFree, LeafPasses, LeadsTo}
+use Rattle.mill_sweep.specs.Lifted.{IsLiftedMove}
+use Rattle.mill_sweep.specs.Leaves.{depth_of, end_of, middle_of, farther_of, diagonal_of, reach_of, span_of}
+use Rattle.mill_sweep.specs.Halving.{Blocks, FailsAt, IsFree, LeafPasses, LeadsTo}
 use Rattle.mill_sweep.specs.Moments.{FailingIsBlocked}
 use Rattle.mill_sweep.specs.declared.leaf.Leaf.{Leaf}
 use Rattle.mill_sweep.proofs.Depths.{lengths_at_depth}
 use Rattle.mill_sweep.proofs.LeafCerts.{near_high, near_low, near_high_last, near_low_last}
 use Rattle.mill_sweep.proofs.Spans.{parts_twice, div_ceil_most}
+use Rattle.mill_sweep.proofs.Lifting.{in_lift}
 
 -- the leaf to which the failing halves lead: at this depth, and not free
 record Fails (cutter : Cutter) (move : Move) (tri : Tri) (bottom : ℕ) (leaf : Leaf) : Type 0 where
@@ -75,16 +76,20 @@ diagonal_most (suc (suc x)) y h k = absurd (omega arith)
 diagonal_most x (suc (suc y)) h k = absurd (omega arith)
 
 -- at the depth a leaf's reach is at most the last
-pub reach_at_depth : (move : Move) (k : ℕ) → MoveInRange move → reach_of move (depth_of move) k ≤ MAX_LAST_REACH
+pub reach_at_depth : (move : Move) (k : ℕ) → IsLiftedMove move → reach_of move (depth_of move) k ≤ MAX_LAST_REACH
 reach_at_depth move k range =
     let lengths = lengths_at_depth move range in
     diagonal_most _ _ (farther_most move.from.x move.to.x (depth_of move) k lengths.0) (farther_most move.from.y move.to.y (depth_of move) k lengths.1)
 
-pub failing_is_blocked : FailingIsBlocked
-failing_is_blocked cutter move tri leaf cutter_ok range h =
+pub lifted_is_blocked : (cutter : Cutter) (move : Move) (tri : Tri) (leaf : Leaf) → IsLiftedMove move → FailsAt cutter move tri leaf
+    → (reach_of move leaf.d leaf.k ≤ MAX_LAST_REACH) × (¬ (¬ Blocks cutter (span_of move leaf.d leaf.k) tri))
+lifted_is_blocked cutter move tri leaf range h =
     let fails = leads_down cutter move tri (depth_of move) 0 0 leaf h.fails h.leads in
     let narrow : reach_of move leaf.d leaf.k ≤ MAX_LAST_REACH = subst (λ d. reach_of move d leaf.k ≤ MAX_LAST_REACH) (sym (bottom fails.deep)) (reach_at_depth move leaf.k range) in
     (narrow, λ unblocked. fails.free (inl (omega arith, unblocked)))
   where
     bottom : leaf.d ≡ 0 + depth_of move → leaf.d ≡ depth_of move
     bottom e = omega arith
+
+pub failing_is_blocked : FailingIsBlocked
+failing_is_blocked cutter move tri leaf cutter_ok range h = lifted_is_blocked cutter move tri leaf (in_lift move range) h

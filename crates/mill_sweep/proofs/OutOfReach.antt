@@ -6,20 +6,22 @@ use lib.IntN.{ℤ, pos, ◌+ℤ◌, ◌-ℤ◌}
 use lib.Signed.{◌≤ℤ◌}
 use Rattle.mill_base.specs.Numbers.{Within, lesser, greater}
 use Rattle.mill_base.specs.Points.{highest}
-use Rattle.mill_base.specs.Ranges.{MoveInRange, TriInRange}
+use Rattle.mill_base.specs.Ranges.{TriInRange}
 use Rattle.mill_base.specs.Sizes.{IsCutter, radius_of}
 use Rattle.mill_base.specs.declared.limits.TheConstants.{MAX_COORDINATE}
 use Rattle.mill_base.specs.declared.points.Tri.{Tri}
 use Rattle.mill_base.specs.declared.motion.Move.{Move}
 use Rattle.mill_base.specs.declared.cutter.Cutter.{Cutter}
 use Rattle.mill_cells.specs.Boxes.{Meet, box_of}
+use Rattle.mill_sweep.specs.Lifted.{IsLiftedMove}
 use Rattle.mill_sweep.specs.Apart.{LieApart}
 use Rattle.mill_sweep.specs.Halving.{Passes}
 use Rattle.mill_sweep.specs.Moments.{IsFar}
-use Rattle.mill_sweep.specs.Reach.{margin_of, low_side_of, high_side_of, reach_box_of, low_end_of, OutOfReachPasses}
-use Rattle.mill_sweep.proofs.Far.{far_passes}
+use Rattle.mill_sweep.specs.Reach.{margin_of, low_side_of, high_side_of, reach_box_of, low_end_of, IsOutOfReach, OutOfReachPasses}
+use Rattle.mill_sweep.proofs.Far.{lifted_far_passes}
 use Rattle.mill_sweep.proofs.Passing.{radius_least}
 use Rattle.mill_sweep.proofs.Sides.{least_of, most_of, ends_of, joined, split, wide}
+use Rattle.mill_sweep.proofs.Lifting.{in_lift}
 
 -- some place is in both stretches
 record HasCommon (low high from to : ℤ) : Type 0 where
@@ -110,7 +112,7 @@ margin_least cutter ok = more (radius_of cutter) (radius_least cutter ok)
     more r h = omega (h, arith, ints)
 
 -- a triangle is far from the move, or its box meets the box about it
-far_or_near : (cutter : Cutter) (m : Move) (tri : Tri) → IsCutter cutter → MoveInRange m → TriInRange tri → IsFar cutter m tri ⊎ Meet (box_of tri) (reach_box_of cutter m)
+far_or_near : (cutter : Cutter) (m : Move) (tri : Tri) → IsCutter cutter → IsLiftedMove m → TriInRange tri → IsFar cutter m tri ⊎ Meet (box_of tri) (reach_box_of cutter m)
 far_or_near cutter m tri ok ranged inside =
     elim (along (margin_of cutter) m.from.x m.to.x tri.a.x tri.b.x tri.c.x (margin_least cutter ok) ranged.from_ok.x_ok inside.a_ok.x_ok) [
       | inl apart ↦ inl (inr (inl apart))
@@ -126,11 +128,11 @@ far_or_near cutter m tri ok ranged inside =
     ]
 
 -- a triangle that doesn't come over the lower of the move's ends is passed
-low_passes : (cutter : Cutter) (m : Move) (tri : Tri) → IsCutter cutter → MoveInRange m → highest tri ≤ℤ low_end_of m → Passes cutter m tri
+low_passes : (cutter : Cutter) (m : Move) (tri : Tri) → IsCutter cutter → IsLiftedMove m → highest tri ≤ℤ low_end_of m → Passes cutter m tri
 low_passes cutter m tri ok ranged low =
     let h = most_of tri.a.z tri.b.z tri.c.z in
     let e = ends_of m.from.z m.to.z in
-    far_passes cutter m tri ok ranged (inl (record {
+    lifted_far_passes cutter m tri ok ranged (inl (record {
       from = record { a = through _ _ _ _ h.0 low e.0; b = through _ _ _ _ h.1 low e.0; c = through _ _ _ _ h.2 low e.0 };
       to = record { a = through _ _ _ _ h.0 low e.1; b = through _ _ _ _ h.1 low e.1; c = through _ _ _ _ h.2 low e.1 };
     }))
@@ -138,11 +140,14 @@ low_passes cutter m tri ok ranged low =
     through : (a b c d : ℤ) → a ≤ℤ b → b ≤ℤ c → c ≤ℤ d → a ≤ℤ d
     through a b c d p q r = omega (p, q, r, arith, ints)
 
-pub out_of_reach_passes : OutOfReachPasses
-out_of_reach_passes cutter m tri ok ranged inside out = elim out [
+pub lifted_out_of_reach : (cutter : Cutter) (m : Move) (tri : Tri) → IsCutter cutter → IsLiftedMove m → TriInRange tri → IsOutOfReach cutter m tri → Passes cutter m tri
+lifted_out_of_reach cutter m tri ok ranged inside out = elim out [
   | inl apart ↦ elim (far_or_near cutter m tri ok ranged inside) [
-    | inl far ↦ far_passes cutter m tri ok ranged far
+    | inl far ↦ lifted_far_passes cutter m tri ok ranged far
     | inr meet ↦ absurd (apart meet)
   ]
   | inr low ↦ low_passes cutter m tri ok ranged low
 ]
+
+pub out_of_reach_passes : OutOfReachPasses
+out_of_reach_passes cutter m tri ok range = lifted_out_of_reach cutter m tri ok (in_lift m range)

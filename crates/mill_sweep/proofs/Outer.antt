@@ -9,17 +9,21 @@ use Rattle.mill_base.proofs.Integers.{mul_nonneg-ℤ}
 use Rattle.mill_base.specs.Numbers.{square, ceil_div}
 use Rattle.mill_base.specs.Points.{minus, times}
 use Rattle.mill_base.specs.Motion.{tip_at}
+use Rattle.mill_base.specs.Contact.{Holds}
 use Rattle.mill_base.specs.Cutters.{InFlat, InBall, InCone}
-use Rattle.mill_base.specs.Ranges.{MoveInRange}
+use Rattle.mill_base.specs.Sizes.{IsWideCutter, outer}
 use Rattle.mill_base.specs.declared.points.Pt3.{Pt3}
 use Rattle.mill_base.specs.declared.motion.Move.{Move}
+use Rattle.mill_base.specs.declared.cutter.Cutter.{Cutter}
 use Rattle.mill_base.specs.declared.cutter.Cutter.TheVariants.{Flat, Ball, Cone}
-use Rattle.mill_sweep.specs.Leaves.{middle_of, farther_of, lower_of, diagonal_of, reach_of, zlow_of, IsMomentOf}
+use Rattle.mill_sweep.specs.Lifted.{IsLiftedMove}
+use Rattle.mill_sweep.specs.Leaves.{middle_of, farther_of, lower_of, depth_of, diagonal_of, reach_of, zlow_of, span_of, outer_tip, IsMomentOf}
 use Rattle.mill_sweep.specs.Moments.{OuterHolds}
 use Rattle.mill_sweep.proofs.Spans.{diagonal_root, ends_near, farther_within, lower_first, lower_last}
 use Rattle.mill_sweep.proofs.LeafCerts.{leaf_high, leaf_low, leaf_over, scale_down, scale_down_le, box_sq, reach_sq, scaled_sq, product_3, product_pos}
 use Rattle.mill_sweep.proofs.OuterCerts.{sum_lt, dot_le, near_form, near_unscale, flat_over, ball_top, ball_top_out, ball_deep, ball_sum, ball_unscale, cone_first, cone_reach, cone_over, cone_up, cone_unscale}
 use Rattle.mill_sweep.specs.Widths.{longest}
+use Rattle.mill_sweep.proofs.Lifting.{in_lift}
 
 some : (n : ℕ) → 0 < n → (pos 0) <ℤ pos n
 some n h = omega (arith, ints)
@@ -59,7 +63,7 @@ reach_covers ex ey hx hy = by (ex * ex + ey * ey) (diagonal_of ex ey) (diagonal_
     by a r h = omega (arith, ints)
 
 -- so at each moment the tip is at most reach from the middle, here in the denominator of a point
-pub shift_square : (move : Move) (d j : ℕ) (k m n : ℤ) → MoveInRange move → j < 2 ^ d → IsMomentOf d j k m
+pub shift_square : (move : Move) (d j : ℕ) (k m n : ℤ) → IsLiftedMove move → j < 2 ^ d → IsMomentOf d j k m
     → (square (n *ℤ (tip_of move.from.x move.to.x k m -ℤ m *ℤ middle_of move.from.x move.to.x d j)) +ℤ square (n *ℤ (tip_of move.from.y move.to.y k m -ℤ m *ℤ middle_of move.from.y move.to.y d j)))
     ≤ℤ square (n *ℤ (m *ℤ pos (reach_of move d j)))
 shift_square move d j k m n range less l =
@@ -156,14 +160,16 @@ shift_enough q a (pos b) h = ceil_div_high (q *ℤ a) b (omega (arith, ints))
 shift_enough q a (negsuc b) h = absurd (omega (arith, ints))
 
 -- every point inside the cutter at a moment of a leaf is inside the leaf's outer cutter
-pub outer_holds : OuterHolds
-outer_holds (Flat r) move d j k m n p cutter_ok range deep less l hn h =
+pub lifted_outer_holds : (cutter : Cutter) (move : Move) (d j : ℕ) (k m n : ℤ) (p : Pt3) → IsWideCutter cutter → IsLiftedMove move → d ≤ depth_of move → j < 2 ^ d
+    → IsMomentOf d j k m → (pos 0) <ℤ n → Holds cutter m (tip_at move k m) n p
+    → Holds (outer cutter (pos (reach_of move d j))) (pos 1) (outer_tip cutter (span_of move d j)) n p
+lifted_outer_holds (Flat r) move d j k m n p cutter_ok range deep less l hn h =
     outer_flat m n (pos (reach_of move d j)) p (tip_at move k m) (middle_of move.from.x move.to.x d j) (middle_of move.from.y move.to.y d j) (zlow_of move d j)
     l.some hn (natural (reach_of move d j)) (shift_square move d j k m n range less l) (low_over move.from.z move.to.z d j k m l) r (at_least r cutter_ok.least) h
-outer_holds (Ball r) move d j k m n p cutter_ok range deep less l hn h =
+lifted_outer_holds (Ball r) move d j k m n p cutter_ok range deep less l hn h =
     outer_ball m n (pos (reach_of move d j)) p (tip_at move k m) (middle_of move.from.x move.to.x d j) (middle_of move.from.y move.to.y d j) (zlow_of move d j)
     l.some hn (natural (reach_of move d j)) (shift_square move d j k m n range less l) (low_over move.from.z move.to.z d j k m l) r (at_least r cutter_ok.least) h
-outer_holds (Cone r a b) move d j k m n p cutter_ok range deep less l hn h =
+lifted_outer_holds (Cone r a b) move d j k m n p cutter_ok range deep less l hn h =
     outer_cone m n (pos (reach_of move d j)) p (tip_at move k m) (middle_of move.from.x move.to.x d j) (middle_of move.from.y move.to.y d j) (zlow_of move d j)
     l.some hn (natural (reach_of move d j)) (shift_square move d j k m n range less l) (low_over move.from.z move.to.z d j k m l)
     r a b (ceil_div (pos (reach_of move d j) *ℤ a) (nat_abs b))
@@ -171,3 +177,6 @@ outer_holds (Cone r a b) move d j k m n p cutter_ok range deep less l hn h =
     (shift_least (pos (reach_of move d j)) a (nat_abs b) (natural (reach_of move d j)) (at_least a cutter_ok.1.rise))
     (shift_enough (pos (reach_of move d j)) a b cutter_ok.1.run)
     h
+
+pub outer_holds : OuterHolds
+outer_holds cutter move d j k m n p cutter_ok range = lifted_outer_holds cutter move d j k m n p cutter_ok (in_lift move range)

@@ -1,26 +1,27 @@
 -- What is so of a leaf by its stretches in x and in y and by its lower end is so of the leaf.
-use Rattle.std.specs.Prelude.{◌≡◌, ℕ, ◌^◌, ◌<◌, ℤ, pos, ◌+ℤ◌, ◌≤ℤ◌}
+use Rattle.std.specs.Prelude.{◌≡◌, ℕ, ◌^◌, ◌<◌, ℤ, pos, ◌+ℤ◌, ◌-ℤ◌, ◌≤ℤ◌}
 use Rattle.std.proofs.Common.{inr, refl, ap, sym, subst, ◌∙◌, arith, w32}
 use Rattle.std.proofs.lemmas.Int.{ints}
 use Rattle.mill_base.proofs.Machine.{kept, stored}
-use Rattle.mill_base.specs.Numbers.{Within}
 use Rattle.mill_base.specs.Points.{highest}
-use Rattle.mill_base.specs.Ranges.{MoveInRange}
 use Rattle.mill_base.specs.Sizes.{IsCutter, radius_of}
 use Rattle.mill_base.specs.declared.points.Tri.{Tri}
 use Rattle.mill_base.specs.declared.motion.Move.{Move}
 use Rattle.mill_base.specs.declared.cutter.Cutter.{Cutter}
 use Rattle.mill_base.specs.declared.limits.TheConstants.{MAX_COORDINATE, MAX_LAST_REACH}
+use Rattle.mill_sweep.specs.Lifted.{IsLiftedMove, IsTipHeight}
 use Rattle.mill_sweep.specs.Apart.{LieApart}
-use Rattle.mill_sweep.specs.Leaves.{span_of, zlow_of, farther_of, diagonal_of, reach_of}
+use Rattle.mill_sweep.specs.Leaves.{span_of, lower_of, zlow_of, farther_of, diagonal_of, reach_of}
 use Rattle.mill_sweep.specs.Halving.{IsFreeSpan, IsSpan}
 use Rattle.mill_sweep.specs.Sweeps.{IsPrepared, IsStretchOf, PassesDown, span_at}
 use Rattle.mill_sweep.specs.declared.leaf.Span.{Span}
 use Rattle.mill_sweep.specs.declared.leaf_span.Stretch.{Stretch}
 use Rattle.mill_sweep.specs.declared.sweep.Prepared.{Prepared}
 use Rattle.mill_sweep.proofs.Besides.{beside_x_passes, beside_y_passes}
+use Rattle.mill_sweep.proofs.Far.{lower_least}
 use Rattle.mill_sweep.proofs.Firsts.{free_passes}
 use Rattle.mill_sweep.proofs.Spans.{middle_within, lower_within}
+use Rattle.mill_sweep.specs.Widths.{highest_tip}
 
 -- a span by its four numbers
 abbrev span_by : ℤ → ℤ → ℤ → ℤ → Span
@@ -38,9 +39,9 @@ span_is move d k x y z in_x in_y low = same_span _ _ _ _ _ _ _ _ in_x.middle in_
     reach e f m n p q = ap (λ (i : ℕ). pos (diagonal_of i f)) p ∙ ap (λ (i : ℕ). pos (diagonal_of m i)) q
 
 -- also where the code reads the lower end again from its width
-pub read_span : (move : Move) (d k : ℕ) (x y : Stretch) (z : ℤ) → IsStretchOf move.from.x move.to.x d k x → IsStretchOf move.from.y move.to.y d k y → z ≡ zlow_of move d k → Within MAX_COORDINATE z
+pub read_span : (move : Move) (d k : ℕ) (x y : Stretch) (z : ℤ) → IsStretchOf move.from.x move.to.x d k x → IsStretchOf move.from.y move.to.y d k y → z ≡ zlow_of move d k → IsTipHeight z
     → span_at x y (stored w32 z) ≡ span_of move d k
-read_span move d k x y z in_x in_y low ok = span_is move d k x y (stored w32 z) in_x in_y (kept w32 z MAX_COORDINATE ok.within refl ∙ low)
+read_span move d k x y z in_x in_y low ok = span_is move d k x y (stored w32 z) in_x in_y (kept w32 z highest_tip ok.within refl ∙ low)
 
 module _ (cutter : Cutter) (move : Move) (tri : Tri) (d k : ℕ) where
   -- a leaf of this span that is free passes
@@ -52,7 +53,7 @@ module _ (cutter : Cutter) (move : Move) (tri : Tri) (d k : ℕ) where
   under_down z e under = λ more deep. free_passes cutter move tri more d k (span_of move d k) refl (inr (subst (λ (l : ℤ). highest tri ≤ℤ l) e under))
 
   -- and one that the triangle lies far beside
-  module _ (cutter_ok : IsCutter cutter) (range : MoveInRange move) where
+  module _ (cutter_ok : IsCutter cutter) (range : IsLiftedMove move) where
     pub beside_x_down : (s : Stretch) → IsStretchOf move.from.x move.to.x d k s → LieApart ((radius_of cutter +ℤ pos MAX_LAST_REACH) +ℤ pos s.farther) s.middle s.middle tri.a.x tri.b.x tri.c.x → PassesDown cutter move tri d k
     beside_x_down s e far = λ more deep. beside_x_passes cutter move tri more d k cutter_ok range deep
         (subst (λ (m : ℤ). LieApart ((radius_of cutter +ℤ pos MAX_LAST_REACH) +ℤ pos (farther_of move.from.x move.to.x d k)) m m tri.a.x tri.b.x tri.c.x) e.middle (subst (λ (q : ℕ). LieApart ((radius_of cutter +ℤ pos MAX_LAST_REACH) +ℤ pos q) s.middle s.middle tri.a.x tri.b.x tri.c.x) e.farther far))
@@ -61,12 +62,19 @@ module _ (cutter : Cutter) (move : Move) (tri : Tri) (d k : ℕ) where
     beside_y_down s e far = λ more deep. beside_y_passes cutter move tri more d k cutter_ok range deep
         (subst (λ (m : ℤ). LieApart ((radius_of cutter +ℤ pos MAX_LAST_REACH) +ℤ pos (farther_of move.from.y move.to.y d k)) m m tri.a.y tri.b.y tri.c.y) e.middle (subst (λ (q : ℕ). LieApart ((radius_of cutter +ℤ pos MAX_LAST_REACH) +ℤ pos q) s.middle s.middle tri.a.y tri.b.y tri.c.y) e.farther far))
 
--- the span of a leaf of a move in range is in range
-pub span_in_range : (move : Move) (d k : ℕ) → MoveInRange move → k < 2 ^ d → IsSpan (span_of move d k)
+-- the lower end of a leaf is as high as a tip may be
+pub lower_height : (f t : ℤ) (d k : ℕ) → IsTipHeight f → IsTipHeight t → k < 2 ^ d → IsTipHeight (lower_of f t d k)
+lower_height f t d k f_ok t_ok inside = record {
+  least = lower_least f t (pos 0 -ℤ pos MAX_COORDINATE) d k inside f_ok.least t_ok.least;
+  within = lower_within f t d k highest_tip f_ok.within t_ok.within inside;
+}
+
+-- the span of a leaf of a tip's move is in range
+pub span_in_range : (move : Move) (d k : ℕ) → IsLiftedMove move → k < 2 ^ d → IsSpan (span_of move d k)
 span_in_range move d k range inside = record {
   x_ok = record { within = middle_within move.from.x move.to.x d k range.from_ok.x_ok.within range.to_ok.x_ok.within inside };
   y_ok = record { within = middle_within move.from.y move.to.y d k range.from_ok.y_ok.within range.to_ok.y_ok.within inside };
-  low_ok = record { within = lower_within move.from.z move.to.z d k range.from_ok.z_ok.within range.to_ok.z_ok.within inside };
+  low_ok = lower_height move.from.z move.to.z d k range.from_ok.z_ok range.to_ok.z_ok inside;
   reach_least = least (reach_of move d k);
 }
   where

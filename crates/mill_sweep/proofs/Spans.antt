@@ -14,7 +14,7 @@ use Rattle.mill_shape.proofs.RootLemmas.{ceil_root_agrees, ceil_root_is}
 use Rattle.mill_shape.specs.inner.Roots.{IsCeilRoot}
 use Rattle.mill_sweep.specs.Leaves.{end_of, middle_of, farther_of, lower_of, diagonal_of}
 use Rattle.mill_sweep.proofs.LeafCerts.{end_high, end_low}
-use Rattle.mill_sweep.specs.Widths.{longest, end_depth, farthest_end}
+use Rattle.mill_sweep.specs.Widths.{longest, end_depth, farthest_end, highest_end, highest_tip}
 
 -- twice as many parts one halving further
 pub parts_twice : (d : ℕ) → 2 ^ (d + 1) ≡ 2 * 2 ^ d
@@ -28,21 +28,36 @@ pub parts_most : (d : ℕ) → d ≤ end_depth → 2 ^ d ≤ 2 ^ end_depth
 parts_most d h = pow-le-pow_right {n = 2} (omega arith) {i = d} {j = end_depth} h
 
 -- so what is within as many times the bound is small
-pub end_small : (a d : ℕ) → d ≤ end_depth → a ≤ 2 ^ d * MAX_COORDINATE → a ≤ farthest_end
-end_small a d h within = let most : 2 ^ d * MAX_COORDINATE ≤ 2 ^ end_depth * MAX_COORDINATE = mul-le-mul (parts_most d h) (same MAX_COORDINATE) in omega arith
+end_small_by : (a d g : ℕ) → d ≤ end_depth → a ≤ 2 ^ d * g → a ≤ 2 ^ end_depth * g
+end_small_by a d g h within = let most : 2 ^ d * g ≤ 2 ^ end_depth * g = mul-le-mul (parts_most d h) (same g) in up _ _ _ within most
   where
     same : (x : ℕ) → x ≤ x
     same x = omega arith
 
+    up : (x y z : ℕ) → x ≤ y → y ≤ z → x ≤ z
+    up x y z p q = omega arith
+
+pub end_small : (a d : ℕ) → d ≤ end_depth → a ≤ 2 ^ d * MAX_COORDINATE → a ≤ farthest_end
+end_small a d h within = end_small_by a d MAX_COORDINATE h within
+
+pub tip_end_small : (a d : ℕ) → d ≤ end_depth → a ≤ 2 ^ d * highest_tip → a ≤ highest_end
+tip_end_small a d h within = end_small_by a d highest_tip h within
+
 -- an end is within as many times the bound as there are parts
-pub end_within : (f t : ℤ) (d k : ℕ) → nat_abs f ≤ MAX_COORDINATE → nat_abs t ≤ MAX_COORDINATE → k ≤ 2 ^ d → nat_abs (end_of f t d k) ≤ 2 ^ d * MAX_COORDINATE
-end_within f t d k hf ht hk =
-    by (end_of f t d k) (2 ^ d)
-    (end_high (pos (2 ^ d)) (pos k) f t (pos MAX_COORDINATE) (omega (arith, ints)) (omega (arith, ints)) (omega (arith, ints)) (omega (arith, ints)))
-    (end_low (pos (2 ^ d)) (pos k) f t (pos MAX_COORDINATE) (omega (arith, ints)) (omega (arith, ints)) (omega (arith, ints)) (omega (arith, ints)))
+end_within_by : (f t : ℤ) (d k g : ℕ) → nat_abs f ≤ g → nat_abs t ≤ g → k ≤ 2 ^ d → nat_abs (end_of f t d k) ≤ 2 ^ d * g
+end_within_by f t d k g hf ht hk =
+    by (end_of f t d k) (2 ^ d) g
+    (end_high (pos (2 ^ d)) (pos k) f t (pos g) (omega (arith, ints)) (omega (arith, ints)) (omega (arith, ints)) (omega (arith, ints)))
+    (end_low (pos (2 ^ d)) (pos k) f t (pos g) (omega (arith, ints)) (omega (arith, ints)) (omega (arith, ints)) (omega (arith, ints)))
   where
-    by : (e : ℤ) (n : ℕ) → e ≤ℤ (pos n *ℤ pos MAX_COORDINATE) → (pos 0 -ℤ e) ≤ℤ (pos n *ℤ pos MAX_COORDINATE) → nat_abs e ≤ n * MAX_COORDINATE
-    by e n p q = omega (arith, ints)
+    by : (e : ℤ) (n g : ℕ) → e ≤ℤ (pos n *ℤ pos g) → (pos 0 -ℤ e) ≤ℤ (pos n *ℤ pos g) → nat_abs e ≤ n * g
+    by e n g p q = omega (arith, ints)
+
+pub end_within : (f t : ℤ) (d k : ℕ) → nat_abs f ≤ MAX_COORDINATE → nat_abs t ≤ MAX_COORDINATE → k ≤ 2 ^ d → nat_abs (end_of f t d k) ≤ 2 ^ d * MAX_COORDINATE
+end_within f t d k hf ht hk = end_within_by f t d k MAX_COORDINATE hf ht hk
+
+pub tip_end_within : (f t : ℤ) (d k : ℕ) → nat_abs f ≤ highest_tip → nat_abs t ≤ highest_tip → k ≤ 2 ^ d → nat_abs (end_of f t d k) ≤ 2 ^ d * highest_tip
+tip_end_within f t d k hf ht hk = end_within_by f t d k highest_tip hf ht hk
 
 -- and so is the sum of two, so the middle is within the bound
 pub sum_within : (a b : ℤ) (d : ℕ) → nat_abs a ≤ 2 ^ d * MAX_COORDINATE → nat_abs b ≤ 2 ^ d * MAX_COORDINATE → nat_abs (a +ℤ b) ≤ 2 ^ (d + 1) * MAX_COORDINATE
@@ -109,10 +124,10 @@ lesser_within a b m p q = by (int_lt b a)
     by true = q
     by false = p
 
-pub lower_within : (f t : ℤ) (d k : ℕ) → nat_abs f ≤ MAX_COORDINATE → nat_abs t ≤ MAX_COORDINATE → k < 2 ^ d → nat_abs (lower_of f t d k) ≤ MAX_COORDINATE
-lower_within f t d k hf ht hk =
-    quotient_within (lesser (end_of f t d k) (end_of f t d (k + 1))) (2 ^ d) MAX_COORDINATE (pow_pos d)
-    (lesser_within (end_of f t d k) (end_of f t d (k + 1)) (2 ^ d * MAX_COORDINATE) (end_within f t d k hf ht (omega arith)) (end_within f t d (k + 1) hf ht (omega arith)))
+pub lower_within : (f t : ℤ) (d k g : ℕ) → nat_abs f ≤ g → nat_abs t ≤ g → k < 2 ^ d → nat_abs (lower_of f t d k) ≤ g
+lower_within f t d k g hf ht hk =
+    quotient_within (lesser (end_of f t d k) (end_of f t d (k + 1))) (2 ^ d) g (pow_pos d)
+    (lesser_within (end_of f t d k) (end_of f t d (k + 1)) (2 ^ d * g) (end_within_by f t d k g hf ht (omega arith)) (end_within_by f t d (k + 1) g hf ht (omega arith)))
 
 -- both ends are at most farther from the middle, over the parts
 pub record AreNear (n e a b : ℤ) : Type 0 where

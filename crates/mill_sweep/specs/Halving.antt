@@ -11,6 +11,7 @@ use Rattle.mill_base.specs.declared.motion.Move.{Move}
 use Rattle.mill_base.specs.declared.cutter.Cutter.{Cutter}
 use Rattle.mill_sweep.specs.Leaves.{depth_of, span_of, reach_of, zlow_of, outer_tip}
 use Rattle.mill_sweep.specs.Apart.{LieApart}
+use Rattle.mill_sweep.specs.Lifted.{IsTipHeight}
 use Rattle.mill_sweep.specs.declared.leaf.Leaf.{Leaf}
 use Rattle.mill_sweep.specs.declared.leaf.Span.{Span}
 
@@ -54,11 +55,11 @@ pub record FailsUnder (cutter : Cutter) (m : Move) (tri : Tri) (more d k : ℕ) 
   pub leads : LeadsTo cutter m tri more d k leaf
   pub blocked : Blocks cutter (span_of m leaf.d leaf.k) tri
 
--- a span of a leaf of a move in range: its numbers are in range
+-- a span of a leaf of a tip's move: its numbers are in range, and its lower end as high as a tip may be
 pub record IsSpan (s : Span) : Type 0 where
   pub x_ok : Within MAX_COORDINATE s.x
   pub y_ok : Within MAX_COORDINATE s.y
-  pub low_ok : Within MAX_COORDINATE s.zlow
+  pub low_ok : IsTipHeight s.zlow
   pub reach_least : (pos 0) ≤ℤ s.reach
 
 -- a leaf of this span passes by itself

@@ -1,8 +1,10 @@
 pub mod Widths
 pub mod Apart
 pub mod Leaves
+pub mod Lifted
 pub mod Halving
 pub mod Sweeps
 pub mod Moments
 pub mod Vertical
 pub mod Reach
+pub mod Holders

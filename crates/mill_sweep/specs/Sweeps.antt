@@ -2,27 +2,27 @@
 use Rattle.std.specs.Prelude.{◌≡◌, ℕ, ◌+◌, ◌≤◌, ℤ, pos}
 use Rattle.mill_base.specs.Numbers.{Within}
 use Rattle.mill_base.specs.declared.limits.TheConstants.{MAX_COORDINATE}
-use Rattle.mill_base.specs.Ranges.{MoveInRange}
 use Rattle.mill_base.specs.Sizes.{IsCutter}
 use Rattle.mill_base.specs.declared.points.Tri.{Tri}
 use Rattle.mill_base.specs.declared.motion.Move.{Move}
 use Rattle.mill_base.specs.declared.cutter.Cutter.{Cutter}
 use Rattle.mill_sweep.specs.Leaves.{depth_of, span_of, middle_of, farther_of, diagonal_of}
 use Rattle.mill_sweep.specs.Halving.{LeafPasses}
+use Rattle.mill_sweep.specs.Lifted.{IsLiftedMove}
 use Rattle.mill_sweep.specs.declared.leaf.Span.{Span}
 use Rattle.mill_sweep.specs.declared.leaf_span.Stretch.{Stretch}
 use Rattle.mill_sweep.specs.declared.sweep.Prepared.{Prepared}
 use Rattle.mill_sweep.specs.Widths.{longest}
 
--- a cutter on a move
+-- a cutter on a move, or a holder's solid on the move of its own tip
 pub record Swept : Type 0 where
   pub cutter : Cutter
   pub move : Move
 
--- a job's cutter and a move in range, with the move's depth and where the whole of it lies
+-- a job's cutter, or a holder's solid, and a move of its tip, with the move's depth and where the whole of it lies
 pub record IsPrepared (p : Prepared) : Type 0 where
   pub cutter_ok : IsCutter p.cutter
-  pub move_ok : MoveInRange p.step
+  pub move_ok : IsLiftedMove p.step
   pub depth_is : p.depth ≡ depth_of p.step
   pub whole_is : p.whole ≡ span_of p.step 0 0
 

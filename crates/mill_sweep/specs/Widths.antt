@@ -13,3 +13,11 @@ end_depth = MAX_DEPTH + 1
 -- how far from 0 an end is, over its parts
 abbrev pub farthest_end : ℕ
 farthest_end = 2 ^ end_depth * MAX_COORDINATE
+
+-- how far from 0 the tip of a holder is in z: over the cutter's tip by at most as much as a coordinate
+abbrev pub highest_tip : ℕ
+highest_tip = 2 * MAX_COORDINATE
+
+-- how far from 0 an end of a leaf in z is, over its parts
+abbrev pub highest_end : ℕ
+highest_end = 2 ^ end_depth * highest_tip

@@ -5,6 +5,7 @@ ghost use Rattle.mill_base.specs.Sizes.{IsCutter};
 ghost use Rattle.mill_base.specs.declared.limits.TheConstants.{MAX_REACH, MAX_DEPTH};
 ghost use Rattle.mill_sweep.specs.Halving.{Blocks, FailsAt, FailsUnder, IsFreeSpan, LeafPasses, Passes, PassesPoint};
 ghost use Rattle.mill_sweep.specs.Leaves.{depth_of, span_of};
+ghost use Rattle.mill_sweep.specs.Lifted.{IsLiftedMove};
 ghost use Rattle.mill_sweep.specs.Sweeps.{IsPrepared, PassesDown};
 
 use crate::beside::{is_beside_in_x, is_beside_in_y, is_beside_move};
@@ -52,6 +53,16 @@ pub fn first_block(cutter: Cutter, step: &Move, tri: &Tri) -> Option<Leaf>
     requires tri_ok { TriInRange tri.now }
     ensures { MatchOption result (Passes cutter step.now tri.now) (λ leaf. FailsAt cutter step.now tri.now leaf × Blocks cutter (span_of step.now leaf.d leaf.k) tri.now) }
 {
+    first_of_tip(cutter, step, tri)
+}
+
+/// The same of a move of a tip that may be a holder's.
+pub(crate) fn first_of_tip(cutter: Cutter, step: &Move, tri: &Tri) -> Option<Leaf>
+    requires cutter_ok { IsCutter cutter }
+    requires move_ok { IsLiftedMove step.now }
+    requires tri_ok { TriInRange tri.now }
+    ensures { MatchOption result (Passes cutter step.now tri.now) (λ leaf. FailsAt cutter step.now tri.now leaf × Blocks cutter (span_of step.now leaf.d leaf.k) tri.now) }
+{
     if is_far(cutter, step, tri) {
         return None;
     }
@@ -84,7 +95,7 @@ pub(crate) fn first_on(prepared: &Prepared, tri: &Tri) -> Option<Leaf>
 /// then the move passes it.
 fn is_far(cutter: Cutter, step: &Move, tri: &Tri) -> bool
     requires cutter_ok { IsCutter cutter }
-    requires move_ok { MoveInRange step.now }
+    requires move_ok { IsLiftedMove step.now }
     ensures { IsTrue result → Passes cutter step.now tri.now }
 {
     if is_no_higher(tri, step.from.z.min(step.to.z)) {
@@ -146,7 +157,7 @@ fn is_passed(prepared: &Prepared, tri: &Tri, leaf: Leaf) -> bool
 /// What takes the least is tried first: its lower end, then where it lies in x, and then in y.
 fn is_segment_passed(cutter: Cutter, step: &Move, tri: &Tri, leaf: Leaf) -> bool
     requires cutter_ok { IsCutter cutter }
-    requires move_ok { MoveInRange step.now }
+    requires move_ok { IsLiftedMove step.now }
     requires tri_ok { TriInRange tri.now }
     requires d_ok { leaf.d ≤ depth_of step.now }
     requires k_ok { leaf.k < 2 ^ leaf.d }

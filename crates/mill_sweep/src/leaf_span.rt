@@ -4,9 +4,10 @@ ghost use Rattle.mill_base.specs.Numbers.{floor_div, round_half_up, lesser, With
 ghost use Rattle.mill_base.specs.declared.limits.TheConstants.{MAX_COORDINATE, MAX_DEPTH};
 ghost use Rattle.mill_base.specs.Ranges.{MoveInRange};
 ghost use Rattle.mill_sweep.specs.Halving.{IsSpan};
+ghost use Rattle.mill_sweep.specs.Lifted.{IsTipHeight, IsLiftedMove};
 ghost use Rattle.mill_sweep.specs.Leaves.{depth_of, span_of, lower_of, zlow_of};
 ghost use Rattle.mill_sweep.specs.Sweeps.{IsStretch, IsStretchOf, span_at};
-ghost use Rattle.mill_sweep.specs.Widths.{longest};
+ghost use Rattle.mill_sweep.specs.Widths.{longest, highest_tip};
 
 use crate::diagonal::diagonal;
 use crate::ends::{Ends, ends_of, nearest, weighed};
@@ -25,6 +26,18 @@ pub fn span(step: &Move, leaf: Leaf) -> Span
     ensures reach_most { result.reach ≤ℤ pos (2 * longest) }
     ensures zlow_ok { Within MAX_COORDINATE result.zlow }
 {
+    span_of_tip(step, leaf)
+}
+
+/// The same of a move of a tip that may be a holder's.
+pub(crate) fn span_of_tip(step: &Move, leaf: Leaf) -> Span
+    requires move_ok { IsLiftedMove step.now }
+    requires d_ok { leaf.d ≤ depth_of step.now }
+    requires k_ok { leaf.k < 2 ^ leaf.d }
+    ensures value { result ≡ span_of step.now leaf.d leaf.k }
+    ensures span { IsSpan result }
+    ensures reach_most { result.reach ≤ℤ pos (2 * longest) }
+{
     span_by(
         stretch_in_x(step, leaf),
         stretch_in_y(step, leaf),
@@ -36,7 +49,7 @@ pub fn span(step: &Move, leaf: Leaf) -> Span
 pub(crate) fn span_by(x: Stretch, y: Stretch, zlow: i32) -> Span
     requires x_ok { IsStretch x }
     requires y_ok { IsStretch y }
-    requires zlow_ok { Within MAX_COORDINATE zlow }
+    requires zlow_ok { IsTipHeight zlow }
     ensures value { result ≡ span_at x y zlow }
     ensures span { IsSpan result }
     ensures reach_most { result.reach ≤ℤ pos (2 * longest) }
@@ -58,7 +71,7 @@ pub(crate) struct Stretch {
 
 /// The leaf of the move in x.
 pub(crate) fn stretch_in_x(step: &Move, leaf: Leaf) -> Stretch
-    requires move_ok { MoveInRange step.now }
+    requires move_ok { IsLiftedMove step.now }
     requires d_ok { leaf.d ≤ depth_of step.now }
     requires k_ok { leaf.k < 2 ^ leaf.d }
     ensures value { IsStretchOf step.now.from.x step.now.to.x leaf.d leaf.k result }
@@ -69,7 +82,7 @@ pub(crate) fn stretch_in_x(step: &Move, leaf: Leaf) -> Stretch
 
 /// The leaf of the move in y.
 pub(crate) fn stretch_in_y(step: &Move, leaf: Leaf) -> Stretch
-    requires move_ok { MoveInRange step.now }
+    requires move_ok { IsLiftedMove step.now }
     requires d_ok { leaf.d ≤ depth_of step.now }
     requires k_ok { leaf.k < 2 ^ leaf.d }
     ensures value { IsStretchOf step.now.from.y step.now.to.y leaf.d leaf.k result }
@@ -80,11 +93,11 @@ pub(crate) fn stretch_in_y(step: &Move, leaf: Leaf) -> Stretch
 
 /// The height of the leaf's lower end, rounded down.
 pub(crate) fn low_end(step: &Move, leaf: Leaf) -> i32
-    requires move_ok { MoveInRange step.now }
+    requires move_ok { IsLiftedMove step.now }
     requires d_ok { leaf.d ≤ depth_of step.now }
     requires k_ok { leaf.k < 2 ^ leaf.d }
     ensures value { result ≡ zlow_of step.now leaf.d leaf.k }
-    ensures bound { Within MAX_COORDINATE result }
+    ensures bound { IsTipHeight result }
 {
     lower_end(step.from.z, step.to.z, leaf)
 }
@@ -161,12 +174,12 @@ fn parts_up(length: u64, d: u32) -> u64
 
 /// The lower end of the leaf along one axis, rounded down.
 fn lower_end(from: i32, to: i32, leaf: Leaf) -> i32
-    requires from_ok { Within MAX_COORDINATE from }
-    requires to_ok { Within MAX_COORDINATE to }
+    requires from_ok { IsTipHeight from }
+    requires to_ok { IsTipHeight to }
     requires d_ok { leaf.d ≤ MAX_DEPTH }
     requires k_ok { leaf.k < 2 ^ leaf.d }
     ensures value { result ≡ lower_of from to leaf.d leaf.k }
-    ensures bound { Within MAX_COORDINATE result }
+    ensures bound { IsTipHeight result }
 {
     if from == to {
         return from;
@@ -176,11 +189,11 @@ fn lower_end(from: i32, to: i32, leaf: Leaf) -> i32
 
 /// The lower of two ends, which are given times 2^d, rounded down.
 fn lower_of_ends(ends: Ends, d: u32) -> i32
-    requires first_ok { nat_abs ends.first ≤ 2 ^ d * MAX_COORDINATE }
-    requires last_ok { nat_abs ends.last ≤ 2 ^ d * MAX_COORDINATE }
+    requires first_ok { nat_abs ends.first ≤ 2 ^ d * highest_tip }
+    requires last_ok { nat_abs ends.last ≤ 2 ^ d * highest_tip }
     requires d_ok { d ≤ MAX_DEPTH }
     ensures value { result ≡ floor_div (lesser ends.first ends.last) (2 ^ d) }
-    ensures bound { Within MAX_COORDINATE result }
+    ensures bound { Within highest_tip result }
 {
     (ends.first.min(ends.last) >> d) as i32
 }

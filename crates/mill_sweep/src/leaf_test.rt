@@ -1,12 +1,12 @@
 ghost use Rattle.std.specs.Prelude.{◌≡◌, ◌≤ℤ◌, ◌<ℤ◌, pos, false, IsTrue};
 ghost use Rattle.mill_base.specs.Contact.{Touches};
-ghost use Rattle.mill_base.specs.Numbers.{Within};
-ghost use Rattle.mill_base.specs.declared.limits.TheConstants.{MAX_COORDINATE, MAX_REACH};
+ghost use Rattle.mill_base.specs.declared.limits.TheConstants.{MAX_REACH};
 ghost use Rattle.mill_base.specs.Points.{highest as highest_of};
 ghost use Rattle.mill_base.specs.Ranges.{TriInRange};
 ghost use Rattle.mill_base.specs.Sizes.{IsCutter, outer};
 ghost use Rattle.mill_sweep.specs.Halving.{Blocks, IsFreeSpan, IsSpan};
 ghost use Rattle.mill_sweep.specs.Leaves.{outer_tip};
+ghost use Rattle.mill_sweep.specs.Lifted.{IsTipHeight};
 ghost use Rattle.mill_sweep.specs.Sweeps.{IsStretch, span_at};
 
 use crate::contact::holds_some;
@@ -50,7 +50,7 @@ pub(crate) fn is_free_by(cutter: Cutter, x: Stretch, y: Stretch, zlow: i32, tri:
     requires cutter_ok { IsCutter cutter }
     requires x_ok { IsStretch x }
     requires y_ok { IsStretch y }
-    requires zlow_ok { Within MAX_COORDINATE zlow }
+    requires zlow_ok { IsTipHeight zlow }
     requires tri_ok { TriInRange tri.now }
     requires higher { zlow <ℤ highest_of tri.now }
     ensures yes { IsTrue result → IsFreeSpan cutter (span_at x y zlow) tri.now }
@@ -63,12 +63,16 @@ pub(crate) fn is_free_by(cutter: Cutter, x: Stretch, y: Stretch, zlow: i32, tri:
     is_free(cutter, span_by(x, y, zlow), tri)
 }
 
-/// Whether some point of the triangle is strictly inside the outer cutter of a leaf.
+/// Whether some point of the triangle is strictly inside the outer cutter of a leaf, where a corner
+/// of the triangle is higher than it.
+///
+/// So the leaf is in range, though the tip may be a holder's and leave the range upward.
 fn outer_holds_some(cutter: Cutter, span: Span, tri: &Tri) -> bool
     requires cutter_ok { IsCutter cutter }
     requires span_ok { IsSpan span }
     requires reach_most { span.reach ≤ℤ pos MAX_REACH }
     requires tri_ok { TriInRange tri.now }
+    requires higher { span.zlow <ℤ highest_of tri.now }
     ensures yes { IsTrue result → Touches (outer cutter span.reach) (pos 1) (outer_tip cutter span) tri.now }
     ensures no { result ≡ false → ¬ Touches (outer cutter span.reach) (pos 1) (outer_tip cutter span) tri.now }
 {

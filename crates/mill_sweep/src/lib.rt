@@ -4,10 +4,11 @@
 //! meet. Definitions: `specs/Leaves` says what the leaves of a move are and where they lie,
 //! `specs/Halving` which moves pass and which leaf of another move fails, `specs/Apart` when a
 //! triangle lies beside a move or under it, `specs/Reach` in which box and over which height each
-//! triangle comes that a move doesn't pass, `specs/Moments` what passing implies at each moment, and
-//! `specs/Vertical` what a move straight up or down passes. `passes_tri` decides whether a move
-//! passes, and `first_block` names its failing leaf. A `Sweep` does so for many triangles and one
-//! move. `reach_box` says which triangles need to be tried at all.
+//! triangle comes that a move doesn't pass, `specs/Moments` what passing implies at each moment,
+//! `specs/Vertical` what a move straight up or down passes, and `specs/Holders` what a cutter's holder
+//! passes, which is a solid of its own on the move higher by the stickout. `passes_tri` decides whether a move
+//! passes, and `first_block` names its failing leaf; `holder_passes_tri` and `holder_block` do so of the
+//! holder. A `Sweep` does so for many triangles and one move. `reach_box` says which triangles need to be tried at all.
 #![tactic(auto)]
 
 mod beside;
@@ -16,6 +17,7 @@ mod diagonal;
 mod ends;
 mod gap;
 mod halving;
+mod holder;
 mod leaf;
 mod leaf_span;
 mod leaf_test;
@@ -27,6 +29,10 @@ mod sweep;
 pub use contact::{holds_some, touch};
 pub use ends::{end_at, nearest};
 pub use halving::{first_block, first_block_point, passes_point, passes_tri};
+pub use holder::{
+    holder_block, holder_failing_is_blocked, holder_is_clear, holder_keeps_point,
+    holder_out_of_reach_passes, holder_passes_point, holder_passes_tri,
+};
 pub use leaf::{Leaf, Span};
 pub use leaf_span::span;
 pub use moments::{

@@ -3,17 +3,22 @@ ghost use Rattle.mill_base.specs.Points.{point_tri};
 ghost use Rattle.mill_base.specs.Ranges.{IsInRange, MoveInRange, TriInRange};
 ghost use Rattle.mill_base.specs.Sizes.{IsCutter};
 ghost use Rattle.mill_sweep.specs.Halving.{Blocks, FailsAt, Passes, PassesPoint};
+ghost use Rattle.mill_base.specs.Tools.{IsHolder, solid_of};
+ghost use Rattle.mill_sweep.specs.Holders.{lifted};
 ghost use Rattle.mill_sweep.specs.Leaves.{span_of};
+ghost use Rattle.mill_sweep.specs.Lifted.{IsLiftedMove};
 ghost use Rattle.mill_sweep.specs.Sweeps.{IsPrepared};
 
 use crate::halving::{first_on, triangle_at};
+use crate::holder::lift;
 use crate::leaf::{Leaf, Span};
-use crate::leaf_span::span;
+use crate::leaf_span::span_of_tip;
 use crate::move_depth::depth;
-use mill_base::{Cutter, Move, Pt3, Tri};
+use mill_base::{Cutter, Holder, Move, Pt3, Tri};
 use std::marker::Model;
 
-/// A cutter and a move of it, made ready to be tried against many triangles.
+/// A cutter and a move of it, or a holder's solid and the move of its own tip, made ready to be tried
+/// against many triangles.
 ///
 /// A contract sees the two.
 #[derive(Drop)]
@@ -40,6 +45,17 @@ impl Sweep {
     {
         Sweep {
             prepared: prepare(cutter, step),
+        }
+    }
+
+    /// The holder on the move of the cutter under it: its solid, on the move of its own tip.
+    pub fn of_holder(holder: &Holder, step: &Move) -> Sweep
+        requires holder_ok { IsHolder holder.now }
+        requires move_ok { MoveInRange step.now }
+        ensures { result ≡ record { cutter = solid_of holder.now; move = lifted holder.now step.now } }
+    {
+        Sweep {
+            prepared: prepare(holder.solid(), &lift(holder, step)),
         }
     }
 
@@ -73,7 +89,7 @@ pub(crate) struct Prepared {
 /// The cutter and the move, with what their tests have in common.
 pub(crate) fn prepare(cutter: Cutter, step: &Move) -> Prepared
     requires cutter_ok { IsCutter cutter }
-    requires move_ok { MoveInRange step.now }
+    requires move_ok { IsLiftedMove step.now }
     ensures prepared { IsPrepared result }
     ensures cutter { result.cutter ≡ cutter }
     ensures step { result.step ≡ step.now }
@@ -82,6 +98,6 @@ pub(crate) fn prepare(cutter: Cutter, step: &Move) -> Prepared
         cutter,
         step: *step,
         depth: depth(step),
-        whole: span(step, Leaf { d: 0, k: 0 }),
+        whole: span_of_tip(step, Leaf { d: 0, k: 0 }),
     }
 }

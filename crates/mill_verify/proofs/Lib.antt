@@ -13,5 +13,4 @@ mod Scanning
 mod Sharing
 mod Gathered
 mod Tested
-mod Repeats
 pub mod Named

@@ -108,6 +108,3 @@ impl Block {
         true
     }
 }
-
-#[cfg(test)]
-mod tests;

@@ -21,13 +21,11 @@ mod left;
 mod piece;
 mod program;
 mod stock;
-#[cfg(test)]
-mod test_shape;
 mod verdict;
 mod work;
 
 pub use block::Block;
 pub use laws::one_verdict;
 pub use mill_board::{Gate, NoGate};
-pub use program::{verify, verify_with, verify_with_cells};
+pub use program::{verdict_on_stock, verify, verify_with, verify_with_cells};
 pub use verdict::{Reason, Verdict};

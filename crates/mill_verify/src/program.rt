@@ -160,6 +160,40 @@ pub fn verify_with_cells<R: Threads + Sync>(
     tested(rt, alloc, NoGate, job, part, cells, moves, workers)
 }
 
+/// The verdict of [`verify`] on a program all of whose moves are good, by the rows of the stock that its
+/// moves made.
+///
+/// It is for a program that was made so: for each move it must be known, by proof, that it passes tests
+/// (i) to (iii) after those before it (`good`), and the rows must be those that all the moves leave
+/// (`rows_ok`). Then no move can be the first that fails, and only test (iv) is left, which the rows
+/// decide; so no move is tested again, and none cuts again. Nothing of this is looked at here: a caller
+/// that hasn't proved it takes `verify`.
+///
+/// The cells are those of the part's triangles. The columns are shared by `workers` threads, up to 64, on
+/// whose number the verdict doesn't depend. No memory is taken.
+pub fn verdict_on_stock<R: Threads + Sync>(
+    rt: &R,
+    job: &Job,
+    part: &Part,
+    cells: &Cells,
+    moves: &[Move],
+    rows: &[Row],
+    workers: u32,
+) -> Verdict
+    requires job_ok { IsJob job.now }
+    requires cells_ok { cells.now ≡ sorted_of part.now }
+    requires moves_ok { MovesInRange moves.now }
+    requires good { GoodBefore job.now part.now moves.now (length moves.now) }
+    requires rows_ok { IsStock job.now moves.now rows.now }
+    requires few_workers { workers ≤ MAX_WORKERS }
+    ensures verdict { IsVerdict job.now part.now moves.now result }
+    ensures safe { (count columns : ℕ) (left : ℤ)
+        → result ≡ Verdict.Accept count columns left
+        → CutsSafely job.now part.now moves.now }
+{
+    last_verdict(rt, job, part, cells, moves, rows, workers)
+}
+
 /// The verdict, where each test of a move passes this gate first, by cells that the part's triangles are
 /// sorted into.
 ///
@@ -272,6 +306,3 @@ fn last_verdict<R: Threads + Sync>(
         }),
     }
 }
-
-#[cfg(test)]
-mod tests;

@@ -96,8 +96,26 @@ fn word_end(line: &[u8], place: usize) -> Option<usize>
     None
 }
 
-// Behind the blank at a place, if one stands there.
+// Behind the blank at a place, if one stands there. Mostly that is a space, or the line ends there.
 fn behind_blank(line: &[u8], place: usize) -> usize
+    requires within { place ≤ length line.now }
+    ensures same { (s : Stage) (l : Line) → rest_of Outside s l line.now place ≡ rest_of Outside s l line.now result }
+    ensures forward { place ≤ result }
+    ensures within { result ≤ length line.now }
+{
+    if has_byte(line, place, b' ') {
+        return place + 1;
+    }
+    if place == line.len() {
+        return place;
+    }
+    behind_any_blank(line, place)
+}
+
+// The same of any blank. It is kept apart, so that the compiler branches where a space stands: the
+// place behind a word is known sooner then than by a sum.
+#[inline(never)]
+fn behind_any_blank(line: &[u8], place: usize) -> usize
     requires within { place ≤ length line.now }
     ensures same { (s : Stage) (l : Line) → rest_of Outside s l line.now place ≡ rest_of Outside s l line.now result }
     ensures forward { place ≤ result }

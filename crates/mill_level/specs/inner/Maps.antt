@@ -2,7 +2,7 @@
 use Rattle.std.specs.Prelude.{◌≡◌, ℕ, ◌+◌, ◌*◌, ◌≤◌, ◌<◌, true, if◌then◌else◌, ℤ, pos, List, length, slice_index_or}
 use Rattle.mill_base.specs.declared.limits.TheConstants.{MAX_NODES}
 use Rattle.mill_base.specs.declared.points.Tri.{Tri}
-use Rattle.mill_base.specs.declared.cutter.Cutter.{Cutter}
+use Rattle.mill_base.specs.declared.tool.Tool.{Tool}
 use Rattle.mill_base.specs.declared.lattice.Lattice.{Lattice}
 use Rattle.mill_level.specs.declared.edge.Edge.{Edge}
 use Rattle.mill_level.specs.declared.grid.LevelMap.{LevelMap}
@@ -37,7 +37,7 @@ pub record IsSized (map : LevelMap) : Type 0 where
   pub places : length map.places.items ≡ 2 * (map.columns * map.rows)
 
 -- it tells which nodes are blocked, and has each crossing at its place
-pub record IsMapOf (cutter : Cutter) (part : List Tri) (z : ℤ) (lattice : Lattice) (map : LevelMap) : Type 0 where
+pub record IsMapOf (tool : Tool) (part : List Tri) (z : ℤ) (lattice : Lattice) (map : LevelMap) : Type 0 where
   pub sized : IsSized map
-  pub tells : TellsBlocked cutter part z lattice (grid_of map)
-  pub places : (e : Edge) → is_crossing (grid_of map) e ≡ true → HasLastFree cutter part z lattice (grid_of map) (crossing_at map e)
+  pub tells : TellsBlocked tool part z lattice (grid_of map)
+  pub places : (e : Edge) → is_crossing (grid_of map) e ≡ true → HasLastFree tool part z lattice (grid_of map) (crossing_at map e)

@@ -1,10 +1,6 @@
 -- Lists of runs that may overlap.
 use Rattle.std.specs.Prelude.{◌↔◌, ℕ, ◌<◌, ◌≤◌, ℤ, ◌≤ℤ◌, List, length, slice_index_or, Contains}
-use Rattle.mill_base.specs.declared.points.Tri.{Tri}
-use Rattle.mill_base.specs.declared.cutter.Cutter.{Cutter}
-use Rattle.mill_push.specs.declared.fiber.Fiber.{Fiber}
 use Rattle.mill_push.specs.declared.fiber.Run.{Run}
-use Rattle.mill_push.specs.Fibers.{IsBlocked}
 use Rattle.mill_push.specs.Runs.{StandsIn}
 
 -- the run has a position, and lies from `from` to `to`
@@ -22,6 +18,6 @@ abbrev pub AreOrdered : List Run → Type 0
 AreOrdered runs = (i j : ℕ) (other : Run) → i ≤ j → j < length runs → (slice_index_or runs i other).first ≤ℤ (slice_index_or runs j other).first
 
 -- each run of the list has a position from `from` to `to`, and the positions there that are blocked are those that stand in a run of the list
-pub record AreStretches (cutter : Cutter) (part : List Tri) (fiber : Fiber) (from to : ℤ) (runs : List Run) : Type 0 where
+pub record AreStretches (Blocked : ℤ → Type 0) (from to : ℤ) (runs : List Run) : Type 0 where
   pub spans : AreSpans from to runs
-  pub blocked : (v : ℤ) → from ≤ℤ v → v ≤ℤ to → IsBlocked cutter part fiber v ↔ StandsIn runs v
+  pub blocked : (v : ℤ) → from ≤ℤ v → v ≤ℤ to → Blocked v ↔ StandsIn runs v

@@ -2,8 +2,8 @@ ghost use Rattle.mill_base.specs.Numbers.{Within};
 ghost use Rattle.mill_base.specs.declared.limits.TheConstants.{MAX_COORDINATE};
 ghost use Rattle.mill_base.specs.Sizes.{IsCutter};
 
-use super::{at, goes_round, has_waterline, lattice, point, tri};
-use mill_base::Cutter;
+use super::{at, goes_round, has_waterline, lattice, point, tool_has_waterline, tri};
+use mill_base::{Cutter, Holder, Tool};
 use std::process::Abort;
 use std::test::Fail;
 
@@ -55,6 +55,31 @@ fn round_a_point(rt: HostRuntime) -> Result<(), Fail> {
         run: 2,
     };
     assert!(rt; rounds_point(&rt, steep, 260, &ring(473, 527))?);
+    Ok(())
+}
+
+// The point is 250 over a holder's face that is 50 over the tip: it keeps the holder 200 away, and the
+// cutter only 100. It isn't over a face that is 300 over the tip.
+#[test]
+fn round_with_a_holder(rt: HostRuntime) -> Result<(), Fail> {
+    let nodes = lattice(1000, 1000, 500);
+    let cutter = Cutter::Flat { radius: 100 };
+    let low = Tool {
+        cutter,
+        holder: Some(Holder {
+            radius: 200,
+            stickout: 50,
+        }),
+    };
+    assert!(rt; tool_has_waterline(&rt, &[point(500, 500)], &low, 0, nodes, &ring(300, 700))?);
+    let high = Tool {
+        cutter,
+        holder: Some(Holder {
+            radius: 200,
+            stickout: 300,
+        }),
+    };
+    assert!(rt; tool_has_waterline(&rt, &[point(500, 500)], &high, 0, nodes, &ring(400, 600))?);
     Ok(())
 }
 

@@ -33,5 +33,5 @@ returns c =
     let found = rw (stored c.args.at c.requires.at_ok, stored cut.z c.requires.cut_ok.z_ok, stored first from, stored last to) at c.counted_runs.ensures.runs in
     record {
       ascending = IfOk-more c.counted_runs.result _ _ (λ runs h. ascends (BlockedOn cut c.args.axis c.args.at) last first runs.items h from to) found;
-      blocked = IfOk-more c.counted_runs.result _ _ (λ runs h v. runs_hold_blocked cut.cutter cut.part.now fiber first last v runs.items h) found;
+      blocked = IfOk-more c.counted_runs.result _ _ (λ runs h v. runs_hold_blocked cut.tool cut.part.now fiber first last v runs.items h) found;
     }

@@ -8,7 +8,7 @@ use Rattle.mill_level.proofs.Positions.{xs_are_positions, ys_are_positions}
 use Rattle.mill_level.proofs.map.level_map.Goals as goal
 
 pub loop-y-init : goal.loop-y-init
-loop-y-init c = rows_start c.args.cut.now.cutter c.args.cut.now.part.now c.args.cut.now.z c.args.lattice.now _ _ c.in_ok-blocked.ensures.items c.in_ok-places.ensures.items
+loop-y-init c = rows_start c.args.cut.now.tool c.args.cut.now.part.now c.args.cut.now.z c.args.lattice.now _ _ c.in_ok-blocked.ensures.items c.in_ok-places.ensures.items
 
 pub add_row-requires-clause-y_ok : goal.add_row-requires-clause-y_ok
 add_row-requires-clause-y_ok c =
@@ -26,13 +26,13 @@ loop-y-preserved c =
     (item_within _ _ ys (ys_are_positions c.args.lattice.now c.requires.lattice_ok) c.loop-y.y-index c.loop-y-test.true) in
     let told = rw (at, ys, xs) at c.in_ok-add_row.ensures.blocked in
     let placed = rw (at, ys, xs) at c.in_ok-add_row.ensures.places in
-    rows_more c.args.cut.now.cutter c.args.cut.now.part.now c.args.cut.now.z c.args.lattice.now c.loop-y.y-index _ _ _ _ c.loop-y.invariant told placed
+    rows_more c.args.cut.now.tool c.args.cut.now.part.now c.args.cut.now.z c.args.lattice.now c.loop-y.y-index _ _ _ _ c.loop-y.invariant told placed
 
 pub loop-x-init : goal.loop-x-init
 loop-x-init c =
     let ys : c.deref-y-items.result.now ≡ lattice_ys c.args.lattice.now = c.deref-y-items.ensures.value ∙ c.in_ok-ys.ensures in
     let all : c.loop-y.y-index ≡ length c.deref-y-items.result.now = omega arith in
-    columns_start c.args.cut.now.cutter c.args.cut.now.part.now c.args.cut.now.z c.args.lattice.now c.loop-y.y-index _ _ (all ∙ ap (λ (zs : List ℤ). length zs) ys) c.loop-y.invariant
+    columns_start c.args.cut.now.tool c.args.cut.now.part.now c.args.cut.now.z c.args.lattice.now c.loop-y.y-index _ _ (all ∙ ap (λ (zs : List ℤ). length zs) ys) c.loop-y.invariant
 
 pub add_column-requires-clause-x_ok : goal.add_column-requires-clause-x_ok
 add_column-requires-clause-x_ok c =
@@ -49,12 +49,12 @@ loop-x-preserved c =
     let at = stored (slice_index_or c.deref-x-items.result.now c.loop-x.x-index (pos 0))
     (item_within _ _ xs (xs_are_positions c.args.lattice.now c.requires.lattice_ok) c.loop-x.x-index c.loop-x-test.true) in
     let placed = rw (at, xs, ys) at c.in_ok-add_column.ensures in
-    columns_more c.args.cut.now.cutter c.args.cut.now.part.now c.args.cut.now.z c.args.lattice.now c.loop-x.x-index _ _ _ c.loop-x.invariant placed
+    columns_more c.args.cut.now.tool c.args.cut.now.part.now c.args.cut.now.z c.args.lattice.now c.loop-x.x-index _ _ _ c.loop-x.invariant placed
 
 pub returns : goal.returns
 returns c =
     let xs : c.deref-x-items.result.now ≡ lattice_xs c.args.lattice.now = c.deref-x-items.ensures.value ∙ c.in_ok-xs.ensures in
     let all : c.loop-x.x-index ≡ length c.deref-x-items.result.now = omega arith in
-    filled c.args.cut.now.cutter c.args.cut.now.part.now c.args.cut.now.z c.args.lattice.now _ c.loop-x.x-index c.requires.lattice_ok
+    filled c.args.cut.now.tool c.args.cut.now.part.now c.args.cut.now.z c.args.lattice.now _ c.loop-x.x-index c.requires.lattice_ok
     c.node_columns.ensures.value c.node_rows.ensures.value c.in_ok-xs.ensures c.in_ok-ys.ensures
     (all ∙ ap (λ (zs : List ℤ). length zs) xs) c.loop-x.invariant

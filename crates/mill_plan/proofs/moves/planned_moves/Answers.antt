@@ -37,3 +37,9 @@ returns-clause-fault g c =
     let told = rw (c.deref-2.ensures.value, c.deref-3.ensures.value) at c.round_of.ensures.fault in
     IfErr-weaker c.round_of.result (IsRoundFault job part visits) (IsPlanFault job part)
     (λ fault h. round_told job part visits fault c.requires.nodes c.in_ok-visits.ensures.list h) (told part say)
+
+pub returns-clause-stock : goal.returns-clause-stock
+returns-clause-stock g c =
+    let say = rw c.deref.ensures.value at c.in_ok-clear.ensures.say in
+    let stock = rw (c.deref-2.ensures.value, c.deref-3.ensures.value) at c.round_of.ensures.stock in
+    stock c.args.part.now say

@@ -1,16 +1,20 @@
-use Rattle.std.proofs.Common.{◌+◌, ◌<◌, List, [], inl, inr, length, take}
+use Rattle.std.proofs.Common.{◌+◌, ◌<◌, ◌++◌, ◌∙◌, List, [], ap, inl, inr, length, subst, sym, take}
 use Rattle.std.proofs.lemmas.List.Elements.{All-get_or}
 use Rattle.std.proofs.lemmas.Result.{err_from_is_err_and}
 use Rattle.mill_base.proofs.Ranges.{in_range_of_unit}
-use Rattle.mill_base.specs.Ranges.{IsInUnitRange}
+use Rattle.mill_base.specs.Ranges.{IsInRange, IsInUnitRange, MovesInRange}
+use Rattle.mill_base.specs.declared.motion.Move.{Move}
 use Rattle.mill_base.specs.declared.points.Tri.{Tri}
 use Rattle.mill_base.specs.declared.limits.TheConstants.{MAX_MOVES}
+use Rattle.mill_dexel.specs.Stocks.{IsStock}
 use Rattle.mill_job.specs.Columns.{home}
+use Rattle.mill_paths.specs.Links.{way_home}
 use Rattle.mill_paths.specs.Tours.{IsTour}
 use Rattle.mill_paths.proofs.Steps.{tour_nil}
 use Rattle.mill_plan.specs.inner.Feeds.{SayClear}
 use Rattle.mill_plan.specs.inner.Steps.{IsRound}
 use Rattle.mill_plan.proofs.Feeding.{says_at}
+use Rattle.mill_plan.proofs.Homing.{past_old, way_home_ranged}
 use Rattle.mill_plan.proofs.Touring.{long_round, over_at, place_after, round_made, stock_more, tour_more}
 use Rattle.mill_plan.proofs.moves.round_of.Goals as goal
 
@@ -75,3 +79,20 @@ returns-clause-round c = λ part say.
     let so_far = c.loop-number.invariant in
     round_made c.args.job.now part c.args.visits.now c.loop-number.number c.loop-number.place c.loop-number.moves.items c.home.new.out.items c.loop-number-test.false
     so_far.place (so_far.tour part say) c.in_ok-home.ensures.ok
+
+pub cut-requires-clause-moves_ok : goal.cut-requires-clause-moves_ok
+cut-requires-clause-moves_ok c =
+    let way = way_home c.args.job.now c.loop-number.place in
+    subst MovesInRange
+    (sym (past_old c.loop-number.moves.items way c.deref-3.result.now c.len-first.result (c.len-first.ensures ∙ c.loop-number.moves.ok.0) (c.deref-3.ensures.value ∙ c.in_ok-home.ensures.ok)))
+    (way_home_ranged c.args.job.now c.loop-number.place c.requires.job_ok (in_range_of_unit c.args.job.now.unit c.loop-number.place c.loop-number.invariant.in_range)
+    (subst IsInRange c.home-place.ensures.value (in_range_of_unit c.args.job.now.unit c.home-place.result c.home-place.ensures.in_range)))
+
+pub returns-clause-stock : goal.returns-clause-stock
+returns-clause-stock c = λ part say tested.
+    let way = way_home c.args.job.now c.loop-number.place in
+    subst (λ (ms : List Move). IsStock c.args.job.now ms c.cut.new.rows)
+    (ap (λ ms. c.loop-number.moves.items ++ ms)
+    (past_old c.loop-number.moves.items way c.deref-3.result.now c.len-first.result (c.len-first.ensures ∙ c.loop-number.moves.ok.0) (c.deref-3.ensures.value ∙ c.in_ok-home.ensures.ok))
+    ∙ sym c.in_ok-home.ensures.ok)
+    (c.cut.ensures c.loop-number.moves.items (c.loop-number.invariant.stock part say) tested)

@@ -1,20 +1,11 @@
 use Rattle.std.proofs.Common.{◌≡◌, ◌∙◌, ap, rules, subst, to_z, of_z, w32, Ok}
 use Rattle.std.proofs.lemmas.Int.{to_z-of_z}
-use Rattle.mill_base.proofs.Ranges.{moves_of_unit}
-use Rattle.mill_job.specs.Columns.{home}
 use Rattle.mill_verify.specs.Verdicts.{IsVerdict}
 use Rattle.mill_verify.specs.declared.verdict.Reason.{Reason}
 use Rattle.mill_verify.specs.declared.verdict.Verdict.{Verdict}
 use Rattle.mill_verify.specs.declared.verdict.Verdict.TheVariants.{Reject}
-use Rattle.mill_plan.proofs.Good.{follow, in_range}
 use Rattle.mill_plan.proofs.Telling.{done_told, no_other, uncut_told}
 use Rattle.mill_plan.proofs.program.verified.Goals as goal
-
-pub verify_with_cells-requires-clause-moves_ok : goal.verify_with_cells-requires-clause-moves_ok
-verify_with_cells-requires-clause-moves_ok g c κs within = moves_of_unit c.args.job.now.unit _ (in_range c.args.job.now c.args.part.now (home c.args.job.now) (home c.args.job.now) c.args.moves.now c.requires.safe)
-
-pub verify_with_cells-requires-clause-follow : goal.verify_with_cells-requires-clause-follow
-verify_with_cells-requires-clause-follow g c κs within = follow c.args.job.now c.args.part.now (home c.args.job.now) (home c.args.job.now) c.args.moves.now c.requires.safe
 
 pub unreachable-requires : goal.unreachable-requires
 unreachable-requires g c =
@@ -28,7 +19,7 @@ returns-in_ok-program-in-Accept-clause-planned g c =
     (done_told c.args.job.now c.args.part.now c.args.moves.now c.requires.plan_ok c.in_ok-program-in-Accept.program.items c.in-Accept.count c.in-Accept.columns c.in-Accept.most_left
     c.requires.safe c.in_ok-program-in-Accept.ensures.text c.in_ok-program-in-Accept.ensures.reads
     (subst (λ (v : Verdict). IsVerdict c.args.job.now c.args.part.now c.args.moves.now v) c.in-Accept.is c.in_ok-count.ensures.verdict)
-    (c.verify_with_cells.ensures.safe c.in-Accept.count c.in-Accept.columns c.in-Accept.most_left (c.in_ok-count.was ∙ ap (λ (v : Verdict). Ok v) c.in-Accept.is)))
+    (c.verdict_on.ensures.safe c.in-Accept.count c.in-Accept.columns c.in-Accept.most_left (c.in_ok-count.was ∙ ap (λ (v : Verdict). Ok v) c.in-Accept.is)))
 
 pub returns-in-Left-clause-fault : goal.returns-in-Left-clause-fault
 returns-in-Left-clause-fault g c =

@@ -1,24 +1,25 @@
 use Rattle.std.proofs.Common.{rules, sym, subst}
 use Rattle.mill_push.specs.inner.Unions.{AreOrdered, AreSpans}
-use Rattle.mill_push.proofs.Collecting.{few_touches}
+use Rattle.mill_push.specs.Fibers.{IsBlocked}
+use Rattle.mill_push.proofs.BothSolids.{few_of_both}
 use Rattle.mill_push.proofs.Sorting.{ordered_from_sort, spans_moved, first_within, last_within, runs_from_stretches, IfOk-more}
 use Rattle.mill_push.proofs.Stored.{stored}
 use Rattle.mill_push.proofs.runs.push.Goals as goal
 
 pub returns-in_err-stretches-clause-cost : goal.returns-in_err-stretches-clause-cost
-returns-in_err-stretches-clause-cost g c = few_touches c.args.cutter c.args.part.now c.args.fiber c.args.from c.args.to c.args.steps.now c.stretches.new.steps c.requires.from_ok c.requires.to_ok (rw (stored c.args.from c.requires.from_ok, stored c.args.to c.requires.to_ok) at c.stretches.ensures.cost)
+returns-in_err-stretches-clause-cost g c = few_of_both c.args.tool.now c.args.part.now c.args.fiber c.args.from c.args.to c.args.steps.now c.tool_stretches.new.steps c.requires.from_ok c.requires.to_ok (rw (stored c.args.from c.requires.from_ok, stored c.args.to c.requires.to_ok) at c.tool_stretches.ensures.cost)
 
 pub returns-in_err-sort_by_key-clause-cost : goal.returns-in_err-sort_by_key-clause-cost
-returns-in_err-sort_by_key-clause-cost g c = few_touches c.args.cutter c.args.part.now c.args.fiber c.args.from c.args.to c.args.steps.now c.stretches.new.steps c.requires.from_ok c.requires.to_ok (rw (stored c.args.from c.requires.from_ok, stored c.args.to c.requires.to_ok) at c.stretches.ensures.cost)
+returns-in_err-sort_by_key-clause-cost g c = few_of_both c.args.tool.now c.args.part.now c.args.fiber c.args.from c.args.to c.args.steps.now c.tool_stretches.new.steps c.requires.from_ok c.requires.to_ok (rw (stored c.args.from c.requires.from_ok, stored c.args.to c.requires.to_ok) at c.tool_stretches.ensures.cost)
 
 pub returns-in_err-sort_by_key-clause-near : goal.returns-in_err-sort_by_key-clause-near
-returns-in_err-sort_by_key-clause-near g c = rw (stored c.args.from c.requires.from_ok, stored c.args.to c.requires.to_ok) at c.stretches.ensures.cost
+returns-in_err-sort_by_key-clause-near g c = rw (stored c.args.from c.requires.from_ok, stored c.args.to c.requires.to_ok) at c.tool_stretches.ensures.cost
 
 pub returns-clause-near : goal.returns-clause-near
-returns-clause-near g c = rw (stored c.args.from c.requires.from_ok, stored c.args.to c.requires.to_ok) at c.stretches.ensures.cost
+returns-clause-near g c = rw (stored c.args.from c.requires.from_ok, stored c.args.to c.requires.to_ok) at c.tool_stretches.ensures.cost
 
 pub returns-clause-cost : goal.returns-clause-cost
-returns-clause-cost g c = few_touches c.args.cutter c.args.part.now c.args.fiber c.args.from c.args.to c.args.steps.now c.stretches.new.steps c.requires.from_ok c.requires.to_ok (rw (stored c.args.from c.requires.from_ok, stored c.args.to c.requires.to_ok) at c.stretches.ensures.cost)
+returns-clause-cost g c = few_of_both c.args.tool.now c.args.part.now c.args.fiber c.args.from c.args.to c.args.steps.now c.tool_stretches.new.steps c.requires.from_ok c.requires.to_ok (rw (stored c.args.from c.requires.from_ok, stored c.args.to c.requires.to_ok) at c.tool_stretches.ensures.cost)
 
 pub union-requires-clause-ordered : goal.union-requires-clause-ordered
 union-requires-clause-ordered g c = subst AreOrdered (sym c.deref.ensures.value) (ordered_from_sort _ c.in_ok-sort_by_key.ensures.sorted (λ a r q k. search rules))
@@ -46,4 +47,4 @@ returns-clause-runs g c =
     let s = rw (from, to) at c.in_ok-stretches.ensures.stretches in
     let spans = spans_moved _ _ c.args.from c.args.to c.in_ok-sort_by_key.ensures.permutation s.spans in
     let union = rw c.deref.ensures.value at c.union.ensures in
-    IfOk-more c.union.result _ _ (λ runs h. runs_from_stretches c.args.cutter c.args.part.now c.args.fiber c.args.from c.args.to _ _ runs.items s c.in_ok-sort_by_key.ensures.permutation (h c.args.from c.args.to spans)) union
+    IfOk-more c.union.result _ _ (λ runs h. runs_from_stretches (IsBlocked c.args.tool.now c.args.part.now c.args.fiber) c.args.from c.args.to _ _ runs.items s c.in_ok-sort_by_key.ensures.permutation (h c.args.from c.args.to spans)) union

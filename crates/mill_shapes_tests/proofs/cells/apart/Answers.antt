@@ -3,7 +3,7 @@ use Rattle.std.specs.List.{Contains}
 use Rattle.std.proofs.lemmas.List.Elements.{All-cons, All-nil, All-contains}
 use Rattle.mill_base.specs.Ranges.{TriInRange}
 use Rattle.mill_base.specs.declared.points.Tri.{Tri}
-use Rattle.mill_cells.proofs.tests.apart.Goals as goal
+use Rattle.mill_shapes_tests.proofs.cells.apart.Goals as goal
 
 both : (p q : Tri) → TriInRange p → TriInRange q → (tri : Tri) → Contains (p ∷ (q ∷ [])) tri → TriInRange tri
 both p q hp hq tri member = All-contains TriInRange (p ∷ (q ∷ [])) tri (All-cons TriInRange p (q ∷ []) hp (All-cons TriInRange q [] hq (All-nil TriInRange))) member

@@ -1,7 +1,7 @@
 use Rattle.std.proofs.Common.{sym, ◌∙◌, rules, w32}
 use Rattle.std.proofs.lemmas.Int.{to_z-of_z}
-use Rattle.mill_cells.proofs.TestLemmas.{top_starts, top_on, top_last, comes_within, top_comes}
-use Rattle.mill_cells.proofs.tests.top_near.Goals as goal
+use Rattle.mill_shapes_tests.proofs.NearTops.{top_starts, top_on, top_last, comes_within, top_comes}
+use Rattle.mill_shapes_tests.proofs.cells.top_near.Goals as goal
 
 pub loop-number-init : goal.loop-number-init
 loop-number-init c = top_starts _ _ _ _ c.near_rising-near.ensures.tops c.near_rising-near.ensures.each

@@ -1,6 +1,6 @@
 use Rattle.std.specs.Prelude.{length}
-use Rattle.mill_cells.proofs.TestLemmas.{IsTopNear}
-use Rattle.mill_cells.proofs.tests.top_near.Given as goal
+use Rattle.mill_shapes_tests.proofs.NearTops.{IsTopNear}
+use Rattle.mill_shapes_tests.proofs.cells.top_near.Given as goal
 
 abbrev pub invariant-loop-number : goal.invariant-loop-number
 invariant-loop-number l = IsTopNear l.cells l.fn.area l.near l.top

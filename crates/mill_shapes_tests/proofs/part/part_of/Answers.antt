@@ -1,7 +1,7 @@
 use Rattle.std.proofs.Common.{IsTrue, refl, arith, rules}
 use Rattle.std.proofs.lemmas.List.{length-append}
 use Rattle.mill_part.proofs.Ranges.{TrisInRange-nil, TrisInRange-push}
-use Rattle.mill_part.proofs.tests.part_of.Goals as goal
+use Rattle.mill_shapes_tests.proofs.part.part_of.Goals as goal
 
 pub loop-tri-init : goal.loop-tri-init
 loop-tri-init g c = rw c.new-kept.ensures.items (TrisInRange-nil, refl)

@@ -2,7 +2,7 @@ use Rattle.std.proofs.Common.{inl, inr, List, [], ◌∷◌, ◌++◌, subst, ar
 use Rattle.std.proofs.lemmas.List.Elements.{Contains-push_cases}
 use Rattle.mill_base.specs.Ranges.{TriInRange, TrisInRange}
 use Rattle.mill_base.specs.declared.points.Tri.{Tri}
-use Rattle.mill_push.proofs.tests.part_of_bars.Goals as goal
+use Rattle.mill_shapes_tests.proofs.push.part_of_bars.Goals as goal
 
 one_more : (tris : List Tri) (new : Tri) → TrisInRange tris → TriInRange new → TrisInRange (tris ++ new ∷ [])
 one_more tris new h k tri c = elim (Contains-push_cases tris new tri c) [ inl before ↦ h tri before | inr same ↦ subst TriInRange same k ]

@@ -4,7 +4,7 @@ use lib.Signed.{◌≤ℤ◌}
 use Rattle.std.proofs.lemmas.Int.{ints, to_z-of_z}
 use Rattle.mill_base.proofs.Machine.{kept}
 use Rattle.mill_sweep.proofs.Far.{beside_passes, top_passes}
-use Rattle.mill_base.specs.declared.limits.TheConstants.{MAX_COORDINATE}
+use Rattle.mill_sweep.specs.Widths.{highest_tip}
 use Rattle.mill_sweep.proofs.halving.is_far.Goals as goal
 
 up : (a b c : ℤ) → a ≤ℤ b → b ≤ℤ c → a ≤ℤ c
@@ -14,8 +14,8 @@ pub returns-then-is_no_higher : goal.returns-then-is_no_higher
 returns-then-is_no_higher c = λ _.
     let fits : FitsSigned w32 c.min.result = search rules in
     let top = rw (to_z-of_z w32 c.min.result fits) at (c.is_no_higher.ensures.yes c.if-is_no_higher.true) in
-    let from = rw (kept w32 c.args.step.now.from.z MAX_COORDINATE c.requires.move_ok.from_ok.z_ok.within refl) at c.min.ensures.self_bound in
-    let to = rw (kept w32 c.args.step.now.to.z MAX_COORDINATE c.requires.move_ok.to_ok.z_ok.within refl) at c.min.ensures.other_bound in
+    let from = rw (kept w32 c.args.step.now.from.z highest_tip c.requires.move_ok.from_ok.z_ok.within refl) at c.min.ensures.self_bound in
+    let to = rw (kept w32 c.args.step.now.to.z highest_tip c.requires.move_ok.to_ok.z_ok.within refl) at c.min.ensures.other_bound in
     top_passes c.args.cutter c.args.step.now c.args.tri.now (up _ _ _ top from) (up _ _ _ top to)
 
 pub returns : goal.returns

@@ -4,12 +4,13 @@ use Rattle.mill_base.proofs.Machine.{kept, stored}
 use Rattle.mill_sweep.specs.Halving.{Blocks, IsFreeSpan}
 use Rattle.mill_sweep.specs.declared.leaf.Span.{Span}
 use Rattle.mill_sweep.proofs.Segments.{read_span, free_down, under_down, beside_x_down, beside_y_down}
-use Rattle.mill_base.specs.declared.limits.TheConstants.{MAX_COORDINATE, MAX_REACH}
+use Rattle.mill_base.specs.declared.limits.TheConstants.{MAX_REACH}
+use Rattle.mill_sweep.specs.Widths.{highest_tip}
 use Rattle.mill_sweep.proofs.halving.is_segment_passed.Goals as goal
 
 pub returns-then-is_no_higher-clause-yes : goal.returns-then-is_no_higher-clause-yes
 returns-then-is_no_higher-clause-yes c = λ _.
-    let here = kept w32 c.low_end-zlow.result MAX_COORDINATE c.low_end-zlow.ensures.bound.within refl in
+    let here = kept w32 c.low_end-zlow.result highest_tip c.low_end-zlow.ensures.bound.within refl in
     under_down c.args.cutter c.args.step.now c.args.tri.now c.args.leaf.d c.args.leaf.k (stored w32 c.low_end-zlow.result) (here ∙ c.low_end-zlow.ensures.value) (c.is_no_higher.ensures.yes c.if-is_no_higher.true)
 
 pub returns-then-is_beside_in_x-clause-yes : goal.returns-then-is_beside_in_x-clause-yes

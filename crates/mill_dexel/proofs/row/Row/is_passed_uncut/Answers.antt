@@ -1,17 +1,20 @@
-use Rattle.std.proofs.Common.{◌∙◌, ap, subst, sym, arith}
-use Rattle.std.specs.Prelude.{pos, ◌+ℤ◌}
+use Rattle.std.proofs.Common.{◌≡◌, ◌∙◌, ap, refl, subst, sym, w32, arith}
+use Rattle.std.specs.Prelude.{ℤ, pos, ◌+ℤ◌, ◌≤ℤ◌}
 use Rattle.std.proofs.lemmas.Int.{ints}
+use Rattle.mill_base.proofs.Machine.{kept, stored}
+use Rattle.mill_base.proofs.Ranges.{within_of_unit}
 use Rattle.mill_base.specs.Ranges.{TriInRange}
 use Rattle.mill_base.specs.Sizes.{radius_of}
-use Rattle.mill_base.specs.declared.limits.TheConstants.{MAX_LAST_REACH}
+use Rattle.mill_base.specs.declared.limits.TheConstants.{MAX_COORDINATE, MAX_LAST_REACH}
 use Rattle.mill_base.specs.declared.points.Tri.{Tri}
 use Rattle.mill_job.specs.Columns.{column_y}
 use Rattle.mill_sweep.specs.Halving.{Passes}
 use Rattle.mill_dexel.specs.Rows.{RowState, uncut_tri}
 use Rattle.mill_dexel.specs.Cuts.{IsBeyond}
+use Rattle.mill_dexel.specs.Tops.{tested_height}
 use Rattle.mill_dexel.proofs.Blocks.{far_passes_row}
 use Rattle.mill_dexel.proofs.Reaches.{beyond_same}
-use Rattle.mill_dexel.proofs.UncutRows.{uncut_passes, uncut_in_range}
+use Rattle.mill_dexel.proofs.UncutRows.{low_passes_row, uncut_passes, uncut_in_range}
 use Rattle.mill_dexel.proofs.row.Row.is_passed_uncut.Goals as goal
 
 pub returns-then-is_apart : goal.returns-then-is_apart
@@ -26,8 +29,17 @@ passes_tri-requires-clause-tri_ok c =
     let row_is = c.uncut_triangle.ensures ∙ ap (λ (r : RowState). uncut_tri c.args.job.now c.args.kind r.row) c.self.view_is in
     subst (λ (t : Tri). TriInRange t) (sym row_is) (uncut_in_range c.args.job.now c.args.kind c.args.self.now.row c.requires.job c.requires.row.there)
 
-pub returns : goal.returns
-returns c = λ passed.
+pub returns-in-Rapid : goal.returns-in-Rapid
+returns-in-Rapid c = λ passed.
     let row_is = c.uncut_triangle.ensures ∙ ap (λ (r : RowState). uncut_tri c.args.job.now c.args.kind r.row) c.self.view_is in
     uncut_passes c.args.job.now c.args.kind c.args.self.now c.args.step.now c.requires.job c.requires.row
     (subst (λ (t : Tri). Passes c.args.job.now.cutter c.args.step.now t) row_is (c.passes_tri.ensures.yes passed))
+
+pub returns-in-Feed : goal.returns-in-Feed
+returns-in-Feed c = λ passed.
+    let stays : stored w32 c.tested_height.result ≡ c.tested_height.result = omega (arith, ints) in
+    let top = kept w32 c.args.job.now.top MAX_COORDINATE (within_of_unit c.args.job.now.unit c.args.job.now.top c.requires.job.top_ok).within refl in
+    let value = stays ∙ c.tested_height.ensures.value ∙ ap (tested_height c.args.job.now c.args.kind) top in
+    low_passes_row c.args.job.now c.args.kind c.args.self.now c.args.step.now c.requires.job c.requires.row c.requires.step
+    (subst (λ (z : ℤ). z ≤ℤ c.args.step.now.from.z) value (c.is_under.ensures.from passed))
+    (subst (λ (z : ℤ). z ≤ℤ c.args.step.now.to.z) value (c.is_under.ensures.to passed))

@@ -1,0 +1,39 @@
+use Rattle.std.specs.Prelude.{◌<◌, List, length}
+use Rattle.std.proofs.Common.{subst, sym, w32, to_z, of_z}
+use Rattle.std.proofs.lemmas.Int.{to_z-of_z}
+use Rattle.mill_base.specs.declared.points.Tri.{Tri}
+use Rattle.mill_gouge.specs.inner.Firsts.{IsEarlier}
+use Rattle.mill_gouge.proofs.ReadLemmas.{at_tri}
+use Rattle.mill_gouge.proofs.Looking.{look_starts, reach_each, next_within, tri_in_range, look_goes_on, look_ends}
+use Rattle.mill_gouge.proofs.gouge.first_of.Goals as goal
+
+pub loop-tri-init : goal.loop-tri-init
+loop-tri-init c =
+    look_starts c.args.sweep.now.cutter c.args.sweep.now.move c.args.part.now c.args.cells.now c.into_iter-tri-iterator.result c.args.area c.args.low c.requires.outside c.tris-tris.ensures.in_range c.requires.cells_ok
+    (reach_each c.args.cells.now c.near_over-tri-items.result c.into_iter-tri-iterator.result c.args.area (to_z w32 (of_z w32 c.args.low)) c.args.low
+    c.into_iter-tri-iterator.ensures.into_iter_gives (to_z-of_z w32 c.args.low c.ranges.low) c.near_over-tri-items.ensures.each)
+
+pub bounds-tris-tri : goal.bounds-tris-tri
+bounds-tris-tri c =
+    subst (λ (l : List Tri). c.in-Some.tri < length l) (sym c.tris-tris.ensures.list)
+    (next_within c.args.sweep.now.cutter c.args.sweep.now.move c.args.part.now c.loop-tri.tri-iterator c.next.new.self c.in-Some.tri _ c.in-Some.ensures.steps c.loop-tri.invariant)
+
+pub earlier-first-requires : goal.earlier-first-requires
+earlier-first-requires c =
+    let inside = subst (λ (l : List Tri). c.in-Some.tri < length l) (sym c.tris-tris.ensures.list)
+    (next_within c.args.sweep.now.cutter c.args.sweep.now.move c.args.part.now c.loop-tri.tri-iterator c.next.new.self c.in-Some.tri _ c.in-Some.ensures.steps c.loop-tri.invariant) in
+    tri_in_range c.tris-tris.result.now c.args.part.now c.in-Some.tri _ c.tris-tris.ensures.list inside c.tris-tris.ensures.in_range
+
+pub loop-tri-preserved : goal.loop-tri-preserved
+loop-tri-preserved c =
+    let cutter = c.args.sweep.now.cutter in
+    let m = c.args.sweep.now.move in
+    let part = c.args.part.now in
+    let inside = subst (λ (l : List Tri). c.in-Some.tri < length l) (sym c.tris-tris.ensures.list)
+    (next_within cutter m part c.loop-tri.tri-iterator c.next.new.self c.in-Some.tri _ c.in-Some.ensures.steps c.loop-tri.invariant) in
+    look_goes_on cutter m part c.loop-tri.tri-iterator c.next.new.self c.in-Some.tri c.loop-tri.first c.earlier-first.result c.in-Some.ensures.steps c.loop-tri.invariant
+    (at_tri (λ t. IsEarlier cutter m t c.in-Some.tri c.loop-tri.first c.earlier-first.result) c.tris-tris.result.now part c.in-Some.tri _ c.tris-tris.ensures.list inside
+    c.earlier-first.ensures)
+
+pub returns : goal.returns
+returns c = look_ends c.args.sweep.now.cutter c.args.sweep.now.move c.args.part.now c.loop-tri.tri-iterator c.loop-tri.first c.in-None.ensures.steps.0 c.loop-tri.invariant

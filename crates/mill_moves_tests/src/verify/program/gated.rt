@@ -1,0 +1,128 @@
+//! A gate that shows that two threads share the tests, and that none is made twice.
+use super::down_and_up;
+use crate::verify::samples::{block_job, plate};
+use mill_base::{Cutter, Kind};
+use mill_verify::{Gate, Reason, Verdict, verify_with};
+use std::sync::atomic::Ordering::SeqCst;
+use std::sync::atomic::{AtomicBool, AtomicU64};
+use std::thread::yield_now;
+
+/// How long a turn is held up at most, in turns of the loop that waits.
+const PATIENCE: u32 = 10_000_000;
+
+/// Turn 0 of number 0 waits for turn 0 of number 1, and that one for it: no thread alone gets past them.
+#[derive(Drop)]
+struct Meeting {
+    /// How often turn 0 of each number came.
+    first: [AtomicU64; 4],
+    /// How often turn 1 of each number came.
+    second: [AtomicU64; 4],
+    /// A turn was held up for too long.
+    gave_up: AtomicBool,
+}
+
+fn no_turns() -> [AtomicU64; 4] {
+    [
+        AtomicU64::new(0),
+        AtomicU64::new(0),
+        AtomicU64::new(0),
+        AtomicU64::new(0),
+    ]
+}
+
+impl Meeting {
+    fn new() -> Meeting {
+        Meeting {
+            first: no_turns(),
+            second: no_turns(),
+            gave_up: AtomicBool::new(false),
+        }
+    }
+
+    fn count(&self, number: u64, turn: u64) {
+        let turns = match turn {
+            0 => &self.first,
+            1 => &self.second,
+            _ => return,
+        };
+        if let Some(turn) = turns.get(number as usize) {
+            turn.fetch_add(1, SeqCst);
+        }
+    }
+
+    fn wait_for(&self, number: usize) {
+        if let Some(first) = self.first.get(number) {
+            for _ in 0..PATIENCE {
+                if first.load(SeqCst) > 0 {
+                    return;
+                }
+                yield_now();
+            }
+            self.gave_up.store(true, SeqCst);
+        }
+    }
+
+    /// Turns 0 and 1 of each number came once, and none was held up for too long.
+    fn came_once(&self) -> bool {
+        for turns in [&self.first, &self.second] {
+            for turn in turns.iter() {
+                if turn.load(SeqCst) != 1 {
+                    return false;
+                }
+            }
+        }
+        !self.gave_up.load(SeqCst)
+    }
+}
+
+impl Gate for Meeting {
+    fn pass(&self, number: u64, turn: u64) {
+        self.count(number, turn);
+        match (number, turn) {
+            (0, 0) => self.wait_for(1),
+            (1, 0) => self.wait_for(0),
+            _ => {}
+        }
+    }
+}
+
+// Two moves are one block, and there are three rows: each has its two turns once.
+#[test]
+fn two_threads_meet(rt: HostRuntime) {
+    let alloc = rt.alloc();
+    let job = block_job(Cutter::Flat { radius: 150 }, 0, 0);
+    let part = plate(alloc, 200).unwrap_or_else(|_| panic!(rt; "want of memory"));
+    let moves = down_and_up(Kind::Feed, 200);
+    let meeting = Meeting::new();
+    let accept = Verdict::Accept {
+        moves: 2,
+        columns: 9,
+        most_left: 0,
+    };
+    assert_eq!(rt;
+        verify_with(&rt, alloc, &meeting, &job, &part, &moves, 2),
+        Ok(accept)
+    );
+    assert!(rt; meeting.came_once());
+}
+
+// The narrow cutter stays far away from the first row and the last, which go over both moves at once. Each
+// turn passes the gate all the same.
+#[test]
+fn turns_that_are_gone_over_pass_the_gate(rt: HostRuntime) {
+    let alloc = rt.alloc();
+    let job = block_job(Cutter::Flat { radius: 40 }, 0, 0);
+    let part = plate(alloc, 200).unwrap_or_else(|_| panic!(rt; "want of memory"));
+    let moves = down_and_up(Kind::Feed, 200);
+    let meeting = Meeting::new();
+    let left = Verdict::Reject(Reason::Left {
+        row: 0,
+        col: 0,
+        top: 300,
+    });
+    assert_eq!(rt;
+        verify_with(&rt, alloc, &meeting, &job, &part, &moves, 2),
+        Ok(left)
+    );
+    assert!(rt; meeting.came_once());
+}

@@ -1,0 +1,196 @@
+//! Lines that are only a move, as most lines of a program are: axis words, and with them a `G0` or
+//! `G1` and an `F`, or none.
+//!
+//! They are read without what other lines need. Where anything else stands on a line, it is read as
+//! any line is.
+ghost use Rattle.std.specs.Prelude.{◌≡◌, Bool, true, false, None, Some, IfSome, IsTrue, unwrap_or};
+ghost use Rattle.mill_base.specs.Ranges.{IsInUnitRange};
+ghost use Rattle.mill_base.specs.Units.{places_of};
+ghost use Rattle.mill_words.specs.Words.{FitsNum, FitsWord};
+ghost use Rattle.mill_ngc.specs.declared.profile.Mode.TheVariants.{On};
+ghost use Rattle.mill_ngc.specs.declared.said.Said.{Said};
+ghost use Rattle.mill_ngc.specs.inner.PlainMoves.{Goes, IsAxis, IsEnd, IsMotion, IsReady, MovesTo, Says, mode_of};
+
+use crate::numbers::{signed, units_of};
+use crate::profile::Mode;
+use crate::progress::{Frame, Progress};
+use mill_base::{Kind, Pt3, Unit};
+use mill_words::{LineWords, Num, Word};
+
+/// What the words of such a line have said so far.
+#[derive(Clone, Copy)]
+pub(crate) struct PlainLine {
+    /// The move's kind, if the line names it.
+    pub kind: Option<Kind>,
+    /// Whether it has an `F`.
+    pub feed: bool,
+    /// The coordinates that it names, in units.
+    pub x: Option<i32>,
+    pub y: Option<i32>,
+    pub z: Option<i32>,
+}
+
+/// The move of such a line.
+#[derive(Clone, Copy)]
+pub(crate) struct PlainMove {
+    pub kind: Kind,
+    pub to: Pt3,
+}
+
+impl Progress {
+    /// The move of a line with these words, if it is only that and the lines before it have settled
+    /// what a move needs.
+    pub fn plain_move(&self, words: &LineWords) -> Option<PlainMove>
+        requires { IsInUnitRange self.now.unit self.now.here }
+        ensures { IfSome result (λ m. MovesTo self.now words.now m) }
+    {
+        if !self.is_ready() || words.has_slash() {
+            return None;
+        }
+        let mut plain = PlainLine {
+            kind: None,
+            feed: false,
+            x: None,
+            y: None,
+            z: None,
+        };
+        for word in words.words() {
+            if !plain.take(self.line, self.unit, word) {
+                return None;
+            }
+        }
+        self.end_plain(&plain)
+    }
+
+    fn is_ready(&self) -> bool
+        ensures { IsTrue result → IsReady self.now }
+    {
+        match self.frame {
+            Frame::Unknown => false,
+            _ => self.millimetres && self.absolute,
+        }
+    }
+
+    // The move of a line whose words have said this.
+    fn end_plain(&self, plain: &PlainLine) -> Option<PlainMove>
+        ensures { IfSome result (λ m. IsEnd self.now plain.now m) }
+    {
+        if plain.x.is_none() && plain.y.is_none() && plain.z.is_none() {
+            return None;
+        }
+        let kind = self.kind_of(plain)?;
+        Some(PlainMove {
+            kind,
+            to: Pt3 {
+                x: plain.x.unwrap_or(self.here.x),
+                y: plain.y.unwrap_or(self.here.y),
+                z: plain.z.unwrap_or(self.here.z),
+            },
+        })
+    }
+
+    fn kind_of(&self, plain: &PlainLine) -> Option<Kind>
+        ensures { IfSome result (λ kind. unwrap_or (mode_of plain.now.kind) self.now.mode ≡ On kind) }
+    {
+        if plain.kind.is_some() {
+            return plain.kind;
+        }
+        match self.mode {
+            Mode::On(kind) => Some(kind),
+            Mode::Off => None,
+        }
+    }
+}
+
+impl PlainLine {
+    // Takes the next word, if it may stand on such a line.
+    #[inline(always)]
+    fn take(&mut self, line: u64, unit: Unit, word: &Word) -> bool
+        requires { FitsWord word.now }
+        ensures { IsTrue result → (positioned : Bool) (s : Said) → Says unit line self.old s →
+            Goes unit line positioned word.now s self.new }
+    {
+        match word.letter {
+            b'X' => take_axis(&mut self.x, line, unit, &word.num),
+            b'Y' => take_axis(&mut self.y, line, unit, &word.num),
+            b'Z' => take_axis(&mut self.z, line, unit, &word.num),
+            b'G' => take_motion(&mut self.kind, &word.num),
+            b'F' => take_feed(&mut self.feed),
+            _ => false,
+        }
+    }
+}
+
+// Takes an axis number, where the line has no other of its axis, and it is on the grid and in range.
+#[inline(always)]
+fn take_axis(axis: &mut Option<i32>, line: u64, unit: Unit, num: &Num) -> bool
+    requires { FitsNum 18 num.now }
+    ensures new { IsTrue result → axis.old ≡ None }
+    ensures units { IsTrue result → IsAxis unit line axis.new (Some num.now) }
+{
+    if axis.is_some() {
+        return false;
+    }
+    if num.scale == unit.places() as u8 {
+        return take_units(axis, line, unit, num);
+    }
+    take_scaled(axis, line, unit, num)
+}
+
+// The same of a number with the unit's decimals, where none stands so far.
+#[inline(always)]
+fn take_units(axis: &mut Option<i32>, _line: u64, unit: Unit, num: &Num) -> bool
+    requires { num.now.scale ≡ places_of unit }
+    ensures { IsTrue result → IsAxis unit _line axis.new (Some num.now) }
+{
+    if num.mant > u64::from(unit.greatest().unsigned_abs()) {
+        return false;
+    }
+    *axis = Some(signed(num.neg, num.mant as u32));
+    true
+}
+
+// The same of any number. It is kept apart, since most numbers of a program have the unit's decimals.
+#[inline(never)]
+fn take_scaled(axis: &mut Option<i32>, line: u64, unit: Unit, num: &Num) -> bool
+    requires { FitsNum 18 num.now }
+    ensures { IsTrue result → IsAxis unit line axis.new (Some num.now) }
+{
+    match units_of(line, *num, unit) {
+        Ok(units) => {
+            *axis = Some(units);
+            true
+        }
+        Err(_) => false,
+    }
+}
+
+// Takes the number of a `G0` or `G1`, where the line has none so far.
+#[inline(always)]
+fn take_motion(kind: &mut Option<Kind>, num: &Num) -> bool
+    ensures new { IsTrue result → kind.old ≡ None }
+    ensures kind { IsTrue result → IsMotion num.now kind.new }
+{
+    if kind.is_some() || num.neg || num.scale != 0 || num.mant > 1 {
+        return false;
+    }
+    *kind = Some(if num.mant == 0 {
+        Kind::Rapid
+    } else {
+        Kind::Feed
+    });
+    true
+}
+
+// Takes an `F`, where the line has none so far.
+#[inline(always)]
+fn take_feed(feed: &mut bool) -> bool
+    ensures new { IsTrue result → feed.old ≡ false }
+    ensures had { IsTrue result → feed.new ≡ true }
+{
+    if *feed {
+        return false;
+    }
+    *feed = true;
+    true
+}
