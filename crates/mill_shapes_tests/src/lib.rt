@@ -21,8 +21,6 @@ mod gouge;
 #[cfg(test)]
 mod holder;
 #[cfg(test)]
-mod holder;
-#[cfg(test)]
 mod level;
 #[cfg(test)]
 mod part;
