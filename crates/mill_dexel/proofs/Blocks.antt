@@ -1,31 +1,30 @@
 -- A row that goes through the moves block by block, and over a block that stays far away from it.
 use Rattle.std.proofs.Common.{◌≡◌, inl, inr, ℕ, zero, suc, ◌+◌, ◌-◌, ◌<◌, ◌≤◌, refl, sym, subst, ap, ◌∙◌, length, take, drop, arith}
-use Rattle.std.specs.Prelude.{ℤ, pos, ◌+ℤ◌, ◌≤ℤ◌, List, [], ◌∷◌, ◌++◌, Option, Some, None, MatchOption, slice_range}
+use Rattle.std.specs.Prelude.{ℤ, pos, ◌+ℤ◌, ◌≤ℤ◌, List, [], ◌∷◌, ◌++◌, Option, Some, None, IfSome, MatchOption, slice_range}
 use Rattle.std.proofs.lemmas.Bool.{cases_lt}
 use Rattle.std.proofs.lemmas.Int.{ints}
 use Rattle.std.proofs.Math.Seq.{drop-nil}
 use Rattle.std.proofs.lemmas.List.Sums.{fold-append}
-use Rattle.mill_base.specs.Points.{point_at, point_tri}
 use Rattle.mill_base.specs.Ranges.{MoveInRange, MovesInRange}
-use Rattle.mill_base.specs.Sizes.{IsCutter, radius_of}
+use Rattle.mill_base.specs.Sizes.{radius_of}
+use Rattle.mill_base.specs.Tools.{IsHolder}
 use Rattle.mill_base.specs.declared.motion.Move.{Move}
-use Rattle.mill_base.specs.declared.motion.Kind.{Kind}
+use Rattle.mill_base.specs.declared.tool.Holder.{Holder}
 use Rattle.mill_base.specs.declared.limits.TheConstants.{MAX_LAST_REACH}
 use Rattle.mill_job.specs.declared.job.Job.{Job}
 use Rattle.mill_job.specs.Jobs.{IsJob}
-use Rattle.mill_job.specs.Columns.{column_x, column_y}
-use Rattle.mill_sweep.specs.Halving.{PassesPoint}
-use Rattle.mill_sweep.proofs.Far.{far_passes}
-use Rattle.mill_dexel.specs.Tops.{tested_height, tops_after_move}
-use Rattle.mill_dexel.specs.Rows.{RowState, IsRowOf, PassesRow, top_at, uncut_row}
+use Rattle.mill_job.specs.Columns.{column_y}
+use Rattle.mill_dexel.specs.Tops.{tops_after_move}
+use Rattle.mill_dexel.specs.Rows.{RowState, IsRowOf, cutting, holding, HolderPassesRow, uncut_row}
 use Rattle.mill_dexel.specs.Cuts.{IsBeyond}
 use Rattle.mill_dexel.specs.Turns.{move_at, ClearsRow, StopsRow, tops_after, row_before, TurnsEndAt, IsRunOn, IsTurned, TurnsEndBy, IsRunUpTo, IsTurnedUpTo}
 use Rattle.mill_dexel.specs.Bands.{IsInBand, IsBand}
-use Rattle.mill_dexel.specs.inner.Passing.{PassesOver}
+use Rattle.mill_dexel.specs.inner.Passing.{IsAway, PassesOver}
 use Rattle.mill_dexel.specs.declared.fail.RowFail.{RowFail}
 use Rattle.mill_dexel.specs.declared.band.Band.{Band}
 use Rattle.mill_dexel.proofs.Beyond.{move_keeps}
 use Rattle.mill_dexel.proofs.RunLaws.{IsRunTo, move_read, run_more, run_ended}
+use Rattle.mill_dexel.proofs.Trials.{cutting_trial, holding_trial, far_passes_row}
 
 -- a list in two parts
 take_none : {A : Type 0} (n : ℕ) → take {A = A} n [] ≡ []
@@ -148,16 +147,16 @@ turns_end job moves limit old new all = by old.failed
     }
     by (Some fail) same = same
 
--- a move that stays far away from a row passes each of its columns, at whatever height it is tested, and so its test
-pub far_passes_row : (job : Job) (kind : Kind) (r : RowState) (m : Move) → IsCutter job.cutter → MoveInRange m → IsBeyond (radius_of job.cutter +ℤ pos MAX_LAST_REACH) m.from.y m.to.y (column_y job r.row) → PassesRow job kind r m
-far_passes_row job kind r m size range beyond = λ i within. by (column_x job i) (column_y job r.row) (tested_height job kind (top_at r.tops i)) beyond
+-- a move that stays away from a row passes each of its columns, by its cutter and by its holder, and so the row
+away_clears : (job : Job) (r : RowState) (m : Move) → IsJob job → MoveInRange m → IsAway job m.from.y m.to.y (column_y job r.row) → ClearsRow job r m
+away_clears job r m is_job range away = record {
+  cut = λ tested. far_passes_row job (cutting job m.kind m) r (cutting_trial job m.kind m is_job.cutter_ok range) away.cut;
+  holder = held job.holder is_job.holder_ok away.holder;
+}
   where
-    by : (x y z : ℤ) → IsBeyond (radius_of job.cutter +ℤ pos MAX_LAST_REACH) m.from.y m.to.y y → PassesPoint job.cutter m (point_at x y z)
-    by x y z (inl h) = far_passes job.cutter m (point_tri (point_at x y z)) size range (inr (inr (inr (record { a_e = h.first; b_e = h.first; c_e = h.first; a_f = h.second; b_f = h.second; c_f = h.second }))))
-    by x y z (inr h) = far_passes job.cutter m (point_tri (point_at x y z)) size range (inr (inr (inl (record { a_e = h.first; b_e = h.first; c_e = h.first; a_f = h.second; b_f = h.second; c_f = h.second }))))
-
-far_clears : (job : Job) (r : RowState) (m : Move) → IsCutter job.cutter → MoveInRange m → IsBeyond (radius_of job.cutter +ℤ pos MAX_LAST_REACH) m.from.y m.to.y (column_y job r.row) → ClearsRow job r m
-far_clears job r m size range beyond tested = far_passes_row job m.kind r m size range beyond
+    held : (o : Option Holder) → IfSome o IsHolder → IfSome o (λ holder. IsBeyond (holder.radius +ℤ pos MAX_LAST_REACH) m.from.y m.to.y (column_y job r.row)) → IfSome o (λ holder. HolderPassesRow holder job r m)
+    held None ok far = tt
+    held (Some holder) ok far = far_passes_row job (holding holder m) r (holding_trial holder m ok range) far
 
 -- a band that is widened to one move more
 pub band_more : (moves : List Move) (first t : ℕ) (low high low' high' : ℤ) → ((k : ℕ) → first ≤ k → k < t → IsInBand low high (move_at moves k)) → low' ≤ℤ low → high ≤ℤ high' → IsInBand low' high' (move_at moves t)
@@ -178,6 +177,16 @@ in_band_beyond : (distance y low high : ℤ) (m : Move) → IsInBand low high m 
 in_band_beyond distance y low high m inside (inl h) = let l = h.first in let a = inside.from_low in let b = inside.to_low in inl (record { first = omega (arith, ints); second = omega (arith, ints) })
 in_band_beyond distance y low high m inside (inr h) = let l = h.second in let a = inside.from_high in let b = inside.to_high in inr (record { first = omega (arith, ints); second = omega (arith, ints) })
 
+in_band_away : (job : Job) (y low high : ℤ) (m : Move) → IsInBand low high m → IsAway job low high y → IsAway job m.from.y m.to.y y
+in_band_away job y low high m inside away = record {
+  cut = in_band_beyond (radius_of job.cutter +ℤ pos MAX_LAST_REACH) y low high m inside away.cut;
+  holder = held job.holder away.holder;
+}
+  where
+    held : (o : Option Holder) → IfSome o (λ holder. IsBeyond (holder.radius +ℤ pos MAX_LAST_REACH) low high y) → IfSome o (λ holder. IsBeyond (holder.radius +ℤ pos MAX_LAST_REACH) m.from.y m.to.y y)
+    held None far = tt
+    held (Some holder) far = in_band_beyond (holder.radius +ℤ pos MAX_LAST_REACH) y low high m inside far
+
 contained : (moves : List Move) (k : ℕ) → MovesInRange moves → k < length moves → MoveInRange (move_at moves k)
 contained moves k range there = range (move_at moves k) (k, there, move_read moves k (move_at moves k) there)
 
@@ -195,17 +204,17 @@ run_start job moves r is_row unfailed = record {
     none n = omega arith
 
 -- a row passes over moves that stay far away from it
-module _ (job : Job) (moves : List Move) (old now : RowState) (start : ℕ) (size : IsCutter job.cutter) (range : MovesInRange moves) (run : IsRunTo job moves old now start) where
+module _ (job : Job) (moves : List Move) (old now : RowState) (start : ℕ) (is_job : IsJob job) (range : MovesInRange moves) (run : IsRunTo job moves old now start) where
   -- the row, where it is before move k
   abbrev pub passing : ℕ → RowState
   passing k = record now { done = k }
 
   -- one move more
-  past_one : (k : ℕ) → k < length moves → IsBeyond (radius_of job.cutter +ℤ pos MAX_LAST_REACH) (move_at moves k).from.y (move_at moves k).to.y (column_y job now.row) → IsRunTo job moves old (passing k) k
+  past_one : (k : ℕ) → k < length moves → IsAway job (move_at moves k).from.y (move_at moves k).to.y (column_y job now.row) → IsRunTo job moves old (passing k) k
       → IsRunTo job moves old (passing (k + 1)) (k + 1)
   past_one k there far before =
-      run_more job moves old (passing k) (passing (k + 1)) k there before (far_clears job (passing k) (move_at moves k) size (contained moves k range there) far)
-      (ap (λ (ts : List ℤ). record now { tops = ts; done = k + 1 }) (move_keeps job now.row (move_at moves k) now.tops size (nearer far)))
+      run_more job moves old (passing k) (passing (k + 1)) k there before (away_clears job (passing k) (move_at moves k) is_job (contained moves k range there) far)
+      (ap (λ (ts : List ℤ). record now { tops = ts; done = k + 1 }) (move_keeps job now.row (move_at moves k) now.tops is_job.cutter_ok (nearer far.cut)))
       (record { there = run.is_row.there; columns = run.is_row.columns; in_stock = run.is_row.in_stock })
     where
       nearer : {a b y : ℤ} → IsBeyond (radius_of job.cutter +ℤ pos MAX_LAST_REACH) a b y → IsBeyond (radius_of job.cutter) a b y
@@ -213,7 +222,7 @@ module _ (job : Job) (moves : List Move) (old now : RowState) (start : ℕ) (siz
       nearer (inr h) = let l = h.first in let k = h.second in inr (record { first = omega (arith, ints); second = omega (arith, ints) })
 
   pub run_past : (more : ℕ) → start + more ≤ length moves
-      → ((k : ℕ) → start ≤ k → k < start + more → IsBeyond (radius_of job.cutter +ℤ pos MAX_LAST_REACH) (move_at moves k).from.y (move_at moves k).to.y (column_y job now.row))
+      → ((k : ℕ) → start ≤ k → k < start + more → IsAway job (move_at moves k).from.y (move_at moves k).to.y (column_y job now.row))
       → IsRunTo job moves old (passing (start + more)) (start + more)
   run_past zero there far =
       let same : start ≡ start + zero = omega arith in
@@ -229,8 +238,8 @@ pub over_runs : (job : Job) (moves : List Move) (band : Band) (old now new : Row
 over_runs job moves band old now new is_job range there is_band run over =
     subst (λ (r : RowState). IsRunTo job moves old r band.«end») (sym over.is)
     (subst (λ (k : ℕ). IsRunTo job moves old (record now { done = k }) k) whole
-    (run_past job moves old now now.done is_job.cutter_ok range run (band.«end» - now.done) (omega (arith, there, over.onward))
-    (λ k from to. in_band_beyond (radius_of job.cutter +ℤ pos MAX_LAST_REACH) (column_y job now.row) band.low band.high (move_at moves k) (is_band k (omega (arith, from, over.first)) (omega (arith, to, over.onward))) over.beyond)))
+    (run_past job moves old now now.done is_job range run (band.«end» - now.done) (omega (arith, there, over.onward))
+    (λ k from to. in_band_away job (column_y job now.row) band.low band.high (move_at moves k) (is_band k (omega (arith, from, over.first)) (omega (arith, to, over.onward))) over.away)))
   where
     whole : now.done + (band.«end» - now.done) ≡ band.«end»
     whole = omega (arith, over.onward)

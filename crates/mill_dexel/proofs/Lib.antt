@@ -11,8 +11,9 @@ mod Again
 mod Beyond
 mod LineCerts
 mod Lines
+mod Trials
 mod UncutRows
-mod Stops
+pub mod Stops
 pub mod RunLaws
 mod Blocks
 mod BandLists

@@ -1,30 +1,29 @@
--- Columns at least the cutter's radius away from a sample keep their tops, and a move passes them.
-use Rattle.std.proofs.Common.{◌≡◌, ◌⊎◌, inl, inr, refl, sym, ap, ◌∙◌, [], ◌∷◌, w32, true, false, Bool, ℕ, ◌*◌, ◌<◌, ◌≤◌, FitsSigned, arith}
-use Rattle.std.specs.Prelude.{ℤ, pos, ◌+ℤ◌, ◌-ℤ◌, ◌*ℤ◌, ◌<ℤ◌, ◌≤ℤ◌, negsuc, nat_abs, int_lt, cond, Option, Some, None, if◌then◌else◌}
+-- Columns at least the cutter's radius away from a sample keep their tops.
+use Rattle.std.proofs.Common.{◌≡◌, ◌⊎◌, inl, inr, refl, sym, ap, ◌∙◌, [], ◌∷◌, w32, true, false, Bool, subst, ℕ, ◌*◌, ◌<◌, ◌≤◌, FitsSigned, arith}
+use Rattle.std.specs.Prelude.{ℤ, pos, ◌+ℤ◌, ◌-ℤ◌, ◌*ℤ◌, ◌<ℤ◌, ◌≤ℤ◌, negsuc, nat_abs, int_lt, cond, Option, Some, None, IfSome, if◌then◌else◌}
 use Rattle.std.proofs.lemmas.Int.{ints}
 use Rattle.std.proofs.Math.IntN.{pos-*ℤ-pos}
 use Rattle.mill_base.specs.Numbers.{square}
 use Rattle.mill_base.specs.Contact.{Holds}
-use Rattle.mill_base.specs.Points.{point_at, point_tri}
+use Rattle.mill_base.specs.Points.{point_at}
 use Rattle.mill_base.specs.Sizes.{IsCutter, radius_of, is_within, surface, cut_height_of}
 use Rattle.mill_base.specs.declared.points.Pt3.{Pt3}
-use Rattle.mill_base.specs.declared.motion.Move.{Move}
 use Rattle.mill_base.specs.declared.cutter.Cutter.{Cutter}
+use Rattle.mill_base.specs.declared.tool.Holder.{Holder}
 use Rattle.mill_base.specs.declared.cutter.Cutter.TheVariants.{Flat, Ball, Cone}
 use Rattle.mill_base.proofs.Exit.{split_lt}
 use Rattle.mill_base.proofs.Machine.{Read, Lit, Sum, exact, sum_fits, stored}
-use Rattle.mill_base.specs.Ranges.{MoveInRange}
 use Rattle.mill_base.specs.declared.limits.TheConstants.{MAX_RADIUS, MAX_LAST_REACH}
 use Rattle.mill_base.proofs.Integers.{sq-ℤ}
 use Rattle.mill_shape.proofs.CutHeights.{cut_height_is_greatest, cutter_is_wide}
 use Rattle.mill_shape.proofs.Holding.{holds_over_tip}
+use Rattle.mill_job.specs.Jobs.{IsJob}
 use Rattle.mill_job.specs.declared.job.Job.{Job}
-use Rattle.mill_sweep.specs.Halving.{PassesPoint}
-use Rattle.mill_sweep.proofs.Far.{far_passes}
 use Rattle.mill_sweep.proofs.Passing.{radius_least}
 use Rattle.mill_dexel.specs.declared.sample.Placed.{Placed}
 use Rattle.mill_dexel.specs.Tops.{top_after_sample, lowered_to}
-use Rattle.mill_dexel.specs.Cuts.{IsUnderBy, IsOverBy, IsReachAlong, IsReachBy, IsBeyond, IsHalfChord}
+use Rattle.mill_dexel.specs.Cuts.{IsReachAlong, IsReachBy, IsBeyond, IsHalfChord}
+use Rattle.mill_dexel.specs.inner.Passing.{IsAway}
 use Rattle.mill_dexel.proofs.FarCerts.{far_under, far_over}
 
 -- two numbers are at least r apart
@@ -90,6 +89,31 @@ pub beyond_same : (r a b y s c d z : ℤ) → r ≡ s → a ≡ c → b ≡ d �
 beyond_same r a b y s c d z er ea eb ey (inl h) = let l = h.first in let k = h.second in inl (record { first = omega (arith, ints); second = omega (arith, ints) })
 beyond_same r a b y s c d z er ea eb ey (inr h) = let l = h.first in let k = h.second in inr (record { first = omega (arith, ints); second = omega (arith, ints) })
 
+-- a row as far away as the holder, which is wider than the cutter, or as the cutter where there is no holder, is far enough away
+nearer : (q r a b y : ℤ) → q ≤ℤ r → IsBeyond r a b y → IsBeyond q a b y
+nearer q r a b y less (inl h) = let l = h.first in let k = h.second in inl (record { first = omega (arith, ints); second = omega (arith, ints) })
+nearer q r a b y less (inr h) = let l = h.first in let k = h.second in inr (record { first = omega (arith, ints); second = omega (arith, ints) })
+
+module _ (job : Job) (a b y : ℤ) where
+  pub away_bare : job.holder ≡ None → IsBeyond (radius_of job.cutter +ℤ pos MAX_LAST_REACH) a b y → IsAway job a b y
+  away_bare none beyond = record {
+    cut = beyond;
+    holder = subst (λ (o : Option Holder). IfSome o (λ holder. IsBeyond (holder.radius +ℤ pos MAX_LAST_REACH) a b y)) (sym none) tt;
+  }
+
+  pub away_held : (holder : Holder) → IsJob job → job.holder ≡ Some holder → IsBeyond (holder.radius +ℤ pos MAX_LAST_REACH) a b y → IsAway job a b y
+  away_held holder is_job there beyond = record {
+    cut = nearer (radius_of job.cutter +ℤ pos MAX_LAST_REACH) (holder.radius +ℤ pos MAX_LAST_REACH) a b y
+        (wide (radius_of job.cutter) holder.radius (subst (λ (o : Option Holder). IfSome o (λ holder. radius_of job.cutter <ℤ holder.radius)) there is_job.wider)) beyond;
+    holder = subst (λ (o : Option Holder). IfSome o (λ holder. IsBeyond (holder.radius +ℤ pos MAX_LAST_REACH) a b y)) (sym there) beyond;
+  }
+    where
+      wide : (q r : ℤ) → q <ℤ r → (q +ℤ pos MAX_LAST_REACH) ≤ℤ (r +ℤ pos MAX_LAST_REACH)
+      wide q r h = omega (h, arith, ints)
+
+pub away_same : (job : Job) (a b y c d z : ℤ) → a ≡ c → b ≡ d → y ≡ z → IsAway job a b y → IsAway job c d z
+away_same job a b y c d z ea eb ey away = rw (← ea, ← eb, ← ey) away
+
 pub half_same : (r a c s b d : ℤ) → r ≡ s → a ≡ b → c ≡ d → IsHalfChord r a c → IsHalfChord s b d
 half_same r a c s b d er ea ec half = rw (← er, ← ea, ← ec) half
 
@@ -134,15 +158,6 @@ free_keeps s floor x y top size low high =
   where
     over : (h : ℤ) → s.tip.z ≤ℤ h → top ≤ℤ h
     over h k = omega (arith, ints)
-
--- a move passes each point of a column at least the radius and 2 under or over both its ends in x
-pub under_passes : (cutter : Cutter) (m : Move) (x y z : ℤ) → IsCutter cutter → MoveInRange m → IsUnderBy (radius_of cutter +ℤ pos MAX_LAST_REACH) m.from.x m.to.x x → PassesPoint cutter m (point_at x y z)
-under_passes cutter m x y z size range h =
-    far_passes cutter m (point_tri (point_at x y z)) size range (inr (inl (inr (record { a_e = h.first; b_e = h.first; c_e = h.first; a_f = h.second; b_f = h.second; c_f = h.second }))))
-
-pub over_passes : (cutter : Cutter) (m : Move) (x y z : ℤ) → IsCutter cutter → MoveInRange m → IsOverBy (radius_of cutter +ℤ pos MAX_LAST_REACH) m.from.x m.to.x x → PassesPoint cutter m (point_at x y z)
-over_passes cutter m x y z size range h =
-    far_passes cutter m (point_tri (point_at x y z)) size range (inr (inl (inl (record { a_e = h.first; b_e = h.first; c_e = h.first; a_f = h.second; b_f = h.second; c_f = h.second }))))
 
 -- a job's cutter has a radius up to 10,000
 pub radius_most : (cutter : Cutter) → IsCutter cutter → radius_of cutter ≤ℤ MAX_RADIUS

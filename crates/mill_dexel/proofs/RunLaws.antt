@@ -1,6 +1,6 @@
 -- A row through its turns: one turn more, the end of the turns, and that the moves determine it.
 use Rattle.std.proofs.Common.{◌≡◌, inl, inr, ℕ, zero, suc, ◌+◌, ◌-◌, ◌*◌, ◌<◌, ◌≤◌, refl, sym, subst, ap, ◌∙◌, length, get_or, take, drop, arith}
-use Rattle.std.specs.Prelude.{ℤ, List, [], ◌∷◌, All, Option, Some, None, IfSome, MatchOption, slice_range}
+use Rattle.std.specs.Prelude.{ℤ, List, [], ◌∷◌, All, Option, Some, None, IfSome, MatchOption, slice_range, unwrap_or}
 use Rattle.std.proofs.lemmas.Bool.{cases_lt}
 use Rattle.std.proofs.lemmas.List.{get_or-drop, get_or_default, length-drop}
 use Rattle.std.proofs.lemmas.List.Sums.{fold_more}
@@ -8,6 +8,7 @@ use Rattle.mill_base.specs.Points.{point_tri}
 use Rattle.mill_base.specs.declared.points.Pt3.{Pt3}
 use Rattle.mill_base.specs.declared.points.Tri.{Tri}
 use Rattle.mill_base.specs.declared.motion.Move.{Move}
+use Rattle.mill_base.specs.declared.tool.Holder.{Holder}
 use Rattle.mill_base.specs.declared.cutter.Cutter.{Cutter}
 use Rattle.mill_sweep.specs.Leaves.{depth_of}
 use Rattle.mill_sweep.specs.Halving.{FailsAt, LeadsTo}
@@ -17,11 +18,14 @@ use Rattle.mill_job.specs.Columns.{row_count, column_count}
 use Rattle.mill_job.specs.Jobs.{IsFrom}
 use Rattle.mill_dexel.specs.Cuts.{IsCutAt}
 use Rattle.mill_dexel.specs.Tops.{tops_after_move}
-use Rattle.mill_dexel.specs.Rows.{RowState, IsRowOf, row_point, uncut_row}
-use Rattle.mill_dexel.specs.Turns.{move_at, ClearsRow, turned, StopsRow, IsRowStopped, tops_after, row_before, PassesTurn, TurnsEndAt, IsRunOn, IsTurned, TurnsEndBy, IsRunUpTo, IsTurnedUpTo}
+use Rattle.mill_dexel.specs.Rows.{RowState, Test, cutting, holding, IsRowOf, IsFirstStop, row_point, uncut_row}
+use Rattle.mill_dexel.specs.Turns.{move_at, ClearsRow, turned, StopsAt, StopsRow, IsRowStopped, tops_after, row_before, PassesTurn, TurnsEndAt, IsRunOn, IsTurned, TurnsEndBy, IsRunUpTo, IsTurnedUpTo}
 use Rattle.mill_dexel.specs.declared.fail.RowFail.{RowFail}
+use Rattle.mill_dexel.specs.declared.fail.RowTest.{RowTest}
+use Rattle.mill_dexel.specs.declared.fail.RowTest.TheVariants as test
 use Rattle.mill_dexel.proofs.Again.{cut_at_end}
 use Rattle.mill_dexel.proofs.RowLaws.{row_stays}
+use Rattle.mill_dexel.proofs.Stops.{cut_stop_fails, stop_fails}
 
 -- the move that the code reads
 pub move_read : (moves : List Move) (k : ℕ) (d : Move) → k < length moves → get_or moves k d ≡ move_at moves k
@@ -170,19 +174,41 @@ leads_to_one cutter m tri (suc more) d k a b (inr h) (inr g) = leads_to_one cutt
 pub leaf_is_one : (cutter : Cutter) (m : Move) (tri : Tri) (a b : Leaf) → FailsAt cutter m tri a → FailsAt cutter m tri b → a ≡ b
 leaf_is_one cutter m tri a b h g = leads_to_one cutter m tri (depth_of m) 0 0 a b h.leads g.leads
 
-same_fail : (a b : RowFail) → a.at ≡ b.at → a.col ≡ b.col → a.leaf ≡ b.leaf → a ≡ b
-same_fail a b p q l = ap (λ (n : ℕ). record { at = n; col = a.col; leaf = a.leaf }) p ∙ ap (λ (n : ℕ). record { at = b.at; col = n; leaf = a.leaf }) q ∙ ap (λ (f : Leaf). record { at = b.at; col = b.col; leaf = f }) l
+-- a test of a row has one first stop
+first_is_one : (job : Job) (t : Test) (r : RowState) (i k : ℕ) (a b : Leaf) → IsFirstStop job t r i a → IsFirstStop job t r k b → (i ≡ k) × (a ≡ b)
+first_is_one job t r i k a b h g =
+    let col : i ≡ k = same_number i k (λ less. h.fails.fails (g.before i less)) (λ less. g.fails.fails (h.before k less)) in
+    (col, leaf_is_one t.solid t.move (point_tri (row_point job t.kind r i)) a b h.fails (subst (λ (n : ℕ). FailsAt t.solid t.move (point_tri (row_point job t.kind r n)) b) (sym col) g.fails))
+
+same_some : (a b : Holder) (o : Option Holder) → o ≡ Some a → o ≡ Some b → a ≡ b
+same_some a b o h g = ap (λ (p : Option Holder). unwrap_or p a) (sym h ∙ g)
+
+-- and a move fails one test first
+stop_at_one : (job : Job) (r : RowState) (m : Move) (s t : RowTest) (i k : ℕ) (a b : Leaf) → StopsAt s job r m i a → StopsAt t job r m k b → (s ≡ t) × (i ≡ k) × (a ≡ b)
+stop_at_one job r m test.Cut test.Cut i k a b h g = let one = first_is_one job (cutting job m.kind m) r i k a b h.column g.column in (refl, one.0, one.1)
+stop_at_one job r m test.Cut test.Holder i k a b h g = absurd (cut_stop_fails job r m i a h g.cut)
+stop_at_one job r m test.Holder test.Cut i k a b h g = absurd (cut_stop_fails job r m k b g h.cut)
+stop_at_one job r m test.Holder test.Holder i k a b h g =
+    let same = same_some g.holder.holder h.holder.holder job.holder g.holder.there h.holder.there in
+    let one = first_is_one job (holding h.holder.holder m) r i k a b h.holder.column (subst (λ (holder : Holder). IsFirstStop job (holding holder m) r k b) same g.holder.column) in
+    (refl, one.0, one.1)
+
+same_fail : (a b : RowFail) → a.at ≡ b.at → a.test ≡ b.test → a.col ≡ b.col → a.leaf ≡ b.leaf → a ≡ b
+same_fail a b p t q l =
+    ap (λ (n : ℕ). record { at = n; col = a.col; leaf = a.leaf; test = a.test }) p
+    ∙ ap (λ (n : ℕ). record { at = b.at; col = n; leaf = a.leaf; test = a.test }) q
+    ∙ ap (λ (f : Leaf). record { at = b.at; col = b.col; leaf = f; test = a.test }) l
+    ∙ ap (λ (s : RowTest). record { at = b.at; col = b.col; leaf = b.leaf; test = s }) t
 
 stop_is_one : (job : Job) (r : RowState) (m : Move) (a b : RowFail) → StopsRow job r m a → StopsRow job r m b → a ≡ b
 stop_is_one job r m a b h g =
-    let col : a.col ≡ b.col = same_number a.col b.col (λ less. h.column.fails.fails (g.column.before a.col less)) (λ less. g.column.fails.fails (h.column.before b.col less)) in
-    let fails = subst (λ (i : ℕ). FailsAt job.cutter m (point_tri (row_point job m.kind r i)) b.leaf) (sym col) g.column.fails in
-    same_fail a b (h.move ∙ sym g.move) col (leaf_is_one job.cutter m (point_tri (row_point job m.kind r a.col)) a.leaf b.leaf h.column.fails fails)
+    let one = stop_at_one job r m a.test b.test a.col b.col a.leaf b.leaf h.stops g.stops in
+    same_fail a b (h.move ∙ sym g.move) one.0 one.1 one.2
 
 -- a turn that passes isn't the end
 end_passes : (job : Job) (moves : List Move) (r : RowState) (k : ℕ) (failed : Option RowFail) → TurnsEndAt job moves r k failed → PassesTurn job moves r k → ⊥
 end_passes job moves r k None ends passes = let there = passes.there in omega (arith, ends, there)
-end_passes job moves r k (Some fail) ends passes = ends.1.column.fails.fails (passes.clears ends.1.tested fail.col ends.1.column.column)
+end_passes job moves r k (Some fail) ends passes = stop_fails job (row_before job moves r k) (move_at moves k) fail ends.1 passes.clears
 
 end_is_one : (job : Job) (moves : List Move) (r : RowState) (k : ℕ) (a b : Option RowFail) → TurnsEndAt job moves r k a → TurnsEndAt job moves r k b → a ≡ b
 end_is_one job moves r k None None h g = refl

@@ -19,10 +19,10 @@ use Rattle.mill_sweep.specs.Halving.{PassesPoint}
 use Rattle.mill_sweep.specs.declared.leaf.Leaf.{Leaf}
 use Rattle.mill_dexel.specs.Cuts.{IsBeyond, IsRowReach}
 use Rattle.mill_dexel.specs.Tops.{IsTested, ClearsColumns, tested_point, row_after, tops_after_move}
-use Rattle.mill_dexel.specs.Rows.{RowState, IsRowOf, IsFirstStop, PassesRow, row_point, uncut_row}
+use Rattle.mill_dexel.specs.Rows.{RowState, IsRowOf, cutting, IsFirstStop, PassesRow, row_point, uncut_row}
 use Rattle.mill_dexel.specs.Stocks.{IsRow, IsStock}
 use Rattle.mill_dexel.proofs.Beyond.{move_keeps}
-use Rattle.mill_dexel.proofs.Blocks.{far_passes_row}
+use Rattle.mill_dexel.proofs.Trials.{cutting_trial, far_passes_row}
 use Rattle.mill_dexel.proofs.RowLaws.{row_after-at, row_after_more, row_after_none, turned_is_row}
 
 -- a column's point at which a move of a kind is tested, by the row that it stands in
@@ -31,7 +31,7 @@ point_is job kind done j i r is there = rw (is.number, is.after, row_after-at jo
 
 -- a feed passes a row as low as it may cut it, if the depth of cut is limited
 abbrev pub PassesDeep : Job → Move → RowState → Type 0
-PassesDeep job m r = IsTested job Feed → PassesRow job Feed r m
+PassesDeep job m r = IsTested job Feed → PassesRow job (cutting job Feed m) r
 
 -- so it does the rows from first on, before n
 abbrev pub ArePassed : Job → Move → List RowState → ℕ → ℕ → Type 0
@@ -58,15 +58,15 @@ module _ (job : Job) (m : Move) (done : List Move) (rows : List RowState) (first
           is : IsRow job done j (get_or rows j other)
           is = stock.rows_ok j other column.row
 
-          far : IsBeyond (radius_of job.cutter +ℤ pos MAX_LAST_REACH) m.from.y m.to.y (column_y job j) → PassesRow job Feed (get_or rows j other) m
-          far beyond = far_passes_row job Feed (get_or rows j other) m size range
+          far : IsBeyond (radius_of job.cutter +ℤ pos MAX_LAST_REACH) m.from.y m.to.y (column_y job j) → PassesRow job (cutting job Feed m) (get_or rows j other)
+          far beyond = far_passes_row job (cutting job Feed m) (get_or rows j other) (cutting_trial job Feed m size range)
               (subst (λ (k : ℕ). IsBeyond (radius_of job.cutter +ℤ pos MAX_LAST_REACH) m.from.y m.to.y (column_y job k)) (sym is.number) beyond)
 
           behind : n ≤ j → («end» ≤ n) ⊎ (length rows ≤ n) → «end» ≤ j
           behind h (inl l) = omega (arith, h, l)
           behind h (inr l) = absurd (omega (arith, h, l, stock.count, column.row))
 
-          row : (j < first) ⊎ (first ≤ j) → (j < n) ⊎ (n ≤ j) → PassesRow job Feed (get_or rows j other) m
+          row : (j < first) ⊎ (first ≤ j) → (j < n) ⊎ (n ≤ j) → PassesRow job (cutting job Feed m) (get_or rows j other)
           row (inl h) below = far (out_of_reach job m first «end» j reach column.row (inl h))
           row (inr h) (inl l) = passed j other h l tested
           row (inr h) (inr l) = far (out_of_reach job m first «end» j reach column.row (inr (behind l over)))
@@ -83,7 +83,7 @@ pub none_found : (o : Option (ℕ × Leaf)) → is_some o ≡ false → o ≡ No
 none_found None e = refl
 none_found (Some s) e = cc
 
-pub too_deep : (job : Job) (m : Move) (r : RowState) (o : Option (ℕ × Leaf)) → is_some o ≡ true → IfSome o (λ s. IsTested job Feed) → IfSome o (λ s. IsFirstStop job Feed r m s.0 s.1) → IsTooDeep job m r
+pub too_deep : (job : Job) (m : Move) (r : RowState) (o : Option (ℕ × Leaf)) → is_some o ≡ true → IfSome o (λ s. IsTested job Feed) → IfSome o (λ s. IsFirstStop job (cutting job Feed m) r s.0 s.1) → IsTooDeep job m r
 too_deep job m r None e tested first = cc
 too_deep job m r (Some s) e tested first = record { i = s.0; column = first.column; limited = tested; stops = first.fails.fails }
 

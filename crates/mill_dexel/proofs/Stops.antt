@@ -1,29 +1,62 @@
--- The test of a move by a row, by the move's kind.
-use Rattle.std.proofs.Common.{◌≡◌, ℕ, sym, subst}
-use Rattle.std.specs.Prelude.{Option, None, MatchOption}
+-- The tests of a move by a row, and the first of them that it fails.
+use Rattle.std.proofs.Common.{◌≡◌, ℕ, refl, sym, subst}
+use Rattle.std.specs.Prelude.{Option, Some, None, IfSome, MatchOption}
 use Rattle.mill_base.specs.declared.motion.Move.{Move}
 use Rattle.mill_base.specs.declared.motion.Kind.{Kind}
+use Rattle.mill_base.specs.declared.tool.Holder.{Holder}
 use Rattle.mill_job.specs.declared.job.Job.{Job}
 use Rattle.mill_sweep.specs.declared.leaf.Leaf.{Leaf}
 use Rattle.mill_dexel.specs.Tops.{IsTested}
-use Rattle.mill_dexel.specs.Rows.{RowState, PassesRow, IsFirstStop, IsColumnBlocked}
-use Rattle.mill_dexel.specs.Turns.{ClearsRow, StopsRow}
+use Rattle.mill_dexel.specs.Rows.{RowState, cutting, holding, PassesRow, HolderPassesRow, HolderClearsRow, IsFirstStop, IsColumnBlocked, IsFirstHolderStop}
+use Rattle.mill_dexel.specs.Turns.{ClearsRow, CutClearsRow, CutStopsAt, StopsAt, StopsRow}
 use Rattle.mill_dexel.specs.declared.fail.RowFail.{RowFail}
+use Rattle.mill_dexel.specs.declared.fail.RowTest.{RowTest}
+use Rattle.mill_dexel.specs.declared.fail.RowTest.TheVariants as test
 
+-- what the test of a kind finds, for a move of that kind
 module _ (job : Job) (r : RowState) (m : Move) (kind : Kind) (is : m.kind ≡ kind) where
-  -- a move that passes the test of its kind isn't stopped
-  pub not_stopped : (fail : Option RowFail) → fail ≡ None → (IsTested job kind → PassesRow job kind r m) → MatchOption fail (ClearsRow job r m) (StopsRow job r m)
-  not_stopped fail none clears =
-      subst (λ (o : Option RowFail). MatchOption o (ClearsRow job r m) (StopsRow job r m)) (sym none)
-      (subst (λ (k : Kind). IsTested job k → PassesRow job k r m) (sym is) clears)
+  abbrev Finds : Kind → Option (ℕ × Leaf) → Type 0
+  Finds k o = MatchOption o (IsTested job k → PassesRow job (cutting job k m) r) (λ s. IsTested job k × IsFirstStop job (cutting job k m) r s.0 s.1 × IsColumnBlocked job (cutting job k m) r s.0 s.1)
 
-  -- one that fails it is
-  pub is_stopped : (number col : ℕ) (leaf : Leaf) (found : ℕ × Leaf) → found ≡ (col, leaf) → number ≡ r.done → IsTested job kind → IsFirstStop job kind r m col leaf → IsColumnBlocked job kind r m col leaf
-      → StopsRow job r m (record { at = number; col = found.0; leaf = found.1 })
-  is_stopped number col leaf found found_is next tested first blocked =
-      subst (λ (p : ℕ × Leaf). StopsRow job r m (record { at = number; col = p.0; leaf = p.1 })) (sym found_is) (record {
-        tested = subst (IsTested job) (sym is) tested;
-        move = next;
-        column = subst (λ (k : Kind). IsFirstStop job k r m col leaf) (sym is) first;
-        blocked = subst (λ (k : Kind). IsColumnBlocked job k r m col leaf) (sym is) blocked;
-      })
+  by_kind : (o : Option (ℕ × Leaf)) → Finds m.kind o → MatchOption o (CutClearsRow job r m) (λ s. CutStopsAt job r m s.0 s.1)
+  by_kind None clears = clears
+  by_kind (Some s) stops = record { tested = stops.0; column = stops.1; blocked = stops.2 }
+
+  pub rapid_found : (o : Option (ℕ × Leaf)) → IsTested job kind → MatchOption o (PassesRow job (cutting job kind m) r) (λ s. IsFirstStop job (cutting job kind m) r s.0 s.1)
+      → IfSome o (λ s. IsColumnBlocked job (cutting job kind m) r s.0 s.1) → MatchOption o (CutClearsRow job r m) (λ s. CutStopsAt job r m s.0 s.1)
+  rapid_found o tested first blocked = by_kind o (subst (λ (k : Kind). Finds k o) (sym is) (found o first blocked))
+    where
+      found : (o : Option (ℕ × Leaf)) → MatchOption o (PassesRow job (cutting job kind m) r) (λ s. IsFirstStop job (cutting job kind m) r s.0 s.1) → IfSome o (λ s. IsColumnBlocked job (cutting job kind m) r s.0 s.1) → Finds kind o
+      found None passes none = λ tested. passes
+      found (Some s) first blocked = (tested, first, blocked)
+
+  pub feed_found : (o : Option (ℕ × Leaf)) → (o ≡ None → IsTested job kind → PassesRow job (cutting job kind m) r) → IfSome o (λ s. IsTested job kind)
+      → IfSome o (λ s. IsFirstStop job (cutting job kind m) r s.0 s.1) → IfSome o (λ s. IsColumnBlocked job (cutting job kind m) r s.0 s.1) → MatchOption o (CutClearsRow job r m) (λ s. CutStopsAt job r m s.0 s.1)
+  feed_found o none tested first blocked = by_kind o (subst (λ (k : Kind). Finds k o) (sym is) (found o none tested first blocked))
+    where
+      found : (o : Option (ℕ × Leaf)) → (o ≡ None → IsTested job kind → PassesRow job (cutting job kind m) r) → IfSome o (λ s. IsTested job kind)
+          → IfSome o (λ s. IsFirstStop job (cutting job kind m) r s.0 s.1) → IfSome o (λ s. IsColumnBlocked job (cutting job kind m) r s.0 s.1) → Finds kind o
+      found None none tested first blocked = none refl
+      found (Some s) none tested first blocked = (tested, first, blocked)
+
+-- what a job's holder finds
+pub held_found : (job : Job) (r : RowState) (m : Move) (holder : Holder) (o : Option (ℕ × Leaf)) → job.holder ≡ Some holder
+    → MatchOption o (HolderPassesRow holder job r m) (λ s. IsFirstStop job (holding holder m) r s.0 s.1) → IfSome o (λ s. IsColumnBlocked job (holding holder m) r s.0 s.1)
+    → MatchOption o (HolderClearsRow job r m) (λ s. IsFirstHolderStop job r m s.0 s.1)
+held_found job r m holder None there passes none = subst (λ (h : Option Holder). IfSome h (λ holder. HolderPassesRow holder job r m)) (sym there) passes
+held_found job r m holder (Some s) there first blocked = record { holder = holder; there = there; column = first; blocked = blocked }
+
+-- a test that fails isn't passed, so a move that a row stops doesn't pass it
+pub holder_stop_fails : (job : Job) (r : RowState) (m : Move) (i : ℕ) (leaf : Leaf) → IsFirstHolderStop job r m i leaf → ¬ HolderClearsRow job r m
+holder_stop_fails job r m i leaf stop clears =
+    stop.column.fails.fails (subst (λ (h : Option Holder). IfSome h (λ holder. HolderPassesRow holder job r m)) stop.there clears i stop.column.column)
+
+pub cut_stop_fails : (job : Job) (r : RowState) (m : Move) (i : ℕ) (leaf : Leaf) → CutStopsAt job r m i leaf → ¬ CutClearsRow job r m
+cut_stop_fails job r m i leaf stop clears = stop.column.fails.fails (clears stop.tested i stop.column.column)
+
+pub stop_fails : (job : Job) (r : RowState) (m : Move) (fail : RowFail) → StopsRow job r m fail → ¬ ClearsRow job r m
+stop_fails job r m fail stop clears = by fail.test stop.stops
+  where
+    by : (t : RowTest) → StopsAt t job r m fail.col fail.leaf → ⊥
+    by test.Cut h = cut_stop_fails job r m fail.col fail.leaf h clears.cut
+    by test.Holder h = holder_stop_fails job r m fail.col fail.leaf h.holder clears.holder

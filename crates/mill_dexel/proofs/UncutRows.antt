@@ -1,5 +1,5 @@
 -- Where a row is tested: in range, and never higher than the uncut row. So a move that passes the uncut row passes every column of the row, however far it is cut.
-use Rattle.std.proofs.Common.{◌≡◌, inl, get_or, ℕ, ◌+◌, ◌/◌, ◌<◌, ◌≤◌, length, refl, sym, subst, ap, ◌∙◌, arith}
+use Rattle.std.proofs.Common.{◌≡◌, get_or, ℕ, ◌+◌, ◌/◌, ◌<◌, ◌≤◌, length, refl, sym, subst, ap, ◌∙◌, arith}
 use Rattle.std.specs.Int.{int_max}
 use mir.Syntax.{w32}
 use Rattle.std.specs.Prelude.{[], ◌∷◌, ℤ, pos, negsuc, ◌+ℤ◌, ◌-ℤ◌, ◌*ℤ◌, ◌≤ℤ◌, nat_abs}
@@ -12,10 +12,8 @@ use Rattle.mill_base.specs.Numbers.{Within, greater}
 use Rattle.mill_base.specs.declared.limits.TheConstants.{MAX_COORDINATE}
 use Rattle.mill_base.proofs.Machine.{Read, Diff, stored, exact, kept}
 use Rattle.mill_base.proofs.Ranges.{within_of_unit}
-use Rattle.mill_base.specs.Points.{point_at, point_tri}
+use Rattle.mill_base.specs.Points.{point_at}
 use Rattle.mill_base.specs.Ranges.{IsInRange, MoveInRange, TriInRange}
-use Rattle.mill_base.specs.Sizes.{IsCutter}
-use Rattle.mill_base.specs.declared.cutter.Cutter.{Cutter}
 use Rattle.mill_base.specs.Units.{greatest_of}
 use Rattle.mill_base.specs.declared.motion.Move.{Move}
 use Rattle.mill_base.specs.declared.motion.Kind.{Kind}
@@ -24,12 +22,12 @@ use Rattle.mill_base.specs.declared.unit.Unit.{Unit}
 use Rattle.mill_job.specs.declared.job.Job.{Job}
 use Rattle.mill_job.specs.Columns.{row_count, column_count, column_x, column_y}
 use Rattle.mill_job.specs.Jobs.{IsJob, IsFrom}
-use Rattle.mill_sweep.specs.Halving.{Passes, PassesPoint}
-use Rattle.mill_sweep.proofs.Far.{far_passes}
-use Rattle.mill_dexel.specs.Rows.{RowState, IsRowOf, PassesRow, top_at, row_point, uncut_tri}
+use Rattle.mill_sweep.specs.Halving.{Passes}
+use Rattle.mill_dexel.specs.Rows.{RowState, IsRowOf, cutting, PassesRow, top_at, row_point, uncut_tri}
 use Rattle.mill_dexel.specs.Tops.{cut_limit, tested_height}
 use Rattle.mill_dexel.proofs.Heights.{greater_left, greater_right, greater_least, most_is}
 use Rattle.mill_dexel.proofs.Lines.{line_passes}
+use Rattle.mill_dexel.proofs.Trials.{cutting_trial, low_passes}
 
 -- a number of steps that fits into a span leads no farther than its end
 steps_within : (i : ℕ) (x0 x1 pitch : ℤ) → x0 ≤ℤ x1 → (pos 1) ≤ℤ pitch → i < nat_abs (x1 -ℤ x0) / nat_abs pitch + 1 → IsFrom x0 x1 (x0 +ℤ pos i *ℤ pitch)
@@ -146,23 +144,18 @@ uncut_in_range job kind j is_job there = record { a_ok = west; b_ok = east; c_ok
     east = record { x_ok = within_of_unit job.unit job.area.x1 is_job.x1_ok; y_ok = y_in; z_ok = height_in }
 
 -- a row is tested at most as high as the uncut row, and its columns stand within the stock
-pub uncut_passes : (job : Job) (kind : Kind) (r : RowState) (m : Move) → IsJob job → IsRowOf job r → Passes job.cutter m (uncut_tri job kind r.row) → PassesRow job kind r m
+pub uncut_passes : (job : Job) (kind : Kind) (r : RowState) (m : Move) → IsJob job → IsRowOf job r → Passes job.cutter m (uncut_tri job kind r.row) → PassesRow job (cutting job kind m) r
 uncut_passes job kind r m is_job is_row passes i there =
     line_passes job.cutter m job.area.x0 job.area.x1 (column_y job r.row) (tested_height job kind job.top) (column_x job i) (tested_height job kind (top_at r.tops i))
     (steps_within i job.area.x0 job.area.x1 job.pitch is_job.x_order is_job.pitch_ok.low there)
     (tested_higher job kind (top_at r.tops i) job.top (top_stays job r i is_row there).high)
     passes
 
--- a move passes each point that is no higher than both its ends
-pub low_passes : (cutter : Cutter) (m : Move) (x y z : ℤ) → IsCutter cutter → MoveInRange m → z ≤ℤ m.from.z → z ≤ℤ m.to.z → PassesPoint cutter m (point_at x y z)
-low_passes cutter m x y z size range from to =
-    far_passes cutter m (point_tri (point_at x y z)) size range (inl (record { from = record { a = from; b = from; c = from }; to = record { a = to; b = to; c = to } }))
-
--- so it passes every column of a row where even the uncut row is tested no higher
+-- so it passes every column of a row where even the uncut row is tested no higher than both ends of the move
 pub low_passes_row : (job : Job) (kind : Kind) (r : RowState) (m : Move) → IsJob job → IsRowOf job r → MoveInRange m
-    → tested_height job kind job.top ≤ℤ m.from.z → tested_height job kind job.top ≤ℤ m.to.z → PassesRow job kind r m
+    → tested_height job kind job.top ≤ℤ m.from.z → tested_height job kind job.top ≤ℤ m.to.z → PassesRow job (cutting job kind m) r
 low_passes_row job kind r m is_job is_row range from to i there =
-    low_passes job.cutter m (column_x job i) (column_y job r.row) (tested_height job kind (top_at r.tops i)) is_job.cutter_ok range (under m.from.z from) (under m.to.z to)
+    low_passes job (cutting job kind m) r (cutting_trial job kind m is_job.cutter_ok range) i (under m.from.z from) (under m.to.z to)
   where
     under : (z : ℤ) → tested_height job kind job.top ≤ℤ z → tested_height job kind (top_at r.tops i) ≤ℤ z
     under z h = over (tested_height job kind (top_at r.tops i)) (tested_height job kind job.top) z (tested_higher job kind (top_at r.tops i) job.top (top_stays job r i is_row there).high) h

@@ -1,15 +1,20 @@
--- A row of columns, and the first of its columns that a move doesn't pass.
-use Rattle.std.specs.Prelude.{◌≡◌, ℕ, ◌<◌, ℤ, pos, List, length, All, Option, None, replicate, slice_index_or}
+-- A row of columns, and the first of its columns that the cutter, or its holder, doesn't pass on a move.
+use Rattle.std.specs.Prelude.{◌≡◌, ℕ, ◌<◌, ℤ, pos, List, length, All, Option, None, Some, IfSome, replicate, slice_index_or}
 use Rattle.mill_base.specs.Points.{point_at, point_tri}
+use Rattle.mill_base.specs.Tools.{solid_of}
+use Rattle.mill_base.specs.declared.cutter.Cutter.{Cutter}
 use Rattle.mill_base.specs.declared.points.Pt3.{Pt3}
 use Rattle.mill_base.specs.declared.points.Tri.{Tri}
 use Rattle.mill_base.specs.declared.motion.Move.{Move}
 use Rattle.mill_base.specs.declared.motion.Kind.{Kind}
+use Rattle.mill_base.specs.declared.motion.Kind.TheVariants.{Rapid}
+use Rattle.mill_base.specs.declared.tool.Holder.{Holder}
 use Rattle.mill_job.specs.declared.job.Job.{Job}
 use Rattle.mill_job.specs.Columns.{row_count, column_count, column_x, column_y}
 use Rattle.mill_job.specs.Jobs.{IsFrom}
 use Rattle.mill_sweep.specs.Leaves.{span_of}
 use Rattle.mill_sweep.specs.Halving.{Blocks, PassesPoint, FailsAt}
+use Rattle.mill_sweep.specs.Holders.{lifted}
 use Rattle.mill_sweep.specs.declared.leaf.Leaf.{Leaf}
 use Rattle.mill_dexel.specs.Tops.{tested_height}
 use Rattle.mill_dexel.specs.declared.fail.RowFail.{RowFail}
@@ -47,20 +52,51 @@ uncut_tri job kind j = record {
   c = point_at job.area.x1 (column_y job j) (tested_height job kind job.top);
 }
 
--- the move passes column i, at the point at which one of this kind is tested
-abbrev pub PassesAt : Job → Kind → RowState → Move → ℕ → Type 0
-PassesAt job kind r m i = PassesPoint job.cutter m (row_point job kind r i)
+-- ---- the tests of a move by a row
+
+-- what a row is tried with: a solid, the move that its tip makes, and the kind of move at whose heights
+pub record Test : Type 0 where
+  pub solid : Cutter
+  pub move : Move
+  pub kind : Kind
+
+-- the cutter's test, as a move of this kind is tested
+abbrev pub cutting : Job → Kind → Move → Test
+cutting job kind m = record { solid = job.cutter; move = m; kind = kind }
+
+-- the holder's test of a move of the cutter under it: its solid, over the cutter's tip by the stickout, at the columns' tops
+abbrev pub holding : Holder → Move → Test
+holding holder m = record { solid = solid_of holder; move = lifted holder m; kind = Rapid }
+
+-- the test passes column i, at the point at which a move of its kind is tested
+abbrev pub PassesAt : Job → Test → RowState → ℕ → Type 0
+PassesAt job test r i = PassesPoint test.solid test.move (row_point job test.kind r i)
 
 -- so it passes each column of the row
-abbrev pub PassesRow : Job → Kind → RowState → Move → Type 0
-PassesRow job kind r m = (i : ℕ) → i < column_count job → PassesAt job kind r m i
+abbrev pub PassesRow : Job → Test → RowState → Type 0
+PassesRow job test r = (i : ℕ) → i < column_count job → PassesAt job test r i
 
--- column i is the first that the move doesn't pass, and the test fails at this segment
-pub record IsFirstStop (job : Job) (kind : Kind) (r : RowState) (m : Move) (i : ℕ) (leaf : Leaf) : Type 0 where
+-- column i is the first that the test doesn't pass, and it fails at this segment
+pub record IsFirstStop (job : Job) (test : Test) (r : RowState) (i : ℕ) (leaf : Leaf) : Type 0 where
   pub column : i < column_count job
-  pub before : (k : ℕ) → k < i → PassesAt job kind r m k
-  pub fails : FailsAt job.cutter m (point_tri (row_point job kind r i)) leaf
+  pub before : (k : ℕ) → k < i → PassesAt job test r k
+  pub fails : FailsAt test.solid test.move (point_tri (row_point job test.kind r i)) leaf
 
--- the tested point of column i blocks this segment of the move
-abbrev pub IsColumnBlocked : Job → Kind → RowState → Move → ℕ → Leaf → Type 0
-IsColumnBlocked job kind r m i leaf = Blocks job.cutter (span_of m leaf.d leaf.k) (point_tri (row_point job kind r i))
+-- the tested point of column i blocks this segment of the test's move
+abbrev pub IsColumnBlocked : Job → Test → RowState → ℕ → Leaf → Type 0
+IsColumnBlocked job test r i leaf = Blocks test.solid (span_of test.move leaf.d leaf.k) (point_tri (row_point job test.kind r i))
+
+-- a holder passes the row's tops
+abbrev pub HolderPassesRow : Holder → Job → RowState → Move → Type 0
+HolderPassesRow holder job r m = PassesRow job (holding holder m) r
+
+-- so does the job's, if it has one
+abbrev pub HolderClearsRow : Job → RowState → Move → Type 0
+HolderClearsRow job r m = IfSome job.holder (λ holder. HolderPassesRow holder job r m)
+
+-- the job has a holder, and column i is the first whose top it doesn't pass, and the column's top blocks this segment
+pub record IsFirstHolderStop (job : Job) (r : RowState) (m : Move) (i : ℕ) (leaf : Leaf) : Type 0 where
+  pub holder : Holder
+  pub there : job.holder ≡ Some holder
+  pub column : IsFirstStop job (holding holder m) r i leaf
+  pub blocked : IsColumnBlocked job (holding holder m) r i leaf

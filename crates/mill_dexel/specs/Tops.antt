@@ -1,5 +1,5 @@
 -- The top of a column after a list of moves.
-use Rattle.std.specs.Prelude.{ℕ, ◌+◌, ℤ, pos, ◌-ℤ◌, ◌<ℤ◌, List, [], ◌∷◌, fold, map, Option, Some, None}
+use Rattle.std.specs.Prelude.{ℕ, ◌+◌, ℤ, pos, ◌-ℤ◌, ◌<ℤ◌, List, [], ◌∷◌, fold, map, Option, Some, None, IfSome}
 use Rattle.std.specs.List.{range_with_len}
 use Rattle.mill_base.specs.Numbers.{lesser, greater}
 use Rattle.mill_base.specs.Points.{point_at}
@@ -11,6 +11,7 @@ use Rattle.mill_base.specs.declared.motion.Kind.TheVariants.{Rapid, Feed}
 use Rattle.mill_job.specs.declared.job.Job.{Job}
 use Rattle.mill_job.specs.Columns.{IsColumn, column_x, column_y, column_count}
 use Rattle.mill_sweep.specs.Halving.{PassesPoint}
+use Rattle.mill_sweep.specs.Holders.{HolderPassesPoint}
 use Rattle.mill_dexel.specs.Samples.{samples}
 use Rattle.mill_dexel.specs.declared.sample.Placed.{Placed}
 
@@ -64,3 +65,11 @@ tested_point job kind moves j i = point_at (column_x job i) (column_y job j) (te
 -- after a list of moves a further one passes each column, if it is tested
 abbrev pub ClearsColumns : Job → List Move → Move → Type 0
 ClearsColumns job moves m = IsTested job m.kind → (j i : ℕ) → IsColumn job j i → PassesPoint job.cutter m (tested_point job m.kind moves j i)
+
+-- the point at the top of column i of row j after a list of moves
+abbrev pub top_point : Job → List Move → ℕ → ℕ → Pt3
+top_point job moves j i = point_at (column_x job i) (column_y job j) (top_after job (column_x job i) (column_y job j) moves)
+
+-- after a list of moves the holder, if the job has one, passes each column on a further one, up to its top
+abbrev pub HolderClearsColumns : Job → List Move → Move → Type 0
+HolderClearsColumns job moves m = IfSome job.holder (λ holder. (j i : ℕ) → IsColumn job j i → HolderPassesPoint holder m (top_point job moves j i))

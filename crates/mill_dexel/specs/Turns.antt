@@ -5,27 +5,49 @@ use Rattle.mill_base.specs.declared.motion.Move.{Move}
 use Rattle.mill_base.specs.declared.motion.Kind.TheVariants.{Feed}
 use Rattle.mill_job.specs.declared.job.Job.{Job}
 use Rattle.mill_dexel.specs.Tops.{IsTested, tops_after_move}
-use Rattle.mill_dexel.specs.Rows.{RowState, PassesRow, IsFirstStop, IsColumnBlocked}
+use Rattle.mill_dexel.specs.Rows.{RowState, cutting, PassesRow, HolderClearsRow, IsFirstStop, IsColumnBlocked, IsFirstHolderStop}
 use Rattle.mill_dexel.specs.declared.fail.RowFail.{RowFail}
+use Rattle.mill_dexel.specs.declared.fail.RowTest.{RowTest}
+use Rattle.mill_dexel.specs.declared.fail.RowTest.TheVariants.{Cut, Holder}
+use Rattle.mill_sweep.specs.declared.leaf.Leaf.{Leaf}
 
 -- move k; there is none past the end, so what stands there is never looked at
 abbrev pub move_at : List Move → ℕ → Move
 move_at moves k = slice_index_or moves k (record { kind = Feed; from = point_at (pos 0) (pos 0) (pos 0); to = point_at (pos 0) (pos 0) (pos 0) })
 
--- the test of a move by a row: it passes each column, a rapid at the column's top, and a feed, if the depth of cut is limited, as low as it may cut
-abbrev pub ClearsRow : Job → RowState → Move → Type 0
-ClearsRow job r m = IsTested job m.kind → PassesRow job m.kind r m
+-- the test of a move's kind by a row: the cutter passes each column, a rapid at the column's top, and a feed, if the depth of cut is limited, as low as it may cut
+abbrev pub CutClearsRow : Job → RowState → Move → Type 0
+CutClearsRow job r m = IsTested job m.kind → PassesRow job (cutting job m.kind m) r
+
+-- a move passes a row: the test of its kind, and the holder's
+pub record ClearsRow (job : Job) (r : RowState) (m : Move) : Type 0 where
+  pub cut : CutClearsRow job r m
+  pub holder : HolderClearsRow job r m
 
 -- the row after its next move, which passed
 abbrev pub turned : Job → Move → RowState → RowState
 turned job m r = record r { tops = tops_after_move job r.row 0 m r.tops; done = r.done + 1 }
 
--- the row's next move is tested, and the failure names it, the first column that it doesn't pass, and the segment, which that column blocks
-pub record StopsRow (job : Job) (r : RowState) (m : Move) (fail : RowFail) : Type 0 where
+-- the test of a move's kind is made, column i is the first that the cutter doesn't pass, and it blocks this segment
+pub record CutStopsAt (job : Job) (r : RowState) (m : Move) (i : ℕ) (leaf : Leaf) : Type 0 where
   pub tested : IsTested job m.kind
+  pub column : IsFirstStop job (cutting job m.kind m) r i leaf
+  pub blocked : IsColumnBlocked job (cutting job m.kind m) r i leaf
+
+-- the cutter passes each column, if it is tested, and column i is the first that the holder doesn't pass
+pub record HolderStopsAt (job : Job) (r : RowState) (m : Move) (i : ℕ) (leaf : Leaf) : Type 0 where
+  pub cut : CutClearsRow job r m
+  pub holder : IsFirstHolderStop job r m i leaf
+
+-- the test that fails, with the first column that it doesn't pass, and the segment
+abbrev pub StopsAt : RowTest → Job → RowState → Move → ℕ → Leaf → Type 0
+StopsAt Cut job r m i leaf = CutStopsAt job r m i leaf
+StopsAt Holder job r m i leaf = HolderStopsAt job r m i leaf
+
+-- the row's next move fails a test, and the failure names the move and all that
+pub record StopsRow (job : Job) (r : RowState) (m : Move) (fail : RowFail) : Type 0 where
   pub move : fail.at ≡ r.done
-  pub column : IsFirstStop job m.kind r m fail.col fail.leaf
-  pub blocked : IsColumnBlocked job m.kind r m fail.col fail.leaf
+  pub stops : StopsAt fail.test job r m fail.col fail.leaf
 
 -- the row's next move was stopped: the failure is noted, and the rest is as it was
 pub record IsRowStopped (job : Job) (m : Move) (old new : RowState) : Type 0 where

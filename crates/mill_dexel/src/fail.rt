@@ -1,6 +1,15 @@
 use mill_sweep::Leaf;
 
-/// Where a rapid would have cut a row of the stock, or a feed too deep into it.
+/// Which test of a move by a row fails.
+#[derive(Clone, Copy, Debug, PartialEq, Eq)]
+pub enum RowTest {
+    /// That of the cutter: a rapid would cut the row, or a feed would cut too deep into it.
+    Cut,
+    /// That of the holder, which would touch the row, while the cutter's test is passed.
+    Holder,
+}
+
+/// Where a move fails a test by a row of the stock.
 #[derive(Clone, Copy, Debug, PartialEq, Eq)]
 pub struct RowFail {
     /// The number of the move, from 0 on.
@@ -9,4 +18,6 @@ pub struct RowFail {
     pub col: u32,
     /// The segment of the move at which the test of that column fails.
     pub leaf: Leaf,
+    /// The test.
+    pub test: RowTest,
 }

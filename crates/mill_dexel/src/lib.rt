@@ -10,6 +10,8 @@
 //! once where all of them stay far away from it (`Row::go_over`), leaves out a move's first sample
 //! where the move before has cut it there (`Row::turn_on`), and looks only at its columns inside the
 //! circle of a sample (`specs/Cuts`), and at a move that is tested at those within the radius and 2.
+//! Where the job has a holder, a move is tested by it too, as a second solid over the cutter, after the test
+//! of the move's kind; a job without one is turned as if there were no such test.
 #![tactic(auto)]
 
 mod band;
@@ -26,7 +28,7 @@ mod stock;
 mod turns;
 
 pub use bands::Bands;
-pub use fail::RowFail;
+pub use fail::{RowFail, RowTest};
 pub use laws::{
     cut_at_end, over_top_is_removed, passed_is_left, passes_after_cut, passes_limit_after_cut,
 };

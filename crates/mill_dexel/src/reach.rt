@@ -1,11 +1,13 @@
 ghost use Rattle.std.specs.Prelude.{◌≡◌, ℕ, ◌<◌, ◌≤◌, ◌*◌, ◌^◌, IsTrue, pos, ◌+ℤ◌, ◌*ℤ◌, ◌≤ℤ◌, ◌<ℤ◌};
 ghost use Rattle.mill_base.specs.Numbers.{Within};
 ghost use Rattle.mill_base.specs.Sizes.{radius_of};
+ghost use Rattle.mill_base.specs.Tools.{IsHolder};
 ghost use Rattle.mill_base.specs.declared.limits.TheConstants.{MAX_LAST_REACH};
 ghost use Rattle.mill_job.specs.Jobs.{IsJob};
 ghost use Rattle.mill_dexel.specs.Cuts.{IsReach, IsReachAlong, IsReachBy, IsRowReach, IsBeyond};
+ghost use Rattle.mill_dexel.specs.inner.Passing.{IsAway};
 
-use mill_base::{MAX_LAST_REACH, Pt3};
+use mill_base::{Holder, MAX_LAST_REACH, Pt3};
 use mill_job::Job;
 
 /// The numbers of the columns of a row, or of the rows, that a move may touch: from `first` on, before `end`.
@@ -31,6 +33,15 @@ pub(crate) fn reach_of(job: &Job, from: Pt3, to: Pt3) -> Reach
     ensures { IsReach job.now from.x to.x result.first result.end }
 {
     reach_by(job, passing_distance(job), from.x, to.x)
+}
+
+/// The same by the holder's radius. The holder passes each other column on such a move.
+pub(crate) fn holder_reach(job: &Job, holder: &Holder, from: Pt3, to: Pt3) -> Reach
+    requires job { IsJob job.now }
+    requires holder_ok { IsHolder holder.now }
+    ensures { IsReachBy job.now (holder.now.radius +ℤ pos MAX_LAST_REACH) from.x to.x result.first result.end }
+{
+    reach_by(job, holder_distance(holder), from.x, to.x)
 }
 
 /// The columns that stand nearer than `distance` to the interval between two places in x.
@@ -134,6 +145,36 @@ pub(crate) fn is_apart(job: &Job, y: i32, from: i32, to: i32) -> bool
     ensures { IsTrue result → IsBeyond (radius_of job.now.cutter +ℤ pos MAX_LAST_REACH) from to y }
 {
     is_beyond(y, passing_distance(job), from, to)
+}
+
+/// Whether a row at `y` stands so far away from the interval between two places in y that the holder
+/// passes the row on a move within it.
+pub(crate) fn is_holder_apart(holder: &Holder, y: i32, from: i32, to: i32) -> bool
+    requires { IsHolder holder.now }
+    ensures { IsTrue result → IsBeyond (holder.now.radius +ℤ pos MAX_LAST_REACH) from to y }
+{
+    is_beyond(y, holder_distance(holder), from, to)
+}
+
+/// Whether a row at `y` stands so far away from the interval between two places in y that a move
+/// within it does nothing to the row, by its cutter or by its holder, which is wider.
+pub(crate) fn is_away(job: &Job, y: i32, from: i32, to: i32) -> bool
+    requires { IsJob job.now }
+    ensures { IsTrue result → IsAway job.now from to y }
+{
+    match &job.holder {
+        None => is_apart(job, y, from, to),
+        Some(holder) => is_holder_apart(holder, y, from, to),
+    }
+}
+
+/// How far away from a move in x or in y a column stands at least that the holder passes: its radius
+/// and the greatest last reach.
+fn holder_distance(holder: &Holder) -> i32
+    requires { IsHolder holder.now }
+    ensures { result ≡ holder.now.radius +ℤ pos MAX_LAST_REACH }
+{
+    holder.radius + MAX_LAST_REACH as i32
 }
 
 /// How far away from a move in x or in y a column stands at least that the move passes: the cutter's

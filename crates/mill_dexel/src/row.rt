@@ -1,29 +1,32 @@
-ghost use Rattle.std.specs.Prelude.{◌≡◌, ℕ, ◌-◌, ◌<◌, ◌≤◌, ◌≤ℤ◌, false, length, None, Some, IfOk, IfSome, IsTrue, MatchOption};
+ghost use Rattle.std.specs.Prelude.{◌≡◌, ℕ, ◌-◌, ◌<◌, ◌≤◌, ◌+ℤ◌, ◌≤ℤ◌, false, length, None, Some, IfOk, IfSome, IsTrue, MatchOption};
+ghost use Rattle.mill_base.specs.Numbers.{Within};
+ghost use Rattle.mill_base.specs.declared.limits.TheConstants.{MAX_COORDINATE};
 ghost use Rattle.mill_base.specs.Ranges.{MoveInRange, MovesInRange};
+ghost use Rattle.mill_base.specs.Tools.{IsHolder};
 ghost use Rattle.mill_base.specs.declared.motion.Kind.TheVariants.{Rapid, Feed};
 ghost use Rattle.mill_job.specs.Columns.{row_count, column_count};
 ghost use Rattle.mill_job.specs.Jobs.{IsFrom, IsJob};
-ghost use Rattle.mill_dexel.specs.inner.Passing.{PassesOver};
+ghost use Rattle.mill_dexel.specs.inner.Passing.{PassesBeside, PassesOver, trying};
 ghost use Rattle.mill_dexel.specs.inner.Readiness.{IsNext};
 ghost use Rattle.mill_dexel.specs.Cuts.{IsCutAt};
 ghost use Rattle.mill_dexel.specs.Tops.{IsTested, tested_height as tested_height_of, tops_after_move};
-ghost use Rattle.mill_dexel.specs.Rows.{IsRowOf, PassesAt, PassesRow, IsFirstStop, IsColumnBlocked, row_point, top_at, uncut_row, uncut_tri};
-ghost use Rattle.mill_dexel.specs.Turns.{ClearsRow, IsRowStopped, StopsRow, move_at, row_before, turned};
+ghost use Rattle.mill_dexel.specs.Rows.{IsRowOf, cutting, holding, PassesRow, HolderPassesRow, HolderClearsRow, IsFirstStop, IsColumnBlocked, IsFirstHolderStop, row_point, top_at, uncut_row, uncut_tri};
+ghost use Rattle.mill_dexel.specs.Turns.{ClearsRow, CutClearsRow, CutStopsAt, IsRowStopped, StopsRow, move_at, row_before, turned};
 
 use crate::band::Band;
 use crate::bands::Bands;
 use crate::cut::cut_move;
-use crate::fail::RowFail;
-use crate::reach::{Reach, is_apart, reach_of};
-use mill_base::{Kind, Move, Pt3, Tri, WantOfMemory};
+use crate::fail::{RowFail, RowTest};
+use crate::reach::{Reach, holder_reach, is_apart, is_away, is_holder_apart, reach_of};
+use mill_base::{Holder, Kind, Move, Pt3, Tri, WantOfMemory};
 use mill_job::Job;
 use mill_sweep::{Leaf, Sweep, passes_tri};
 use std::alloc::Global;
 use std::marker::Model;
 
 /// A row of the stock's columns: for each, the height up to which it is still there, in units. It goes
-/// through the moves of a program one by one, up to a rapid that would cut it, or a feed that would cut too
-/// deep.
+/// through the moves of a program one by one, up to a rapid that would cut it, a feed that would cut too
+/// deep, or a move on which the holder would touch it.
 #[derive(Drop)]
 pub struct Row {
     number: u32,
@@ -84,8 +87,8 @@ impl Row {
         requires job { IsJob job.now }
         requires row { IsRowOf job.now self.now }
         requires step { MoveInRange step.now }
-        ensures first { MatchOption result (PassesRow job.now Rapid self.now step.now) (λ s. IsFirstStop job.now Rapid self.now step.now s.0 s.1) }
-        ensures blocked { IfSome result (λ s. IsColumnBlocked job.now Rapid self.now step.now s.0 s.1) }
+        ensures first { MatchOption result (PassesRow job.now (cutting job.now Rapid step.now) self.now) (λ s. IsFirstStop job.now (cutting job.now Rapid step.now) self.now s.0 s.1) }
+        ensures blocked { IfSome result (λ s. IsColumnBlocked job.now (cutting job.now Rapid step.now) self.now s.0 s.1) }
     {
         self.first_stop(job, Kind::Rapid, step)
     }
@@ -99,15 +102,31 @@ impl Row {
         requires job { IsJob job.now }
         requires row { IsRowOf job.now self.now }
         requires step { MoveInRange step.now }
-        ensures none { result ≡ None → IsTested job.now Feed → PassesRow job.now Feed self.now step.now }
+        ensures none { result ≡ None → IsTested job.now Feed → PassesRow job.now (cutting job.now Feed step.now) self.now }
         ensures tested { IfSome result (λ s. IsTested job.now Feed) }
-        ensures first { IfSome result (λ s. IsFirstStop job.now Feed self.now step.now s.0 s.1) }
-        ensures blocked { IfSome result (λ s. IsColumnBlocked job.now Feed self.now step.now s.0 s.1) }
+        ensures first { IfSome result (λ s. IsFirstStop job.now (cutting job.now Feed step.now) self.now s.0 s.1) }
+        ensures blocked { IfSome result (λ s. IsColumnBlocked job.now (cutting job.now Feed step.now) self.now s.0 s.1) }
     {
         if job.max_cut == 0 {
             return None;
         }
         self.first_stop(job, Kind::Feed, step)
+    }
+
+    /// The first column whose top the job's holder doesn't pass at every moment of the move, with the segment
+    /// of the move at which the test fails; none where it passes them all, or the job has no holder.
+    ///
+    /// A segment of the holder's way is one of the cutter's, since both are halved at the same moments.
+    pub fn holder_test(&self, job: &Job, step: &Move) -> Option<(u32, Leaf)>
+        requires job { IsJob job.now }
+        requires row { IsRowOf job.now self.now }
+        requires step { MoveInRange step.now }
+        ensures { MatchOption result (HolderClearsRow job.now self.now step.now) (λ s. IsFirstHolderStop job.now self.now step.now s.0 s.1) }
+    {
+        match &job.holder {
+            None => None,
+            Some(holder) => self.first_held(job, holder, step),
+        }
     }
 
     /// Lowers the tops to what the cutter leaves after the move.
@@ -122,8 +141,9 @@ impl Row {
     }
 
     /// The turn of move `t`, the row's next one, in a row that hasn't failed. A rapid is tested first, and
-    /// a feed where the job limits the depth of cut. A move that passes cuts, and the answer is true;
-    /// where one fails, that is noted, nothing is cut, and the answer is false.
+    /// a feed where the job limits the depth of cut; then the holder is tested, where the job has one. A
+    /// move that passes cuts, and the answer is true; where one fails, the first test that it fails is
+    /// noted, nothing is cut, and the answer is false.
     pub fn turn(&mut self, job: &Job, moves: &[Move], t: u64) -> bool
         requires job { IsJob job.now }
         requires moves_ok { MovesInRange moves.now }
@@ -225,7 +245,7 @@ impl Row {
         if self.done < band.first || self.done > band.end {
             return false;
         }
-        if !is_apart(job, job.row_y(self.number), band.low, band.high) {
+        if !is_away(job, job.row_y(self.number), band.low, band.high) {
             return false;
         }
         self.done = band.end;
@@ -246,22 +266,45 @@ impl Row {
         cut_move(&mut self.tops, job, number, step, last);
     }
 
-    /// The failure of the next move, where the row stops it.
+    /// The failure of the next move, where the row stops it. The test of the move's kind comes before
+    /// the holder's.
     fn stop(&self, job: &Job, step: &Move) -> Option<RowFail>
         requires job { IsJob job.now }
         requires row { IsRowOf job.now self.now }
         requires step { MoveInRange step.now }
         ensures { MatchOption result (ClearsRow job.now self.now step.now) (StopsRow job.now self.now step.now) }
     {
-        let (col, leaf) = match step.kind {
-            Kind::Rapid => self.rapid_turn(job, step)?,
-            Kind::Feed => self.cut_test(job, step)?,
-        };
-        Some(RowFail {
-            at: self.done,
-            col,
-            leaf,
-        })
+        if let Some((col, leaf)) = self.kind_test(job, step) {
+            return Some(RowFail {
+                at: self.done,
+                col,
+                leaf,
+                test: RowTest::Cut,
+            });
+        }
+        if let Some((col, leaf)) = self.holder_test(job, step) {
+            return Some(RowFail {
+                at: self.done,
+                col,
+                leaf,
+                test: RowTest::Holder,
+            });
+        }
+        None
+    }
+
+    /// What the test of the move's kind finds: the first column that the cutter doesn't pass, and the
+    /// segment of the move.
+    fn kind_test(&self, job: &Job, step: &Move) -> Option<(u32, Leaf)>
+        requires job { IsJob job.now }
+        requires row { IsRowOf job.now self.now }
+        requires step { MoveInRange step.now }
+        ensures { MatchOption result (CutClearsRow job.now self.now step.now) (λ s. CutStopsAt job.now self.now step.now s.0 s.1) }
+    {
+        match step.kind {
+            Kind::Rapid => self.rapid_turn(job, step),
+            Kind::Feed => self.cut_test(job, step),
+        }
     }
 
     /// The first column that the move doesn't pass at every moment, at the point at which one of this
@@ -271,40 +314,54 @@ impl Row {
         requires job { IsJob job.now }
         requires row { IsRowOf job.now self.now }
         requires step { MoveInRange step.now }
-        ensures first { MatchOption result (PassesRow job.now kind self.now step.now) (λ s. IsFirstStop job.now kind self.now step.now s.0 s.1) }
-        ensures blocked { IfSome result (λ s. IsColumnBlocked job.now kind self.now step.now s.0 s.1) }
+        ensures first { MatchOption result (PassesRow job.now (cutting job.now kind step.now) self.now) (λ s. IsFirstStop job.now (cutting job.now kind step.now) self.now s.0 s.1) }
+        ensures blocked { IfSome result (λ s. IsColumnBlocked job.now (cutting job.now kind step.now) self.now s.0 s.1) }
     {
         if self.is_passed_uncut(job, kind, step) {
             return None;
         }
         let reach = reach_of(job, step.from, step.to);
-        let first = self.first_over(job, kind, step, reach);
+        let first = self.first_over(job, kind, lower_end(step), reach);
         if first >= reach.end {
             return None;
         }
         let sweep = Sweep::new(job.cutter, step);
-        for column in first..reach.end {
-            let point = self.tested_point(job, kind, column);
-            if let Some(leaf) = sweep.first_block_point(point) {
-                return Some((column, leaf));
-            }
-        }
-        None
+        first_tried(self, job, kind, &sweep, first, reach.end)
     }
 
-    /// The first of these columns whose tested point is over the move's lower end; the end of them where
-    /// there is none. The move passes those before it. Most feeds go where the column's top was cut near
-    /// to them already, so all their points are as low, and nothing else has to be known of the move.
-    fn first_over(&self, job: &Job, kind: Kind, step: &Move, reach: Reach) -> u32
+    /// The same by the holder, which is tested at the columns' tops.
+    fn first_held(&self, job: &Job, holder: &Holder, step: &Move) -> Option<(u32, Leaf)>
         requires job { IsJob job.now }
         requires row { IsRowOf job.now self.now }
+        requires holder { IsHolder holder.now }
         requires step { MoveInRange step.now }
+        ensures first { MatchOption result (HolderPassesRow holder.now job.now self.now step.now) (λ s. IsFirstStop job.now (holding holder.now step.now) self.now s.0 s.1) }
+        ensures blocked { IfSome result (λ s. IsColumnBlocked job.now (holding holder.now step.now) self.now s.0 s.1) }
+    {
+        if is_holder_apart(holder, job.row_y(self.number), step.from.y, step.to.y) {
+            return None;
+        }
+        let reach = holder_reach(job, holder, step.from, step.to);
+        let first = self.first_over(job, Kind::Rapid, holder_end(holder, step), reach);
+        if first >= reach.end {
+            return None;
+        }
+        let sweep = Sweep::of_holder(holder, step);
+        first_tried(self, job, Kind::Rapid, &sweep, first, reach.end)
+    }
+
+    /// The first of these columns whose tested point is over this height; the end of them where there is
+    /// none. A solid whose tip stays that high passes those before it. Most feeds go where the column's top was
+    /// cut near to them already, so all their points are as low, and nothing else has to be known of the move.
+    fn first_over(&self, job: &Job, kind: Kind, low: i32, reach: Reach) -> u32
+        requires job { IsJob job.now }
+        requires row { IsRowOf job.now self.now }
         requires columns { reach.end ≤ column_count job.now }
         ensures bound { result ≤ reach.end }
-        ensures before { (k : ℕ) → reach.first ≤ k → k < result → PassesAt job.now kind self.now step.now k }
+        ensures before { (k : ℕ) → reach.first ≤ k → k < result → tested_height_of job.now kind (top_at self.now.tops k) ≤ℤ low }
     {
         for column in reach.first..reach.end {
-            if !is_under(step, self.height_at(job, kind, column)) {
+            if low < self.height_at(job, kind, column) {
                 return column;
             }
         }
@@ -320,7 +377,7 @@ impl Row {
         requires job { IsJob job.now }
         requires row { IsRowOf job.now self.now }
         requires step { MoveInRange step.now }
-        ensures { IsTrue result → PassesRow job.now kind self.now step.now }
+        ensures { IsTrue result → PassesRow job.now (cutting job.now kind step.now) self.now }
     {
         let y = job.row_y(self.number);
         if is_apart(job, y, step.from.y, step.to.y) {
@@ -328,7 +385,7 @@ impl Row {
         }
         match kind {
             Kind::Rapid => passes_tri(job.cutter, step, &uncut_triangle(job, kind, self.number)),
-            Kind::Feed => is_under(step, tested_height(job, kind, job.top)),
+            Kind::Feed => tested_height(job, kind, job.top) <= lower_end(step),
         }
     }
 
@@ -357,12 +414,51 @@ impl Row {
     }
 }
 
-/// Whether a height isn't over the move's lower end.
-fn is_under(step: &Move, height: i32) -> bool
-    ensures from { IsTrue result → height ≤ℤ step.now.from.z }
-    ensures to { IsTrue result → height ≤ℤ step.now.to.z }
+/// The first column of the row that a solid doesn't pass on its move, at the point at which a move of this
+/// kind is tested, with the segment at which the test fails; none where it passes them all. Only the
+/// columns from `first` on, before `end`, are tried; it is known to pass the others.
+fn first_tried(
+    row: &Row,
+    job: &Job,
+    kind: Kind,
+    sweep: &Sweep,
+    first: u32,
+    end: u32,
+) -> Option<(u32, Leaf)>
+    requires job { IsJob job.now }
+    requires row { IsRowOf job.now row.now }
+    requires within { end ≤ column_count job.now }
+    requires beside { PassesBeside job.now (trying sweep.now kind) row.now first end }
+    ensures first { MatchOption result (PassesRow job.now (trying sweep.now kind) row.now) (λ s. IsFirstStop job.now (trying sweep.now kind) row.now s.0 s.1) }
+    ensures blocked { IfSome result (λ s. IsColumnBlocked job.now (trying sweep.now kind) row.now s.0 s.1) }
 {
-    height <= step.from.z.min(step.to.z)
+    for column in first..end {
+        let point = row.tested_point(job, kind, column);
+        if let Some(leaf) = sweep.first_block_point(point) {
+            return Some((column, leaf));
+        }
+    }
+    None
+}
+
+/// The height of the move's lower end.
+fn lower_end(step: &Move) -> i32
+    requires { MoveInRange step.now }
+    ensures from { result ≤ℤ step.now.from.z }
+    ensures to { result ≤ℤ step.now.to.z }
+    ensures bound { Within MAX_COORDINATE result }
+{
+    step.from.z.min(step.to.z)
+}
+
+/// The height of the lower end of the holder's way on the move.
+fn holder_end(holder: &Holder, step: &Move) -> i32
+    requires holder { IsHolder holder.now }
+    requires step { MoveInRange step.now }
+    ensures from { result ≤ℤ (step.now.from.z +ℤ holder.now.stickout) }
+    ensures to { result ≤ℤ (step.now.to.z +ℤ holder.now.stickout) }
+{
+    lower_end(step) + holder.stickout
 }
 
 /// Where the move before move `t` ends; none before the first.

@@ -101,6 +101,7 @@ job_with unit ms = record {
   levels = levels_of (numbers_at key.Levels ms);
   snap = snap_of ms;
   max_cut = number_or key.MaxCut (pos 0) ms;
+  holder = None;
 }
 
 -- the same in the document's unit

@@ -1,9 +1,11 @@
--- The ranges and relations that a job keeps.
-use Rattle.std.specs.Prelude.{◌*◌, ◌≤◌, List, length, All, AllPairs, ℤ, pos, ◌-ℤ◌, ◌*ℤ◌, ◌<ℤ◌, ◌≤ℤ◌}
+-- The ranges and relations that a job keeps, and the tool with which it cuts.
+use Rattle.std.specs.Prelude.{◌*◌, ◌≤◌, List, length, All, AllPairs, ℤ, pos, ◌-ℤ◌, ◌*ℤ◌, ◌<ℤ◌, ◌≤ℤ◌, IfSome}
 use Rattle.mill_base.specs.Numbers.{Within}
 use Rattle.mill_base.specs.declared.limits.TheConstants.{MAX_COLUMNS}
 use Rattle.mill_base.specs.Sizes.{IsCutter, radius_of}
+use Rattle.mill_base.specs.Tools.{IsHolder}
 use Rattle.mill_base.specs.Units.{greatest_of}
+use Rattle.mill_base.specs.declared.tool.Tool.{Tool}
 use Rattle.mill_job.specs.Columns.{row_count, column_count}
 use Rattle.mill_job.specs.Tables.{IsPlace}
 use Rattle.mill_job.specs.declared.job.Job.{Job}
@@ -58,3 +60,9 @@ pub record IsJob (job : Job) : Type 0 where
   pub layers : HasFewLayers job
   pub levels_ok : AreLevels job.floor job.top job.levels
   pub max_cut_ok : IsFrom (pos 0) (pos (greatest_of job.unit)) job.max_cut
+  pub holder_ok : IfSome job.holder IsHolder
+  pub wider : IfSome job.holder (λ holder. radius_of job.cutter <ℤ holder.radius)
+
+-- a job's cutter, with its holder if it has one
+abbrev pub tool_of : Job → Tool
+tool_of job = record { cutter = job.cutter; holder = job.holder }

@@ -6,7 +6,7 @@ ghost use Rattle.mill_base.specs.Units.{greatest_of};
 
 use crate::levels::Levels;
 use crate::positions::{count, position};
-use mill_base::{Box2, Cutter, Pt3, Unit};
+use mill_base::{Box2, Cutter, Holder, Pt3, Unit};
 use mill_decimal::Snap;
 
 /// A place in x and y, in units.
@@ -59,6 +59,8 @@ pub struct Job {
     /// How deep a feed may cut at a time: it removes no point of a column that lies this much or more
     /// under the column's top. From 0 to the unit's greatest coordinate; 0 means no limit.
     pub max_cut: i32,
+    /// What holds the cutter, where that is watched.
+    pub holder: Option<Holder>,
 }
 
 impl Job {

@@ -153,6 +153,7 @@ fn job_in(table: &Table, unit: Unit) -> Result<Job, JobFault>
         levels,
         snap,
         max_cut,
+        holder: None,
     };
     unless(relation_fault(&job), job)
 }

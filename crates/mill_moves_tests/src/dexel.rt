@@ -8,7 +8,7 @@ ghost use Rattle.mill_job.specs.Jobs.{IsFrom, IsJob};
 
 use mill_base::{Box2, Cutter, Kind, Move, Pt3, Unit, WantOfMemory};
 use mill_decimal::Snap;
-use mill_dexel::{Row, RowFail};
+use mill_dexel::{Row, RowFail, RowTest};
 use mill_job::{Job, Levels, Place};
 use mill_sweep::Leaf;
 use std::alloc::Global;
@@ -47,6 +47,7 @@ fn three_columns(max_cut: i32) -> Job
         levels: Levels::NONE,
         snap: Snap::Nearest,
         max_cut,
+        holder: None,
     }
 }
 
@@ -154,6 +155,7 @@ fn at_first(leaf: Leaf) -> Option<RowFail> {
         at: 0,
         col: 0,
         leaf,
+        test: RowTest::Cut,
     })
 }
 
@@ -189,6 +191,7 @@ fn cuts_step_by_step(rt: HostRuntime) -> Result<(), WantOfMemory> {
         at: 2,
         col: 0,
         leaf: Leaf { d: 8, k: 254 },
+        test: RowTest::Cut,
     };
     assert_eq!(rt; row.failed(), Some(stop));
     Ok(())
@@ -236,6 +239,7 @@ fn long_row(cutter: Cutter) -> Job
         levels: Levels::NONE,
         snap: Snap::Nearest,
         max_cut: 0,
+        holder: None,
     }
 }
 
@@ -352,6 +356,7 @@ fn whole_range(cutter: Cutter) -> Job
         levels: Levels::NONE,
         snap: Snap::Nearest,
         max_cut: 0,
+        holder: None,
     }
 }
 

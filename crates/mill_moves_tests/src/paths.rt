@@ -46,6 +46,7 @@ fn block_job(layer: i32, lift: i32) -> Job
         levels: Levels::NONE,
         snap: Snap::Nearest,
         max_cut: 0,
+        holder: None,
     }
 }
 
@@ -78,6 +79,7 @@ fn wide_job() -> Job
         levels: Levels::NONE,
         snap: Snap::Nearest,
         max_cut: 0,
+        holder: None,
     }
 }
 
@@ -116,6 +118,7 @@ fn fine_job(raster: i32, rough_raster: i32, layer: i32) -> Job
         levels: Levels::NONE,
         snap: Snap::Nearest,
         max_cut: 0,
+        holder: None,
     }
 }
 

@@ -48,6 +48,7 @@ fn block_job(layer: i32, lift: i32) -> Job
         levels: Levels::NONE,
         snap: Snap::Nearest,
         max_cut: 0,
+        holder: None,
     }
 }
 
@@ -87,6 +88,7 @@ fn fine_job(raster: i32, rough_raster: i32, layer: i32) -> Job
         levels: Levels::NONE,
         snap: Snap::Nearest,
         max_cut: 0,
+        holder: None,
     }
 }
 
@@ -121,6 +123,7 @@ fn wide_job(levels: Levels) -> Job
         levels,
         snap: Snap::Nearest,
         max_cut: 0,
+        holder: None,
     }
 }
 
@@ -159,6 +162,7 @@ fn shallow_job(layer: i32, max_cut: i32) -> Job
         levels: Levels::NONE,
         snap: Snap::Nearest,
         max_cut,
+        holder: None,
     }
 }
 
@@ -193,6 +197,7 @@ fn thousandths_job() -> Job
         levels: Levels::NONE,
         snap: Snap::Nearest,
         max_cut: 0,
+        holder: None,
     }
 }
 

@@ -74,6 +74,7 @@ const JOB: Job = Job {
     levels: Levels::NONE,
     snap: Snap::Nearest,
     max_cut: 0,
+    holder: None,
 };
 
 /// What is said of a text: the job as it is, and its levels, or its fault.

@@ -10,7 +10,7 @@ ghost use Rattle.mill_dexel.specs.Turns.{row_before};
 
 use mill_base::{Box2, Cutter, Kind, Move, Pt3, Unit, WantOfMemory};
 use mill_decimal::Snap;
-use mill_dexel::{Bands, Row, RowFail, rows_static, uncut_rows};
+use mill_dexel::{Bands, Row, RowFail, RowTest, rows_static, uncut_rows};
 use mill_job::{Job, Levels, Place};
 use mill_sweep::Leaf;
 use std::alloc::Global;
@@ -46,6 +46,7 @@ fn five_rows() -> Job
         levels: Levels::NONE,
         snap: Snap::Nearest,
         max_cut: 0,
+        holder: None,
     }
 }
 
@@ -85,6 +86,7 @@ fn stop() -> RowFail {
         at: 2,
         col: 0,
         leaf: Leaf { d: 7, k: 111 },
+        test: RowTest::Cut,
     }
 }
 

@@ -44,6 +44,7 @@ fn seven_rows(max_cut: i32) -> Job
         levels: Levels::NONE,
         snap: Snap::Nearest,
         max_cut,
+        holder: None,
     }
 }
 

@@ -42,6 +42,7 @@ fn job(radius: i32, raster: i32, levels: Levels) -> Job
         levels,
         snap: Snap::Nearest,
         max_cut: 0,
+        holder: None,
     }
 }
 

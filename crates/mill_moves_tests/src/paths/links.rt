@@ -42,6 +42,7 @@ fn job(max_cut: i32) -> Job
         levels: Levels::NONE,
         snap: Snap::Nearest,
         max_cut,
+        holder: None,
     }
 }
 

@@ -74,6 +74,7 @@ fn job_of(cutter: Cutter, band: i32, allowance: u8, max_cut: u8) -> Job
         levels: Levels::NONE,
         snap: Snap::Nearest,
         max_cut: i32::from(max_cut),
+        holder: None,
     }
 }
 
@@ -139,6 +140,7 @@ pub(crate) fn whole_job(cutter: Cutter) -> Job
         levels: Levels::NONE,
         snap: Snap::Nearest,
         max_cut: 0,
+        holder: None,
     }
 }
 

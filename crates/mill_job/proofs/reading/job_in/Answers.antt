@@ -96,4 +96,6 @@ returns-clause-in_range c = rw c.unless.ensures (if_ok c.relation_fault.result _
     within = c.relation_fault.ensures.levels none;
   };
   max_cut_ok = record { low = omega (arith, ints, most c.args.unit, c.in_ok-max_cut.ensures.in_range); high = omega (arith, ints, most c.args.unit, c.in_ok-max_cut.ensures.in_range) };
+  holder_ok = tt;
+  wider = tt;
 }))

@@ -1,7 +1,7 @@
-use Rattle.std.proofs.Common.{◌≡◌, ◌∙◌, ap, refl, subst, sym, w32, arith}
+use Rattle.std.proofs.Common.{◌∙◌, ap, refl, subst, sym, w32, arith}
 use Rattle.std.specs.Prelude.{ℤ, pos, ◌+ℤ◌, ◌≤ℤ◌}
 use Rattle.std.proofs.lemmas.Int.{ints}
-use Rattle.mill_base.proofs.Machine.{kept, stored}
+use Rattle.mill_base.proofs.Machine.{kept}
 use Rattle.mill_base.proofs.Ranges.{within_of_unit}
 use Rattle.mill_base.specs.Ranges.{TriInRange}
 use Rattle.mill_base.specs.Sizes.{radius_of}
@@ -9,17 +9,17 @@ use Rattle.mill_base.specs.declared.limits.TheConstants.{MAX_COORDINATE, MAX_LAS
 use Rattle.mill_base.specs.declared.points.Tri.{Tri}
 use Rattle.mill_job.specs.Columns.{column_y}
 use Rattle.mill_sweep.specs.Halving.{Passes}
-use Rattle.mill_dexel.specs.Rows.{RowState, uncut_tri}
+use Rattle.mill_dexel.specs.Rows.{RowState, cutting, uncut_tri}
 use Rattle.mill_dexel.specs.Cuts.{IsBeyond}
 use Rattle.mill_dexel.specs.Tops.{tested_height}
-use Rattle.mill_dexel.proofs.Blocks.{far_passes_row}
+use Rattle.mill_dexel.proofs.Trials.{cutting_trial, far_passes_row}
 use Rattle.mill_dexel.proofs.Reaches.{beyond_same}
 use Rattle.mill_dexel.proofs.UncutRows.{low_passes_row, uncut_passes, uncut_in_range}
 use Rattle.mill_dexel.proofs.row.Row.is_passed_uncut.Goals as goal
 
 pub returns-then-is_apart : goal.returns-then-is_apart
 returns-then-is_apart c = λ passed.
-    far_passes_row c.args.job.now c.args.kind c.args.self.now c.args.step.now c.requires.job.cutter_ok c.requires.step
+    far_passes_row c.args.job.now (cutting c.args.job.now c.args.kind c.args.step.now) c.args.self.now (cutting_trial c.args.job.now c.args.kind c.args.step.now c.requires.job.cutter_ok c.requires.step)
     (subst (λ (r : RowState). IsBeyond (radius_of c.args.job.now.cutter +ℤ pos MAX_LAST_REACH) c.args.step.now.from.y c.args.step.now.to.y (column_y c.args.job.now r.row)) c.self.view_is
     (beyond_same _ _ _ _ (radius_of c.args.job.now.cutter +ℤ pos MAX_LAST_REACH) c.args.step.now.from.y c.args.step.now.to.y (column_y c.args.job.now c.self.inside.number)
     (omega (arith, ints)) (omega (arith, ints)) (omega (arith, ints)) (omega (arith, ints)) (c.is_apart.ensures c.if-is_apart.true)))
@@ -37,9 +37,12 @@ returns-in-Rapid c = λ passed.
 
 pub returns-in-Feed : goal.returns-in-Feed
 returns-in-Feed c = λ passed.
-    let stays : stored w32 c.tested_height.result ≡ c.tested_height.result = omega (arith, ints) in
+    let under : c.tested_height.result ≤ℤ c.lower_end.result = omega (passed, arith, ints) in
     let top = kept w32 c.args.job.now.top MAX_COORDINATE (within_of_unit c.args.job.now.unit c.args.job.now.top c.requires.job.top_ok).within refl in
-    let value = stays ∙ c.tested_height.ensures.value ∙ ap (tested_height c.args.job.now c.args.kind) top in
+    let value = c.tested_height.ensures.value ∙ ap (tested_height c.args.job.now c.args.kind) top in
     low_passes_row c.args.job.now c.args.kind c.args.self.now c.args.step.now c.requires.job c.requires.row c.requires.step
-    (subst (λ (z : ℤ). z ≤ℤ c.args.step.now.from.z) value (c.is_under.ensures.from passed))
-    (subst (λ (z : ℤ). z ≤ℤ c.args.step.now.to.z) value (c.is_under.ensures.to passed))
+    (subst (λ (z : ℤ). z ≤ℤ c.args.step.now.from.z) value (over _ _ _ under c.lower_end.ensures.from))
+    (subst (λ (z : ℤ). z ≤ℤ c.args.step.now.to.z) value (over _ _ _ under c.lower_end.ensures.to))
+  where
+    over : (a b d : ℤ) → a ≤ℤ b → b ≤ℤ d → a ≤ℤ d
+    over a b d h k = omega (h, k, arith, ints)

@@ -1,0 +1,14 @@
+use Rattle.std.proofs.Common.{arith}
+use Rattle.std.proofs.lemmas.Int.{ints}
+use Rattle.mill_dexel.proofs.Reaches.{away_bare, away_held, away_same}
+use Rattle.mill_dexel.proofs.reach.is_away.Goals as goal
+
+pub returns-in-None : goal.returns-in-None
+returns-in-None c = λ yes.
+    away_same c.args.job.now _ _ _ c.args.from c.args.to c.args.y (omega (arith, ints)) (omega (arith, ints)) (omega (arith, ints))
+    (away_bare c.args.job.now _ _ _ c.in-None.is (c.is_apart.ensures yes))
+
+pub returns-in-Some : goal.returns-in-Some
+returns-in-Some c = λ yes.
+    away_same c.args.job.now _ _ _ c.args.from c.args.to c.args.y (omega (arith, ints)) (omega (arith, ints)) (omega (arith, ints))
+    (away_held c.args.job.now _ _ _ c.in-Some.holder c.requires c.in-Some.is (c.is_holder_apart.ensures yes))
