@@ -1,12 +1,12 @@
 -- The command `drop`: its words for a place, read in the job's unit, and the drop height there.
 use Rattle.std.specs.Prelude.{◌≡◌, ℕ, ℤ, codes, List, [], ◌∷◌, Ok, Err}
-use Rattle.mill_base.specs.Tools.{bare}
 use Rattle.mill_base.specs.declared.points.Tri.{Tri}
 use Rattle.mill_base.specs.declared.unit.Unit.{Unit}
 use Rattle.mill_decimal.specs.Decimals.{canonical, read_as}
 use Rattle.mill_decimal.specs.declared.fault.DecFault.{DecFault}
 use Rattle.mill_decimal.specs.declared.snap.Snap.TheVariants.{Exact}
 use Rattle.mill_job.specs.declared.job.Job.{Job}
+use Rattle.mill_job.specs.Jobs.{tool_of}
 use Rattle.mill_drop.specs.Drops.{IsDropHeight}
 use Rattle.camtool.specs.declared.place.Coordinate.{Coordinate}
 use Rattle.camtool.specs.declared.place.Coordinate.TheVariants.{X, Y, Z}
@@ -50,7 +50,7 @@ pub record Drops (x y : List ℕ) (texts : SetupTexts) (unit : Unit) (height : �
   pub unit_is : unit ≡ job.unit
   pub place_is : ReadsPlace job.unit x y place
   pub setup_is : ReadsSetup texts job part
-  pub is : IsDropHeight (bare job.cutter) part place.x place.y job.floor height
+  pub is : IsDropHeight (tool_of job) part place.x place.y job.floor height
 
 -- the line of a drop height
 abbrev pub height_line : Unit → ℤ → List ℕ

@@ -2,7 +2,6 @@
 use Rattle.std.specs.Prelude.{◌≡◌, ◌≤◌, ℕ, ℤ, codes, decimal, Bool, if◌then◌else◌, List, [], ◌∷◌, ◌++◌, length, Ok, Err}
 use Rattle.std.specs.List.{flat_map}
 use Rattle.mill_base.specs.Lattices.{node_count}
-use Rattle.mill_base.specs.Tools.{bare}
 use Rattle.mill_base.specs.declared.limits.TheConstants.{MAX_NODES}
 use Rattle.mill_base.specs.declared.points.Pt3.{Pt3}
 use Rattle.mill_base.specs.declared.points.Tri.{Tri}
@@ -11,6 +10,7 @@ use Rattle.mill_decimal.specs.Decimals.{canonical, read_as}
 use Rattle.mill_decimal.specs.declared.fault.DecFault.{DecFault}
 use Rattle.mill_decimal.specs.declared.snap.Snap.TheVariants.{Exact}
 use Rattle.mill_job.specs.declared.job.Job.{Job}
+use Rattle.mill_job.specs.Jobs.{tool_of}
 use Rattle.mill_level.specs.Waterlines.{Outline, IsWaterline, HasManyNodes}
 use Rattle.mill_paths.specs.Lattices.{finish_lattice}
 use Rattle.camtool.specs.declared.place.Coordinate.{Coordinate}
@@ -52,7 +52,7 @@ pub data LevelAnswer : Type 0 where
 -- the outlines are the part's waterline at the height, for the job's cutter and over its area by steps of its raster, and that lattice has no more nodes than one may;
 -- or it has so many nodes, which are too many
 abbrev pub IsLevelAnswer : Job → List Tri → ℤ → LevelAnswer → Type 0
-IsLevelAnswer job part height (outlines found) = IsWaterline (bare job.cutter) part height (finish_lattice job) found × (node_count (finish_lattice job) ≤ MAX_NODES)
+IsLevelAnswer job part height (outlines found) = IsWaterline (tool_of job) part height (finish_lattice job) found × (node_count (finish_lattice job) ≤ MAX_NODES)
 IsLevelAnswer job part height (too_many_nodes nodes) = HasManyNodes (finish_lattice job) nodes
 
 -- job, word and part are read, and this is the answer at the height, in the job's unit

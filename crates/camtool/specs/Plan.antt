@@ -4,7 +4,7 @@ use Rattle.mill_base.specs.declared.points.Tri.{Tri}
 use Rattle.mill_base.specs.declared.unit.Unit.{Unit}
 use Rattle.mill_decimal.specs.Decimals.{canonical}
 use Rattle.mill_job.specs.declared.job.Job.{Job}
-use Rattle.mill_plan.specs.Plans.{PlanAnswer, IsPlanAnswer, done, too_many_nodes, too_many_moves, uncut}
+use Rattle.mill_plan.specs.Plans.{PlanAnswer, IsPlanAnswer, done, too_many_nodes, too_many_moves, uncut, held}
 use Rattle.camtool.specs.Printed.{column_words, line, nodes_line}
 use Rattle.camtool.specs.Setup.{SetupTexts, ReadsSetup}
 
@@ -20,6 +20,7 @@ pub record Plans (texts : SetupTexts) (unit : Unit) (answer : PlanAnswer) : Type
 abbrev pub plan_status : PlanAnswer → ℕ
 plan_status (done text moves columns left) = 0
 plan_status (uncut row column top) = 8
+plan_status (held number row column) = 8
 plan_status (too_many_nodes nodes) = 9
 plan_status too_many_moves = 9
 
@@ -27,5 +28,6 @@ plan_status too_many_moves = 9
 abbrev pub plan_line : Unit → PlanAnswer → List ℕ
 plan_line unit (done text moves columns left) = line (codes "planned" ∷ codes "moves" ∷ decimal moves ∷ codes "columns" ∷ decimal columns ∷ codes "left" ∷ canonical unit left ∷ [])
 plan_line unit (uncut row column top) = line (codes "uncut" ∷ column_words unit row column top)
+plan_line unit (held number row column) = line (codes "held" ∷ codes "move" ∷ decimal number ∷ codes "row" ∷ decimal row ∷ codes "column" ∷ decimal column ∷ [])
 plan_line unit (too_many_nodes nodes) = nodes_line nodes
 plan_line unit too_many_moves = line (codes "over" ∷ codes "moves" ∷ [])

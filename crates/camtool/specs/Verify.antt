@@ -13,11 +13,11 @@ use Rattle.mill_job.specs.declared.job.Job.{Job}
 use Rattle.mill_job.specs.Columns.{home}
 use Rattle.mill_dexel.specs.Turns.{move_at}
 use Rattle.mill_verify.specs.Claims.{CutsSafely}
-use Rattle.mill_verify.specs.Verdicts.{BlocksMove, IsVerdict, StopsMove}
+use Rattle.mill_verify.specs.Verdicts.{BlocksHolderMove, BlocksMove, IsVerdict, StopsHolderMove, StopsMove}
 use Rattle.mill_verify.specs.declared.verdict.Verdict.{Verdict}
 use Rattle.mill_verify.specs.declared.verdict.Verdict.TheVariants.{Accept, Reject}
 use Rattle.mill_verify.specs.declared.verdict.Reason.{Reason}
-use Rattle.mill_verify.specs.declared.verdict.Reason.TheVariants.{Floor, Gouge, Rapid as RapidCut, Cut, Left}
+use Rattle.mill_verify.specs.declared.verdict.Reason.TheVariants.{Floor, Gouge, Holder, Rapid as RapidCut, Cut, HolderStock, Left}
 use Rattle.camtool.specs.declared.file.File.{File}
 use Rattle.camtool.specs.declared.file.File.TheVariants.{Program as ProgramFile}
 use Rattle.camtool.specs.declared.load.Unfit.{Unfit}
@@ -94,12 +94,14 @@ abbrev pub IsSafe : Job → List Tri → List Move → Verdict → Type 0
 IsSafe job part moves (Accept count columns left) = CutsSafely job part moves
 IsSafe job part moves (Reject reason) = Unit {0}
 
--- a leaf that a rejection names is one of the last of its move, with a reach of at most 2, and the triangle that is named, or the point at which the column that is named is tested, blocks it
+-- a leaf that a rejection names is one of the last of its move, with a reach of at most 2, and the triangle that is named, or the point at which the column that is named is tested, blocks it, or on it the holder
 abbrev pub NamesBlocked : Job → List Tri → List Move → Reason → Type 0
 NamesBlocked job part moves (Floor k) = Unit {0}
 NamesBlocked job part moves (Gouge k t leaf) = BlocksMove job part moves k t leaf
+NamesBlocked job part moves (Holder k t leaf) = BlocksHolderMove job part moves k t leaf
 NamesBlocked job part moves (RapidCut k j i leaf) = StopsMove job moves Rapid k j i leaf
 NamesBlocked job part moves (Cut k j i leaf) = StopsMove job moves Feed k j i leaf
+NamesBlocked job part moves (HolderStock k j i leaf) = StopsHolderMove job moves k j i leaf
 NamesBlocked job part moves (Left j i top) = Unit {0}
 
 abbrev pub IsNamed : Job → List Tri → List Move → Verdict → Type 0
@@ -123,25 +125,22 @@ verdict_status (Reject reason) = 3
 abbrev pub leaf_words : Leaf → List (List ℕ)
 leaf_words leaf = codes "leaf" ∷ decimal leaf.d ∷ decimal leaf.k ∷ []
 
--- the line of a move that gouges
-abbrev pub gouge_line : ℕ → ℕ → Leaf → List ℕ
-gouge_line k t leaf = line (codes "rejected" ∷ codes "gouge" ∷ codes "move" ∷ decimal k ∷ codes "triangle" ∷ decimal t ∷ leaf_words leaf)
+-- the line of a move on which a triangle stops the cutter or the holder, as this word says
+abbrev pub triangle_line : List ℕ → ℕ → ℕ → Leaf → List ℕ
+triangle_line word k t leaf = line (codes "rejected" ∷ word ∷ codes "move" ∷ decimal k ∷ codes "triangle" ∷ decimal t ∷ leaf_words leaf)
 
--- the word for a move that a column stops: a rapid that removes the column's top, and a feed that cuts too deep
-abbrev pub stop_word : Kind → List ℕ
-stop_word Rapid = codes "rapid"
-stop_word Feed = codes "cut"
-
--- the line of such a move
-abbrev pub stop_line : Kind → ℕ → ℕ → ℕ → Leaf → List ℕ
-stop_line kind k j i leaf = line (codes "rejected" ∷ stop_word kind ∷ codes "move" ∷ decimal k ∷ codes "row" ∷ decimal j ∷ codes "column" ∷ decimal i ∷ leaf_words leaf)
+-- the line of a move on which a column stops the cutter or the holder, as this word says
+abbrev pub column_line : List ℕ → ℕ → ℕ → ℕ → Leaf → List ℕ
+column_line word k j i leaf = line (codes "rejected" ∷ word ∷ codes "move" ∷ decimal k ∷ codes "row" ∷ decimal j ∷ codes "column" ∷ decimal i ∷ leaf_words leaf)
 
 -- the line of a rejection, with lengths in this unit; a floor's has the height of the move's end
 abbrev pub rejection_line : LengthUnit → List Move → Reason → List ℕ
 rejection_line unit moves (Floor k) = line (codes "rejected" ∷ codes "floor" ∷ codes "move" ∷ decimal k ∷ codes "z" ∷ canonical unit (move_at moves k).to.z ∷ [])
-rejection_line unit moves (Gouge k t leaf) = gouge_line k t leaf
-rejection_line unit moves (RapidCut k j i leaf) = stop_line Rapid k j i leaf
-rejection_line unit moves (Cut k j i leaf) = stop_line Feed k j i leaf
+rejection_line unit moves (Gouge k t leaf) = triangle_line (codes "gouge") k t leaf
+rejection_line unit moves (Holder k t leaf) = triangle_line (codes "holder") k t leaf
+rejection_line unit moves (RapidCut k j i leaf) = column_line (codes "rapid") k j i leaf
+rejection_line unit moves (Cut k j i leaf) = column_line (codes "cut") k j i leaf
+rejection_line unit moves (HolderStock k j i leaf) = column_line (codes "holder-stock") k j i leaf
 rejection_line unit moves (Left j i top) = line (codes "rejected" ∷ codes "left" ∷ column_words unit j i top)
 
 -- the end of a line that names a segment of a move

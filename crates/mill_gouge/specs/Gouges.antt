@@ -1,9 +1,10 @@
 -- Whether a move passes each triangle of a part, and if not, which is the first that it doesn't pass.
-use Rattle.std.specs.Prelude.{ℕ, ◌<◌, List, length}
+use Rattle.std.specs.Prelude.{ℕ, ◌<◌, List, length, IfSome}
 use Rattle.mill_base.specs.declared.points.Tri.{Tri}
 use Rattle.mill_base.specs.declared.motion.Move.{Move}
 use Rattle.mill_base.specs.declared.cutter.Cutter.{Cutter}
 use Rattle.mill_base.specs.declared.tool.Holder.{Holder}
+use Rattle.mill_base.specs.declared.tool.Tool.{Tool}
 use Rattle.mill_base.specs.Points.{tri_at}
 use Rattle.mill_base.specs.Tools.{solid_of}
 use Rattle.mill_sweep.specs.Leaves.{span_of}
@@ -28,3 +29,8 @@ HolderPassesPart holder m part = PassesPart (solid_of holder) (lifted holder m) 
 
 abbrev pub IsFirstHolderGouge : Holder → Move → List Tri → Gouge → Type 0
 IsFirstHolderGouge holder m part gouge = IsFirstGouge (solid_of holder) (lifted holder m) part gouge
+
+-- a tool passes each triangle of the part: its cutter does, and so does its holder, if it has one
+pub record ToolPassesPart (tool : Tool) (m : Move) (part : List Tri) : Type 0 where
+  pub cutter : PassesPart tool.cutter m part
+  pub holder : IfSome tool.holder (λ holder. HolderPassesPart holder m part)

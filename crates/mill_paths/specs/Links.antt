@@ -9,8 +9,9 @@ use Rattle.mill_base.specs.declared.motion.Kind.TheVariants.{Rapid, Feed}
 use Rattle.mill_dexel.specs.Rows.{RowState}
 use Rattle.mill_dexel.specs.Stocks.{IsStock}
 use Rattle.mill_dexel.specs.Tops.{ClearsColumns, IsTested}
-use Rattle.mill_gouge.specs.Gouges.{PassesPart}
+use Rattle.mill_gouge.specs.Gouges.{ToolPassesPart}
 use Rattle.mill_job.specs.Columns.{home}
+use Rattle.mill_job.specs.Jobs.{tool_of}
 use Rattle.mill_job.specs.declared.job.Job.{Job}
 use Rattle.mill_paths.specs.declared.visit.Visit.{Visit}
 
@@ -68,16 +69,16 @@ plunge job at = pecks (peck_count job.max_cut (job.top -ℤ at.z)) job.max_cut a
 abbrev pub detour : Job → Pt3 → Pt3 → List Move
 detour job from at = climb job from ++ cross job from at ++ descend job at ++ plunge job at
 
--- after the moves done so far the straight feed to the visit may be made: it is near, and the feed passes each triangle of the part, and cuts no column too deep
+-- after the moves done so far the straight feed to the visit may be made: it is near, and on the feed the tool passes each triangle of the part, and the cutter cuts no column too deep
 pub record MayFeed (job : Job) (part : List Tri) (done : List Move) (from : Pt3) (visit : Visit) : Type 0 where
   pub near : IsNearBy from visit
-  pub passes : PassesPart job.cutter (feed_to from visit.at) part
+  pub passes : ToolPassesPart (tool_of job) (feed_to from visit.at) part
   pub depth : ClearsColumns job done (feed_to from visit.at)
 
--- what can be said of that without the stock: the visit is near, and the feed passes each triangle of the part
+-- what can be said of that without the stock: the visit is near, and on the feed the tool passes each triangle of the part
 pub record IsClear (job : Job) (part : List Tri) (from : Pt3) (visit : Visit) : Type 0 where
   pub near : IsNearBy from visit
-  pub passes : PassesPart job.cutter (feed_to from visit.at) part
+  pub passes : ToolPassesPart (tool_of job) (feed_to from visit.at) part
 
 -- nothing but the stock may stand in the way of the link: the cutter is at the visit already, or the straight feed to it is clear
 abbrev pub GoesClear : Job → List Tri → Pt3 → Visit → Type 0

@@ -1,18 +1,18 @@
--- What every move of a plan keeps: it is in the range of the job's unit and over the floor, and passes the part; as a rapid it passes what is left of the stock, and as a feed it
+-- What every move of a plan keeps: it is in the range of the job's unit and over the floor, and cutter and holder pass the part; as a rapid it passes what is left of the stock, and as a feed it
 -- cuts no column too deep.
 use Rattle.std.specs.Prelude.{◌≡◌, ◌⊎◌, ℤ, pos, ◌≤ℤ◌, List, [], ◌∷◌, ◌++◌, All, Contains}
-use Rattle.mill_base.specs.Contact.{Gouges}
 use Rattle.mill_base.specs.Covers.{IsUnder}
 use Rattle.mill_base.specs.Points.{point_at}
 use Rattle.mill_base.specs.Ranges.{IsInUnitRange, MoveInUnitRange}
+use Rattle.mill_base.specs.Tools.{ToolGouges}
 use Rattle.mill_base.specs.declared.points.Pt3.{Pt3}
 use Rattle.mill_base.specs.declared.points.Tri.{Tri}
 use Rattle.mill_base.specs.declared.motion.Move.{Move}
 use Rattle.mill_base.specs.declared.motion.Kind.TheVariants.{Rapid, Feed}
 use Rattle.mill_dexel.specs.Tops.{ClearsColumns, top_after}
-use Rattle.mill_gouge.specs.Gouges.{PassesPart}
+use Rattle.mill_gouge.specs.Gouges.{ToolPassesPart}
 use Rattle.mill_job.specs.Columns.{home}
-use Rattle.mill_job.specs.Jobs.{IsJob}
+use Rattle.mill_job.specs.Jobs.{IsJob, tool_of}
 use Rattle.mill_job.specs.declared.job.Job.{Job}
 use Rattle.mill_sweep.specs.Halving.{PassesPoint}
 use Rattle.mill_paths.specs.Links.{IsLink, way_home}
@@ -24,7 +24,7 @@ pub record IsSafeMove (job : Job) (part : List Tri) (done : List Move) (m : Move
   pub ranged : MoveInUnitRange job.unit m
   pub floor_from : job.floor ≤ℤ m.from.z
   pub floor_to : job.floor ≤ℤ m.to.z
-  pub passes : PassesPart job.cutter m part
+  pub passes : ToolPassesPart (tool_of job) m part
   pub stock : m.kind ≡ Rapid → (x y : ℤ) → PassesPoint job.cutter m (point_at x y (top_after job x y done))
   pub depth : m.kind ≡ Feed → ClearsColumns job done m
 
@@ -38,12 +38,12 @@ abbrev pub Connect : Pt3 → List Move → Pt3 → Type 0
 Connect from [] to = to ≡ from
 Connect from (m ∷ ms) to = (m.from ≡ from) × Connect m.to ms to
 
--- the cutter may stand here: the place is in the unit's range, from the floor to the top of the stock, and no part point is strictly inside the cutter
+-- the tool may stand here: the place is in the unit's range, from the floor to the top of the stock, and no part point is strictly inside the cutter or its holder
 pub record IsFreePlace (job : Job) (part : List Tri) (p : Pt3) : Type 0 where
   pub ranged : IsInUnitRange job.unit p
   pub floor : job.floor ≤ℤ p.z
   pub top : p.z ≤ℤ job.top
-  pub free : ¬ Gouges job.cutter (pos 1) p part
+  pub free : ¬ ToolGouges (tool_of job) (pos 1) p part
 
 -- one of the moves ends here
 pub record IsEndOf (moves : List Move) (p : Pt3) : Type 0 where

@@ -1,16 +1,15 @@
 -- The places that a plan comes to, in their order, from the drop heights over its lattices.
 use Rattle.std.specs.Prelude.{◌≡◌, ℕ, ◌-◌, ◌/◌, ◌<◌, nat_abs, Bool, if◌then◌else◌, ℤ, pos, ◌+ℤ◌, ◌-ℤ◌, ◌*ℤ◌, ◌<ℤ◌, ◌≤ℤ◌, int_lt, int_le, List, [], ◌∷◌, ◌++◌, take, map, slice_index_or, All}
 use Rattle.std.specs.List.{AllZip, flat_map, range_with_len}
-use Rattle.mill_base.specs.Contact.{Gouges}
 use Rattle.mill_base.specs.Points.{point_at}
 use Rattle.mill_base.specs.Ranges.{IsInUnitRange}
-use Rattle.mill_base.specs.Tools.{bare}
+use Rattle.mill_base.specs.Tools.{ToolGouges}
 use Rattle.mill_base.specs.declared.lattice.Lattice.{Lattice}
 use Rattle.mill_base.specs.declared.points.Pt3.{Pt3}
 use Rattle.mill_base.specs.declared.points.Tri.{Tri}
 use Rattle.mill_base.specs.Lattices.{node_at}
 use Rattle.mill_drop.specs.Maps.{AreDropHeights}
-use Rattle.mill_job.specs.Jobs.{IsFrom, IsJob}
+use Rattle.mill_job.specs.Jobs.{IsFrom, IsJob, tool_of}
 use Rattle.mill_job.specs.declared.job.Job.{Job}
 use Rattle.mill_level.specs.Waterlines.{IsWaterline, Outline}
 use Rattle.mill_paths.specs.Lattices.{finish_lattice, rough_lattice, zigzag_of}
@@ -65,14 +64,14 @@ outline_visits step outline = map (λ (p : Pt3). record { at = p; step = step })
 abbrev pub level_visits_of : Job → List (List Outline) → List Visit
 level_visits_of job waterlines = flat_map (flat_map (outline_visits job.raster)) waterlines
 
--- these are the waterlines of the cutter alone at the job's levels, over the finishing lattice
+-- these are the waterlines of the job's tool at its levels, over the finishing lattice
 abbrev pub AreWaterlines : Job → List Tri → List (List Outline) → Type 0
-AreWaterlines job part waterlines = AllZip (λ z outlines. IsWaterline (bare job.cutter) part z (finish_lattice job) outlines) job.levels waterlines
+AreWaterlines job part waterlines = AllZip (λ z outlines. IsWaterline (tool_of job) part z (finish_lattice job) outlines) job.levels waterlines
 
 -- these are the roughing visits; without a layer there are none, whatever the heights
 pub record AreRoughVisits (job : Job) (part : List Tri) (list : List Visit) : Type 0 where
   pub heights : List ℤ
-  pub are : (pos 0) <ℤ job.layer → AreDropHeights (bare job.cutter) part job.floor (rough_lattice job) heights
+  pub are : (pos 0) <ℤ job.layer → AreDropHeights (tool_of job) part job.floor (rough_lattice job) heights
   pub visits : list ≡ rough_visits_of job heights
 
 -- these are the level visits; without levels there are none
@@ -84,13 +83,13 @@ pub record AreLevelVisits (job : Job) (part : List Tri) (list : List Visit) : Ty
 -- these are the finishing visits
 pub record AreFinishVisits (job : Job) (part : List Tri) (list : List Visit) : Type 0 where
   pub heights : List ℤ
-  pub are : AreDropHeights (bare job.cutter) part job.floor (finish_lattice job) heights
+  pub are : AreDropHeights (tool_of job) part job.floor (finish_lattice job) heights
   pub visits : list ≡ finish_visits_of job heights
 
 -- with the drop heights over the lattice, roughing has too many visits that differ from the one before them
 pub record HaveManyRoughVisits (job : Job) (part : List Tri) : Type 0 where
   pub heights : List ℤ
-  pub are : AreDropHeights (bare job.cutter) part job.floor (rough_lattice job) heights
+  pub are : AreDropHeights (tool_of job) part job.floor (rough_lattice job) heights
   pub many : most_changes < change_count (rough_visits_of job heights)
 
 -- with the waterlines at the job's levels, too many level visits differ from the one before them
@@ -102,15 +101,15 @@ pub record HaveManyLevelVisits (job : Job) (part : List Tri) : Type 0 where
 -- with the drop heights over the lattice, the finishing path has too many of them
 pub record HaveManyFinishVisits (job : Job) (part : List Tri) : Type 0 where
   pub heights : List ℤ
-  pub are : AreDropHeights (bare job.cutter) part job.floor (finish_lattice job) heights
+  pub are : AreDropHeights (tool_of job) part job.floor (finish_lattice job) heights
   pub many : most_changes < change_count (finish_visits_of job heights)
 
--- a place that a plan may come to: in the unit's range, from the floor on and under the top, with the step of a job's path; there and at every greater height the cutter doesn't gouge
+-- a place that a plan may come to: in the unit's range, from the floor on and under the top, with the step of a job's path; there and at every greater height the tool doesn't gouge
 pub record IsVisit (job : Job) (part : List Tri) (visit : Visit) : Type 0 where
   pub in_range : IsInUnitRange job.unit visit.at
   pub kept : job.floor ≤ℤ visit.at.z
   pub under_top : visit.at.z <ℤ job.top
-  pub free : (higher : ℤ) → visit.at.z ≤ℤ higher → ¬ Gouges job.cutter (pos 1) (point_at visit.at.x visit.at.y higher) part
+  pub free : (higher : ℤ) → visit.at.z ≤ℤ higher → ¬ ToolGouges (tool_of job) (pos 1) (point_at visit.at.x visit.at.y higher) part
   pub step_ok : IsFrom (pos 1) (pos 10000) visit.step
 
 -- the finishing visits are places that a plan may come to

@@ -20,18 +20,21 @@ use Rattle.mill_post.specs.Texts.{program_text}
 use Rattle.mill_verify.specs.Claims.{CutsSafely}
 use Rattle.mill_verify.specs.Verdicts.{IsVerdict}
 use Rattle.mill_verify.specs.declared.verdict.Verdict.TheVariants.{Accept, Reject}
-use Rattle.mill_verify.specs.declared.verdict.Reason.TheVariants.{Left}
+use Rattle.mill_verify.specs.declared.verdict.Reason.TheVariants.{HolderStock, Left}
+use Rattle.mill_sweep.specs.declared.leaf.Leaf.{Leaf}
 use Rattle.mill_plan.specs.declared.planned.Planned.{Planned}
 use Rattle.mill_plan.specs.declared.fault.PlanFault.{PlanFault}
-use Rattle.mill_plan.specs.declared.fault.PlanFault.TheVariants.{TooManyNodes, TooManyMoves, Uncut, WantOfMemory}
+use Rattle.mill_plan.specs.declared.fault.PlanFault.TheVariants.{TooManyNodes, TooManyMoves, Uncut, Held, WantOfMemory}
 
 -- what a planner answers: a program's text, how many moves it has, how many columns the job has, and the most that a column's top stands over what covers it;
--- or a lattice with so many nodes is too large; or the moves are too many; or the plan leaves this row's and column's stock uncut at a height
+-- or a lattice with so many nodes is too large; or the moves are too many; or the plan leaves this row's and column's stock uncut at a height;
+-- or on this move of the plan the holder would touch what is left of this row's and column's stock
 pub data PlanAnswer : Type 0 where
   done : List ℕ → ℕ → ℕ → ℤ → PlanAnswer
   too_many_nodes : ℕ → PlanAnswer
   too_many_moves : PlanAnswer
   uncut : ℕ → ℕ → ℤ → PlanAnswer
+  held : ℕ → ℕ → ℕ → PlanAnswer
 
 -- ---- the limits
 
@@ -86,12 +89,20 @@ pub record IsUncut (job : Job) (part : List Tri) (row col : ℕ) (top : ℤ) : T
   pub left : IsVerdict job part moves (Reject (Left row col top))
   pub out_of_reach : IsOutOfReach job part row col top
 
+-- the verdict on the plan's moves is that on this one the holder doesn't pass this column
+pub record IsHeld (job : Job) (part : List Tri) (number row col : ℕ) : Type 0 where
+  pub moves : List Move
+  pub plan : HasPlan job part moves
+  pub leaf : Leaf
+  pub stopped : IsVerdict job part moves (Reject (HolderStock number row col leaf))
+
 -- this is the planner's answer
 abbrev pub IsPlanAnswer : Job → List Tri → PlanAnswer → Type 0
 IsPlanAnswer job part (done text count columns left) = IsDone job part text count columns left
 IsPlanAnswer job part (too_many_nodes nodes) = IsOverNodes job nodes
 IsPlanAnswer job part too_many_moves = IsOverMoves job part
 IsPlanAnswer job part (uncut row col top) = IsUncut job part row col top
+IsPlanAnswer job part (held number row col) = IsHeld job part number row col
 
 -- ---- the call
 
@@ -104,4 +115,5 @@ abbrev pub IsPlanFault : Job → List Tri → PlanFault → Type 0
 IsPlanFault job part (TooManyNodes nodes) = IsPlanAnswer job part (too_many_nodes nodes)
 IsPlanFault job part TooManyMoves = IsPlanAnswer job part too_many_moves
 IsPlanFault job part (Uncut row col top) = IsPlanAnswer job part (uncut row col top)
+IsPlanFault job part (Held number row col) = IsPlanAnswer job part (held number row col)
 IsPlanFault job part WantOfMemory = Unit {0}

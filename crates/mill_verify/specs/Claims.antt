@@ -1,10 +1,13 @@
 -- What an accepted program does, at every fraction of every move.
-use Rattle.std.specs.Prelude.{◌≡◌, ℕ, ◌+◌, ◌<◌, ℤ, pos, ◌-ℤ◌, ◌<ℤ◌, ◌≤ℤ◌, List, Contains, length, take}
+use Rattle.std.specs.Prelude.{◌≡◌, ℕ, ◌+◌, ◌<◌, ℤ, pos, ◌-ℤ◌, ◌<ℤ◌, ◌≤ℤ◌, List, Contains, length, take, IfSome}
 use Rattle.mill_base.specs.declared.points.Tri.{Tri}
 use Rattle.mill_base.specs.declared.motion.Move.{Move}
 use Rattle.mill_base.specs.declared.motion.Kind.TheVariants.{Rapid, Feed}
 use Rattle.mill_base.specs.Points.{point_at}
-use Rattle.mill_base.specs.Contact.{GougesOn, Removes, IsLeft}
+use Rattle.mill_base.specs.declared.tool.Holder.{Holder}
+use Rattle.mill_base.specs.Contact.{GougesOn, Holds, Removes, IsLeft}
+use Rattle.mill_base.specs.Motion.{IsMoment, tip_at}
+use Rattle.mill_base.specs.Tools.{HolderGouges, holder_tip, solid_of}
 use Rattle.mill_base.specs.Covers.{Covered, HasPointOver}
 use Rattle.mill_job.specs.declared.job.Job.{Job}
 use Rattle.mill_job.specs.Columns.{IsColumn, column_x, column_y}
@@ -56,10 +59,21 @@ pub record CutsShallow (job : Job) (moves : List Move) : Type 0 where
 abbrev pub KeepsDepth : Job → List Move → Type 0
 KeepsDepth job moves = (pos 0) <ℤ job.max_cut → CutsShallow job moves
 
--- what an accepted program does: all five
+-- at no moment of any move is a part point strictly inside the holder, nor a column point that the moves before that one left
+pub record HolderStaysClear (holder : Holder) (job : Job) (part : List Tri) (moves : List Move) : Type 0 where
+  pub part : (m : Move) (a n : ℤ) → Contains moves m → IsMoment a n → ¬ HolderGouges holder n (tip_at m a n) part
+  pub stock : (k j i : ℕ) (h a n : ℤ) → k < length moves → IsColumnPoint job j i h → LeavesPoint job (take k moves) j i h → IsMoment a n
+      → ¬ Holds (solid_of holder) n (holder_tip holder n (tip_at (move_at moves k) a n)) (pos 1) (point_at (column_x job i) (column_y job j) h)
+
+-- so it is of the job's holder, if it has one
+abbrev pub HolderIsClear : Job → List Tri → List Move → Type 0
+HolderIsClear job part moves = IfSome job.holder (λ holder. HolderStaysClear holder job part moves)
+
+-- what an accepted program does: all six
 pub record CutsSafely (job : Job) (part : List Tri) (moves : List Move) : Type 0 where
   pub gouges : NeverGouges job part moves
   pub rapids : RapidsMissStock job moves
   pub covered : LeftIsCovered job part moves
   pub kept : PartIsLeft job part moves
   pub depth : KeepsDepth job moves
+  pub holder : HolderIsClear job part moves

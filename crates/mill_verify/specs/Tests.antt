@@ -1,15 +1,15 @@
 -- The written tests of a program against a job and a part.
-use Rattle.std.specs.Prelude.{ℕ, ◌<◌, ◌-ℤ◌, ◌≤ℤ◌, List, take}
+use Rattle.std.specs.Prelude.{ℕ, ◌<◌, ◌-ℤ◌, ◌≤ℤ◌, List, take, IfSome}
 use Rattle.mill_base.specs.declared.points.Tri.{Tri}
 use Rattle.mill_base.specs.declared.motion.Move.{Move}
 use Rattle.mill_sweep.specs.Halving.{Passes, PassesPoint}
 use Rattle.mill_base.specs.Covers.{Covered}
 use Rattle.mill_job.specs.declared.job.Job.{Job}
 use Rattle.mill_job.specs.Columns.{column_x, column_y}
-use Rattle.mill_dexel.specs.Tops.{ClearsColumns, tested_point, top_after}
+use Rattle.mill_dexel.specs.Tops.{ClearsColumns, HolderClearsColumns, tested_point, top_after}
 use Rattle.mill_dexel.specs.Turns.{move_at}
 use Rattle.mill_base.specs.Points.{tri_at}
-use Rattle.mill_gouge.specs.Gouges.{PassesPart}
+use Rattle.mill_gouge.specs.Gouges.{HolderPassesPart, PassesPart}
 
 -- test (i): both ends of move k are at or over the floor
 pub record IsOverFloor (job : Job) (moves : List Move) (k : ℕ) : Type 0 where
@@ -24,6 +24,10 @@ PassesTri job part moves k t = Passes job.cutter (move_at moves k) (tri_at part 
 abbrev pub ClearsPart : Job → List Tri → List Move → ℕ → Type 0
 ClearsPart job part moves k = PassesPart job.cutter (move_at moves k) part
 
+-- test (ii h): where the job has a holder, it passes each triangle on move k
+abbrev pub HolderClearsPart : Job → List Tri → List Move → ℕ → Type 0
+HolderClearsPart job part moves k = IfSome job.holder (λ holder. HolderPassesPart holder (move_at moves k) part)
+
 -- test (iii) of one column: move k passes, by halving, the point of the column at which it is tested after the moves before it: a Rapid the one at the top,
 -- and a Feed the one as low as it may cut
 abbrev pub PassesColumn : Job → List Move → ℕ → ℕ → ℕ → Type 0
@@ -33,11 +37,17 @@ PassesColumn job moves k j i = PassesPoint job.cutter (move_at moves k) (tested_
 abbrev pub ClearsStock : Job → List Move → ℕ → Type 0
 ClearsStock job moves k = ClearsColumns job (take k moves) (move_at moves k)
 
--- move k passes all three
+-- test (iii h): where the job has a holder, it passes each column on move k, whatever its kind, up to the top that the moves before it left
+abbrev pub HolderClearsStock : Job → List Move → ℕ → Type 0
+HolderClearsStock job moves k = HolderClearsColumns job (take k moves) (move_at moves k)
+
+-- move k passes all of these
 pub record IsGood (job : Job) (part : List Tri) (moves : List Move) (k : ℕ) : Type 0 where
   pub floor : IsOverFloor job moves k
   pub clears : ClearsPart job part moves k
+  pub holder : HolderClearsPart job part moves k
   pub stock : ClearsStock job moves k
+  pub holder_stock : HolderClearsStock job moves k
 
 -- test (iv) of one column: its top less the allowance is covered
 abbrev pub IsCut : Job → List Tri → List Move → ℕ → ℕ → Type 0

@@ -5,11 +5,10 @@ use Rattle.mill_base.specs.declared.memory.WantOfMemory.{WantOfMemory}
 use Rattle.mill_base.specs.declared.unit.Unit.{Unit as LengthUnit}
 use Rattle.mill_command.specs.declared.refusal.Refusal.{Refusal}
 use Rattle.mill_command.specs.declared.refusal.Refusal.TheVariants as refusal
-use Rattle.mill_base.specs.Tools.{bare}
 use Rattle.mill_drop.specs.Drops.{IsDropHeight}
 use Rattle.mill_io.specs.Contents.{AppendedPart}
 use Rattle.mill_io.specs.Views.{SinkView, IsWritten}
-use Rattle.mill_plan.specs.Plans.{PlanAnswer, too_many_nodes, too_many_moves, uncut, IsPlanAnswer}
+use Rattle.mill_plan.specs.Plans.{PlanAnswer, too_many_nodes, too_many_moves, uncut, held, IsPlanAnswer}
 use Rattle.mill_plan.specs.declared.fault.PlanFault.{PlanFault}
 use Rattle.mill_plan.specs.declared.fault.PlanFault.TheVariants as plan_fault
 use Rattle.mill_verify.specs.declared.verdict.Verdict.{Verdict}
@@ -18,6 +17,7 @@ use Rattle.camtool.specs.declared.load.LoadFault.{LoadFault}
 use Rattle.camtool.specs.declared.load.LoadFault.TheVariants as load_fault
 use Rattle.camtool.specs.declared.load.Setup.{Setup}
 use Rattle.mill_job.specs.declared.job.Place.{Place}
+use Rattle.mill_job.specs.Jobs.{tool_of}
 use Rattle.camtool.specs.declared.verify.Loaded.{Loaded}
 use Rattle.camtool.specs.Answers.{unfit, judged, dropped, leveled, planned, sampled}
 use Rattle.camtool.specs.Calls.{Call}
@@ -81,6 +81,7 @@ abbrev pub PrintsPlanFault : LengthUnit → PlanFault → ℕ → SinkView → S
 PrintsPlanFault unit (plan_fault.TooManyNodes nodes) status sink sink_after = PrintsPlan unit (too_many_nodes nodes) status sink sink_after
 PrintsPlanFault unit plan_fault.TooManyMoves status sink sink_after = PrintsPlan unit too_many_moves status sink sink_after
 PrintsPlanFault unit (plan_fault.Uncut row col top) status sink sink_after = PrintsPlan unit (uncut row col top) status sink sink_after
+PrintsPlanFault unit (plan_fault.Held number row col) status sink sink_after = PrintsPlan unit (held number row col) status sink sink_after
 PrintsPlanFault unit plan_fault.WantOfMemory status sink sink_after = PrintsOutcome no_memory status sink sink_after
 
 -- ---- the work of a command on what was read
@@ -99,7 +100,7 @@ TriesVerdict l status sink sink_after = PrintsVerdict l status sink sink_after �
 -- the drop height at a place is printed, or that memory was short
 pub record PrintsHeight (s : Setup) (place : Place) (status : ℕ) (sink sink_after : SinkView) : Type 0 where
   pub height : ℤ
-  pub is : IsDropHeight (bare s.job.cutter) s.part place.x place.y s.job.floor height
+  pub is : IsDropHeight (tool_of s.job) s.part place.x place.y s.job.floor height
   pub printed : PrintsOr (answered (dropped s.job.unit height)) status sink sink_after
 
 -- the answer at a height is printed, or that memory was short

@@ -11,13 +11,14 @@ use Rattle.mill_paths.specs.declared.visit.Visit.{Visit}
 use Rattle.mill_plan.specs.Plans.{IsOverNodes}
 use Rattle.mill_base.specs.declared.limits.TheConstants.{MAX_MOVES}
 use Rattle.mill_plan.specs.declared.fault.PlanFault.{PlanFault}
-use Rattle.mill_plan.specs.declared.fault.PlanFault.TheVariants.{TooManyNodes, TooManyMoves, Uncut, WantOfMemory}
+use Rattle.mill_plan.specs.declared.fault.PlanFault.TheVariants.{TooManyNodes, TooManyMoves, Uncut, Held, WantOfMemory}
 
 -- a fault of the lattices tells how many nodes the first that is over its limit has
 abbrev pub IsNodesFault : Job → PlanFault → Type 0
 IsNodesFault job (TooManyNodes nodes) = IsOverNodes job nodes
 IsNodesFault job TooManyMoves = ⊥
 IsNodesFault job (Uncut row col top) = ⊥
+IsNodesFault job (Held number row col) = ⊥
 IsNodesFault job WantOfMemory = ⊥
 
 -- the links to the first of the visits, from home, are too many moves
@@ -43,4 +44,5 @@ abbrev pub IsRoundFault : Job → List Tri → List Visit → PlanFault → Type
 IsRoundFault job part visits (TooManyNodes nodes) = ⊥
 IsRoundFault job part visits TooManyMoves = IsTourOver job part visits ⊎ IsLongRound job part visits
 IsRoundFault job part visits (Uncut row col top) = ⊥
+IsRoundFault job part visits (Held number row col) = ⊥
 IsRoundFault job part visits WantOfMemory = ⊤
