@@ -156,12 +156,7 @@ fn feeds_too_deep(rt: HostRuntime) -> Result<(), WantOfMemory> {
 }
 
 /// Where a move straight down to (x, 0, z) brings the holder to the uncut row, so far over the tip.
-fn held(
-    alloc: Global,
-    stickout: i32,
-    x: i32,
-    z: i32,
-) -> Result<Option<(u32, Leaf)>, WantOfMemory>
+fn held(alloc: Global, stickout: i32, x: i32, z: i32) -> Result<Option<(u32, Leaf)>, WantOfMemory>
     requires stickout { IsFrom (pos 1) (pos 500) stickout }
     requires x_ok { Within MAX_COORDINATE x }
     requires z_ok { Within MAX_COORDINATE z }
