@@ -15,7 +15,7 @@ use Rattle.mill_job.specs.declared.fault.JobFault.{JobFault}
 use Rattle.mill_job.proofs.OneAnswer.{one_answer}
 use Rattle.mill_verify.specs.Verdicts.{IsVerdict}
 use Rattle.mill_verify.specs.declared.verdict.Verdict.{Verdict}
-use Rattle.mill_plan.specs.Plans.{done, too_many_nodes, too_many_moves, uncut}
+use Rattle.mill_plan.specs.Plans.{done, too_many_nodes, too_many_moves, uncut, held}
 use Rattle.mill_command.specs.Requests.{verify, plan, drop, level, sample}
 use Rattle.camtool.specs.declared.file.File.TheVariants.{Job as JobFile, Part as PartFile, Program as ProgramFile}
 use Rattle.camtool.specs.declared.load.Unfit.{Unfit}
@@ -195,6 +195,7 @@ is_planned contents files workers job part (unfit u) told r h = absurd (fit_setu
 is_planned contents files workers job part (judged j p m v) told r h = absurd h
 is_planned contents files workers job part (planned unit name (done text count columns left)) told r h = inl refl
 is_planned contents files workers job part (planned unit name (uncut row col top)) told r h = inr (inl refl)
+is_planned contents files workers job part (planned unit name (held number row col)) told r h = inr (inl refl)
 is_planned contents files workers job part (planned unit name (too_many_nodes nodes)) told r h = inr (inr refl)
 is_planned contents files workers job part (planned unit name too_many_moves) told r h = inr (inr refl)
 is_planned contents files workers job part (dropped unit height) told r h = absurd h
@@ -267,5 +268,6 @@ is_sampled contents n workers (dropped unit height) h = absurd h
 is_sampled contents n workers (leveled unit answer) h = absurd h
 is_sampled contents n workers (sampled size (done text count columns left)) h = inl refl
 is_sampled contents n workers (sampled size (uncut row col top)) h = inr (inl refl)
+is_sampled contents n workers (sampled size (held number row col)) h = inr (inl refl)
 is_sampled contents n workers (sampled size (too_many_nodes nodes)) h = inr (inr refl)
 is_sampled contents n workers (sampled size too_many_moves) h = inr (inr refl)

@@ -3,7 +3,7 @@ use Rattle.std.proofs.Common.{◌≡◌, ◌≢◌, ◌⊎◌, ℕ, List, Option
 use Rattle.std.specs.Prelude.{◌<◌}
 use Rattle.mill_io.specs.Views.{ReadsOnly}
 use Rattle.mill_command.specs.Requests.{Request, verify, plan, drop, level, sample, request}
-use Rattle.mill_plan.specs.Plans.{done, too_many_nodes, too_many_moves, uncut}
+use Rattle.mill_plan.specs.Plans.{done, too_many_nodes, too_many_moves, uncut, held}
 use Rattle.mill_verify.specs.declared.verdict.Verdict.TheVariants.{Accept, Reject}
 use Rattle.camtool.specs.Answers.{Answer, refused_word, unfit, judged, planned, dropped, leveled, sampled, answer_status, answer_file, IsAnswer}
 use Rattle.camtool.specs.Calls.{Call, NamedText, NoFault, Stores, BlamesWrites, BlamesReads}
@@ -27,6 +27,7 @@ status_not n n0 n3 n4 n8 n9 (judged job part moves (Accept count columns left)) 
 status_not n n0 n3 n4 n8 n9 (judged job part moves (Reject reason)) e = n3 e
 status_not n n0 n3 n4 n8 n9 (planned unit name (done text moves columns left)) e = n0 e
 status_not n n0 n3 n4 n8 n9 (planned unit name (uncut row column top)) e = n8 e
+status_not n n0 n3 n4 n8 n9 (planned unit name (held number row column)) e = n8 e
 status_not n n0 n3 n4 n8 n9 (planned unit name (too_many_nodes nodes)) e = n9 e
 status_not n n0 n3 n4 n8 n9 (planned unit name too_many_moves) e = n9 e
 status_not n n0 n3 n4 n8 n9 (dropped unit height) e = n0 e
@@ -34,6 +35,7 @@ status_not n n0 n3 n4 n8 n9 (leveled unit (outlines found)) e = n0 e
 status_not n n0 n3 n4 n8 n9 (leveled unit (too_fine nodes)) e = n9 e
 status_not n n0 n3 n4 n8 n9 (sampled size (done text moves columns left)) e = n0 e
 status_not n n0 n3 n4 n8 n9 (sampled size (uncut row column top)) e = n8 e
+status_not n n0 n3 n4 n8 n9 (sampled size (held number row column)) e = n8 e
 status_not n n0 n3 n4 n8 n9 (sampled size (too_many_nodes nodes)) e = n9 e
 status_not n n0 n3 n4 n8 n9 (sampled size too_many_moves) e = n9 e
 

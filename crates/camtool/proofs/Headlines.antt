@@ -4,7 +4,7 @@ use Rattle.std.specs.Prelude.{ℤ}
 use Rattle.mill_base.specs.declared.unit.Unit.{Unit as LengthUnit}
 use Rattle.mill_command.specs.Requests.{verify, plan}
 use Rattle.mill_io.specs.Views.{IsStored, IsWritten}
-use Rattle.mill_plan.specs.Plans.{done, too_many_nodes, too_many_moves, uncut}
+use Rattle.mill_plan.specs.Plans.{done, too_many_nodes, too_many_moves, uncut, held}
 use Rattle.mill_verify.specs.Verdicts.{IsVerdict, OneVerdict}
 use Rattle.mill_verify.specs.declared.verdict.Verdict.TheVariants.{Accept, Reject}
 use Rattle.camtool.specs.Answers.{Answer, refused_word, unfit, judged, planned, dropped, leveled, sampled, answer_status, answer_line, answer_file, IsAnswer}
@@ -100,6 +100,7 @@ plans_by call files workers (judged job part moves verdict) is e printed stored 
 plans_by call files workers (planned unit name (done text count columns left)) is e printed stored =
     done_safely call files unit text count columns left is.1 (subst (λ (n : List ℕ). IsStored n text call.store call.store_after) is.0 stored) printed
 plans_by call files workers (planned unit name (uncut row col top)) is e printed stored = absurd (on 8 0 (omega arith) e)
+plans_by call files workers (planned unit name (held number row col)) is e printed stored = absurd (on 8 0 (omega arith) e)
 plans_by call files workers (planned unit name (too_many_nodes nodes)) is e printed stored = absurd (on 9 0 (omega arith) e)
 plans_by call files workers (planned unit name too_many_moves) is e printed stored = absurd (on 9 0 (omega arith) e)
 plans_by call files workers (dropped unit height) is e printed stored = absurd is

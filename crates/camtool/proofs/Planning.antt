@@ -5,7 +5,7 @@ use Rattle.std.specs.Prelude.{ℤ}
 use Rattle.mill_base.specs.declared.unit.Unit.{Unit as LengthUnit}
 use Rattle.mill_command.specs.Requests.{plan}
 use Rattle.mill_io.specs.Views.{StoreView, ReadsOnly, IsStored, IsPartStored}
-use Rattle.mill_plan.specs.Plans.{PlanAnswer, done, too_many_nodes, too_many_moves, uncut, IsPlanAnswer, IsPlanFault}
+use Rattle.mill_plan.specs.Plans.{PlanAnswer, done, too_many_nodes, too_many_moves, uncut, held, IsPlanAnswer, IsPlanFault}
 use Rattle.mill_plan.specs.declared.fault.PlanFault.{PlanFault}
 use Rattle.mill_plan.specs.declared.fault.PlanFault.TheVariants as plan_fault
 use Rattle.camtool.specs.declared.load.LoadFault.{LoadFault}
@@ -100,4 +100,6 @@ fault_shows s name call plan_fault.TooManyMoves is same p =
     made_shows s name call too_many_moves is (answer_shows call (planned s.job.unit name too_many_moves) refl (untouched call same) (unread call same) p)
 fault_shows s name call (plan_fault.Uncut row col top) is same p =
     made_shows s name call (uncut row col top) is (answer_shows call (planned s.job.unit name (uncut row col top)) refl (untouched call same) (unread call same) p)
+fault_shows s name call (plan_fault.Held number row col) is same p =
+    made_shows s name call (held number row col) is (answer_shows call (planned s.job.unit name (held number row col)) refl (untouched call same) (unread call same) p)
 fault_shows s name call plan_fault.WantOfMemory is same p = inr (short_shows call same p)

@@ -22,7 +22,7 @@ use Rattle.mill_job.specs.declared.job.Job.{Job}
 use Rattle.mill_ngc.specs.Programs.{program_of}
 use Rattle.mill_command.specs.Requests.{sample}
 use Rattle.mill_io.specs.Views.{StoreView, SinkView, ReadsOnly}
-use Rattle.mill_plan.specs.Plans.{too_many_nodes, done, too_many_moves, uncut, answer_of, IsDone, IsPlanAnswer, IsPlanFault}
+use Rattle.mill_plan.specs.Plans.{too_many_nodes, done, too_many_moves, uncut, held, answer_of, IsDone, IsPlanAnswer, IsPlanFault}
 use Rattle.mill_plan.specs.declared.planned.Planned.{Planned}
 use Rattle.mill_plan.specs.declared.fault.PlanFault.{PlanFault}
 use Rattle.mill_plan.specs.declared.fault.PlanFault.TheVariants as plan_fault
@@ -160,6 +160,8 @@ job_ok n few = record {
   layers = λ some. omega (arith, ints);
   levels_ok = no_levels (pos 0) (pos 200);
   max_cut_ok = record { low = omega (arith, ints); high = omega (arith, ints) };
+  holder_ok = tt;
+  wider = tt;
 }
 
 -- the job and the part of a size are such that a plan can be made
@@ -208,6 +210,7 @@ fault_tries n status sink sink_after s f made is printed = go f (subst (λ p. Is
     go (plan_fault.TooManyNodes nodes) here p = inl (record { answer = too_many_nodes nodes; is = here; printed = p })
     go plan_fault.TooManyMoves here p = inl (record { answer = too_many_moves; is = here; printed = p })
     go (plan_fault.Uncut row col top) here p = inl (record { answer = uncut row col top; is = here; printed = p })
+    go (plan_fault.Held number row col) here p = inl (record { answer = held number row col; is = here; printed = p })
     go plan_fault.WantOfMemory here p = inr p
 
 accept_is : (a b d e : ℕ) (x y : ℤ) → Accept a b x ≡ Accept d e y → (a ≡ d) × (b ≡ e) × (x ≡ y)

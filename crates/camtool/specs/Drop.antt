@@ -42,7 +42,7 @@ pub record RefusesPlace (texts : SetupTexts) (x y : List ℕ) (coordinate : Coor
 
 -- ---- the answer
 
--- job, words and part are read, and this is the drop height of the job's cutter at the place, not under the job's floor, in the job's unit
+-- job, words and part are read, and this is the drop height of the job's tool at the place, not under the job's floor, in the job's unit
 pub record Drops (x y : List ℕ) (texts : SetupTexts) (unit : Unit) (height : ℤ) : Type 0 where
   pub place : Place
   pub job : Job

@@ -36,8 +36,8 @@ abbrev pub Answers : List (List ℕ) → Call → Type 0
 Answers words call = (asked : Request) → request words ≡ Some asked → NoFault call → call.status ≢ 5 → Answered call asked
 
 -- where the files are told and read, the part isn't over the job's top and nothing of the outside failed, a program is accepted or rejected;
--- a plan is stored, or leaves stock uncut, or is too large; a drop height is told; the chains at a height are told, or the lattice is too large; or memory was short;
--- where nothing of the outside failed, a sample is planned, or its plan leaves stock uncut, or is too large; or memory was short
+-- a plan is stored, or leaves stock uncut, or its holder would touch stock, or it is too large; a drop height is told; the chains at a height are told, or the lattice is too large; or memory was short;
+-- where nothing of the outside failed, a sample is planned, or its plan leaves stock uncut, or its holder would touch stock, or it is too large; or memory was short
 pub record Completes (words : List (List ℕ)) (call : Call) : Type 0 where
   pub verifies : (files : Files) (job : Job) (part : List Tri) (moves : List Move) → AsksVerify words files → AreTold (texts_of call.store.contents files)
       → Reads (texts_of call.store.contents files) job part moves → NoFault call → (call.status ≡ 0) ⊎ ((call.status ≡ 3) ⊎ (call.status ≡ 5))
@@ -82,7 +82,9 @@ pub record RejectsFirst (call : Call) (texts : Texts) : Type 0 where
   pub printed : IsWritten (verdict_line job moves (Reject reason)) call.sink call.sink_after
 
 -- when `verify` answers 0, at no fraction of any move does a part point lie strictly inside the cutter, no rapid removes a column point left before it,
--- every column point left is covered by part or floor within allowance and band, and each column point at or under the part is left;
+-- every column point left is covered by part or floor within allowance and band, and each column point at or under the part is left; where the job limits the depth of
+-- cut, no feed removes a column point so deep under its top; where it has a holder, at no fraction of any move is a part point or a column point left before it strictly
+-- inside the holder;
 -- status 3 names exactly the first written test that fails
 pub record Headline (words : List (List ℕ)) (call : Call) : Type 0 where
   pub accepts : (files : Files) → AsksVerify words files → call.status ≡ 0 → AcceptsSafely (texts_of call.store.contents files)

@@ -1,4 +1,4 @@
--- The command `level`: its word for a height, read in the job's unit, and the chains of points along which the cutter goes round the part there.
+-- The command `level`: its word for a height, read in the job's unit, and the chains of points along which the tool goes round the part there.
 use Rattle.std.specs.Prelude.{◌≡◌, ◌≤◌, ℕ, ℤ, codes, decimal, Bool, if◌then◌else◌, List, [], ◌∷◌, ◌++◌, length, Ok, Err}
 use Rattle.std.specs.List.{flat_map}
 use Rattle.mill_base.specs.Lattices.{node_count}
@@ -49,7 +49,7 @@ pub data LevelAnswer : Type 0 where
   outlines : List Outline → LevelAnswer
   too_many_nodes : ℕ → LevelAnswer
 
--- the outlines are the part's waterline at the height, for the job's cutter and over its area by steps of its raster, and that lattice has no more nodes than one may;
+-- the outlines are the part's waterline at the height, for the job's tool and over its area by steps of its raster, and that lattice has no more nodes than one may;
 -- or it has so many nodes, which are too many
 abbrev pub IsLevelAnswer : Job → List Tri → ℤ → LevelAnswer → Type 0
 IsLevelAnswer job part height (outlines found) = IsWaterline (tool_of job) part height (finish_lattice job) found × (node_count (finish_lattice job) ≤ MAX_NODES)

@@ -24,10 +24,14 @@ plan_status (held number row column) = 8
 plan_status (too_many_nodes nodes) = 9
 plan_status too_many_moves = 9
 
+-- the line of a plan on this move of which the holder would touch what is left of this column
+abbrev pub held_line : ℕ → ℕ → ℕ → List ℕ
+held_line number row column = line (codes "held" ∷ codes "move" ∷ decimal number ∷ codes "row" ∷ decimal row ∷ codes "column" ∷ decimal column ∷ [])
+
 -- the line of the planner's answer
 abbrev pub plan_line : Unit → PlanAnswer → List ℕ
 plan_line unit (done text moves columns left) = line (codes "planned" ∷ codes "moves" ∷ decimal moves ∷ codes "columns" ∷ decimal columns ∷ codes "left" ∷ canonical unit left ∷ [])
 plan_line unit (uncut row column top) = line (codes "uncut" ∷ column_words unit row column top)
-plan_line unit (held number row column) = line (codes "held" ∷ codes "move" ∷ decimal number ∷ codes "row" ∷ decimal row ∷ codes "column" ∷ decimal column ∷ [])
+plan_line unit (held number row column) = held_line number row column
 plan_line unit (too_many_nodes nodes) = nodes_line nodes
 plan_line unit too_many_moves = line (codes "over" ∷ codes "moves" ∷ [])

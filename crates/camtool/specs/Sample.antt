@@ -1,5 +1,5 @@
 -- The command `sample`: the sample part of a size, the job that it is planned with, and how the planner's answer to them is shown.
-use Rattle.std.specs.Prelude.{ℕ, ◌+◌, ◌*◌, ◌%◌, pos, codes, decimal, List, [], ◌∷◌}
+use Rattle.std.specs.Prelude.{ℕ, ◌+◌, ◌*◌, ◌%◌, pos, codes, decimal, List, [], ◌∷◌, None}
 use Rattle.std.specs.List.{flat_map, range_with_len}
 use Rattle.mill_base.specs.declared.cutter.Cutter.TheVariants.{Ball}
 use Rattle.mill_base.specs.declared.points.Pt3.{Pt3}
@@ -57,6 +57,7 @@ sample_job n = record {
   levels = [];
   snap = Nearest;
   max_cut = pos 0;
+  holder = None;
 }
 
 -- ---- the answers

@@ -1,4 +1,4 @@
-//! The command `drop`: how low the cutter comes at one place.
+//! The command `drop`: how low the tool comes at one place.
 ghost use Rattle.std.specs.Prelude.{◌≡◌, ◌-◌, ◌^◌, ◌<◌, IfOk};
 ghost use Rattle.mill_command.specs.Requests.{drop as asks_drop};
 ghost use Rattle.camtool.specs.Calls.{CanCount, call_of};
@@ -15,7 +15,7 @@ use crate::place::read_place;
 use crate::print::{add_length, add_text};
 use crate::status::Status;
 use crate::tell::{tell_fault, tell_made};
-use mill_base::{Tool, Unit, WantOfMemory};
+use mill_base::{Unit, WantOfMemory};
 use mill_drop::drop_once;
 use mill_io::{Shelf, Sink};
 use mill_job::Place;
@@ -59,7 +59,7 @@ fn tell_drop<O: Sink>(alloc: Global, setup: &Setup, place: Place, out: &mut O) -
         (O.shows out.old) (O.shows out.new) }
 {
     let job = &setup.job;
-    let tool = Tool::bare(job.cutter);
+    let tool = job.tool();
     let height = drop_once(&setup.part, &tool, place.x, place.y, job.floor);
     tell_made(line_of_height(alloc, height, job.unit), Status::Done, out)
 }

@@ -1,11 +1,10 @@
-//! The command `level`: the chains of points along which the cutter goes round the part at one
-//! height.
+//! The command `level`: the chains of points along which the tool goes round the part at one height.
 ghost use Rattle.std.specs.Prelude.{◌≡◌, ◌++◌, ◌-◌, ◌^◌, ◌<◌, ◌≤◌, ℕ, IfOk, IsErrOf, OnOk, map as map_list};
 ghost use Rattle.mill_base.specs.Numbers.{Within};
 ghost use Rattle.mill_base.specs.declared.limits.TheConstants.{MAX_COORDINATE, MAX_NODES};
 ghost use Rattle.mill_base.specs.Lattices.{node_count};
-ghost use Rattle.mill_base.specs.Tools.{bare};
 ghost use Rattle.mill_command.specs.Requests.{level as asks_level};
+ghost use Rattle.mill_job.specs.Jobs.{tool_of};
 ghost use Rattle.mill_level.specs.Waterlines.{HasManyNodes, IsWaterline, seen};
 ghost use Rattle.mill_level.specs.declared.fault.LevelFault.TheVariants.{TooManyNodes};
 ghost use Rattle.mill_paths.specs.Lattices.{finish_lattice as finish_lattice_of};
@@ -22,7 +21,7 @@ use crate::place::read_height;
 use crate::print::{add_length, add_number, add_text, line_of_nodes};
 use crate::status::Status;
 use crate::tell::{tell, tell_fault, tell_made};
-use mill_base::{Pt3, Tool, Unit, WantOfMemory};
+use mill_base::{Pt3, Unit, WantOfMemory};
 use mill_io::{Shelf, Sink};
 use mill_level::{Chain, LevelFault, waterline};
 use mill_part::SortedPart;
@@ -30,7 +29,7 @@ use mill_paths::finish_lattice;
 use std::alloc::Global;
 
 /// The work of `level`: reads the job, then the height in the job's unit, then the part, and prints
-/// the chains along which the cutter goes round the part there, or what keeps it from them.
+/// the chains along which the tool goes round the part there, or what keeps it from them.
 pub fn level_part<S: Shelf, O: Sink>(
     alloc: Global,
     shelf: &mut S,
@@ -81,7 +80,7 @@ fn tell_level<O: Sink>(alloc: Global, setup: &Setup, height: i32, out: &mut O) -
 fn chains_at(alloc: Global, setup: &Setup, height: i32) -> Result<Vec<Chain>, LevelFault>
     requires ready { IsSetup setup.now }
     requires height_ok { Within MAX_COORDINATE height }
-    ensures chains { IfOk result (λ chains. IsWaterline (bare setup.now.job.cutter) setup.now.part height
+    ensures chains { IfOk result (λ chains. IsWaterline (tool_of setup.now.job) setup.now.part height
         (finish_lattice_of setup.now.job) (map_list seen chains.items)) }
     ensures few { IfOk result (λ _. node_count (finish_lattice_of setup.now.job) ≤ MAX_NODES) }
     ensures nodes { (nodes : ℕ) → IsErrOf result (TooManyNodes nodes)
@@ -91,7 +90,7 @@ fn chains_at(alloc: Global, setup: &Setup, height: i32) -> Result<Vec<Chain>, Le
     let part = &setup.part;
     let sorted = SortedPart::new(alloc, part)?;
     let lattice = finish_lattice(job);
-    let tool = Tool::bare(job.cutter);
+    let tool = job.tool();
     waterline(alloc, part, sorted.cells(), &tool, height, &lattice)
 }
 

@@ -1,7 +1,7 @@
 //! `camtool verify JOB PART FILE [--workers=W]` verifies a program for a three-axis mill against a
-//! part, a cutter and a stock. `camtool plan JOB PART OUT [--workers=W]` plans a program that it
-//! accepts, and stores it. `camtool drop JOB PART --x=X --y=Y` tells how low the cutter comes at one
-//! place. `camtool level JOB PART --z=Z` prints the lines along which the cutter goes round the part
+//! part, a tool and a stock. `camtool plan JOB PART OUT [--workers=W]` plans a program that it
+//! accepts, and stores it. `camtool drop JOB PART --x=X --y=Y` tells how low the tool comes at one
+//! place. `camtool level JOB PART --z=Z` prints the lines along which the tool goes round the part
 //! at one height. `camtool sample N [--workers=W]` plans and verifies a sample part.
 //!
 //! `run` is all that the program does, over any store of files and any sink. Its contract goes

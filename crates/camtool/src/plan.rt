@@ -6,7 +6,7 @@ ghost use Rattle.camtool.specs.Answers.{planned as planned_answer};
 ghost use Rattle.camtool.specs.Calls.{CanCount, call_of};
 ghost use Rattle.camtool.specs.inner.Loads.{AreWorkers, IsSetup};
 ghost use Rattle.camtool.specs.Outcomes.{Serves, ShowsOr, answered};
-ghost use Rattle.camtool.specs.Plan.{plan_line};
+ghost use Rattle.camtool.specs.Plan.{held_line, plan_line};
 ghost use Rattle.camtool.specs.inner.Prints.{PrintsPlanFault, ShowsPlanOr};
 ghost use Rattle.camtool.specs.Statuses.{status_code};
 
@@ -108,6 +108,9 @@ pub fn tell_plan_fault<O: Sink>(alloc: Global, fault: PlanFault, unit: Unit, out
                 out,
             )
         }
+        PlanFault::Held { at, row, col } => {
+            tell_made(line_of_held(alloc, at, row, col), Status::Uncut, out)
+        }
         PlanFault::WantOfMemory => tell(out, b"out of memory\n", Status::Memory),
     }
 }
@@ -140,5 +143,20 @@ fn line_of_uncut(
     let mut line = Vec::new(alloc);
     add_text(&mut line, b"uncut")?;
     add_column(&mut line, row, col, top, unit)?;
+    Ok(line)
+}
+
+/// The line of a plan on this move of which the holder would touch what is left of this column.
+fn line_of_held(alloc: Global, at: u64, row: u32, col: u32) -> Result<Vec<u8>, WantOfMemory>
+    ensures { IfOk result (λ line. line.items ≡ held_line at row col) }
+{
+    let mut line = Vec::new(alloc);
+    add_text(&mut line, b"held move ")?;
+    add_number(&mut line, at)?;
+    add_text(&mut line, b" row ")?;
+    add_number(&mut line, u64::from(row))?;
+    add_text(&mut line, b" column ")?;
+    add_number(&mut line, u64::from(col))?;
+    add_text(&mut line, b"\n")?;
     Ok(line)
 }

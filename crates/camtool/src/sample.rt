@@ -225,6 +225,7 @@ fn sample_job(size: u32) -> Job
         levels: Levels::NONE,
         snap: Snap::Nearest,
         max_cut: 0,
+        holder: None,
     }
 }
 

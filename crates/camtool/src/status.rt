@@ -19,7 +19,7 @@ pub enum Status {
     ReadFault,
     /// A line could not be printed, or a program could not be stored.
     WriteFault,
-    /// A plan leaves stock uncut.
+    /// A plan leaves stock uncut, or its holder would touch stock that is still there.
     Uncut,
     /// A plan is larger than the planner goes, or a lattice has too many nodes.
     TooLarge,

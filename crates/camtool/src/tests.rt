@@ -25,7 +25,8 @@ mod verdicts;
 
 /// The files of every store: behind `#` a name, and then the text. `groove` is two plates, with a
 /// groove between them that is one unit narrower than the cutter of `groove-job`; `peak` is the point
-/// (0, 0, 3); `planned` is what is planned for `job` and `plate`.
+/// (0, 0, 3), and `wall` the line from (2, -1, 3) to (2, 3, 3); `planned` is what is planned for `job` and
+/// `plate`.
 const FILES: &str = r#"# job
 cutter = "flat"
 radius = 150
@@ -122,6 +123,16 @@ vertex 0 0 3
 endloop
 endfacet
 endsolid
+# wall
+solid
+facet normal 0 0 1
+outer loop
+vertex 2 -1 3
+vertex 2 3 3
+vertex 2 3 3
+endloop
+endfacet
+endsolid
 # empty
 solid
 endsolid
@@ -153,7 +164,8 @@ before
 "#;
 
 /// More files, made of FILES: `NAME: OF: OLD -> NEW; OLD -> NEW`. `thousandths` is the same as `job`,
-/// and `narrow` ends 0.50 before the last columns.
+/// and `narrow` ends 0.50 before the last columns. A `held` and a `slim` job have a holder, as far over
+/// the tip as their name says.
 const MADE: &str = r#"thousandths: job: cutter -> unit = "thousandth"\ncutter; 00 -> 000; 50 -> 500
 band-50: job: band = 0 -> band = 50
 band-51: job: band = 0 -> band = 51
@@ -163,11 +175,20 @@ no-stock: job: 300 -> 0; 400 -> 0; 200, 200 -> 0, 0; 100, 100 -> 0, 0
 cut-99: job: band = 0 -> band = 0\nmax_cut = 99
 cut-100: job: band = 0 -> band = 0\nmax_cut = 100
 cut-131072: job: band = 0 -> band = 0\nmax_cut = 131072
+held-50: job: band = 0 -> band = 0\nholder_radius = 200\nstickout = 50
+held-100: job: band = 0 -> band = 0\nholder_radius = 200\nstickout = 100
+held-300: job: band = 0 -> band = 0\nholder_radius = 200\nstickout = 300
+held-none: job: band = 0 -> band = 0\nholder_radius = 200
+held-thin: job: band = 0 -> band = 0\nholder_radius = 150\nstickout = 1
+slim-99: job: 150 -> 60; [0, 0, 200 -> [0, 0, 300; pitch = 100 -> pitch = 50; allowance = 0 -> allowance = 300; band = 0 -> band = 0\nholder_radius = 120\nstickout = 99
+slim-100: job: 150 -> 60; [0, 0, 200 -> [0, 0, 300; pitch = 100 -> pitch = 50; allowance = 0 -> allowance = 200; band = 0 -> band = 0\nlayer = 100\nholder_radius = 120\nstickout = 100
 ball: wide: flat -> ball
 groove-job: wide: top = 400 -> top = 300; allowance = 50 -> allowance = 0
 fine: wide: top = 400 -> top = 300; 1000 -> 2000; band = 0 -> band = 0\nraster = 1
 narrow: plate: vertex 2 -> vertex 1.5
 point: peak: 0 0 3 -> 5 5 3
+beside: peak: 0 0 3 -> 2.8 1 3
+far-wall: wall: vertex 2 -> vertex 4
 high: peak: 0 0 3 -> 0 0 3.01
 abnormal: cut-short: solid\n -> solid\nfacet abnormal"#;
 

@@ -7,14 +7,14 @@ ghost use Rattle.camtool.specs.inner.Loads.{Loads, OnlyLoads, AreWorkers, IsRead
 ghost use Rattle.camtool.specs.Outcomes.{Serves, answered};
 ghost use Rattle.camtool.specs.inner.Prints.{PrintsOr, TriesVerdict};
 ghost use Rattle.camtool.specs.Statuses.{status_code};
-ghost use Rattle.camtool.specs.Verify.{texts_of, verdict_status, verdict_line, rejection_line, gouge_line, leaf_end, stop_line, tolerances_end, NamesMove};
+ghost use Rattle.camtool.specs.Verify.{texts_of, verdict_status, verdict_line, rejection_line, triangle_line, leaf_end, column_line, tolerances_end, NamesMove};
 
 use crate::load::{LoadFault, load_setup};
 use crate::print::{add_column, add_length, add_number, add_text};
 use crate::program::load_program;
 use crate::status::Status;
 use crate::tell::{tell, tell_fault};
-use mill_base::{Kind, Move, Unit, WantOfMemory};
+use mill_base::{Move, Unit, WantOfMemory};
 use mill_io::{Shelf, Sink};
 use mill_job::Job;
 use mill_part::Part;
@@ -143,12 +143,20 @@ fn line_of_verdict(
             most_left,
         } => line_of_acceptance(alloc, job, moves, count, columns, most_left),
         Verdict::Reject(Reason::Floor { at }) => line_of_floor(alloc, moves, at, job.unit),
-        Verdict::Reject(Reason::Gouge { at, tri, leaf }) => { line_of_gouge(alloc, at, tri, leaf) }
+        Verdict::Reject(Reason::Gouge { at, tri, leaf }) => {
+            line_of_triangle(alloc, b"gouge", at, tri, leaf)
+        }
+        Verdict::Reject(Reason::Holder { at, tri, leaf }) => {
+            line_of_triangle(alloc, b"holder", at, tri, leaf)
+        }
         Verdict::Reject(Reason::Rapid { at, row, col, leaf }) => {
-            line_of_stop(alloc, Kind::Rapid, at, row, col, leaf)
+            line_of_column(alloc, b"rapid", at, row, col, leaf)
         }
         Verdict::Reject(Reason::Cut { at, row, col, leaf }) => {
-            line_of_stop(alloc, Kind::Feed, at, row, col, leaf)
+            line_of_column(alloc, b"cut", at, row, col, leaf)
+        }
+        Verdict::Reject(Reason::HolderStock { at, row, col, leaf }) => {
+            line_of_column(alloc, b"holder-stock", at, row, col, leaf)
         }
         Verdict::Reject(Reason::Left { row, col, top }) => {
             line_of_left(alloc, moves, row, col, top, job.unit)
@@ -207,11 +215,20 @@ fn line_of_floor(
     Ok(line)
 }
 
-fn line_of_gouge(alloc: Global, at: u64, tri: u32, leaf: Leaf) -> Result<Vec<u8>, WantOfMemory>
-    ensures { IfOk result (λ line. line.items ≡ gouge_line at tri leaf) }
+// The line of a move on which a triangle stops the cutter or the holder, as this word says.
+fn line_of_triangle(
+    alloc: Global,
+    word: &[u8],
+    at: u64,
+    tri: u32,
+    leaf: Leaf,
+) -> Result<Vec<u8>, WantOfMemory>
+    ensures { IfOk result (λ line. line.items ≡ triangle_line word.now at tri leaf) }
 {
     let mut line = Vec::new(alloc);
-    add_text(&mut line, b"rejected gouge move ")?;
+    add_text(&mut line, b"rejected ")?;
+    add_text(&mut line, word)?;
+    add_text(&mut line, b" move ")?;
     add_number(&mut line, at)?;
     add_text(&mut line, b" triangle ")?;
     add_number(&mut line, u64::from(tri))?;
@@ -219,22 +236,21 @@ fn line_of_gouge(alloc: Global, at: u64, tri: u32, leaf: Leaf) -> Result<Vec<u8>
     Ok(line)
 }
 
-// The line of a move of this kind that a column stops.
-fn line_of_stop(
+// The line of a move on which a column stops the cutter or the holder, as this word says.
+fn line_of_column(
     alloc: Global,
-    kind: Kind,
+    word: &[u8],
     at: u64,
     row: u32,
     col: u32,
     leaf: Leaf,
 ) -> Result<Vec<u8>, WantOfMemory>
-    ensures { IfOk result (λ line. line.items ≡ stop_line kind at row col leaf) }
+    ensures { IfOk result (λ line. line.items ≡ column_line word.now at row col leaf) }
 {
     let mut line = Vec::new(alloc);
-    match kind {
-        Kind::Rapid => add_text(&mut line, b"rejected rapid move ")?,
-        Kind::Feed => add_text(&mut line, b"rejected cut move ")?,
-    }
+    add_text(&mut line, b"rejected ")?;
+    add_text(&mut line, word)?;
+    add_text(&mut line, b" move ")?;
     add_number(&mut line, at)?;
     add_text(&mut line, b" row ")?;
     add_number(&mut line, u64::from(row))?;

@@ -1,5 +1,6 @@
--- Moves that go safely are good, each after those before it; so none of them is rejected but for stock that is left.
-use Rattle.std.specs.Prelude.{◌≡◌, ℕ, zero, suc, ◌<◌, ℤ, ◌≤ℤ◌, List, [], ◌∷◌, ◌++◌, length, take, Contains}
+-- Moves that go safely pass all tests but the holder's against the stock, each after those before it; so none of them is rejected but for stock that is left, or that
+-- the holder would touch.
+use Rattle.std.specs.Prelude.{◌≡◌, ℕ, zero, suc, ◌<◌, ℤ, ◌≤ℤ◌, List, [], ◌∷◌, ◌++◌, length, take, Contains, Option, None, IfSome}
 use Rattle.std.proofs.Common.{refl, sym, ◌∙◌, subst, arith}
 use Rattle.std.proofs.lemmas.List.{append_assoc, append-nil, get_or_default}
 use Rattle.mill_base.specs.Motion.{Follow}
@@ -9,17 +10,32 @@ use Rattle.mill_base.specs.declared.motion.Kind.TheVariants.{Rapid, Feed}
 use Rattle.mill_base.specs.declared.motion.Move.{Move}
 use Rattle.mill_base.specs.declared.points.Pt3.{Pt3}
 use Rattle.mill_base.specs.declared.points.Tri.{Tri}
+use Rattle.mill_base.specs.declared.tool.Holder.{Holder as OneHolder}
 use Rattle.mill_job.specs.Columns.{IsColumn, column_x, column_y}
 use Rattle.mill_job.specs.declared.job.Job.{Job}
+use Rattle.mill_gouge.specs.Gouges.{HolderPassesPart}
 use Rattle.mill_sweep.specs.Halving.{PassesPoint}
+use Rattle.mill_sweep.specs.Holders.{HolderPassesPoint}
 use Rattle.mill_sweep.specs.declared.leaf.Leaf.{Leaf}
-use Rattle.mill_dexel.specs.Tops.{ClearsColumns, IsTested, tested_point}
+use Rattle.mill_dexel.specs.Tops.{ClearsColumns, HolderClearsColumns, IsTested, tested_point, top_point}
 use Rattle.mill_paths.specs.Safety.{AreSafe, Connect, GoSafely, IsSafeMove}
-use Rattle.mill_verify.specs.Tests.{GoodBefore}
+use Rattle.mill_verify.specs.Tests.{ClearsPart, ClearsStock, GoodBefore, HolderClearsPart, IsOverFloor}
 use Rattle.mill_dexel.specs.Turns.{move_at}
-use Rattle.mill_verify.specs.Verdicts.{FailsStock, IsRejection}
+use Rattle.mill_verify.specs.Verdicts.{FailsHolder, FailsStock, IsRejection}
 use Rattle.mill_verify.specs.declared.verdict.Reason.{Reason}
-use Rattle.mill_verify.specs.declared.verdict.Reason.TheVariants.{Floor, Gouge, Rapid as RapidCut, Cut, Left}
+use Rattle.mill_verify.specs.declared.verdict.Reason.TheVariants.{Floor, Gouge, Holder, Rapid as RapidCut, Cut, HolderStock, Left}
+use Rattle.mill_plan.specs.Laws.{IsOfStock}
+
+-- move k passes each test that comes before the holder's against the stock
+pub record PassesFirst (job : Job) (part : List Tri) (moves : List Move) (k : ℕ) : Type 0 where
+  pub floor : IsOverFloor job moves k
+  pub clears : ClearsPart job part moves k
+  pub holder : HolderClearsPart job part moves k
+  pub stock : ClearsStock job moves k
+
+-- so does each move
+abbrev pub AllPassFirst : Job → List Tri → List Move → Type 0
+AllPassFirst job part moves = (k : ℕ) → k < length moves → PassesFirst job part moves k
 
 module _ (job : Job) (part : List Tri) where
   -- the move of each number is safe after those before it
@@ -37,13 +53,30 @@ module _ (job : Job) (part : List Tri) where
       (λ tested j i column. safe.stock e (column_x job i) (column_y job j))
   columns done m Feed e safe = safe.depth e
 
-  pub good : (from to : Pt3) (moves : List Move) → GoSafely job part [] from moves to → GoodBefore job part moves (length moves)
-  good from to moves go k inside =
+  pub pass_first : (from to : Pt3) (moves : List Move) → GoSafely job part [] from moves to → AllPassFirst job part moves
+  pass_first from to moves go k inside =
       let safe : IsSafeMove job part (take k moves) (move_at moves k) = safe_at [] moves k go.safe inside in
       record {
         floor = record { start = safe.floor_from; «end» = safe.floor_to };
-        clears = safe.passes;
+        clears = safe.passes.cutter;
+        holder = safe.passes.holder;
         stock = columns (take k moves) (move_at moves k) (move_at moves k).kind refl safe;
+      }
+
+  -- without a holder there is no further test
+  no_holder : (done : List Move) (m : Move) → job.holder ≡ None → HolderClearsColumns job done m
+  no_holder done m bare =
+      subst (λ (o : Option OneHolder). IfSome o (λ holder. (j i : ℕ) → IsColumn job j i → HolderPassesPoint holder m (top_point job done j i))) (sym bare) tt
+
+  pub good : (from to : Pt3) (moves : List Move) → job.holder ≡ None → GoSafely job part [] from moves to → GoodBefore job part moves (length moves)
+  good from to moves bare go k inside =
+      let first : PassesFirst job part moves k = pass_first from to moves go k inside in
+      record {
+        floor = first.floor;
+        clears = first.clears;
+        holder = first.holder;
+        stock = first.stock;
+        holder_stock = no_holder (take k moves) (move_at moves k) bare;
       }
 
   pub in_range : (from to : Pt3) (moves : List Move) → GoSafely job part [] from moves to → MovesInUnitRange job.unit moves
@@ -62,20 +95,39 @@ pub floor_at_end : (job : Job) (part : List Tri) (moves : List Move) (m : Move) 
 floor_at_end job part moves m good member =
     subst (λ (n : Move). job.floor ≤ℤ n.to.z) (get_or_default moves member.0 _ m member.1 ∙ member.2) (good member.0 member.1).floor.«end»
 
--- a good move isn't stopped by a column
-pub not_stopped : (job : Job) (part : List Tri) (moves : List Move) (kind : Kind) (k j i : ℕ) (leaf : Leaf) → GoodBefore job part moves (length moves)
-    → FailsStock job part moves kind k j i leaf → ⊥
-not_stopped job part moves kind k j i leaf good fails =
-    let passes : PassesPoint job.cutter (move_at moves k) (tested_point job kind (take k moves) j i) =
-    subst (λ (v : Kind). IsTested job v → (a b : ℕ) → IsColumn job a b → PassesPoint job.cutter (move_at moves k) (tested_point job v (take k moves) a b)) fails.is
-    (good k fails.there).stock fails.tested j i fails.column in
-    fails.fails.fails passes
+module _ (job : Job) (part : List Tri) (moves : List Move) (all : AllPassFirst job part moves) where
+  -- such a move isn't stopped by a column
+  not_stopped : (kind : Kind) (k j i : ℕ) (leaf : Leaf) → FailsStock job part moves kind k j i leaf → ⊥
+  not_stopped kind k j i leaf fails =
+      let passes : PassesPoint job.cutter (move_at moves k) (tested_point job kind (take k moves) j i) =
+      subst (λ (v : Kind). IsTested job v → (a b : ℕ) → IsColumn job a b → PassesPoint job.cutter (move_at moves k) (tested_point job v (take k moves) a b)) fails.is
+      (all k fails.there).stock fails.tested j i fails.column in
+      fails.fails.fails passes
 
--- good moves are rejected for nothing but stock that is left
-pub none_rejected : (job : Job) (part : List Tri) (moves : List Move) (reason : Reason) → GoodBefore job part moves (length moves) → IsRejection job part moves reason
-    → ((row col : ℕ) (top : ℤ) → reason ≡ Left row col top → ⊥) → ⊥
-none_rejected job part moves (Floor k) good fails other = fails.fails (good k fails.there).floor
-none_rejected job part moves (Gouge k t leaf) good fails other = fails.fails.fails ((good k fails.there).clears t fails.tri)
-none_rejected job part moves (RapidCut k j i leaf) good fails other = not_stopped job part moves Rapid k j i leaf good fails
-none_rejected job part moves (Cut k j i leaf) good fails other = not_stopped job part moves Feed k j i leaf good fails
-none_rejected job part moves (Left j i top) good fails other = other j i top refl
+  -- nor is its holder by a triangle
+  not_held : (k t : ℕ) (leaf : Leaf) → FailsHolder job part moves k t leaf → ⊥
+  not_held k t leaf fails =
+      let passes : HolderPassesPart fails.holder (move_at moves k) part =
+      subst (λ (o : Option OneHolder). IfSome o (λ holder. HolderPassesPart holder (move_at moves k) part)) fails.mounted (all k fails.there).holder in
+      fails.fails.fails (passes t fails.tri)
+
+  -- so such moves are rejected for nothing but the stock
+  pub only_of_stock : (reason : Reason) → IsRejection job part moves reason → IsOfStock reason
+  only_of_stock (Floor k) fails = absurd (fails.fails (all k fails.there).floor)
+  only_of_stock (Gouge k t leaf) fails = absurd (fails.fails.fails ((all k fails.there).clears t fails.tri))
+  only_of_stock (Holder k t leaf) fails = absurd (not_held k t leaf fails)
+  only_of_stock (RapidCut k j i leaf) fails = absurd (not_stopped Rapid k j i leaf fails)
+  only_of_stock (Cut k j i leaf) fails = absurd (not_stopped Feed k j i leaf fails)
+  only_of_stock (HolderStock k j i leaf) fails = tt
+  only_of_stock (Left j i top) fails = tt
+
+-- a reason of the stock is that it is left, or that the holder would touch it
+pub of_stock_only : (reason : Reason) → IsOfStock reason → ((row col : ℕ) (top : ℤ) → reason ≡ Left row col top → ⊥)
+    → ((number row col : ℕ) (leaf : Leaf) → reason ≡ HolderStock number row col leaf → ⊥) → ⊥
+of_stock_only (Floor k) stock left held = stock
+of_stock_only (Gouge k t leaf) stock left held = stock
+of_stock_only (Holder k t leaf) stock left held = stock
+of_stock_only (RapidCut k j i leaf) stock left held = stock
+of_stock_only (Cut k j i leaf) stock left held = stock
+of_stock_only (HolderStock k j i leaf) stock left held = held k j i leaf refl
+of_stock_only (Left j i top) stock left held = left j i top refl

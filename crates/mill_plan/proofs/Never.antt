@@ -1,6 +1,5 @@
--- A plan's moves are good, so it is rejected for nothing but stock that it leaves.
-use Rattle.std.proofs.Common.{List, [], length, sym, subst}
-use Rattle.mill_base.specs.declared.motion.Kind.TheVariants.{Rapid, Feed}
+-- A plan's moves pass all tests but the holder's against the stock, so it is rejected for nothing but the stock.
+use Rattle.std.proofs.Common.{List, [], sym, subst}
 use Rattle.mill_base.specs.declared.motion.Move.{Move}
 use Rattle.mill_base.specs.declared.points.Tri.{Tri}
 use Rattle.mill_base.specs.Covers.{IsUnder}
@@ -11,20 +10,9 @@ use Rattle.mill_paths.specs.Safety.{GoSafely}
 use Rattle.mill_paths.specs.Tours.{IsPlan}
 use Rattle.mill_paths.specs.Unique.{RoundIsSafe}
 use Rattle.mill_paths.specs.Visits.{FinishVisitsAreFree, LevelVisitsAreFree, RoughVisitsAreFree}
-use Rattle.mill_verify.specs.Tests.{GoodBefore}
-use Rattle.mill_verify.specs.Verdicts.{IsRejection}
-use Rattle.mill_verify.specs.declared.verdict.Reason.{Reason}
-use Rattle.mill_verify.specs.declared.verdict.Reason.TheVariants.{Floor, Gouge, Rapid as RapidCut, Cut, Left}
-use Rattle.mill_plan.specs.Laws.{IsStockLeft, PlanNeverFails}
-use Rattle.mill_plan.proofs.Good.{good, not_stopped}
+use Rattle.mill_plan.specs.Laws.{PlanNeverFails}
+use Rattle.mill_plan.proofs.Good.{only_of_stock, pass_first}
 use Rattle.mill_plan.proofs.Planning.{each_joined}
-
-only_left : (job : Job) (part : List Tri) (moves : List Move) (reason : Reason) → GoodBefore job part moves (length moves) → IsRejection job part moves reason → IsStockLeft reason
-only_left job part moves (Floor k) all fails = fails.fails (all k fails.there).floor
-only_left job part moves (Gouge k t leaf) all fails = fails.fails.fails ((all k fails.there).clears t fails.tri)
-only_left job part moves (RapidCut k j i leaf) all fails = not_stopped job part moves Rapid k j i leaf all fails
-only_left job part moves (Cut k j i leaf) all fails = not_stopped job part moves Feed k j i leaf all fails
-only_left job part moves (Left j i top) all fails = tt
 
 goes : RoughVisitsAreFree → LevelVisitsAreFree → FinishVisitsAreFree → RoundIsSafe → (job : Job) (part : List Tri) (moves : List Move) → IsJob job → IsUnder part job.top
     → IsPlan job part moves → GoSafely job part [] (home job) moves (home job)
@@ -37,4 +25,4 @@ goes rough_free level_free finish_free round job part moves ok under plan =
 
 pub never_fails : RoughVisitsAreFree → LevelVisitsAreFree → FinishVisitsAreFree → RoundIsSafe → PlanNeverFails
 never_fails rough_free level_free finish_free round job part moves reason ok under plan fails =
-    only_left job part moves reason (good job part (home job) (home job) moves (goes rough_free level_free finish_free round job part moves ok under plan)) fails
+    only_of_stock job part moves (pass_first job part (home job) (home job) moves (goes rough_free level_free finish_free round job part moves ok under plan)) reason fails

@@ -25,7 +25,7 @@ use Rattle.mill_plan.specs.Plans.{HasFewNodes, HasPlan, IsPlanFault}
 use Rattle.mill_base.specs.declared.limits.TheConstants.{MAX_MOVES}
 use Rattle.mill_plan.specs.inner.Steps.{IsRound, IsRoundFault}
 use Rattle.mill_plan.specs.declared.fault.PlanFault.{PlanFault}
-use Rattle.mill_plan.specs.declared.fault.PlanFault.TheVariants.{TooManyNodes, TooManyMoves, Uncut, WantOfMemory}
+use Rattle.mill_plan.specs.declared.fault.PlanFault.TheVariants.{TooManyNodes, TooManyMoves, Uncut, Held, WantOfMemory}
 
 over : (a b c : ℕ) → a < b → b ≤ c → a < c
 over a b c h g = omega (h, g, arith)
@@ -73,6 +73,7 @@ module _ (job : Job) (part : List Tri) where
     many = λ moves plan. subst (λ (ms : List Move). MAX_MOVES < length ms) (one_plan job part long.moves moves (plan_of visits long.moves are long.round) plan) long.many;
   }
   round_told visits (Uncut row col top) nodes are h = absurd h
+  round_told visits (Held number row col) nodes are h = absurd h
   round_told visits WantOfMemory nodes are h = tt
 
   -- so is one that the roughing, the level or the finishing visits meet

@@ -8,13 +8,14 @@ use Rattle.mill_job.specs.declared.job.Job.{Job}
 use Rattle.mill_paths.specs.Safety.{GoSafely}
 use Rattle.mill_post.specs.Readings.{ReadsBack}
 use Rattle.mill_post.specs.Texts.{program_text}
+use Rattle.mill_sweep.specs.declared.leaf.Leaf.{Leaf}
 use Rattle.mill_verify.specs.Claims.{CutsSafely}
 use Rattle.mill_verify.specs.Verdicts.{IsVerdict}
 use Rattle.mill_verify.specs.declared.verdict.Verdict.TheVariants.{Accept, Reject}
 use Rattle.mill_verify.specs.declared.verdict.Reason.{Reason}
-use Rattle.mill_verify.specs.declared.verdict.Reason.TheVariants.{Left}
-use Rattle.mill_plan.specs.Plans.{HasPlan, IsDone, IsUncut}
-use Rattle.mill_plan.proofs.Good.{follow, good, in_range, none_rejected}
+use Rattle.mill_verify.specs.declared.verdict.Reason.TheVariants.{HolderStock, Left}
+use Rattle.mill_plan.specs.Plans.{HasPlan, IsDone, IsHeld, IsUncut}
+use Rattle.mill_plan.proofs.Good.{follow, in_range, of_stock_only, only_of_stock, pass_first}
 use Rattle.mill_plan.proofs.Reach.{out_of_reach}
 
 module _ (job : Job) (part : List Tri) (moves : List Move) (plan : HasPlan job part moves) where
@@ -35,7 +36,12 @@ module _ (job : Job) (part : List Tri) (moves : List Move) (plan : HasPlan job p
   pub uncut_told : (row col : ℕ) (top : ℤ) → IsJob job → IsVerdict job part moves (Reject (Left row col top)) → IsUncut job part row col top
   uncut_told row col top ok left = record { moves = moves; plan = plan; left = left; out_of_reach = out_of_reach job part moves row col top ok plan left }
 
+  -- and one for stock that the holder would touch
+  pub held_told : (number row col : ℕ) (leaf : Leaf) → IsVerdict job part moves (Reject (HolderStock number row col leaf)) → IsHeld job part number row col
+  held_told number row col leaf stopped = record { moves = moves; plan = plan; leaf = leaf; stopped = stopped }
+
 -- and there is no other rejection
 pub no_other : (job : Job) (part : List Tri) (moves : List Move) (reason : Reason) → GoSafely job part [] (home job) moves (home job) → IsVerdict job part moves (Reject reason)
-    → ((row col : ℕ) (top : ℤ) → reason ≡ Left row col top → ⊥) → ⊥
-no_other job part moves reason go rejected other = none_rejected job part moves reason (good job part (home job) (home job) moves go) rejected other
+    → ((row col : ℕ) (top : ℤ) → reason ≡ Left row col top → ⊥) → ((number row col : ℕ) (leaf : Leaf) → reason ≡ HolderStock number row col leaf → ⊥) → ⊥
+no_other job part moves reason go rejected left held =
+    of_stock_only reason (only_of_stock job part moves (pass_first job part (home job) (home job) moves go) reason rejected) left held

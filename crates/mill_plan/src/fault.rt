@@ -7,7 +7,7 @@ use mill_paths::PathFault;
 use std::alloc::AllocError;
 use thiserror::Error;
 
-/// Why there is no program. Rows and columns are counted from 0.
+/// Why there is no program. Moves, rows and columns are counted from 0.
 #[derive(Clone, Copy, Debug, PartialEq, Eq, Error)]
 pub enum PlanFault {
     /// A lattice that the paths go over has more than 4,000,000 nodes.
@@ -25,6 +25,13 @@ pub enum PlanFault {
         row: u32,
         col: u32,
         top: i32,
+    },
+    /// On move `at` of the plan the holder would touch what the moves before it left of this column.
+    #[error("move {at}: the holder would touch row {row}, column {col}")]
+    Held {
+        at: u64,
+        row: u32,
+        col: u32,
     },
     /// There was not enough memory.
     #[error("not enough memory")]

@@ -13,8 +13,9 @@ pub fn one_plan_answer()
     one_verdict();
 }
 
-/// A plan, also one that has too many moves, is rejected for no reason but stock that it leaves: none
-/// of its moves fails the test of the floor, of the part or of the stock.
+/// A plan, also one that has too many moves, is rejected for no reason but stock that it leaves, or that
+/// the holder would touch: none of its moves fails the test of the floor, a test of the part or the
+/// cutter's test of the stock.
 pub fn plan_never_fails()
     ensures { PlanNeverFails }
 {

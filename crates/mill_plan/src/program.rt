@@ -1,4 +1,4 @@
-ghost use Rattle.std.specs.Prelude.{◌≡◌, ◌↔◌, ℕ, ◌≤◌, ℤ, [], length, Ok, IfErr, IfOk, IsErrOf};
+ghost use Rattle.std.specs.Prelude.{◌≡◌, ◌↔◌, ℕ, ◌≤◌, ℤ, pos, ◌<ℤ◌, [], length, None, Ok, IfErr, IfOk, IsErrOf, IsTrue};
 ghost use Rattle.mill_base.specs.declared.limits.TheConstants.{MAX_MOVES, MAX_WORKERS};
 ghost use Rattle.mill_base.specs.Covers.{IsUnder};
 ghost use Rattle.mill_cells.specs.Sorted.{sorted_of};
@@ -34,8 +34,12 @@ use std::thread::Threads;
 /// Where the job limits the depth of cut (`max_cut`), the way down to a place goes by pecks, none of
 /// them deeper, and a straight feed is made only where it cuts no column deeper than that, as the moves
 /// before it left the column. The rows of the stock, a top for each column, are held meanwhile. Then
-/// the moves aren't tested a second time: it is proved that each of them passes, and what they leave of
-/// the stock, which decides the verdict, is what the rows have come to.
+/// the moves aren't tested a second time, if the job has no holder: it is proved that each of them passes,
+/// and what they leave of the stock, which decides the verdict, is what the rows have come to.
+///
+/// Where the job has a holder, the drop heights and the waterlines are those of cutter and holder, and a
+/// straight feed is made only where the holder passes the part, too. What is left of the stock isn't
+/// looked at for the holder before the verdict.
 ///
 /// The verifying is handed to `workers` threads, from 1 to 64; the drop heights, the waterlines and the
 /// straight feeds to as many as the machine has; the answer doesn't depend on their number. The part
@@ -46,9 +50,10 @@ use std::thread::Threads;
 /// The first of these: `TooManyNodes` exactly where the finishing lattice has more than 4,000,000
 /// nodes, or, where there is a layer, the rough lattice; the finishing one is named first.
 /// `TooManyMoves` where the plan has more than 1,000,000 moves. `Uncut` where the verdict on the plan
-/// is that this column's top is left too high: the finishing path can't come to it. By
-/// `one_plan_answer` no two of the answers are right at a time. `WantOfMemory` may come in the place
-/// of any of them.
+/// is that this column's top is left too high: the finishing path can't come to it. `Held` where the
+/// verdict on the plan is that on this move the holder would touch what the moves before it left of this
+/// column. By `one_plan_answer` no two of the answers are right at a time. `WantOfMemory` may come in the
+/// place of any of them.
 pub fn plan<R: Threads + Sync>(
     rt: &R,
     alloc: Global,
@@ -111,14 +116,21 @@ fn verified<R: Threads + Sync>(
         }
         Verdict::Reject(reason) => match reason {
             Reason::Left { row, col, top } => Err(PlanFault::Uncut { row, col, top }),
-            // No move of a plan fails: each ends over the floor, and passes the part and the stock.
+            Reason::HolderStock {
+                at,
+                row,
+                col,
+                leaf: _,
+            } => Err(PlanFault::Held { at, row, col }),
+            // No move of a plan fails another test: each ends over the floor, cutter and holder pass the
+            // part, and the cutter passes the stock.
             _ => unreachable!(),
         },
     }
 }
 
-/// The verdict on the plan's moves, all of which are good: by all tests where the job doesn't limit the
-/// depth of cut, and else by the last alone, on the rows that the moves have made already.
+/// The verdict on the plan's moves: by the last test alone, on the rows that the moves have made already,
+/// where it is known that the moves pass all others; else by all tests.
 fn verdict_on<R: Threads + Sync>(
     rt: &R,
     alloc: Global,
@@ -142,8 +154,21 @@ fn verdict_on<R: Threads + Sync>(
         → result ≡ Ok (Verdict.Accept count columns left)
         → CutsSafely job.now part.now moves.now }
 {
-    if job.max_cut == 0 {
-        return verify_with_cells(rt, alloc, job, part, cells, moves, workers);
+    if is_decided_by_stock(job) {
+        return Ok(verdict_on_stock(rt, job, part, cells, moves, rows, workers));
     }
-    Ok(verdict_on_stock(rt, job, part, cells, moves, rows, workers))
+    verify_with_cells(rt, alloc, job, part, cells, moves, workers)
+}
+
+/// Whether what a plan's moves leave of the stock decides the verdict on them, and the rows tell it: the
+/// job has no holder, whose test against the stock alone may fail, and limits the depth of cut.
+fn is_decided_by_stock(job: &Job) -> bool
+    requires { IsJob job.now }
+    ensures limited { IsTrue result → pos 0 <ℤ job.now.max_cut }
+    ensures bare { IsTrue result → job.now.holder ≡ None }
+{
+    if job.max_cut == 0 {
+        return false;
+    }
+    job.holder.is_none()
 }

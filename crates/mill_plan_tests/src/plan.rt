@@ -1,11 +1,12 @@
-ghost use Rattle.std.specs.Prelude.{◌≡◌, ◌≤ℤ◌, ◌<ℤ◌, pos, IfOk};
+ghost use Rattle.std.specs.Prelude.{◌≡◌, ◌≤ℤ◌, ◌<ℤ◌, pos, IfOk, IfSome};
 ghost use Rattle.mill_base.specs.Covers.{IsUnder};
 ghost use Rattle.mill_base.specs.Numbers.{Within};
+ghost use Rattle.mill_base.specs.Tools.{IsHolder};
 ghost use Rattle.mill_base.specs.declared.limits.TheConstants.{MAX_TEXT_COORDINATE};
 ghost use Rattle.mill_base.specs.Points.{point_at};
 ghost use Rattle.mill_job.specs.Jobs.{AreLevels, IsJob};
 
-use mill_base::{Box2, Cutter, Kind, Move, Pt3, Tri, Unit, WantOfMemory};
+use mill_base::{Box2, Cutter, Holder, Kind, Move, Pt3, Tri, Unit, WantOfMemory};
 use mill_decimal::Snap;
 use mill_job::{Job, Levels, Place};
 use mill_ngc::{NgcFault, Reader};
@@ -128,12 +129,14 @@ fn wide_job(levels: Levels) -> Job
 }
 
 /// A block from 0 to 300 over a square of 200, nine columns and finishing nodes in it, and a cutter that
-/// reaches the nodes next to its own, also across.
-fn shallow_job(layer: i32, max_cut: i32) -> Job
+/// reaches the nodes next to its own, also across; a holder is wider than 150.
+fn shallow_job(layer: i32, max_cut: i32, holder: Option<Holder>) -> Job
     requires layer_least { pos 0 ≤ℤ layer }
     requires layer_most { layer ≤ℤ pos 300 }
     requires max_cut_least { pos 0 ≤ℤ max_cut }
     requires max_cut_most { max_cut ≤ℤ pos 300 }
+    requires holder_ok { IfSome holder IsHolder }
+    requires wider { IfSome holder (λ around. pos 150 <ℤ around.radius) }
     ensures job { IsJob result }
     ensures top { result.top ≡ pos 300 }
 {
@@ -162,7 +165,7 @@ fn shallow_job(layer: i32, max_cut: i32) -> Job
         levels: Levels::NONE,
         snap: Snap::Nearest,
         max_cut,
-        holder: None,
+        holder,
     }
 }
 
@@ -328,10 +331,43 @@ fn keeps_the_depth_of_cut(rt: HostRuntime) -> Result<(), Fail> {
         (50, 50, layers, 29),
         (50, 25, both, 68),
     ] {
-        let planned = plan(&rt, alloc, &shallow_job(layer, max_cut), &part, 2)?;
+        let planned = plan(&rt, alloc, &shallow_job(layer, max_cut, None), &part, 2)?;
         assert!(rt; planned.program.starts_with(start));
         assert_eq!(rt; planned.moves, moves);
         assert_eq!(rt; planned.columns, 9);
+        assert_eq!(rt; planned.most_left, 0);
+    }
+    Ok(())
+}
+
+/// A holder of radius 190 that is so far over the tip.
+fn holder(stickout: i32) -> Holder
+    requires least { pos 1 ≤ℤ stickout }
+    requires most { stickout ≤ℤ pos 300 }
+    ensures holder { IsHolder result }
+    ensures radius { result.radius ≡ pos 190 }
+{
+    Holder {
+        radius: 190,
+        stickout,
+    }
+}
+
+// At the first node the holder's face is the stickout over the plate, and the stock 100 over it. Where the
+// cutter goes down by pecks of 50, and round to each column that it hasn't cut yet, 50 is enough.
+#[test]
+fn names_the_stock_that_the_holder_would_touch(rt: HostRuntime) -> Result<(), Fail> {
+    let alloc = rt.alloc();
+    let part = plate(alloc, 0, 300)?;
+    for (max_cut, stickout, at) in [(0, 50, 0), (0, 99, 0), (50, 49, 2)] {
+        let job = shallow_job(0, max_cut, Some(holder(stickout)));
+        let held = PlanFault::Held { at, row: 0, col: 0 };
+        assert_eq!(rt; plan(&rt, alloc, &job, &part, 2).err(), Some(held));
+    }
+    for (max_cut, stickout, moves) in [(0, 100, 11), (50, 50, 26)] {
+        let job = shallow_job(0, max_cut, Some(holder(stickout)));
+        let planned = plan(&rt, alloc, &job, &part, 2)?;
+        assert_eq!(rt; planned.moves, moves);
         assert_eq!(rt; planned.most_left, 0);
     }
     Ok(())

@@ -1,12 +1,13 @@
-ghost use Rattle.std.specs.Prelude.{◌<◌, pos};
+ghost use Rattle.std.specs.Prelude.{◌<◌, ◌<ℤ◌, pos, IfSome};
 ghost use Rattle.mill_base.specs.Numbers.{Within};
 ghost use Rattle.mill_base.specs.declared.limits.TheConstants.{MAX_COORDINATE};
 ghost use Rattle.mill_base.specs.Ranges.{MoveInRange, MovesInRange};
 ghost use Rattle.mill_base.specs.Sizes.{IsCutter};
+ghost use Rattle.mill_base.specs.Tools.{IsHolder};
 ghost use Rattle.mill_job.specs.Columns.{row_count};
 ghost use Rattle.mill_job.specs.Jobs.{IsFrom, IsJob};
 
-use mill_base::{Box2, Cutter, Kind, Move, Pt3, Unit, WantOfMemory};
+use mill_base::{Box2, Cutter, Holder, Kind, Move, Pt3, Unit, WantOfMemory};
 use mill_decimal::Snap;
 use mill_dexel::{Row, RowFail, RowTest};
 use mill_job::{Job, Levels, Place};
@@ -19,6 +20,30 @@ mod stock;
 /// One row of three columns at x = 0, 100 and 200, from 0 to 300, with this limit on the depth of cut.
 fn three_columns(max_cut: i32) -> Job
     requires { IsFrom (pos 0) (pos 500) max_cut }
+    ensures job { IsJob result }
+    ensures row { 0 < row_count result }
+{
+    columns_of(max_cut, None)
+}
+
+/// The same row, and a holder of radius 200 that is so far over the tip.
+fn held_columns(stickout: i32) -> Job
+    requires { IsFrom (pos 1) (pos 500) stickout }
+    ensures job { IsJob result }
+    ensures row { 0 < row_count result }
+{
+    let holder = Holder {
+        radius: 200,
+        stickout,
+    };
+    columns_of(0, Some(holder))
+}
+
+/// The row with this limit on the depth of cut, and with this holder.
+fn columns_of(max_cut: i32, holder: Option<Holder>) -> Job
+    requires max_cut { IsFrom (pos 0) (pos 500) max_cut }
+    requires holder_ok { IfSome holder IsHolder }
+    requires wider { IfSome holder (λ around. pos 150 <ℤ around.radius) }
     ensures job { IsJob result }
     ensures row { 0 < row_count result }
 {
@@ -47,7 +72,7 @@ fn three_columns(max_cut: i32) -> Job
         levels: Levels::NONE,
         snap: Snap::Nearest,
         max_cut,
-        holder: None,
+        holder,
     }
 }
 
@@ -127,6 +152,55 @@ fn feeds_too_deep(rt: HostRuntime) -> Result<(), WantOfMemory> {
     assert_eq!(rt; too_deep(alloc, 300, 0, -1)?, Some((0, last)));
     assert_eq!(rt; too_deep(alloc, 400, 0, 0)?, None);
     assert_eq!(rt; too_deep(alloc, 400, 0, -1)?, Some((0, last)));
+    Ok(())
+}
+
+/// Where a move straight down to (x, 0, z) brings the holder to the uncut row, so far over the tip.
+fn held(alloc: Global, stickout: i32, x: i32, z: i32) -> Result<Option<(u32, Leaf)>, WantOfMemory>
+    requires stickout { IsFrom (pos 1) (pos 500) stickout }
+    requires x_ok { Within MAX_COORDINATE x }
+    requires z_ok { Within MAX_COORDINATE z }
+{
+    let job = held_columns(stickout);
+    let row = Row::new(alloc, &job, 0)?;
+    Ok(row.holder_test(&job, &plunge(Kind::Feed, x, z)))
+}
+
+// The holder's face is at 300 where it may still be. From x = 400 on the holder is beside the last column.
+#[test]
+fn holds_over_the_row(rt: HostRuntime) -> Result<(), WantOfMemory> {
+    let alloc = rt.alloc();
+    let leaf = Leaf { d: 8, k: 254 };
+    assert_eq!(rt; held(alloc, 50, 0, 250)?, None);
+    assert_eq!(rt; held(alloc, 50, 0, 249)?, Some((0, leaf)));
+    assert_eq!(rt; held(alloc, 51, 0, 249)?, None);
+    assert_eq!(rt; held(alloc, 50, 200, 249)?, Some((1, leaf)));
+    assert_eq!(rt; held(alloc, 50, 399, 249)?, Some((2, leaf)));
+    assert_eq!(rt; held(alloc, 50, 400, 249)?, None);
+    Ok(())
+}
+
+/// Where the uncut row stops a move straight down to (0, 0, 249), with a holder 50 over the tip.
+fn held_stop(alloc: Global, kind: Kind) -> Result<Option<RowFail>, WantOfMemory> {
+    let job = held_columns(50);
+    let mut row = Row::new(alloc, &job, 0)?;
+    row.turn(&job, &alone(plunge(kind, 0, 249)), 0);
+    Ok(row.failed())
+}
+
+// Of a rapid the cutter's test comes first.
+#[test]
+fn turns_with_a_holder(rt: HostRuntime) -> Result<(), WantOfMemory> {
+    let alloc = rt.alloc();
+    let rapid = Leaf { d: 8, k: 169 };
+    assert_eq!(rt; held_stop(alloc, Kind::Rapid)?, at_first(rapid));
+    let feed = RowFail {
+        at: 0,
+        col: 0,
+        leaf: Leaf { d: 8, k: 254 },
+        test: RowTest::Holder,
+    };
+    assert_eq!(rt; held_stop(alloc, Kind::Feed)?, Some(feed));
     Ok(())
 }
 

@@ -12,6 +12,9 @@ drop wide corner --x=11 --y=-0.9 => 0 drop 0.00
 drop wide corner --x=1e0 --y=0.010e2 => 0 drop 2.00
 drop ball peak --x=0.6 --y=0 => 0 drop 2.80
 drop ball peak --x=0.61 --y=0 => 0 drop 2.80
+drop job beside --x=1 --y=1 => 0 drop 0.00
+drop held-50 beside --x=1 --y=1 => 0 drop 2.50
+drop held-300 beside --x=1 --y=1 => 0 drop 0.00
 drop wide empty --x=0 --y=0 => 0 drop 0.00
 drop wide corner --x=0.005 --y=5 => 4 refused word x off-grid
 drop wide corner --x=1 --y=1310.72 => 4 refused word y out-of-range

@@ -8,6 +8,7 @@ level --workers=2 wide point --z=2.99 => 0 closed 4\n4.00 5.00\n5.00 4.00\n6.00 
 level --workers=2 wide point --z=-1310.71 => 0 closed 4\n4.00 5.00\n5.00 4.00\n6.00 5.00\n5.00 6.00\nchains 1
 level --workers=2 wide point --z=0.3e1 => 0 chains 0
 level --workers=2 wide peak --z=0 => 0 open 2\n1.00 0.00\n0.00 1.00\nchains 1
+level --workers=2 slim-100 wall --z=0 => 0 open 5\n0.80 2.00\n0.80 1.50\n0.80 1.00\n0.80 0.50\n0.80 0.00\nchains 1
 level --workers=2 wide empty --z=0 => 0 chains 0
 level --workers=2 job empty --z=1310.71 => 0 chains 0
 level --workers=2 thousandths peak --z=2.999 => 0 open 4\n1.500 0.000\n1.119 1.000\n1.000 1.119\n0.000 1.500\nchains 1";

@@ -2,9 +2,10 @@
 use crate::tests::{answer, each_says, held, text_of};
 use std::test::Fail;
 
-// The last stores it in the place of the job.
+// With a holder so far over the tip the plan is the same. The last stores it in the place of the job.
 const STORED: &str = "plan --workers=1 job plate out
 plan --workers=3 job plate out
+plan --workers=1 held-100 plate out
 plan --workers=1 job plate job";
 
 #[test]
@@ -28,6 +29,8 @@ fn stores_a_program(rt: HostRuntime) -> Result<(), Fail> {
 }
 
 const NOTHING: &str = r"plan groove-job groove out => 8 uncut row 0 column 5 top 2.00
+plan held-50 plate out => 8 held move 0 row 0 column 0
+plan slim-100 wall out => 8 held move 52 row 0 column 3
 plan fine corner out => 9 over nodes 4004001
 plan job high out => 4 refused part-top 3.01 top 3.00
 plan garbled plate out => 4 refused job syntax";

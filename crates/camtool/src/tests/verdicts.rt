@@ -10,6 +10,11 @@ verify job plate <G21 G90\nG0 Z2.99\nM2> => 3 rejected rapid move 0 row 0 column
 verify job plate <G21 G90\nG1 Z-0.01\nM2> => 3 rejected floor move 0 z -0.01
 verify cut-100 plate down => 0 accepted moves 2 columns 9 left 0.00 band 0.00 allowance 0.00
 verify cut-99 plate down => 3 rejected cut move 0 row 0 column 0 leaf 8 254
+verify held-50 plate down => 3 rejected holder-stock move 0 row 0 column 0 leaf 8 192
+verify held-100 plate down => 0 accepted moves 2 columns 9 left 0.00 band 0.00 allowance 0.00
+verify slim-99 far-wall <G21 G90\nG0 X5\nG0 Z1\nG0 X3\nM2> => 3 rejected holder move 1 triangle 0 leaf 9 339
+verify held-none plate <M2> => 4 refused job missing stickout
+verify held-thin plate <M2> => 4 refused job relation radius holder_radius
 verify thousandths plate down => 0 accepted moves 2 columns 9 left 0.000 band 0.000 allowance 0.000
 verify thousandths plate <G21 G90\nG1 Z-0.001\nM2> => 3 rejected floor move 0 z -0.001
 verify thousandths high <M2> => 4 refused part-top 3.010 top 3.000
@@ -44,6 +49,9 @@ verify --workers=64 job plate down => 0 accepted moves 2 columns 9 left 0.00 ban
 verify --workers=1 job plate <G21 G90\nG0 Z1.99\nM2\n> => 3 rejected gouge move 0 triangle 0 leaf 8 254
 verify --workers=4 job plate <G21 G90\nG0 Z1.99\nM2\n> => 3 rejected gouge move 0 triangle 0 leaf 8 254
 verify --workers=64 job plate <G21 G90\nG0 Z1.99\nM2\n> => 3 rejected gouge move 0 triangle 0 leaf 8 254
+verify --workers=1 held-50 plate down => 3 rejected holder-stock move 0 row 0 column 0 leaf 8 192
+verify --workers=4 held-50 plate down => 3 rejected holder-stock move 0 row 0 column 0 leaf 8 192
+verify --workers=64 held-50 plate down => 3 rejected holder-stock move 0 row 0 column 0 leaf 8 192
 verify --workers=1 job plate <G21 G90\nG0 Z3\nM2\n> => 3 rejected left row 0 column 0 top 3.00
 verify --workers=4 job plate <G21 G90\nG0 Z3\nM2\n> => 3 rejected left row 0 column 0 top 3.00
 verify --workers=64 job plate <G21 G90\nG0 Z3\nM2\n> => 3 rejected left row 0 column 0 top 3.00";

@@ -1,9 +1,10 @@
-ghost use Rattle.std.specs.Prelude.{◌≤ℤ◌, pos};
+ghost use Rattle.std.specs.Prelude.{◌<ℤ◌, ◌≤ℤ◌, pos, IfSome};
 ghost use Rattle.mill_base.specs.Ranges.{IsInRange, TriInRange};
+ghost use Rattle.mill_base.specs.Tools.{IsHolder};
 ghost use Rattle.mill_job.specs.Jobs.{IsJob};
 
 use super::shapes::{Shape, at, shape_of};
-use mill_base::{Box2, Cutter, Kind, Move, Pt3, Tri, Unit};
+use mill_base::{Box2, Cutter, Holder, Kind, Move, Pt3, Tri, Unit};
 use mill_decimal::Snap;
 use mill_dexel::uncut_rows;
 use mill_job::{Job, Levels, Place};
@@ -11,10 +12,12 @@ use mill_paths::{Visit, home, link};
 use std::test::Fail;
 
 /// The stock is 400 high, and the cutter starts over (-300, 0) at 500. No feed may cut deeper than
-/// `max_cut`, if that isn't 0.
-fn job(max_cut: i32) -> Job
+/// `max_cut`, if that isn't 0. A holder is wider than 100.
+fn job(max_cut: i32, holder: Option<Holder>) -> Job
     requires least { pos 0 ≤ℤ max_cut }
     requires most { max_cut ≤ℤ pos 400 }
+    requires holder_ok { IfSome holder IsHolder }
+    requires wider { IfSome holder (λ around. pos 100 <ℤ around.radius) }
     ensures { IsJob result }
 {
     Job {
@@ -42,7 +45,7 @@ fn job(max_cut: i32) -> Job
         levels: Levels::NONE,
         snap: Snap::Nearest,
         max_cut,
-        holder: None,
+        holder,
     }
 }
 
@@ -94,7 +97,7 @@ fn rapid(from: Pt3, to: Pt3) -> Move {
 #[test]
 fn near_visits_are_fed_to(rt: HostRuntime) -> Result<(), Fail> {
     let shape = one_post(&rt)?;
-    let job = job(0);
+    let job = job(0, None);
     let to = visit(-200, 0, 100);
     let mut out = Vec::new(rt.alloc());
     link(
@@ -127,7 +130,7 @@ fn near_visits_are_fed_to(rt: HostRuntime) -> Result<(), Fail> {
 #[test]
 fn others_are_gone_round_to(rt: HostRuntime) -> Result<(), Fail> {
     let shape = one_post(&rt)?;
-    let job = job(0);
+    let job = job(0, None);
     for (y, step) in [(0, 200), (-300, 100)] {
         let from = visit(-200, y, step);
         let to = visit(200, y, step);
@@ -152,6 +155,29 @@ fn others_are_gone_round_to(rt: HostRuntime) -> Result<(), Fail> {
     Ok(())
 }
 
+// The feed ends 200 beside the post, where the holder's face is the stickout over 200, and the post as high
+// as 300.
+#[test]
+fn goes_round_where_the_holder_would_touch(rt: HostRuntime) -> Result<(), Fail> {
+    let shape = one_post(&rt)?;
+    let to = visit(-200, 0, 100);
+    for (radius, stickout, moves) in [(250, 100, 1), (250, 99, 3), (198, 50, 1)] {
+        let job = job(0, Some(Holder { radius, stickout }));
+        let mut out = Vec::new(rt.alloc());
+        link(
+            &job,
+            &shape.part,
+            &shape.cells,
+            &mut [],
+            job.home(),
+            to,
+            &mut out,
+        )?;
+        assert_eq!(rt; out.len(), moves, "by {radius} at {stickout}");
+    }
+    Ok(())
+}
+
 /// A feed straight down over (200, 0).
 fn peck(from: i16, to: i16) -> Move {
     feed(at(200, 0, from), at(200, 0, to))
@@ -163,7 +189,7 @@ fn link_from_home<R: AllocGlobal>(rt: &R, max_cut: i32) -> Result<Vec<Move>, Fai
     requires most { max_cut ≤ℤ pos 400 }
 {
     let shape = one_post(rt)?;
-    let job = job(max_cut);
+    let job = job(max_cut, None);
     let mut rows = uncut_rows(rt.alloc(), &job)?;
     let to = visit(200, 0, 100);
     let mut out = Vec::new(rt.alloc());
@@ -202,7 +228,7 @@ fn goes_down_by_pecks(rt: HostRuntime) -> Result<(), Fail> {
 #[test]
 fn feeds_no_deeper_than_the_limit(rt: HostRuntime) -> Result<(), Fail> {
     let shape = one_post(&rt)?;
-    let job = job(50);
+    let job = job(50, None);
     let mut rows = uncut_rows(rt.alloc(), &job)?;
     let mut out = Vec::new(rt.alloc());
     let first = visit(-200, 0, 100);
@@ -241,7 +267,7 @@ fn feeds_no_deeper_than_the_limit(rt: HostRuntime) -> Result<(), Fail> {
 
 #[test]
 fn goes_home(rt: HostRuntime) -> Result<(), Fail> {
-    let job = job(0);
+    let job = job(0, None);
     let mut out = Vec::new(rt.alloc());
     home(&job, at(200, 100, 200), &mut out)?;
     home(&job, job.home(), &mut out)?;

@@ -1,11 +1,11 @@
 ghost use Rattle.std.specs.Prelude.{◌≡◌, length, IfOk};
 ghost use Rattle.mill_base.specs.Ranges.{MoveInRange, MovesInRange};
 
-use super::samples::{block_job, plate};
+use super::samples::{block_job, held_job, plate};
 use mill_base::{Cutter, Kind, Move, Pt3, WantOfMemory};
 use mill_part::SortedPart;
 use mill_sweep::Leaf;
-use mill_verify::Block;
+use mill_verify::{Block, PartFail};
 use std::alloc::Global;
 
 /// Straight down in the middle to the plate, or a little under it.
@@ -63,7 +63,48 @@ fn keeps_the_gouge_of_the_move_that_fails(rt: HostRuntime) -> Result<(), WantOfM
     assert!(rt; block.failed().is_none());
     assert!(rt; !block.turn(&job, &part, sorted.cells(), &moves, 65));
     assert_eq!(rt; block.next(), 65);
-    let gouge = block.failed().map(|gouge| (gouge.tri, gouge.leaf));
-    assert_eq!(rt; gouge, Some((0, Leaf { d: 8, k: 254 })));
+    match block.failed() {
+        Some(PartFail::Cutter(gouge)) => {
+            assert_eq!(rt; (gouge.tri, gouge.leaf), (0, Leaf { d: 8, k: 254 }));
+        }
+        _ => panic!(rt; "the cutter's gouge isn't kept"),
+    }
+    Ok(())
+}
+
+/// Straight down in the middle to 100, under a plate beside the cutter.
+fn past_the_plate() -> [Move; 1]
+    ensures { MovesInRange result }
+{
+    [Move {
+        kind: Kind::Feed,
+        from: Pt3 {
+            x: 100,
+            y: 100,
+            z: 400,
+        },
+        to: Pt3 {
+            x: 100,
+            y: 100,
+            z: 100,
+        },
+    }]
+}
+
+// The plate is the line x = 0, which the holder's face comes down to where the tip is at 150.
+#[test]
+fn keeps_the_gouge_of_the_holder(rt: HostRuntime) -> Result<(), WantOfMemory> {
+    let alloc = rt.alloc();
+    let job = held_job(90, 50);
+    let part = plate(alloc, 0)?;
+    let sorted = SortedPart::new(alloc, &part)?;
+    let mut block = Block::new(0, 1);
+    assert!(rt; !block.turn(&job, &part, sorted.cells(), &past_the_plate(), 0));
+    match block.failed() {
+        Some(PartFail::Holder(gouge)) => {
+            assert_eq!(rt; (gouge.tri, gouge.leaf), (0, Leaf { d: 9, k: 426 }));
+        }
+        _ => panic!(rt; "the holder's gouge isn't kept"),
+    }
     Ok(())
 }

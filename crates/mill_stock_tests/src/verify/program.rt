@@ -8,7 +8,7 @@ ghost use Rattle.mill_base.specs.Ranges.{IsInRange, MovesInRange};
 ghost use Rattle.mill_job.specs.Columns.{home as home_of};
 ghost use Rattle.mill_job.specs.Jobs.{IsJob};
 
-use super::samples::{block_job, corner, limited_job, plate, whole_job, whole_plate};
+use super::samples::{block_job, corner, held_job, limited_job, plate, whole_job, whole_plate};
 use mill_base::{Cutter, Kind, Move, Pt3, Tri, WantOfMemory};
 use mill_job::Job;
 use mill_part::Part;
@@ -405,6 +405,75 @@ fn measures_a_cut_from_what_is_left(rt: HostRuntime) {
     });
     assert_eq!(rt; verify(&rt, alloc, &as_deep, &part, &moves, 2), Ok(accept));
     assert_eq!(rt; verify(&rt, alloc, &less_deep, &part, &moves, 2), Ok(cut));
+}
+
+// Down on the plate the holder's face is so far over it, and the stock is 100 over it.
+#[test]
+fn names_the_leaf_at_which_the_holder_comes_too_low(rt: HostRuntime) {
+    let alloc = rt.alloc();
+    let part = plate(alloc, 200).unwrap_or_else(|_| panic!(rt; "want of memory"));
+    let moves = down_and_up(Kind::Feed, 200);
+    let accept = Verdict::Accept {
+        moves: 2,
+        columns: 9,
+        most_left: 0,
+    };
+    let held = Verdict::Reject(Reason::HolderStock {
+        at: 0,
+        row: 0,
+        col: 0,
+        leaf: Leaf { d: 8, k: 192 },
+    });
+    for workers in [1, 4, 64] {
+        for (stickout, want) in [(50, held), (100, accept)] {
+            let job = held_job(150, stickout);
+            assert_eq!(rt;
+                verify(&rt, alloc, &job, &part, &moves, workers),
+                Ok(want),
+                "by {workers} at {stickout}"
+            );
+        }
+    }
+}
+
+// The plate is the line x = 0, beside the narrow cutter. A rapid that would cut the stock in the middle
+// comes before the holder over the stock about it, and the holder over the plate before both.
+#[test]
+fn names_the_holder_in_its_turn(rt: HostRuntime) {
+    let alloc = rt.alloc();
+    let part = plate(alloc, 0).unwrap_or_else(|_| panic!(rt; "want of memory"));
+    let job = held_job(90, 50);
+    let holder = Verdict::Reject(Reason::Holder {
+        at: 0,
+        tri: 0,
+        leaf: Leaf { d: 9, k: 426 },
+    });
+    let rapid = Verdict::Reject(Reason::Rapid {
+        at: 0,
+        row: 1,
+        col: 1,
+        leaf: Leaf { d: 8, k: 128 },
+    });
+    let held = Verdict::Reject(Reason::HolderStock {
+        at: 0,
+        row: 0,
+        col: 0,
+        leaf: Leaf { d: 8, k: 192 },
+    });
+    for workers in [1, 4, 64] {
+        for (kind, height, want) in [
+            (Kind::Rapid, 100, holder),
+            (Kind::Rapid, 200, rapid),
+            (Kind::Feed, 200, held),
+        ] {
+            let moves = down_and_up(kind, height);
+            assert_eq!(rt;
+                verify(&rt, alloc, &job, &part, &moves, workers),
+                Ok(want),
+                "by {workers} at {height}"
+            );
+        }
+    }
 }
 
 /// In the middle at 200, and at 199 under the plate in these two turns.

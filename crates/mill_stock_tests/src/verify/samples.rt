@@ -1,14 +1,15 @@
 //! A job and a part, for the tests.
-ghost use Rattle.std.specs.Prelude.{◌≡◌, ◌≤ℤ◌, pos, IfOk};
+ghost use Rattle.std.specs.Prelude.{◌≡◌, ◌<◌, ◌≤◌, ◌<ℤ◌, ◌≤ℤ◌, pos, IfOk, IfSome};
 ghost use Rattle.mill_base.specs.Numbers.{Within};
 ghost use Rattle.mill_base.specs.declared.limits.TheConstants.{MAX_COORDINATE};
 ghost use Rattle.mill_base.specs.Points.{point_at};
 ghost use Rattle.mill_base.specs.Covers.{IsUnder};
 ghost use Rattle.mill_base.specs.Sizes.{IsCutter, radius_of};
+ghost use Rattle.mill_base.specs.Tools.{IsHolder};
 ghost use Rattle.mill_job.specs.Columns.{home};
 ghost use Rattle.mill_job.specs.Jobs.{IsJob};
 
-use mill_base::{Box2, Cutter, Pt3, Tri, Unit, WantOfMemory};
+use mill_base::{Box2, Cutter, Holder, Pt3, Tri, Unit, WantOfMemory};
 use mill_decimal::Snap;
 use mill_job::{Job, Levels, Place};
 use mill_part::Part;
@@ -26,7 +27,7 @@ pub(crate) fn block_job(cutter: Cutter, band: i32, allowance: u8) -> Job
     ensures start { home result ≡ point_at (pos 100) (pos 100) (pos 400) }
     ensures band { result.band ≡ band }
 {
-    job_of(cutter, band, allowance, 0)
+    job_of(cutter, band, allowance, 0, None)
 }
 
 /// The same block under a flat cutter, where a feed may cut this deep and no deeper; 0 is no limit.
@@ -35,15 +36,36 @@ pub(crate) fn limited_job(max_cut: u8) -> Job
     ensures top { result.top ≡ pos 300 }
     ensures start { home result ≡ point_at (pos 100) (pos 100) (pos 400) }
 {
-    job_of(Cutter::Flat { radius: 150 }, 0, 0, max_cut)
+    job_of(Cutter::Flat { radius: 150 }, 0, 0, max_cut, None)
+}
+
+/// The same block under a flat cutter of this radius, in a holder of radius 200 that is so far over the tip.
+pub(crate) fn held_job(radius: u8, stickout: u8) -> Job
+    requires some_radius { 0 < radius }
+    requires narrow { radius ≤ 150 }
+    requires some_stickout { 0 < stickout }
+    ensures job { IsJob result }
+    ensures top { result.top ≡ pos 300 }
+    ensures start { home result ≡ point_at (pos 100) (pos 100) (pos 400) }
+{
+    let cutter = Cutter::Flat {
+        radius: i32::from(radius),
+    };
+    let holder = Holder {
+        radius: 200,
+        stickout: i32::from(stickout),
+    };
+    job_of(cutter, 0, 0, 0, Some(holder))
 }
 
 /// The job over the block, by the numbers in which one such job is unlike another.
-fn job_of(cutter: Cutter, band: i32, allowance: u8, max_cut: u8) -> Job
+fn job_of(cutter: Cutter, band: i32, allowance: u8, max_cut: u8, holder: Option<Holder>) -> Job
     requires cutter_ok { IsCutter cutter }
     requires least { pos 0 ≤ℤ band }
     requires most { band ≤ℤ pos 150 }
     requires narrow { band ≤ℤ radius_of cutter }
+    requires holder_ok { IfSome holder IsHolder }
+    requires wider { IfSome holder (λ around. radius_of cutter <ℤ around.radius) }
     ensures job { IsJob result }
     ensures top { result.top ≡ pos 300 }
     ensures start { home result ≡ point_at (pos 100) (pos 100) (pos 400) }
@@ -74,7 +96,7 @@ fn job_of(cutter: Cutter, band: i32, allowance: u8, max_cut: u8) -> Job
         levels: Levels::NONE,
         snap: Snap::Nearest,
         max_cut: i32::from(max_cut),
-        holder: None,
+        holder,
     }
 }
 

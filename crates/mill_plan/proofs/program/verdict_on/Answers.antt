@@ -1,6 +1,3 @@
-use Rattle.std.proofs.Common.{arith}
-use Rattle.std.specs.Prelude.{pos, ◌<ℤ◌}
-use Rattle.std.proofs.lemmas.Int.{ints}
 use Rattle.mill_base.proofs.Ranges.{moves_of_unit}
 use Rattle.mill_job.specs.Columns.{home}
 use Rattle.mill_plan.proofs.Good.{follow, good, in_range}
@@ -16,11 +13,9 @@ pub verdict_on_stock-requires-clause-moves_ok : goal.verdict_on_stock-requires-c
 verdict_on_stock-requires-clause-moves_ok g c κs within = moves_of_unit c.args.job.now.unit _ (in_range c.args.job.now c.args.part.now (home c.args.job.now) (home c.args.job.now) c.args.moves.now c.requires.safe)
 
 pub verdict_on_stock-requires-clause-good : goal.verdict_on_stock-requires-clause-good
-verdict_on_stock-requires-clause-good g c κs within = good c.args.job.now c.args.part.now (home c.args.job.now) (home c.args.job.now) c.args.moves.now c.requires.safe
+verdict_on_stock-requires-clause-good g c κs within =
+    good c.args.job.now c.args.part.now (home c.args.job.now) (home c.args.job.now) c.args.moves.now
+    (c.is_decided_by_stock.ensures.bare c.if-is_decided_by_stock.true) c.requires.safe
 
 pub verdict_on_stock-requires-clause-rows_ok : goal.verdict_on_stock-requires-clause-rows_ok
-verdict_on_stock-requires-clause-rows_ok g c κs within =
-    let least = c.requires.job_ok.max_cut_ok.low in
-    let some = c.if-job-eq0.false in
-    let limited : (pos 0) <ℤ c.args.job.now.max_cut = omega (least, some, arith, ints) in
-    c.requires.stock limited
+verdict_on_stock-requires-clause-rows_ok g c κs within = c.requires.stock (c.is_decided_by_stock.ensures.limited c.if-is_decided_by_stock.true)

@@ -4,13 +4,13 @@ use Rattle.mill_verify.specs.Verdicts.{IsVerdict}
 use Rattle.mill_verify.specs.declared.verdict.Reason.{Reason}
 use Rattle.mill_verify.specs.declared.verdict.Verdict.{Verdict}
 use Rattle.mill_verify.specs.declared.verdict.Verdict.TheVariants.{Reject}
-use Rattle.mill_plan.proofs.Telling.{done_told, no_other, uncut_told}
+use Rattle.mill_plan.proofs.Telling.{done_told, held_told, no_other, uncut_told}
 use Rattle.mill_plan.proofs.program.verified.Goals as goal
 
 pub unreachable-requires : goal.unreachable-requires
 unreachable-requires g c =
     no_other c.args.job.now c.args.part.now c.args.moves.now c.in-Reject.reason c.requires.safe
-    (subst (λ (v : Verdict). IsVerdict c.args.job.now c.args.part.now c.args.moves.now v) c.in-Reject.is c.in_ok-count.ensures.verdict) c.in_default.not-Left
+    (subst (λ (v : Verdict). IsVerdict c.args.job.now c.args.part.now c.args.moves.now v) c.in-Reject.is c.in_ok-count.ensures.verdict) c.in_default.not-Left c.in_default.not-HolderStock
 
 pub returns-in_ok-program-in-Accept-clause-planned : goal.returns-in_ok-program-in-Accept-clause-planned
 returns-in_ok-program-in-Accept-clause-planned g c =
@@ -27,3 +27,8 @@ returns-in-Left-clause-fault g c =
     rw top
     (uncut_told c.args.job.now c.args.part.now c.args.moves.now c.requires.plan_ok c.in-Left.row c.in-Left.col c.in-Left.top c.requires.job_ok
     (subst (λ (v : Verdict). IsVerdict c.args.job.now c.args.part.now c.args.moves.now v) (c.in-Reject.is ∙ ap (λ (r : Reason). Reject r) c.in-Left.is) c.in_ok-count.ensures.verdict))
+
+pub returns-in-HolderStock-clause-fault : goal.returns-in-HolderStock-clause-fault
+returns-in-HolderStock-clause-fault g c =
+    held_told c.args.job.now c.args.part.now c.args.moves.now c.requires.plan_ok c.in-HolderStock.at c.in-HolderStock.row c.in-HolderStock.col c.in-HolderStock.leaf
+    (subst (λ (v : Verdict). IsVerdict c.args.job.now c.args.part.now c.args.moves.now v) (c.in-Reject.is ∙ ap (λ (r : Reason). Reject r) c.in-HolderStock.is) c.in_ok-count.ensures.verdict)
