@@ -1,3 +1,4 @@
 mod ReadLemmas
 mod Looking
 mod Heights
+mod BothSolids

@@ -1,15 +1,15 @@
 ghost use Rattle.std.specs.Prelude.{◌≡◌, ◌↔◌, IsTrue, false};
 ghost use Rattle.mill_base.specs.Ranges.{MoveInRange, TriInRange};
 ghost use Rattle.mill_base.specs.Sizes.{IsCutter};
-ghost use Rattle.mill_base.specs.Tools.{IsHolder};
+ghost use Rattle.mill_base.specs.Tools.{IsHolder, IsTool};
 ghost use Rattle.mill_cells.specs.Sorted.{sorted_of};
 ghost use Rattle.mill_sweep.specs.Halving.{Passes};
 ghost use Rattle.mill_gouge.specs.inner.Reaches.{PassesOutside};
-ghost use Rattle.mill_gouge.specs.Gouges.{HolderPassesPart, PassesPart};
+ghost use Rattle.mill_gouge.specs.Gouges.{HolderPassesPart, PassesPart, ToolPassesPart};
 
 use crate::reach::holder_reach;
 use crate::top::lid;
-use mill_base::{Box2, Cutter, Holder, Move, Tri};
+use mill_base::{Box2, Cutter, Holder, Move, Tool, Tri};
 use mill_cells::Cells;
 use mill_part::Part;
 use mill_sweep::{Sweep, reach_box};
@@ -45,6 +45,25 @@ pub fn holder_clears(holder: &Holder, part: &Part, cells: &Cells, step: &Move) -
         return true;
     }
     passes_each(&Sweep::of_holder(holder, step), part, cells, area, low)
+}
+
+/// Whether the tool passes each triangle of the part on the cutter's move: its cutter does, and so does
+/// its holder, if it has one.
+///
+/// It takes what `clears` and `holder_clears` take. The holder isn't tried where the cutter doesn't pass.
+pub fn tool_clears(tool: &Tool, part: &Part, cells: &Cells, step: &Move) -> bool
+    requires tool_ok { IsTool tool.now }
+    requires cells_ok { cells.now ≡ sorted_of part.now }
+    requires move_ok { MoveInRange step.now }
+    ensures { IsTrue result ↔ ToolPassesPart tool.now step.now part.now }
+{
+    if !clears(tool.cutter, part, cells, step) {
+        return false;
+    }
+    match &tool.holder {
+        Some(holder) => holder_clears(holder, part, cells, step),
+        None => true,
+    }
 }
 
 /// Whether the sweep passes each triangle of the part, where it passes those whose box doesn't meet

@@ -1,5 +1,7 @@
 mod Falling
 mod Faults
+mod Groups
+mod Holding
 mod InOrder
 mod Meaning
 mod NoUnit

@@ -12,6 +12,7 @@ use Rattle.mill_decimal.specs.declared.snap.Snap.{Snap}
 use Rattle.mill_decimal.specs.declared.snap.Snap.TheVariants.{Nearest, Exact}
 use Rattle.mill_job.specs.Columns.{row_count, column_count}
 use Rattle.mill_job.specs.Cutters.{shape_of, shape_fault, slope_fault, slope_faults, cutter_with}
+use Rattle.mill_job.specs.Holders.{holder_fault, holder_of, is_narrow}
 use Rattle.mill_job.specs.Keys.{name_of, unknown_in}
 use Rattle.mill_job.specs.Tables.{text_fault_if_there, number_fault, number_fault_if_there, coordinate_fault, array_fault, array_fault_if_there, is_area, is_place, are_levels, number_given, number_at, number_or, numbers_at, area_of, place_of, levels_of, fault_if, first, checked}
 use Rattle.mill_job.specs.declared.job.Job.{Job}
@@ -33,7 +34,7 @@ unit_from (Some text) = if bytes_eq text (codes "thousandth") then Thousandth el
 unfoldable pub unit_of : Members → Unit
 unit_of ms = unit_from (option_and_then as_str (get_member (name_of key.Unit) ms))
 
--- what is wrong with each key but that of the unit, in the format's order
+-- what is wrong with each key but that of the unit, in the format's order: the last two, which are the holder's, by one entry
 abbrev pub key_faults_in : Unit → Members → List (Option JobFault)
 key_faults_in unit ms =
     shape_fault ms
@@ -57,6 +58,7 @@ key_faults_in unit ms =
     ∷ array_fault_if_there key.Levels (are_levels unit) ms
     ∷ text_fault_if_there key.Snap (codes "nearest" ∷ codes "exact" ∷ []) ms
     ∷ number_fault_if_there key.MaxCut (pos 0) (pos (greatest_of unit)) ms
+    ∷ holder_fault unit ms
     ∷ []
 
 -- what is wrong with each key, in the format's order: the unit comes first, since the ranges of others are by it
@@ -101,7 +103,7 @@ job_with unit ms = record {
   levels = levels_of (numbers_at key.Levels ms);
   snap = snap_of ms;
   max_cut = number_or key.MaxCut (pos 0) ms;
-  holder = None;
+  holder = holder_of ms;
 }
 
 -- the same in the document's unit
@@ -129,6 +131,7 @@ relation_faults job =
     ∷ fault_if (int_lt (radius_of job.cutter) job.band) (Relation key.Band key.Radius)
     ∷ fault_if (has_many_layers job) (Relation key.Layer key.Top)
     ∷ fault_if (not (list_all (is_level job.floor job.top) job.levels)) (Relation key.Levels key.Top)
+    ∷ fault_if (is_narrow (radius_of job.cutter) job.holder) (Relation key.Radius key.HolderRadius)
     ∷ []
 
 -- the document's first fault: an unknown key, a key's own fault, one between the cutter's keys, one between the others

@@ -3,6 +3,7 @@ pub mod Jobs
 pub mod Keys
 pub mod Tables
 pub mod Cutters
+pub mod Holders
 pub mod Documents
 pub mod NoUnit
 pub mod Filled

@@ -58,6 +58,8 @@ fn is_known(name: &str) -> bool
             | "levels"
             | "snap"
             | "max_cut"
+            | "holder_radius"
+            | "stickout"
     )
 }
 

@@ -6,7 +6,7 @@ ghost use Rattle.mill_base.specs.Units.{greatest_of};
 
 use crate::levels::Levels;
 use crate::positions::{count, position};
-use mill_base::{Box2, Cutter, Holder, Pt3, Unit};
+use mill_base::{Box2, Cutter, Holder, Pt3, Tool, Unit};
 use mill_decimal::Snap;
 
 /// A place in x and y, in units.
@@ -59,13 +59,23 @@ pub struct Job {
     /// How deep a feed may cut at a time: it removes no point of a column that lies this much or more
     /// under the column's top. From 0 to the unit's greatest coordinate; 0 means no limit.
     pub max_cut: i32,
-    /// What holds the cutter, where that is watched.
+    /// What holds the cutter, where that is watched; it is wider than the cutter.
     pub holder: Option<Holder>,
 }
 
 impl Job {
     ghost use Rattle.mill_job.specs.Columns.{row_count, column_count, column_x as x_of_column, column_y, home as home_of};
-    ghost use Rattle.mill_job.specs.Jobs.{IsJob};
+    ghost use Rattle.mill_job.specs.Jobs.{IsJob, tool_of};
+
+    /// The cutter, with its holder if it has one.
+    pub fn tool(&self) -> Tool
+        ensures { result ≡ tool_of self.now }
+    {
+        Tool {
+            cutter: self.cutter,
+            holder: self.holder,
+        }
+    }
 
     /// How many rows of columns the stock has.
     pub fn rows(&self) -> u32

@@ -28,6 +28,8 @@ pub enum Key {
     Levels,
     Snap,
     MaxCut,
+    HolderRadius,
+    Stickout,
 }
 
 impl Key {
@@ -58,6 +60,8 @@ impl Key {
             Key::Levels => "levels",
             Key::Snap => "snap",
             Key::MaxCut => "max_cut",
+            Key::HolderRadius => "holder_radius",
+            Key::Stickout => "stickout",
         }
     }
 }

@@ -1,11 +1,11 @@
-//! A job: the cutter, the stock, its columns, the tolerances, and the TOML document that tells them.
+//! A job: the tool, the stock, its columns, the tolerances, and the TOML document that tells them.
 //!
 //! It stands on `mill_base`, on `mill_decimal` for how decimals are taken, and on the kit's `toml`.
 //! It promises that a text is read exactly as its definition says, down to which fault comes first,
 //! and that every job that was read is in range.
 //! Definitions: `specs/Columns` says where the columns of a job stand, `specs/Jobs` which jobs are
-//! in range, `specs/Keys`, `specs/Tables`, `specs/Cutters` and `specs/Documents` what a text means,
-//! and `specs/NoUnit` what one means that names no unit.
+//! in range, `specs/Keys`, `specs/Tables`, `specs/Cutters`, `specs/Holders` and `specs/Documents` what
+//! a text means, and `specs/NoUnit` what one means that names no unit.
 //! `specs/inner` has what private functions and proofs cite alone.
 #![tactic(auto)]
 
@@ -13,14 +13,17 @@ mod arrays;
 mod cutter;
 mod document;
 mod fault;
+mod holder;
 mod job;
 mod key;
 mod laws;
 mod levels;
 mod limits;
 mod name;
+mod paths;
 mod positions;
 mod reading;
+mod space;
 mod values;
 
 pub use fault::JobFault;

@@ -1,4 +1,4 @@
-ghost use Rattle.std.specs.Prelude.{◌≡◌, ◌≤◌, ◌*◌, ◌≤ℤ◌, ◌++◌, pos, false, All, IfOk, IsTrue, None};
+ghost use Rattle.std.specs.Prelude.{◌≡◌, ◌≤◌, ◌*◌, ◌≤ℤ◌, ◌<ℤ◌, ◌++◌, pos, false, All, IfOk, IfSome, IsTrue, None};
 ghost use Rattle.std.specs.List.{list_all};
 ghost use Rattle.mill_base.specs.Numbers.{Within};
 ghost use Rattle.mill_base.specs.declared.limits.TheConstants.{MAX_COLUMNS};
@@ -7,19 +7,22 @@ ghost use Rattle.mill_base.specs.Sizes.{radius_of};
 ghost use Rattle.toml.specs.View.{table_view};
 ghost use Rattle.mill_job.specs.Columns.{row_count, column_count};
 ghost use Rattle.mill_job.specs.Documents.{GivesJob, cutter_faults, has_many_layers as many_layers_in, is_level, job_from, job_with, key_faults, key_faults_in, relation_faults};
+ghost use Rattle.mill_job.specs.Holders.{is_narrow};
 ghost use Rattle.mill_job.specs.Jobs.{HasFewLayers, IsFrom, IsJob, IsLevel};
 ghost use Rattle.mill_job.specs.Tables.{checked, first};
 ghost use Rattle.mill_job.specs.inner.Ranged.{IsRanged};
 
-use crate::arrays::{area, home, levels};
 use crate::cutter::{cutter, named_shape, slope};
 use crate::document::{document, first_unknown, unknown};
 use crate::fault::JobFault;
+use crate::holder::holder;
 use crate::job::Job;
 use crate::key::Key;
 use crate::limits::{MAX_DISTANCE, MAX_LAYERS};
+use crate::paths::paths_in;
 use crate::positions::count;
-use crate::values::{coordinate, depth, number, number_or, snap, unit};
+use crate::space::space_in;
+use crate::values::{depth, number, snap, unit};
 use mill_base::{MAX_COLUMNS, MAX_RADIUS, Unit};
 use std::alloc::Global;
 use toml::Table;
@@ -46,6 +49,17 @@ fn has_levels_in_stock(job: &Job) -> bool
         .all(|level| job.floor <= *level && *level < job.top)
 }
 
+/// Whether the job has a holder that isn't wider than its cutter.
+fn has_narrow_holder(job: &Job) -> bool
+    ensures value { result ≡ is_narrow (radius_of job.now.cutter) job.now.holder }
+    ensures no { result ≡ false → IfSome job.now.holder (λ holder. radius_of job.now.cutter <ℤ holder.radius) }
+{
+    match &job.holder {
+        Some(holder) => holder.radius <= job.cutter.radius(),
+        None => false,
+    }
+}
+
 /// How many columns stand over the job's area.
 fn column_total(job: &Job) -> u64
     requires { IsRanged job.now }
@@ -66,6 +80,7 @@ fn relation_fault(job: &Job) -> Option<JobFault>
     ensures narrow { result ≡ None → job.now.band ≤ℤ radius_of job.now.cutter }
     ensures layers { result ≡ None → HasFewLayers job.now }
     ensures levels { result ≡ None → All (IsLevel job.now.floor job.now.top) job.now.levels }
+    ensures wider { result ≡ None → IfSome job.now.holder (λ holder. radius_of job.now.cutter <ℤ holder.radius) }
 {
     if job.top < job.floor {
         return Some(JobFault::Relation(Key::Floor, Key::Top));
@@ -84,6 +99,9 @@ fn relation_fault(job: &Job) -> Option<JobFault>
     }
     if !has_levels_in_stock(job) {
         return Some(JobFault::Relation(Key::Levels, Key::Top));
+    }
+    if has_narrow_holder(job) {
+        return Some(JobFault::Relation(Key::Radius, Key::HolderRadius));
     }
     None
 }
@@ -115,73 +133,67 @@ fn job_in(table: &Table, unit: Unit) -> Result<Job, JobFault>
     let radius = number(table, Key::Radius, 1, MAX_RADIUS)?;
     let rise = slope(table, Key::Rise, shape)?;
     let run = slope(table, Key::Run, shape)?;
-    let floor = coordinate(table, Key::Floor, unit)?;
-    let top = coordinate(table, Key::Top, unit)?;
-    let clear = coordinate(table, Key::Clear, unit)?;
-    let area = area(table, unit)?;
-    let home = home(table, unit)?;
+    let space = space_in(table, unit)?;
     let pitch = number(table, Key::Pitch, 1, MAX_DISTANCE)?;
     let sample = number(table, Key::Sample, 1, MAX_DISTANCE)?;
     let allowance = number(table, Key::Allowance, 0, MAX_DISTANCE)?;
     let band = number(table, Key::Band, 0, MAX_DISTANCE)?;
-    let lift = number_or(table, Key::Lift, 0, MAX_DISTANCE, 0)?;
-    let raster = number_or(table, Key::Raster, 1, MAX_DISTANCE, pitch)?;
-    let rough_raster = number_or(table, Key::RoughRaster, 1, MAX_DISTANCE, raster)?;
-    let layer = depth(table, Key::Layer, unit)?;
-    let rough_stock = number_or(table, Key::RoughStock, 0, MAX_DISTANCE, 0)?;
-    let levels = levels(table, unit)?;
+    let paths = paths_in(table, unit, pitch)?;
     let snap = snap(table)?;
     let max_cut = depth(table, Key::MaxCut, unit)?;
+    let holder = holder(table, unit)?;
     let cutter = cutter(shape, radius, rise, run)?;
     let job = Job {
         unit,
         cutter,
-        floor,
-        top,
-        clear,
-        area,
-        home,
+        floor: space.floor,
+        top: space.top,
+        clear: space.clear,
+        area: space.area,
+        home: space.home,
         pitch,
         sample,
         allowance,
         band,
-        lift,
-        raster,
-        rough_raster,
-        layer,
-        rough_stock,
-        levels,
+        lift: paths.lift,
+        raster: paths.raster,
+        rough_raster: paths.rough_raster,
+        layer: paths.layer,
+        rough_stock: paths.rough_stock,
+        levels: paths.levels,
         snap,
         max_cut,
-        holder: None,
+        holder,
     };
     unless(relation_fault(&job), job)
 }
 
 /// Reads a job: a TOML 1.0 document with each key of [`Key`] and no other; `unit`, `snap`, `lift`,
-/// `raster`, `rough_raster`, `layer`, `rough_stock`, `levels` and `max_cut` may be left out, and `rise`
-/// and `run` where the cutter is no cone.
+/// `raster`, `rough_raster`, `layer`, `rough_stock`, `levels` and `max_cut` may be left out, `rise` and
+/// `run` where the cutter is no cone, and `holder_radius` and `stickout` both or neither.
 ///
 /// `unit` is a text, `hundredth` for 0.01 mm or `thousandth` for 0.001 mm; numbers are whole, in
-/// that unit. `cutter` is a text, `flat`, `ball` or `cone`. `radius`, `pitch`, `sample`, `raster` and
-/// `rough_raster` are from 1 to 10,000, `rise` and `run` from 1 to 100, `allowance`, `band`, `lift`
-/// and `rough_stock` from 0 to 10,000, `layer` and `max_cut` from 0 to the unit's greatest coordinate,
-/// which is 131,071 or 524,287. `floor`, `top`, `clear` and the members of `area`, `home` and `levels` are
-/// coordinates, of a magnitude of at most that. `area` has x0, y0, x1, y1, with x0 at most x1 and y0
-/// at most y1; `home` has x, y; `levels` has at most 64 members, each less than the one before it.
-/// `snap` is a text, `nearest` or `exact`.
+/// that unit. `cutter` is a text, `flat`, `ball` or `cone`. `radius`, `pitch`, `sample`, `raster`,
+/// `rough_raster` and `holder_radius` are from 1 to 10,000, `rise` and `run` from 1 to 100, `allowance`,
+/// `band`, `lift` and `rough_stock` from 0 to 10,000; `layer` and `max_cut` from 0, and `stickout` from
+/// 1, to the unit's greatest coordinate, which is 131,071 or 524,287. `floor`, `top`, `clear` and the
+/// members of `area`, `home` and `levels` are coordinates, of a magnitude of at most that. `area` has
+/// x0, y0, x1, y1, with x0 at most x1 and y0 at most y1; `home` has x, y; `levels` has at most 64
+/// members, each less than the one before it. `snap` is a text, `nearest` or `exact`.
 ///
 /// In a document without them `unit` is `hundredth`, `lift`, `layer`, `rough_stock` and `max_cut` are 0,
-/// `raster` is the pitch, `rough_raster` the raster, `levels` has no member, and `snap` is `nearest`.
+/// `raster` is the pitch, `rough_raster` the raster, `levels` has no member, `snap` is `nearest`, and
+/// there is no holder.
 ///
 /// The relations are: only a cone has a rise, only a cone has a run, rise is at most 16 times run,
 /// floor at most top, top at most clear, there are at most 4,000,000 columns, band is at most
-/// radius, where layer isn't 0, top is at most 1,000 layers over floor, and each of the levels is at
-/// least floor and less than top.
+/// radius, where layer isn't 0, top is at most 1,000 layers over floor, each of the levels is at
+/// least floor and less than top, and a holder's radius is over the cutter's.
 ///
 /// A fault is the first in this order: the document's syntax; an unknown key, the first by its
 /// bytes; for each key in the order of [`Key`], that it is missing, of a wrong kind or out of
-/// range; a relation that fails.
+/// range; a relation that fails. Of `holder_radius` and `stickout` one is missing where the other is
+/// there.
 pub fn read_job(alloc: Global, text: &[u8]) -> Result<Job, JobFault>
     ensures gives { GivesJob text.now result }
     ensures in_range { IfOk result IsJob }

@@ -116,7 +116,12 @@ fn verified<R: Threads + Sync>(
         }
         Verdict::Reject(reason) => match reason {
             Reason::Left { row, col, top } => Err(PlanFault::Uncut { row, col, top }),
-            Reason::HolderStock { at, row, col, leaf: _ } => Err(PlanFault::Held { at, row, col }),
+            Reason::HolderStock {
+                at,
+                row,
+                col,
+                leaf: _,
+            } => Err(PlanFault::Held { at, row, col }),
             // No move of a plan fails another test: each ends over the floor, cutter and holder pass the
             // part, and the cutter passes the stock.
             _ => unreachable!(),

@@ -3,7 +3,7 @@
 // Each table is one text: the proof of a test then costs the same however many rows there are. A row
 // is a line `OLD => NEW => SAYS`: EXAMPLE with NEW in the place of OLD, and what is said of it. There
 // `\n` is a line's end.
-use mill_base::{Box2, Cutter, Pt3, Unit};
+use mill_base::{Box2, Cutter, Holder, Pt3, Tool, Unit};
 use mill_decimal::Snap;
 use mill_job::{Job, JobFault, Key, Levels, Name, Place, read_job};
 use std::alloc::Global;
@@ -41,6 +41,7 @@ rough_stock = 10001
 levels = [300, 300]
 snap = \"near\"
 max_cut = -9
+holder_radius = -1
 ";
 
 /// 64 heights, from the highest to the lowest.
@@ -125,6 +126,7 @@ fn reads_a_job(rt: HostRuntime) -> Result<(), Fail> {
     assert_eq!(rt; job.home(), home);
     assert!(rt; 2 < job.columns() && 1 < job.rows());
     assert_eq!(rt; (job.column_x(2), job.row_y(1)), (200, 100));
+    assert_eq!(rt; job.tool(), Tool::bare(JOB.cutter));
     Ok(())
 }
 
@@ -142,6 +144,8 @@ band = 0 => band = 0\nrough_stock = 10000 => lift: 0, raster: 100, rough_raster:
 band = 0 => band = 0\nlift = 0\nlayer = 0\nrough_stock = 0 => lift: 0, raster: 100, rough_raster: 100, layer: 0, rough_stock: 0
 band = 0 => band = 0\nmax_cut = 131071 => snap: Nearest, max_cut: 131071
 band = 0 => band = 0\nmax_cut = 0 => snap: Nearest, max_cut: 0
+band = 0 => band = 0\nstickout = 131071\nholder_radius = 151 => holder: Some(Holder { radius: 151, stickout: 131071 })
+band = 0 => band = 0\nholder_radius = 10000\nstickout = 1 => holder: Some(Holder { radius: 10000, stickout: 1 })
 band = 0 => band = 0\nlevels = [] => with levels []
 band = 0 => band = 0\nlevels = [0] => with levels [0]
 band = 0 => band = 0\nlevels = [299] => with levels [299]
@@ -195,6 +199,15 @@ band = 0 => band = 0\nmax_cut = 1.5 => wrong kind of max_cut
 band = 0 => band = 0\nmax_cut = -1 => max_cut out of range
 band = 0 => band = 0\nmax_cut = 131072 => max_cut out of range
 band = 0 => band = 0\nsnap = 1\nmax_cut = -1 => wrong kind of snap
+band = 0 => band = 0\nholder_radius = 200 => missing stickout
+band = 0 => band = 0\nstickout = 0 => missing holder_radius
+band = 0 => band = 0\nholder_radius = 200.0 => wrong kind of holder_radius
+band = 0 => band = 0\nholder_radius = 10001\nstickout = 0 => holder_radius out of range
+band = 0 => band = 0\nholder_radius = 0\nstickout = 50 => holder_radius out of range
+band = 0 => band = 0\nholder_radius = 200\nstickout = [50] => wrong kind of stickout
+band = 0 => band = 0\nholder_radius = 200\nstickout = 0 => stickout out of range
+band = 0 => band = 0\nholder_radius = 200\nstickout = 131072 => stickout out of range
+band = 0 => band = 0\nholder_radius = 150\nstickout = 50 => radius doesn't fit holder_radius
 band = 0 => band = 0\nlevel = [1] => unknown level
 band = 0 => band = 0\nlevels = 5 => wrong kind of levels
 band = 0 => band = 0\nlevels = [5, 4.0] => wrong kind of levels
@@ -257,13 +270,17 @@ rough_stock out of range => 10001 => 10000
 levels out of range => [300, 300] => [300, 1]
 snap out of range => "near" => "nearest"
 max_cut out of range => -9 => 9
+holder_radius out of range => radius = -1 => radius = 150
+missing stickout => holder => stickout = 0\nholder
+stickout out of range => stickout = 0 => stickout = 131071
 rise doesn't fit run => rise = 17 => rise = 16
 floor doesn't fit top => floor = 301 => floor = -701
 top doesn't fit clear => clear = 200 => clear = 400
 area doesn't fit pitch => 131071, 131071 => 200, 200
 band doesn't fit radius => band = 151 => band = 0
 layer doesn't fit top => floor = -701 => floor = -700
-levels doesn't fit top => [300, 1] => [299, 1]"#;
+levels doesn't fit top => [300, 1] => [299, 1]
+radius doesn't fit holder_radius => holder_radius = 150 => holder_radius = 151"#;
 
 #[test]
 fn first_fault_decides(rt: HostRuntime) -> Result<(), Fail> {
@@ -293,6 +310,10 @@ fn first_fault_decides(rt: HostRuntime) -> Result<(), Fail> {
         rough_stock: 10000,
         levels,
         max_cut: 9,
+        holder: Some(Holder {
+            radius: 151,
+            stickout: 131071,
+        }),
         ..JOB
     };
     assert_eq!(rt; read_job(alloc, text.as_bytes())?, want);
@@ -312,7 +333,8 @@ fn names_keep_their_bytes(rt: HostRuntime) -> Result<(), Fail> {
 const FINE: &str =
     r#"clear = 400 => clear = 524287\nlayer = 524287 => unit: Thousandth, cutter: Flat { radius: 150 }, floor: 0, top: 300, clear: 524287
 band = 0 => band = 0\nlayer = 524287 => layer: 524287
-band = 0 => band = 0\nmax_cut = 524287 => max_cut: 524287"#;
+band = 0 => band = 0\nmax_cut = 524287 => max_cut: 524287
+band = 0 => band = 0\nholder_radius = 151\nstickout = 524287 => holder: Some(Holder { radius: 151, stickout: 524287 })"#;
 
 const NOT_FINE: &str = r#""thousandth" => "inch" => unit out of range
 "thousandth" => 3 => wrong kind of unit
@@ -321,6 +343,7 @@ clear = 400 => clear = 524288 => clear out of range
 band = 0 => band = 0\nlayer = 524288 => layer out of range
 band = 0 => band = 0\nlevels = [524288] => levels out of range
 band = 0 => band = 0\nmax_cut = 524288 => max_cut out of range
+band = 0 => band = 0\nholder_radius = 151\nstickout = 524288 => stickout out of range
 unit = "thousandth" => clears = 131072 => unknown clears"#;
 
 #[test]

@@ -1,3 +1,4 @@
+mod Mounted
 mod ReadLemmas
 mod StockLemmas
 mod Turned
@@ -12,5 +13,6 @@ mod Accepted
 mod Scanning
 mod Sharing
 mod Gathered
+mod Failed
 mod Tested
 pub mod Named

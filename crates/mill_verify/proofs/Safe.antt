@@ -1,5 +1,5 @@
 -- An accepted program cuts safely, by the laws of the layers below.
-use Rattle.std.specs.Prelude.{◌≡◌, ℕ, ◌+◌, ◌<◌, ℤ, pos, ◌-ℤ◌, ◌+ℤ◌, ◌*ℤ◌, ◌<ℤ◌, ◌≤ℤ◌, List, Contains, length, take, drop, slice_index_or, [], ◌∷◌, zero, suc, negsuc, int_lt, Bool, true, false, refl}
+use Rattle.std.specs.Prelude.{◌≡◌, ℕ, ◌+◌, ◌<◌, ℤ, pos, ◌-ℤ◌, ◌+ℤ◌, ◌*ℤ◌, ◌<ℤ◌, ◌≤ℤ◌, List, Contains, length, take, drop, slice_index_or, [], ◌∷◌, zero, suc, negsuc, int_lt, Bool, true, false, IfSome, Some, refl}
 use Rattle.std.proofs.Common.{sym, subst, ap, inl, inr, arith, ◌∙◌}
 use Rattle.std.proofs.lemmas.Int.{ints}
 use lib.IntN.{*ℤ_comm}
@@ -11,27 +11,32 @@ use Rattle.mill_base.specs.declared.motion.Move.{Move}
 use Rattle.mill_base.specs.declared.motion.Kind.{Kind}
 use Rattle.mill_base.specs.declared.motion.Kind.TheVariants.{Rapid}
 use Rattle.mill_base.specs.Numbers.{square}
-use Rattle.mill_base.specs.Motion.{tip_at}
+use Rattle.mill_base.specs.Motion.{IsMoment, tip_at}
+use Rattle.mill_base.specs.Tools.{HolderGouges, IsHolder, holder_tip, solid_of}
+use Rattle.mill_base.specs.declared.tool.Holder.{Holder}
 use Rattle.mill_base.specs.Contact.{Holds, HoldsOver, Removes}
 use Rattle.mill_base.specs.Covers.{CoveredBelow}
 use Rattle.mill_base.specs.Ranges.{IsInRange, MoveInRange, MovesInRange}
 use Rattle.mill_sweep.specs.Halving.{Passes}
 use Rattle.mill_sweep.specs.Moments.{PassingIsClear, PassingKeepsPoint}
+use Rattle.mill_sweep.specs.Holders.{HolderIsClear, HolderKeepsPoint, HolderPasses, HolderPassesPoint}
 use Rattle.mill_job.specs.declared.job.Job.{Job}
 use Rattle.mill_job.specs.Jobs.{IsJob}
 use Rattle.mill_job.specs.Columns.{IsColumn, column_x, column_y}
-use Rattle.mill_dexel.specs.Tops.{tested_height, tested_point, top_after, top_after_move}
+use Rattle.mill_gouge.specs.Gouges.{HolderPassesPart}
+use Rattle.mill_dexel.specs.Tops.{tested_height, tested_point, top_after, top_after_move, top_point}
 use Rattle.mill_dexel.specs.Laws.{OverTopIsRemoved, PassedIsLeft}
 use Rattle.mill_dexel.proofs.RowLaws.{top_after_more}
 use Rattle.mill_dexel.proofs.TopLaws.{top_after_stays}
 use Rattle.mill_base.proofs.Ranges.{within_of_unit}
+use Rattle.mill_verify.proofs.Mounted.{if_some, of_some}
 use Rattle.mill_verify.proofs.Ranges.{column_within, top_within}
 use Rattle.mill_verify.proofs.Depths.{clears_as, tested_deep, tested_each, tested_high, tested_within}
 use Rattle.mill_verify.specs.Tests.{GoodBefore, PassesColumn, PassesTri}
 use Rattle.mill_dexel.specs.Turns.{move_at}
 use Rattle.mill_base.specs.Points.{point_at, tri_at}
 use Rattle.mill_verify.specs.Verdicts.{Accepts}
-use Rattle.mill_verify.specs.Claims.{NeverGouges, RapidsMissStock, LeftIsCovered, PartIsLeft, CutsSafely, KeepsDepth, LeavesPoint, IsColumnPoint, top_before}
+use Rattle.mill_verify.specs.Claims.{NeverGouges, RapidsMissStock, LeftIsCovered, PartIsLeft, CutsSafely, HolderKeepsClear, HolderStaysClear, KeepsDepth, LeavesPoint, IsColumnPoint, top_before}
 
 not_over : (a b : ℤ) → ¬ (a <ℤ b) → b ≤ℤ a
 not_over a b h = by (int_lt a b) refl
@@ -165,12 +170,43 @@ module _ (job : Job) (part : List Tri) (moves : List Move) (ok : IsJob job) (all
     tops = tops_shallow good limited left;
   }
 
+  -- where there is a holder
+  module _ (good : GoodBefore job part moves (length moves)) (removed : OverTopIsRemoved) (holder : Holder) (mounted : job.holder ≡ Some holder) where
+    holder_ok : IsHolder holder
+    holder_ok = of_some IsHolder job.holder holder mounted ok.holder_ok
+
+    -- it passes each triangle on each move
+    holder_passes : (k t : ℕ) (m : Move) (tri : Tri) → k < length moves → slice_index_or moves k m ≡ m → t < length part → slice_index_or part t tri ≡ tri → HolderPasses holder m tri
+    holder_passes k t m tri hk ek ht et =
+        let each = of_some (λ (h : Holder). HolderPassesPart h (move_at moves k) part) job.holder holder mounted (good k hk).holder in
+        let q : HolderPasses holder m (tri_at part t) = subst (λ (v : Move). HolderPasses holder v (tri_at part t)) (sym (move_is moves k m hk ek)) (each t ht) in
+        subst (λ (v : Tri). HolderPasses holder m v) (sym (tri_is part t tri ht et)) q
+
+    misses_part : HolderIsClear → (m : Move) (a n : ℤ) → Contains moves m → IsMoment a n → ¬ HolderGouges holder n (tip_at m a n) part
+    misses_part clear m a n member moment g =
+        clear holder m g.tri a n holder_ok (all_ok m member) (holder_passes member.0 g.member.0 m g.tri member.1 member.2 g.member.1 g.member.2) moment g.touches
+
+    -- and each column's top
+    misses_stock : HolderKeepsPoint → (k j i : ℕ) (h a n : ℤ) → k < length moves → IsColumnPoint job j i h → LeavesPoint job (take k moves) j i h → IsMoment a n
+        → ¬ Holds (solid_of holder) n (holder_tip holder n (tip_at (move_at moves k) a n)) (pos 1) (point_at (column_x job i) (column_y job j) h)
+    misses_stock keeps k j i h a n hk point leaves moment =
+        let each = of_some (λ (v : Holder). (b c : ℕ) → IsColumn job b c → HolderPassesPoint v (move_at moves k) (top_point job (take k moves) b c)) job.holder holder mounted (good k hk).holder_stock in
+        keeps holder (move_at moves k) (column_x job i) (column_y job j) (top_after job (column_x job i) (column_y job j) (take k moves)) h a n holder_ok
+        (in_range k hk) (top_ok (take k moves) j i point.column) (each j i point.column) (under_top removed (take k moves) (moves_ok k) j i h point leaves) moment
+
+    stays_clear : HolderIsClear → HolderKeepsPoint → HolderStaysClear holder job part moves
+    stays_clear clear keeps = record { part = misses_part clear; stock = misses_stock keeps }
+
+  keeps_clear : HolderIsClear → HolderKeepsPoint → OverTopIsRemoved → GoodBefore job part moves (length moves) → HolderKeepsClear job part moves
+  keeps_clear clear keeps removed good = if_some (λ (holder : Holder). HolderStaysClear holder job part moves) job.holder (λ holder mounted. stays_clear good removed holder mounted clear keeps)
+
   -- what an accepted program does, from the laws
-  pub safe : PassingIsClear → PassingKeepsPoint → OverTopIsRemoved → PassedIsLeft → CoveredBelow → HoldsOver → (count columns : ℕ) (most : ℤ) → Accepts job part moves count columns most → CutsSafely job part moves
-  safe clear keeps removed left below over count columns most a = record {
+  pub safe : PassingIsClear → PassingKeepsPoint → HolderIsClear → HolderKeepsPoint → OverTopIsRemoved → PassedIsLeft → CoveredBelow → HoldsOver → (count columns : ℕ) (most : ℤ) → Accepts job part moves count columns most → CutsSafely job part moves
+  safe clear keeps holder_clear holder_keeps removed left below over count columns most a = record {
     gouges = never_gouges clear a.good;
     rapids = rapids_miss keeps removed a.good;
     covered = left_is_covered removed below count columns most a;
     kept = part_is_left (never_gouges clear a.good) over;
     depth = keeps_depth keeps left a.good;
+    holder = keeps_clear holder_clear holder_keeps removed a.good;
   }

@@ -5,9 +5,14 @@ use Rattle.mill_base.specs.declared.points.Tri.{Tri}
 use Rattle.mill_base.specs.declared.motion.Move.{Move}
 use Rattle.mill_job.specs.declared.job.Job.{Job}
 use Rattle.mill_dexel.specs.Turns.{move_at}
-use Rattle.mill_gouge.specs.Gouges.{IsFirstGouge}
+use Rattle.mill_base.specs.declared.tool.Holder.{Holder}
+use Rattle.mill_job.specs.Jobs.{tool_of}
+use Rattle.mill_gouge.specs.Gouges.{HolderPassesPart, IsFirstHolderGouge, PassesPart, ToolPassesPart}
 use Rattle.mill_gouge.specs.declared.gouge.Gouge.{Gouge}
-use Rattle.mill_verify.specs.Blocks.{BlockState, turned, IsBlockStopped}
+use Rattle.mill_verify.specs.Blocks.{BlockState, turned, IsBlockStopped, IsPartFail}
+use Rattle.mill_verify.specs.declared.block.PartFail.{PartFail}
+use Rattle.mill_verify.specs.declared.block.PartFail.TheVariants as fail
+use Rattle.mill_verify.proofs.Mounted.{for_some, of_some}
 use Rattle.mill_verify.specs.inner.Firsts.{block_before}
 
 -- a number before the end is one of a move
@@ -18,11 +23,17 @@ inside h g = omega (h, g, arith)
 pub block_more : (b old new : BlockState) (k : ℕ) → old ≡ block_before b k → new ≡ turned old → new ≡ block_before b (k + 1)
 block_more b old new k is passed = passed ∙ ap turned is
 
--- the gouge of the block's next move, and nothing else, is noted where the block stops
-pub stops_at : (job : Job) (part : List Tri) (moves : List Move) (old same : BlockState) (t : ℕ) (gouge : Gouge) → same ≡ old → t ≡ old.next → IsFirstGouge job.cutter (move_at moves t) part gouge
-    → IsBlockStopped job part moves old (record same { failed = Some gouge })
-stops_at job part moves old same t gouge view is first = record {
-  gouge = gouge;
-  first = subst (λ (n : ℕ). IsFirstGouge job.cutter (move_at moves n) part gouge) is first;
-  noted = ap (λ (b : BlockState). record b { failed = Some gouge }) view;
+-- how the block's next move failed, and nothing else, is noted where the block stops
+pub stops_at : (job : Job) (part : List Tri) (moves : List Move) (old same : BlockState) (t : ℕ) (found : PartFail) → same ≡ old → t ≡ old.next → IsPartFail job part (move_at moves t) found
+    → IsBlockStopped job part moves old (record same { failed = Some found })
+stops_at job part moves old same t found view is fails = record {
+  fail = found;
+  fails = subst (λ (n : ℕ). IsPartFail job part (move_at moves n) found) is fails;
+  noted = ap (λ (b : BlockState). record b { failed = Some found }) view;
 }
+
+-- where a test against the part fails, the tool doesn't pass the part
+pub part_fails : (job : Job) (part : List Tri) (m : Move) (found : PartFail) → IsPartFail job part m found → ¬ ToolPassesPart (tool_of job) m part
+part_fails job part m (fail.Cutter g) f passes = f.fails.fails (passes.cutter g.tri f.tri)
+part_fails job part m (fail.Holder g) f passes =
+    f.first.fails.fails (of_some (λ (holder : Holder). HolderPassesPart holder m part) job.holder f.holder f.mounted passes.holder g.tri f.first.tri)

@@ -10,10 +10,11 @@ use Rattle.mill_dexel.specs.Rows.{IsRowOf, RowState, uncut_row}
 use Rattle.mill_dexel.specs.Turns.{ClearsRow, IsRowStopped, StopsRow, move_at, row_before, turned as row_turned}
 use Rattle.mill_dexel.specs.Tops.{row_after}
 use Rattle.mill_dexel.proofs.RowLaws.{row_after_is_row, row_after_more}
-use Rattle.mill_job.specs.Jobs.{IsJob}
-use Rattle.mill_verify.specs.Tests.{ClearsPart}
+use Rattle.mill_job.specs.Jobs.{IsJob, tool_of}
+use Rattle.mill_gouge.specs.Gouges.{ToolPassesPart}
+use Rattle.mill_dexel.proofs.Stops.{stop_fails}
 use Rattle.mill_verify.proofs.Turned.{before_is}
-use Rattle.mill_verify.proofs.Scanning.{block_more}
+use Rattle.mill_verify.proofs.Scanning.{block_more, part_fails}
 use Rattle.std.proofs.lemmas.List.{take_more}
 use Rattle.mill_verify.specs.Blocks.{BlockState, IsBlockStopped, block_count, block_of, turned}
 use Rattle.mill_verify.specs.inner.Pieces.{IsPieceAt, IsPieceFailed, PassesTest, TestsShown, blocks_of, first_turn, tests, turn_limit}
@@ -112,7 +113,7 @@ module _ (w : TestsShown) (n t m : ℕ) where
   row_fails r new d stopped =
       let stop = stopped.stops in
       let fail = stopped.fail in (
-        λ p. stop.column.fails.fails (subst (λ (x : RowState). ClearsRow w.job x (move_at w.moves t)) (sym d.is_at.2) (p.stock r.row d.is_at.1) stop.tested fail.col stop.column.column),
+        λ p. stop_fails w.job r (move_at w.moves t) fail stop (subst (λ (x : RowState). ClearsRow w.job x (move_at w.moves t)) (sym d.is_at.2) (p.stock r.row d.is_at.1)),
         subst (λ (x : RowState). IsPieceFailed w n t (Stock m x)) (sym stopped.noted) (
           d.is_at.0,
           d.is_at.1,
@@ -124,8 +125,8 @@ module _ (w : TestsShown) (n t m : ℕ) where
         ),
       )
 
-  -- a block whose move clears the part is as the next one meets it
-  pub block_passes : (b new : BlockState) → IsDue tests w n t (Block m b) → ClearsPart w.job w.part w.moves t → new ≡ turned b → PassesTest w n t × IsPieceAt w n (t + 1) (Block m new)
+  -- a block on whose move the tool clears the part is as the next one meets it
+  pub block_passes : (b new : BlockState) → IsDue tests w n t (Block m b) → ToolPassesPart (tool_of w.job) (move_at w.moves t) w.part → new ≡ turned b → PassesTest w n t × IsPieceAt w n (t + 1) (Block m new)
   block_passes b new d clears is =
       let under = d.is_at.1 in
       (record { part = λ block. clears; stock = λ j at. absurd (omega (under, at, arith)) }, (d.is_at.0, under, block_more (block_of w.turns n) b new t d.is_at.2 is))
@@ -134,6 +135,6 @@ module _ (w : TestsShown) (n t m : ℕ) where
   pub block_fails : (b new : BlockState) → IsDue tests w n t (Block m b) → IsBlockStopped w.job w.part w.moves b new → (¬ PassesTest w n t) × IsPieceFailed w n t (Block m new)
   block_fails b new d stopped =
       let next : b.next ≡ t = ap (λ (x : BlockState). x.next) d.is_at.2 in (
-        λ p. stopped.first.fails.fails (subst (λ (k : ℕ). ClearsPart w.job w.part w.moves k) (sym next) (p.part d.is_at.1) stopped.gouge.tri stopped.first.tri),
+        λ p. part_fails w.job w.part (move_at w.moves b.next) stopped.fail stopped.fails (subst (λ (k : ℕ). ToolPassesPart (tool_of w.job) (move_at w.moves k) w.part) (sym next) (p.part d.is_at.1)),
         (d.is_at.0, d.is_at.1, subst (λ (x : BlockState). IsBlockStopped w.job w.part w.moves x new) d.is_at.2 stopped),
       )

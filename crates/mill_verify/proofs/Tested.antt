@@ -1,5 +1,5 @@
 -- The verdict, from what the tests that threads share have come to.
-use Rattle.std.specs.Prelude.{◌≡◌, ℕ, zero, suc, ◌+◌, ◌/◌, ◌<◌, ◌≤◌, List, [], ◌∷◌, length, slice_get, slice_index_or, Option, Some, unwrap_or, refl}
+use Rattle.std.specs.Prelude.{◌≡◌, ◌⊎◌, ℕ, zero, suc, Bool, true, false, ◌+◌, ◌/◌, ◌<◌, ◌≤◌, List, [], ◌∷◌, length, take, slice_get, slice_index_or, Option, Some, unwrap_or, refl}
 use Rattle.std.specs.List.{flat_map}
 use Rattle.std.proofs.Common.{sym, ◌∙◌, ap, subst, inl, inr, ⊎_elim, arith}
 use Rattle.mill_base.specs.declared.points.Tri.{Tri}
@@ -10,31 +10,41 @@ use Rattle.mill_base.specs.declared.limits.TheConstants.{MAX_MOVES}
 use Rattle.mill_board.specs.declared.work.Held.{Held}
 use Rattle.mill_board.specs.Works.{FailsAt, IsDone}
 use Rattle.mill_board.proofs.Outcomes.{fails_least, passes_all, passes_to, passes_under}
+use Rattle.mill_base.specs.declared.tool.Holder.{Holder as OneHolder}
+use Rattle.mill_base.specs.Points.{tri_at}
+use Rattle.mill_sweep.specs.Holders.{HolderIsBlocked, HolderPassesPoint}
+use Rattle.mill_dexel.specs.Tops.{top_point}
 use Rattle.mill_sweep.specs.declared.leaf.Leaf.{Leaf}
-use Rattle.mill_gouge.specs.declared.gouge.Gouge.{Gouge as Found}
-use Rattle.mill_gouge.specs.Gouges.{IsFirstGouge}
+use Rattle.mill_gouge.specs.Gouges.{ToolPassesPart}
 use Rattle.mill_job.specs.declared.job.Job.{Job}
-use Rattle.mill_job.specs.Jobs.{IsJob}
+use Rattle.mill_job.specs.Columns.{row_count}
+use Rattle.mill_job.specs.Jobs.{IsJob, tool_of}
 use Rattle.mill_dexel.specs.Rows.{RowState, uncut_row}
-use Rattle.mill_dexel.specs.Turns.{StopsRow, move_at, row_before}
+use Rattle.mill_dexel.specs.Turns.{CutClearsRow, CutStopsAt, HolderStopsAt, StopsAt as StopsBy, StopsRow, move_at, row_before}
 use Rattle.mill_dexel.specs.declared.fail.RowFail.{RowFail}
-use Rattle.mill_verify.specs.Blocks.{BlockState}
-use Rattle.mill_verify.specs.Tests.{ClearsPart, GoodBefore, PassesColumn}
+use Rattle.mill_dexel.specs.declared.fail.RowTest.{RowTest}
+use Rattle.mill_dexel.specs.declared.fail.RowTest.TheVariants as test
+use Rattle.mill_verify.specs.Blocks.{BlockState, IsPartFail}
+use Rattle.mill_verify.specs.declared.block.PartFail.{PartFail}
+use Rattle.mill_verify.specs.declared.block.PartFail.TheVariants as fail
+use Rattle.mill_verify.specs.Tests.{GoodBefore, PassesColumn}
 use Rattle.mill_verify.specs.Verdicts.{FailsStock, IsVerdict}
 use Rattle.mill_verify.specs.declared.verdict.Verdict.TheVariants.{Reject}
 use Rattle.mill_verify.specs.declared.verdict.Reason.{Reason}
-use Rattle.mill_verify.specs.declared.verdict.Reason.TheVariants.{Floor, Gouge}
+use Rattle.mill_verify.specs.declared.verdict.Reason.TheVariants.{Floor, HolderStock}
 use Rattle.mill_verify.specs.declared.piece.Piece.{Piece}
 use Rattle.mill_verify.specs.declared.piece.Piece.TheVariants.{Block, Stock}
-use Rattle.mill_verify.specs.inner.Failures.{IsFirstFailed, IsReasonOf, NoneFailed, stock_reason}
+use Rattle.mill_verify.specs.inner.Failures.{HasFailed, HasFailedBy, IsFirstFailed, IsReasonOf, NoneFailed, NoneFailedBy, cut_reason, is_held_row, is_holder_test, is_of_holder, part_reason, stock_reason}
 use Rattle.mill_verify.specs.inner.Firsts.{IsFloorEnd, ShowsBlocks, StopsAt}
 use Rattle.mill_verify.specs.inner.Pieces.{AreTested, IsPieceAt, IsPieceFailed, PassesTest, TestsShown, blocks_of, first_turn, piece_count, row_in, tests, turn_limit}
 use Rattle.mill_dexel.specs.Stocks.{IsStock}
+use Rattle.mill_verify.proofs.Failed.{failed_or_not, in_one_way}
 use Rattle.mill_verify.proofs.Gathered.{gathered}
+use Rattle.mill_verify.proofs.Mounted.{for_some, of_some}
 use Rattle.mill_verify.proofs.Ranges.{rows_few}
 use Rattle.mill_verify.proofs.ReadLemmas.{move_read}
 use Rattle.mill_verify.proofs.Sharing.{first_of_block, first_of_row, limit_of_block, limit_of_row, spans}
-use Rattle.mill_verify.proofs.Turned.{RowClears, row_clears, row_stops}
+use Rattle.mill_verify.proofs.Turned.{HolderPassesTops, RowClears, RowHolderClears, holder_clears_all, row_clears, row_cut_clears, row_holder_clears, row_holder_stops, row_stops}
 
 there_in : {A : Type 0} → (xs : List A) (n : ℕ) → n < length xs → (x : A) × (slice_get xs n ≡ Some x)
 there_in [] n lt = absurd (omega (lt, arith))
@@ -86,11 +96,14 @@ module _ (job : Job) (part : List Tri) (moves : List Move) (turns least : ℕ) (
   row_last u j lt = let l = limit_of_row w (blocks_of w + j) (omega arith) in omega (l, lt, arith)
 
   -- what comes of a move whose tests pass
-  part_cleared : (u : ℕ) → u < turns → PassesTest w (u / 64) u → ClearsPart job part moves u
+  part_cleared : (u : ℕ) → u < turns → PassesTest w (u / 64) u → ToolPassesPart (tool_of job) (move_at moves u) part
   part_cleared u lt p = p.part (block_under u lt)
 
   row_cleared : (u j : ℕ) → PassesTest w (blocks_of w + j) u → RowClears job moves u j
   row_cleared u j p = row_clears job moves u j (p.stock j refl)
+
+  row_held : (u j : ℕ) → PassesTest w (blocks_of w + j) u → RowHolderClears job moves u j
+  row_held u j p = row_holder_clears job moves u j (p.stock j refl)
 
   -- before the least turn all tests pass
   before_least : (n u : ℕ) → n < piece_count w → first_turn w n ≤ u → u < turn_limit w n → u < least → PassesTest w n u
@@ -101,11 +114,56 @@ module _ (job : Job) (part : List Tri) (moves : List Move) (turns least : ℕ) (
       let most = least_most in
       let lt : e < turns = omega (less, to, most, arith) in
       let early : e < least = omega (less, to, arith) in
+      let tool = part_cleared e lt (before_least (e / 64) e (let b = block_under e lt in omega (b, arith)) (block_first e lt) (block_last e lt) early) in
+      let row : (j : ℕ) → j < row_count job → PassesTest w (blocks_of w + j) e = λ j r. before_least (blocks_of w + j) e (omega (r, arith)) (row_first e j) (row_last e j lt) early in
       record {
         floor = floor.over e lt;
-        clears = part_cleared e lt (before_least (e / 64) e (let b = block_under e lt in omega (b, arith)) (block_first e lt) (block_last e lt) early);
-        stock = λ tested j i column. let r = column.row in row_cleared e j (before_least (blocks_of w + j) e (omega (r, arith)) (row_first e j) (row_last e j lt) early) tested i column.column;
+        clears = tool.cutter;
+        holder = tool.holder;
+        stock = λ tested j i column. row_cleared e j (row j column.row) tested i column.column;
+        holder_stock = holder_clears_all job moves e (λ j r. row_held e j (row j r));
       }
+
+  -- a row that fails at the least turn by the holder's test passes the cutter's
+  abbrev FailsHeld : ℕ → Type 0
+  FailsHeld m = (j : ℕ) × (m ≡ blocks_of w + j) × CutClearsRow job (row_before job moves (uncut_row job j) least) (move_at moves least)
+
+  cut_of : (r : RowState) (m : Move) (i : ℕ) (leaf : Leaf) (t : RowTest) → is_holder_test t ≡ true → StopsBy t job r m i leaf → CutClearsRow job r m
+  cut_of r m i leaf test.Cut e stops = absurd (cc)
+  cut_of r m i leaf test.Holder e stops = stops.cut
+
+  held_of : (m : ℕ) (p : Piece) → IsPieceFailed w m least p → is_held_row p ≡ true → FailsHeld m
+  held_of m (Block b s) f e = absurd (cc)
+  held_of m (Stock b r) f e =
+      let found = f.2.fail in
+      (r.row, f.1, cut_of (row_before job moves (uncut_row job r.row) least) (move_at moves least) found.col found.leaf found.test
+      (sym (ap is_of_holder (ap (λ (x : RowState). x.failed) f.2.noted)) ∙ e) f.2.stops.stops)
+
+  -- how a piece failed that failed at the least turn
+  failed_there : (m : ℕ) (h : Held Piece) → IsDone tests w least m h → HasFailed least h → FailsAt tests w m least × IsPieceFailed w m least h.piece
+  failed_there m h d f =
+      let g = d.is_true.failed f.0 in
+      subst (λ (t : ℕ). FailsAt tests w m t × IsPieceFailed w m t h.piece) f.1
+      (subst (λ (k : ℕ). FailsAt tests w k h.next × IsPieceFailed w k h.next h.piece) d.number g)
+
+  -- a piece that hasn't failed at the least turn passes its tests of that move
+  not_failed : (m : ℕ) → m < piece_count w → first_turn w m ≤ least → least < turn_limit w m → ((h : Held Piece) → slice_get hs m ≡ Some h → ¬ HasFailed least h) → PassesTest w m least
+  not_failed m under from to none =
+      let t = done m under in
+      passes_to tests w least m t.0 t.2 (λ k. closed.under m k under) least from to (omega arith) (none t.0 t.1)
+
+  -- one that has failed in no way but by the holder's test of a row passes its tests, or is such a row
+  not_cut : (m : ℕ) → m < piece_count w → first_turn w m ≤ least → least < turn_limit w m → ((h : Held Piece) → slice_get hs m ≡ Some h → ¬ HasFailedBy false least h) → PassesTest w m least ⊎ FailsHeld m
+  not_cut m under from to none =
+      let t = done m under in
+      elim (failed_or_not least t.0) [
+        | inl f ↦ by t.0 t.1 t.2 f (is_held_row t.0.piece) refl
+        | inr no ↦ inl (passes_to tests w least m t.0 t.2 (λ k. closed.under m k under) least from to (omega arith) no)
+      ]
+    where
+      by : (h : Held Piece) → slice_get hs m ≡ Some h → IsDone tests w least m h → HasFailed least h → (b : Bool) → is_held_row h.piece ≡ b → PassesTest w m least ⊎ FailsHeld m
+      by h at d f false e = absurd (none h at (f, e))
+      by h at d f true e = inr (held_of m h.piece (failed_there m h d f).1 e)
 
   module _ (n : ℕ) (first : IsFirstFailed least hs n) where
     here : IsDone tests w least n first.held
@@ -115,10 +173,7 @@ module _ (job : Job) (part : List Tri) (moves : List Move) (turns least : ℕ) (
     under = subst (λ (k : ℕ). k < piece_count w) here.number here.is_true.number
 
     failing : FailsAt tests w n least × IsPieceFailed w n least first.held.piece
-    failing =
-        let g = here.is_true.failed first.failed.0 in
-        subst (λ (t : ℕ). FailsAt tests w n t × IsPieceFailed w n t first.held.piece) first.failed.1
-        (subst (λ (k : ℕ). FailsAt tests w k first.held.next × IsPieceFailed w k first.held.next first.held.piece) here.number g)
+    failing = failed_there n first.held here first.failed
 
     turn_there : least < turns
     turn_there = under_turns n least under failing.0.to
@@ -133,18 +188,12 @@ module _ (job : Job) (part : List Tri) (moves : List Move) (turns least : ℕ) (
     kind_read : (d : Move) → kind ≡ (slice_index_or moves least d).kind
     kind_read d = sym (ap (λ (m : Move). m.kind) (move_read moves least d move_there))
 
-    -- the pieces before it pass their tests of that move
-    others : (m : ℕ) → m < n → first_turn w m ≤ least → least < turn_limit w m → PassesTest w m least
-    others m less from to =
-        let t = done m (let u = under in omega (less, u, arith)) in
-        passes_to tests w least m t.0 t.2 (λ k. closed.under m k (let u = under in omega (less, u, arith))) least from to (omega arith) (first.before m t.0 less t.1)
-
     -- it has a reason
     has_reason : IsJob job → length moves ≤ MAX_MOVES → (p : Piece) → IsPieceFailed w n least p → (reason : Reason) × IsReasonOf kind (blocks_of w) least p reason
-    has_reason ok few (Block m b) f = (Gouge least f.2.gouge.tri f.2.gouge.leaf, (f.2.gouge, ap (λ (x : BlockState). x.failed) f.2.noted, refl))
+    has_reason ok few (Block m b) f = (part_reason least f.2.fail, (f.2.fail, ap (λ (x : BlockState). x.failed) f.2.noted, refl))
     has_reason ok few (Stock m r) f =
         let u = under in let rows = rows_few ok in let same = f.0 in
-        (stock_reason kind least r.row f.2.fail.col f.2.fail.leaf, (f.2.fail, ap (λ (x : RowState). x.failed) f.2.noted, f.0 ∙ f.1, omega (same, u, rows, few, within, arith), refl))
+        (stock_reason f.2.fail.test kind least r.row f.2.fail.col f.2.fail.leaf, (f.2.fail, ap (λ (x : RowState). x.failed) f.2.noted, f.0 ∙ f.1, omega (same, u, rows, few, within, arith), refl))
 
     pub reason_there : (d : Move) (blocks : ℕ) → blocks ≡ blocks_of w → IsJob job → length moves ≤ MAX_MOVES → (h : Held Piece) → h ≡ slice_index_or hs n h
         → (reason : Reason) × IsReasonOf (slice_index_or moves least d).kind blocks h.next h.piece reason
@@ -159,8 +208,8 @@ module _ (job : Job) (part : List Tri) (moves : List Move) (turns least : ℕ) (
     abbrev Rejects : Reason → Type 0
     Rejects reason = IsVerdict job part moves (Reject reason) × ShowsBlocks job part moves (Reject reason)
 
-    part_rejects : (found : Found) → IsFirstGouge job.cutter (move_at moves least) part found → Rejects (Gouge least found.tri found.leaf)
-    part_rejects found f = (
+    part_rejects : (found : PartFail) → IsPartFail job part (move_at moves least) found → Rejects (part_reason least found)
+    part_rejects (fail.Cutter g) f = (
       record {
         there = move_there;
         before = good_to least (omega arith);
@@ -171,40 +220,111 @@ module _ (job : Job) (part : List Tri) (moves : List Move) (turns least : ℕ) (
       },
       f.blocked,
     )
+    part_rejects (fail.Holder g) f = (
+      record {
+        there = move_there;
+        before = good_to least (omega arith);
+        floor = floor.over least turn_there;
+        clears = f.clears;
+        holder = f.holder;
+        mounted = f.mounted;
+        tri = f.first.tri;
+        first = f.first.first;
+        fails = f.first.fails;
+      },
+      for_some (λ (holder : OneHolder). HolderIsBlocked holder (move_at moves least) (tri_at part g.tri) g.leaf) job.holder f.holder f.mounted f.first.blocked,
+    )
 
-    kind_rejects : (v : Kind) (j i : ℕ) (leaf : Leaf) → FailsStock job part moves v least j i leaf → StopsAt job moves v least j i leaf → Rejects (stock_reason v least j i leaf)
+    kind_rejects : (v : Kind) (j i : ℕ) (leaf : Leaf) → FailsStock job part moves v least j i leaf → StopsAt job moves v least j i leaf → Rejects (cut_reason v least j i leaf)
     kind_rejects Rapid j i leaf fails stops = (fails, stops)
     kind_rejects Feed j i leaf fails stops = (fails, stops)
 
-    stock_rejects : (j : ℕ) → n ≡ blocks_of w + j → (fail : RowFail) → StopsRow job (row_before job moves (uncut_row job j) least) (move_at moves least) fail → Rejects (stock_reason kind least j fail.col fail.leaf)
-    stock_rejects j number fail stop =
-        let s = row_stops job moves least j fail stop in
+    -- the pieces of these numbers have failed in no way but by the holder's test of a row
+    abbrev NoCut : ℕ → Type 0
+    NoCut bound = NoneFailedBy false least hs bound
+
+    block_passed : (bound : ℕ) → NoCut bound → blocks_of w ≤ bound → ToolPassesPart (tool_of job) (move_at moves least) part
+    block_passed bound none over =
         let lt = turn_there in
+        let b = block_under least lt in
+        elim (not_cut (least / 64) (omega (b, arith)) (block_first least lt) (block_last least lt) (λ h at. none (least / 64) h (omega (b, over, arith)) at)) [
+          | inl p ↦ part_cleared least lt p
+          | inr t ↦ absurd (let e = t.1 in omega (e, b, arith))
+        ]
+
+    row_cut : (bound j : ℕ) → NoCut bound → blocks_of w + j < bound → j < row_count job → RowClears job moves least j
+    row_cut bound j none under_bound there =
+        elim (not_cut (blocks_of w + j) (omega (there, arith)) (row_first least j) (row_last least j turn_there) (λ h at. none (blocks_of w + j) h under_bound at)) [
+          | inl p ↦ row_cleared least j p
+          | inr t ↦ row_cut_clears job moves least j (subst (λ (i : ℕ). CutClearsRow job (row_before job moves (uncut_row job i) least) (move_at moves least)) (let e = t.1 in let same : t.0 ≡ j = omega (e, arith) in same) t.2)
+        ]
+
+    cut_rejects : (j i : ℕ) (leaf : Leaf) → n ≡ blocks_of w + j → NoCut n → CutStopsAt job (row_before job moves (uncut_row job j) least) (move_at moves least) i leaf → Rejects (cut_reason kind least j i leaf)
+    cut_rejects j i leaf number none stop =
+        let s = row_stops job moves least j i leaf stop in
         let u = under in
-        kind_rejects kind j fail.col fail.leaf
+        let tool = block_passed n none (omega (number, arith)) in
+        kind_rejects kind j i leaf
         (record {
           there = move_there;
           before = good_to least (omega arith);
-          floor = floor.over least lt;
-          clears = part_cleared least lt (others (least / 64) (let b = block_under least lt in omega (b, number, arith)) (block_first least lt) (block_last least lt));
+          floor = floor.over least turn_there;
+          clears = tool.cutter;
+          holder = tool.holder;
           is = refl;
           tested = s.tested;
           column = record { row = omega (number, u, arith); column = s.column };
           first = λ a b column order. elim order [
-            | inl less ↦ row_cleared least a (others (blocks_of w + a) (omega (less, number, arith)) (row_first least a) (row_last least a lt)) s.tested b column.column
+            | inl less ↦ row_cut n a none (omega (less, number, arith)) column.row s.tested b column.column
             | inr same ↦ subst (λ (v : ℕ). PassesColumn job moves least v b) (sym same.0) (s.before b same.1)
           ];
           fails = s.fails;
         })
         s.blocked
 
-    rejects : (p : Piece) (reason : Reason) → IsPieceFailed w n least p → IsReasonOf kind (blocks_of w) least p reason → Rejects reason
-    rejects (Block m b) reason f r =
-        let same : f.2.gouge ≡ r.0 = one_of (sym (ap (λ (x : BlockState). x.failed) f.2.noted) ∙ r.1) in
-        subst Rejects (sym r.2) (part_rejects r.0 (subst (λ (g : Found). IsFirstGouge job.cutter (move_at moves least) part g) same f.2.first))
-    rejects (Stock m row) reason f r =
+    -- a row before it that failed in neither way passes the holder's test
+    row_passed : (a : ℕ) → NoCut (length hs) → NoneFailedBy true least hs n → blocks_of w + a < n → RowHolderClears job moves least a
+    row_passed a none held before =
+        let u = under in let count = closed.count in
+        row_held least a (not_failed (blocks_of w + a) (omega (before, u, arith)) (row_first least a) (row_last least a turn_there)
+        (λ h at. in_one_way least h (none (blocks_of w + a) h (omega (before, u, count, arith)) at) (held (blocks_of w + a) h before at)))
+
+    held_rejects : (j i : ℕ) (leaf : Leaf) → n ≡ blocks_of w + j → NoCut (length hs) → NoneFailedBy true least hs n → HolderStopsAt job (row_before job moves (uncut_row job j) least) (move_at moves least) i leaf → Rejects (HolderStock least j i leaf)
+    held_rejects j i leaf number none held stop =
+        let s = row_holder_stops job moves least j i leaf stop.holder in
+        let u = under in let count = closed.count in
+        let tool = block_passed (length hs) none (omega (u, number, count, arith)) in
+        (record {
+          there = move_there;
+          before = good_to least (omega arith);
+          floor = floor.over least turn_there;
+          clears = tool.cutter;
+          holder_clears = tool.holder;
+          stock = λ tested a b column. row_cut (length hs) a none (let r = column.row in omega (r, count, arith)) column.row tested b column.column;
+          holder = s.holder;
+          mounted = s.mounted;
+          column = record { row = omega (number, u, arith); column = s.column };
+          first = λ a b column order. elim order [
+            | inl less ↦ of_some (λ (h : OneHolder). HolderPassesTops h job moves least a) job.holder s.holder s.mounted (row_passed a none held (omega (less, number, arith))) b column.column
+            | inr same ↦ subst (λ (v : ℕ). HolderPassesPoint s.holder (move_at moves least) (top_point job (take least moves) v b)) (sym same.0) (s.before b same.1)
+          ];
+          fails = s.fails;
+        }, s.blocked)
+
+    stock_rejects : (j i : ℕ) (leaf : Leaf) (t : RowTest) → n ≡ blocks_of w + j → (is_holder_test t ≡ true → NoCut (length hs)) → NoneFailedBy (is_holder_test t) least hs n
+        → StopsBy t job (row_before job moves (uncut_row job j) least) (move_at moves least) i leaf → Rejects (stock_reason t kind least j i leaf)
+    stock_rejects j i leaf test.Cut number none before stop = cut_rejects j i leaf number before stop
+    stock_rejects j i leaf test.Holder number none before stop = held_rejects j i leaf number (none refl) before stop
+
+    rejects : (p : Piece) (reason : Reason) → (is_held_row p ≡ true → NoCut (length hs)) → NoneFailedBy (is_held_row p) least hs n → IsPieceFailed w n least p → IsReasonOf kind (blocks_of w) least p reason → Rejects reason
+    rejects (Block m b) reason none before f r =
+        let same : f.2.fail ≡ r.0 = one_of (sym (ap (λ (x : BlockState). x.failed) f.2.noted) ∙ r.1) in
+        subst Rejects (sym r.2) (part_rejects r.0 (subst (λ (g : PartFail). IsPartFail job part (move_at moves least) g) same f.2.fails))
+    rejects (Stock m row) reason none before f r =
         let same : f.2.fail ≡ r.0 = one_of (sym (ap (λ (x : RowState). x.failed) f.2.noted) ∙ r.1) in
-        subst Rejects (sym r.4) (stock_rejects row.row f.1 r.0 (subst (λ (x : RowFail). StopsRow job (row_before job moves (uncut_row job row.row) least) (move_at moves least) x) same f.2.stops))
+        let way : is_held_row (Stock m row) ≡ is_holder_test r.0.test = ap is_of_holder r.1 in
+        let stop = subst (λ (x : RowFail). StopsRow job (row_before job moves (uncut_row job row.row) least) (move_at moves least) x) same f.2.stops in
+        subst Rejects (sym r.4) (stock_rejects row.row r.0.col r.0.leaf r.0.test f.1 (λ e. none (way ∙ e)) (subst (λ (b : Bool). NoneFailedBy b least hs n) way before) stop.stops)
 
     pub rejected : (d : Move) (blocks : ℕ) → blocks ≡ blocks_of w → (h : Held Piece) (reason : Reason) → h ≡ slice_index_or hs n h
         → IsReasonOf (slice_index_or moves least d).kind blocks h.next h.piece reason → Rejects reason
@@ -212,7 +332,7 @@ module _ (job : Job) (part : List Tri) (moves : List Move) (turns least : ℕ) (
         let of_kind = subst (λ (v : Kind). IsReasonOf v blocks h.next h.piece reason) (sym (kind_read d)) told in
         let r = subst (λ (k : ℕ). IsReasonOf kind k h.next h.piece reason) count of_kind in
         let same : h ≡ first.held = sym (read_there hs n first.held h first.there at) in
-        rejects first.held.piece reason failing.1
+        rejects first.held.piece reason first.cut first.before failing.1
         (subst (λ (t : ℕ). IsReasonOf kind (blocks_of w) t first.held.piece reason) first.failed.1 (subst (λ (x : Held Piece). IsReasonOf kind (blocks_of w) x.next x.piece reason) same r))
 
   module _ (none : NoneFailed least hs (length hs)) where

@@ -1,23 +1,26 @@
 -- A row through its turns, in the terms of the tests.
-use Rattle.std.specs.Prelude.{◌≡◌, ℕ, ◌-◌, ◌<◌, ℤ, List, [], ◌∷◌, ◌++◌, take, replicate, None, slice_range}
+use Rattle.std.specs.Prelude.{◌≡◌, ℕ, ◌-◌, ◌<◌, ℤ, List, [], ◌∷◌, ◌++◌, take, replicate, None, Some, IfSome, slice_range}
 use Rattle.std.proofs.Common.{sym, ◌∙◌, ap, subst, arith}
 use Rattle.std.proofs.lemmas.List.{append-nil, append_assoc}
 use Rattle.mill_base.specs.Points.{point_at, point_tri}
 use Rattle.mill_base.specs.declared.points.Pt3.{Pt3}
 use Rattle.mill_base.specs.declared.motion.Move.{Move}
 use Rattle.mill_base.specs.declared.motion.Kind.{Kind}
+use Rattle.mill_base.specs.declared.motion.Kind.TheVariants.{Rapid}
+use Rattle.mill_base.specs.declared.tool.Holder.{Holder}
 use Rattle.mill_sweep.specs.Leaves.{span_of}
 use Rattle.mill_sweep.specs.Halving.{PassesPoint, FailsAt, Blocks}
+use Rattle.mill_sweep.specs.Holders.{HolderFailsAt, HolderIsBlocked, HolderPassesPoint}
 use Rattle.mill_sweep.specs.declared.leaf.Leaf.{Leaf}
 use Rattle.mill_job.specs.declared.job.Job.{Job}
-use Rattle.mill_job.specs.Columns.{column_count, column_x, column_y}
-use Rattle.mill_dexel.specs.Tops.{IsTested, row_after, tested_height, tested_point}
-use Rattle.mill_dexel.specs.Rows.{RowState, row_point, uncut_row}
-use Rattle.mill_dexel.specs.Turns.{ClearsRow, StopsRow, move_at, tops_after, row_before}
-use Rattle.mill_dexel.specs.declared.fail.RowFail.{RowFail}
+use Rattle.mill_job.specs.Columns.{IsColumn, column_count, column_x, column_y, row_count}
+use Rattle.mill_dexel.specs.Tops.{IsTested, row_after, tested_height, tested_point, top_point}
+use Rattle.mill_dexel.specs.Rows.{HolderPassesRow, IsFirstHolderStop, RowState, row_point, uncut_row}
+use Rattle.mill_dexel.specs.Turns.{ClearsRow, CutClearsRow, CutStopsAt, move_at, tops_after, row_before}
 use Rattle.mill_dexel.proofs.RowLaws.{row_after-at, row_after_none, row_after_more}
-use Rattle.mill_verify.specs.Tests.{PassesColumn}
-use Rattle.mill_verify.specs.inner.Firsts.{StopsAt}
+use Rattle.mill_verify.specs.Tests.{HolderClearsStock, PassesColumn}
+use Rattle.mill_verify.specs.inner.Firsts.{BlocksHeld, StopsAt}
+use Rattle.mill_verify.proofs.Mounted.{each_some, for_some, if_some, of_some}
 
 -- move by move, the tops after some moves become those after more
 tops_from : (job : Job) (j : ℕ) (before ms : List Move) → tops_after job j ms (row_after job j before) ≡ row_after job j (before ++ ms)
@@ -46,6 +49,13 @@ point_is job kind moves j k i h =
 abbrev pub RowClears : Job → List Move → ℕ → ℕ → Type 0
 RowClears job moves k j = IsTested job (move_at moves k).kind → (i : ℕ) → i < column_count job → PassesColumn job moves k j i
 
+-- test (iii h) of move k by row j
+abbrev pub HolderPassesTops : Holder → Job → List Move → ℕ → ℕ → Type 0
+HolderPassesTops holder job moves k j = (i : ℕ) → i < column_count job → HolderPassesPoint holder (move_at moves k) (top_point job (take k moves) j i)
+
+abbrev pub RowHolderClears : Job → List Move → ℕ → ℕ → Type 0
+RowHolderClears job moves k j = IfSome job.holder (λ holder. HolderPassesTops holder job moves k j)
+
 -- move k is tested, and fails test (iii) in row j at column i first, where the leaf is blocked
 pub record IsRowStop (job : Job) (moves : List Move) (k j i : ℕ) (leaf : Leaf) : Type 0 where
   pub tested : IsTested job (move_at moves k).kind
@@ -54,23 +64,67 @@ pub record IsRowStop (job : Job) (moves : List Move) (k j i : ℕ) (leaf : Leaf)
   pub fails : FailsAt job.cutter (move_at moves k) (point_tri (tested_point job (move_at moves k).kind (take k moves) j i)) leaf
   pub blocked : StopsAt job moves (move_at moves k).kind k j i leaf
 
--- a move that a row lets pass, as that move meets it, passes test (iii) there
-pub row_clears : (job : Job) (moves : List Move) (k j : ℕ) → ClearsRow job (row_before job moves (uncut_row job j) k) (move_at moves k) → RowClears job moves k j
-row_clears job moves k j clears tested i there =
-    subst (λ (p : Pt3). PassesPoint job.cutter (move_at moves k) p) (point_is job (move_at moves k).kind moves j k i there) (clears tested i there)
+-- the job has a holder, and move k fails test (iii h) in row j at column i first, where the leaf is blocked
+pub record IsRowHolderStop (job : Job) (moves : List Move) (k j i : ℕ) (leaf : Leaf) : Type 0 where
+  pub holder : Holder
+  pub mounted : job.holder ≡ Some holder
+  pub column : i < column_count job
+  pub before : (e : ℕ) → e < i → HolderPassesPoint holder (move_at moves k) (top_point job (take k moves) j e)
+  pub fails : HolderFailsAt holder (move_at moves k) (point_tri (top_point job (take k moves) j i)) leaf
+  pub blocked : BlocksHeld job moves k leaf (point_tri (top_point job (take k moves) j i))
 
--- and one that it stops fails
-pub row_stops : (job : Job) (moves : List Move) (k j : ℕ) (fail : RowFail) → StopsRow job (row_before job moves (uncut_row job j) k) (move_at moves k) fail → IsRowStop job moves k j fail.col fail.leaf
-row_stops job moves k j fail stop =
-    let kind = (move_at moves k).kind in
-    let here = point_is job kind moves j k fail.col stop.column.column in
-    record {
-      tested = stop.tested;
-      column = stop.column.column;
-      before = λ e h. subst (λ (p : Pt3). PassesPoint job.cutter (move_at moves k) p) (point_is job kind moves j k e (less e fail.col (column_count job) h stop.column.column)) (stop.column.before e h);
-      fails = subst (λ (p : Pt3). FailsAt job.cutter (move_at moves k) (point_tri p) fail.leaf) here stop.column.fails;
-      blocked = subst (λ (p : Pt3). Blocks job.cutter (span_of (move_at moves k) fail.leaf.d fail.leaf.k) (point_tri p)) here stop.blocked;
-    }
-  where
-    less : (a b c : ℕ) → a < b → b < c → a < c
-    less a b c h g = omega (h, g, arith)
+less : (a b c : ℕ) → a < b → b < c → a < c
+less a b c h g = omega (h, g, arith)
+
+module _ (job : Job) (moves : List Move) (k j : ℕ) where
+  abbrev met : RowState
+  met = row_before job moves (uncut_row job j) k
+
+  abbrev step : Move
+  step = move_at moves k
+
+  -- a move of which a row passes the tests, as that move meets it, passes test (iii) there
+  pub row_cut_clears : CutClearsRow job met step → RowClears job moves k j
+  row_cut_clears clears tested i there = subst (λ (p : Pt3). PassesPoint job.cutter step p) (point_is job step.kind moves j k i there) (clears tested i there)
+
+  pub row_clears : ClearsRow job met step → RowClears job moves k j
+  row_clears clears = row_cut_clears clears.cut
+
+  -- and test (iii h)
+  held_clears : (holder : Holder) → HolderPassesRow holder job met step → HolderPassesTops holder job moves k j
+  held_clears holder clears i there = subst (λ (p : Pt3). HolderPassesPoint holder step p) (point_is job Rapid moves j k i there) (clears i there)
+
+  pub row_holder_clears : ClearsRow job met step → RowHolderClears job moves k j
+  row_holder_clears clears = each_some (λ (holder : Holder). HolderPassesRow holder job met step) (λ (holder : Holder). HolderPassesTops holder job moves k j) job.holder held_clears clears.holder
+
+  -- one that the cutter stops fails test (iii)
+  pub row_stops : (i : ℕ) (leaf : Leaf) → CutStopsAt job met step i leaf → IsRowStop job moves k j i leaf
+  row_stops i leaf stop =
+      let here = point_is job step.kind moves j k i stop.column.column in
+      record {
+        tested = stop.tested;
+        column = stop.column.column;
+        before = λ e h. subst (λ (p : Pt3). PassesPoint job.cutter step p) (point_is job step.kind moves j k e (less e i (column_count job) h stop.column.column)) (stop.column.before e h);
+        fails = subst (λ (p : Pt3). FailsAt job.cutter step (point_tri p) leaf) here stop.column.fails;
+        blocked = subst (λ (p : Pt3). Blocks job.cutter (span_of step leaf.d leaf.k) (point_tri p)) here stop.blocked;
+      }
+
+  -- and one that the holder stops test (iii h)
+  pub row_holder_stops : (i : ℕ) (leaf : Leaf) → IsFirstHolderStop job met step i leaf → IsRowHolderStop job moves k j i leaf
+  row_holder_stops i leaf stop =
+      let here = point_is job Rapid moves j k i stop.column.column in
+      record {
+        holder = stop.holder;
+        mounted = stop.there;
+        column = stop.column.column;
+        before = λ e h. subst (λ (p : Pt3). HolderPassesPoint stop.holder step p) (point_is job Rapid moves j k e (less e i (column_count job) h stop.column.column)) (stop.column.before e h);
+        fails = subst (λ (p : Pt3). HolderFailsAt stop.holder step (point_tri p) leaf) here stop.column.fails;
+        blocked = for_some (λ (holder : Holder). HolderIsBlocked holder step (point_tri (top_point job (take k moves) j i)) leaf) job.holder stop.holder stop.there
+            (subst (λ (p : Pt3). HolderIsBlocked stop.holder step (point_tri p) leaf) here stop.blocked);
+      }
+
+-- a move that passes test (iii h) in each row passes it
+pub holder_clears_all : (job : Job) (moves : List Move) (k : ℕ) → ((j : ℕ) → j < row_count job → RowHolderClears job moves k j) → HolderClearsStock job moves k
+holder_clears_all job moves k each =
+    if_some (λ (holder : Holder). (j i : ℕ) → IsColumn job j i → HolderPassesPoint holder (move_at moves k) (top_point job (take k moves) j i)) job.holder
+    (λ holder there j i column. of_some (λ (h : Holder). HolderPassesTops h job moves k j) job.holder holder there (each j column.row) i column.column)

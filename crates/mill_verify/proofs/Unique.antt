@@ -1,5 +1,5 @@
 -- There is at most one verdict.
-use Rattle.std.specs.Prelude.{◌≡◌, ℕ, ◌<◌, ℤ, ◌≤ℤ◌, List, length, take}
+use Rattle.std.specs.Prelude.{◌≡◌, ℕ, ◌<◌, ℤ, ◌≤ℤ◌, List, length, take, Some}
 use Rattle.std.proofs.Common.{sym, ◌∙◌, ap, subst, inl, inr, arith}
 use Rattle.std.proofs.lemmas.Int.{ints}
 use Rattle.mill_base.specs.declared.points.Tri.{Tri}
@@ -7,20 +7,25 @@ use Rattle.mill_base.specs.declared.motion.Move.{Move}
 use Rattle.mill_base.specs.declared.motion.Kind.{Kind}
 use Rattle.mill_base.specs.declared.motion.Kind.TheVariants.{Rapid, Feed}
 use Rattle.mill_base.specs.Points.{point_tri, tri_at}
+use Rattle.mill_base.specs.declared.tool.Holder.{Holder as OneHolder}
+use Rattle.mill_base.specs.Tools.{solid_of}
+use Rattle.mill_gouge.specs.Gouges.{HolderPassesPart}
+use Rattle.mill_sweep.specs.Holders.{HolderFailsAt, HolderPasses, HolderPassesPoint, lifted}
 use Rattle.mill_sweep.specs.declared.leaf.Leaf.{Leaf}
 use Rattle.mill_job.specs.declared.job.Job.{Job}
-use Rattle.mill_job.specs.Columns.{IsBefore}
-use Rattle.mill_dexel.specs.Tops.{tested_point}
-use Rattle.mill_verify.specs.Tests.{IsOverFloor, ClearsPart, IsGood, GoodBefore}
+use Rattle.mill_job.specs.Columns.{IsBefore, IsColumn}
+use Rattle.mill_dexel.specs.Tops.{tested_point, top_point}
+use Rattle.mill_verify.specs.Tests.{IsOverFloor, ClearsPart, HolderClearsPart, ClearsStock, HolderClearsStock, IsGood, GoodBefore}
 use Rattle.mill_dexel.specs.Turns.{move_at}
 use Rattle.mill_dexel.proofs.RunLaws.{same_number, leaf_is_one}
 use Rattle.mill_verify.proofs.Depths.{clears_as, passes_as}
-use Rattle.mill_verify.specs.Verdicts.{FailsFloor, FailsPart, FailsStock, FailsCut, Accepts, IsRejection, IsVerdict}
+use Rattle.mill_verify.proofs.Mounted.{of_some, one_some}
+use Rattle.mill_verify.specs.Verdicts.{FailsFloor, FailsPart, FailsHolder, FailsStock, FailsHolderStock, FailsCut, Accepts, IsRejection, IsVerdict}
 use Rattle.mill_verify.specs.declared.verdict.Verdict.{Verdict}
 use Rattle.mill_verify.specs.declared.verdict.Verdict.TheVariants.{Accept, Reject}
 use Rattle.mill_verify.specs.declared.verdict.Reason.{Reason}
-use Rattle.mill_verify.specs.declared.verdict.Reason.TheVariants.{Floor, Gouge, Rapid as RapidCut, Cut, Left}
-use Rattle.mill_verify.specs.inner.Failures.{stock_reason}
+use Rattle.mill_verify.specs.declared.verdict.Reason.TheVariants.{Floor, Gouge, Holder, Rapid as RapidCut, Cut, HolderStock, Left}
+use Rattle.mill_verify.specs.inner.Failures.{cut_reason}
 
 not_before : (j i a b : ℕ) → ¬ IsBefore j i a b → ¬ IsBefore a b j i → (j ≡ a) × (i ≡ b)
 not_before j i a b h g =
@@ -46,6 +51,20 @@ module _ (job : Job) (part : List Tri) (moves : List Move) where
   stops_stock : (kind : Kind) (k j i : ℕ) (leaf : Leaf) → FailsStock job part moves kind k j i leaf → Stops k
   stops_stock kind k j i leaf h = record { there = h.there; before = h.before; bad = λ g. h.fails.fails (clears_as job moves kind k h.is g.stock h.tested j i h.column) }
 
+  -- a holder that fails a test doesn't pass it
+  held_fails : (k t : ℕ) (leaf : Leaf) → FailsHolder job part moves k t leaf → ¬ HolderClearsPart job part moves k
+  held_fails k t leaf h clears = h.fails.fails (of_some (λ (v : OneHolder). HolderPassesPart v (move_at moves k) part) job.holder h.holder h.mounted clears t h.tri)
+
+  held_stock_fails : (k j i : ℕ) (leaf : Leaf) → FailsHolderStock job part moves k j i leaf → ¬ HolderClearsStock job moves k
+  held_stock_fails k j i leaf h clears =
+      h.fails.fails (of_some (λ (v : OneHolder). (a b : ℕ) → IsColumn job a b → HolderPassesPoint v (move_at moves k) (top_point job (take k moves) a b)) job.holder h.holder h.mounted clears j i h.column)
+
+  stops_held : (k t : ℕ) (leaf : Leaf) → FailsHolder job part moves k t leaf → Stops k
+  stops_held k t leaf h = record { there = h.there; before = h.before; bad = λ g. held_fails k t leaf h g.holder }
+
+  stops_held_stock : (k j i : ℕ) (leaf : Leaf) → FailsHolderStock job part moves k j i leaf → Stops k
+  stops_held_stock k j i leaf h = record { there = h.there; before = h.before; bad = λ g. held_stock_fails k j i leaf h g.holder_stock }
+
   one_stop : (a b : ℕ) → Stops a → Stops b → a ≡ b
   one_stop a b h g = same_number a b (λ x. h.bad (g.before a x)) (λ x. g.bad (h.before b x))
 
@@ -60,6 +79,21 @@ module _ (job : Job) (part : List Tri) (moves : List Move) where
       let at = passes_as job moves kind k h.is in
       not_before j i c d (λ x. h.fails.fails (at j i (g.first j i h.column x))) (λ x. g.fails.fails (at c d (h.first c d g.column x)))
 
+  -- the triangle and the leaf at which the holder fails, whichever it is called
+  one_held : (k t u : ℕ) (a b : Leaf) → FailsHolder job part moves k t a → FailsHolder job part moves k u b → t ≡ u
+  one_held k t u a b h g =
+      let same : h.holder ≡ g.holder = one_some job.holder h.holder g.holder h.mounted g.mounted in
+      same_number t u
+      (λ x. h.fails.fails (subst (λ (v : OneHolder). HolderPasses v (move_at moves k) (tri_at part t)) (sym same) (g.first t x)))
+      (λ x. g.fails.fails (subst (λ (v : OneHolder). HolderPasses v (move_at moves k) (tri_at part u)) same (h.first u x)))
+
+  one_held_column : (k j i c d : ℕ) (a b : Leaf) → FailsHolderStock job part moves k j i a → FailsHolderStock job part moves k c d b → (j ≡ c) × (i ≡ d)
+  one_held_column k j i c d a b h g =
+      let same : h.holder ≡ g.holder = one_some job.holder h.holder g.holder h.mounted g.mounted in
+      not_before j i c d
+      (λ x. h.fails.fails (subst (λ (v : OneHolder). HolderPassesPoint v (move_at moves k) (top_point job (take k moves) j i)) (sym same) (g.first j i h.column x)))
+      (λ x. g.fails.fails (subst (λ (v : OneHolder). HolderPassesPoint v (move_at moves k) (top_point job (take k moves) c d)) same (h.first c d g.column x)))
+
   one_uncut : (j i c d : ℕ) (s t : ℤ) → FailsCut job part moves j i s → FailsCut job part moves c d t → (j ≡ c) × (i ≡ d)
   one_uncut j i c d s t h g = not_before j i c d (λ x. h.fails (g.first j i h.column x)) (λ x. g.fails (h.first c d g.column x))
 
@@ -72,15 +106,35 @@ module _ (job : Job) (part : List Tri) (moves : List Move) where
       ap (λ (n : ℕ). Gouge n t a) e ∙ ap (λ (n : ℕ). Gouge l n a) f ∙ ap (λ (x : Leaf). Gouge l u x) q
 
   same_stock : (kind : Kind) (k l j i c d : ℕ) (a b : Leaf) → k ≡ l → FailsStock job part moves kind k j i a → FailsStock job part moves kind l c d b
-      → stock_reason kind k j i a ≡ stock_reason kind l c d b
+      → cut_reason kind k j i a ≡ cut_reason kind l c d b
   same_stock kind k l j i c d a b e h g =
       let g2 : FailsStock job part moves kind k c d b = subst (λ (n : ℕ). FailsStock job part moves kind n c d b) (sym e) g in
       let f = one_column kind k j i c d a b h g2 in
       let g3 : FailsStock job part moves kind k j d b = subst (λ (n : ℕ). FailsStock job part moves kind k n d b) (sym f.0) g2 in
       let g4 : FailsStock job part moves kind k j i b = subst (λ (n : ℕ). FailsStock job part moves kind k j n b) (sym f.1) g3 in
       let q : a ≡ b = leaf_is_one job.cutter (move_at moves k) (point_tri (tested_point job kind (take k moves) j i)) a b h.fails g4.fails in
-      let r = stock_reason kind in
+      let r = cut_reason kind in
       ap (λ (n : ℕ). r n j i a) e ∙ ap (λ (n : ℕ). r l n i a) f.0 ∙ ap (λ (n : ℕ). r l c n a) f.1 ∙ ap (λ (x : Leaf). r l c d x) q
+
+  same_held : (k l t u : ℕ) (a b : Leaf) → k ≡ l → FailsHolder job part moves k t a → FailsHolder job part moves l u b → Holder k t a ≡ Holder l u b
+  same_held k l t u a b e h g =
+      let g2 : FailsHolder job part moves k u b = subst (λ (n : ℕ). FailsHolder job part moves n u b) (sym e) g in
+      let f : t ≡ u = one_held k t u a b h g2 in
+      let g3 : FailsHolder job part moves k t b = subst (λ (n : ℕ). FailsHolder job part moves k n b) (sym f) g2 in
+      let same : g3.holder ≡ h.holder = one_some job.holder g3.holder h.holder g3.mounted h.mounted in
+      let q : a ≡ b = leaf_is_one (solid_of h.holder) (lifted h.holder (move_at moves k)) (tri_at part t) a b h.fails (subst (λ (v : OneHolder). HolderFailsAt v (move_at moves k) (tri_at part t) b) same g3.fails) in
+      ap (λ (n : ℕ). Holder n t a) e ∙ ap (λ (n : ℕ). Holder l n a) f ∙ ap (λ (x : Leaf). Holder l u x) q
+
+  same_held_stock : (k l j i c d : ℕ) (a b : Leaf) → k ≡ l → FailsHolderStock job part moves k j i a → FailsHolderStock job part moves l c d b → HolderStock k j i a ≡ HolderStock l c d b
+  same_held_stock k l j i c d a b e h g =
+      let g2 : FailsHolderStock job part moves k c d b = subst (λ (n : ℕ). FailsHolderStock job part moves n c d b) (sym e) g in
+      let f = one_held_column k j i c d a b h g2 in
+      let g3 : FailsHolderStock job part moves k j d b = subst (λ (n : ℕ). FailsHolderStock job part moves k n d b) (sym f.0) g2 in
+      let g4 : FailsHolderStock job part moves k j i b = subst (λ (n : ℕ). FailsHolderStock job part moves k j n b) (sym f.1) g3 in
+      let same : g4.holder ≡ h.holder = one_some job.holder g4.holder h.holder g4.mounted h.mounted in
+      let tri = point_tri (top_point job (take k moves) j i) in
+      let q : a ≡ b = leaf_is_one (solid_of h.holder) (lifted h.holder (move_at moves k)) tri a b h.fails (subst (λ (v : OneHolder). HolderFailsAt v (move_at moves k) tri b) same g4.fails) in
+      ap (λ (n : ℕ). HolderStock n j i a) e ∙ ap (λ (n : ℕ). HolderStock l n i a) f.0 ∙ ap (λ (n : ℕ). HolderStock l c n a) f.1 ∙ ap (λ (x : Leaf). HolderStock l c d x) q
 
   -- no move is both a Rapid and a Feed
   two_kinds : (k l j i c d : ℕ) (a b : Leaf) → FailsStock job part moves Rapid k j i a → FailsStock job part moves Feed l c d b → ⊥
@@ -95,55 +149,83 @@ module _ (job : Job) (part : List Tri) (moves : List Move) where
       let g4 : FailsCut job part moves j i t = subst (λ (n : ℕ). FailsCut job part moves j n t) (sym f.1) g3 in
       ap (λ (n : ℕ). Left n i s) f.0 ∙ ap (λ (n : ℕ). Left c n s) f.1 ∙ ap (λ (x : ℤ). Left c d x) (h.shown ∙ sym g4.shown)
 
-  floor_part : (k l t : ℕ) (b : Leaf) → FailsFloor job part moves k → FailsPart job part moves l t b → ⊥
-  floor_part k l t b h g = h.fails (subst (λ (n : ℕ). IsOverFloor job moves n) (one_stop l k (stops_part l t b g) (stops_floor k h)) g.floor)
+  -- a move that fails one test first doesn't fail a later one first
+  no_floor : (k l : ℕ) → FailsFloor job part moves k → Stops l → IsOverFloor job moves l → ⊥
+  no_floor k l h stop over = h.fails (subst (λ (n : ℕ). IsOverFloor job moves n) (one_stop l k stop (stops_floor k h)) over)
 
-  floor_stock : (kind : Kind) (k l j i : ℕ) (b : Leaf) → FailsFloor job part moves k → FailsStock job part moves kind l j i b → ⊥
-  floor_stock kind k l j i b h g = h.fails (subst (λ (n : ℕ). IsOverFloor job moves n) (one_stop l k (stops_stock kind l j i b g) (stops_floor k h)) g.floor)
+  no_part : (k l t : ℕ) (a : Leaf) → FailsPart job part moves k t a → Stops l → ClearsPart job part moves l → ⊥
+  no_part k l t a h stop clears = h.fails.fails (subst (λ (n : ℕ). ClearsPart job part moves n) (one_stop l k stop (stops_part k t a h)) clears t h.tri)
 
-  part_stock : (kind : Kind) (k l t j i : ℕ) (a b : Leaf) → FailsPart job part moves k t a → FailsStock job part moves kind l j i b → ⊥
-  part_stock kind k l t j i a b h g = h.fails.fails (subst (λ (n : ℕ). ClearsPart job part moves n) (one_stop l k (stops_stock kind l j i b g) (stops_part k t a h)) g.clears t h.tri)
+  no_held : (k l t : ℕ) (a : Leaf) → FailsHolder job part moves k t a → Stops l → HolderClearsPart job part moves l → ⊥
+  no_held k l t a h stop clears = held_fails k t a h (subst (λ (n : ℕ). HolderClearsPart job part moves n) (one_stop l k stop (stops_held k t a h)) clears)
+
+  no_stock : (kind : Kind) (k l j i : ℕ) (a : Leaf) → FailsStock job part moves kind k j i a → Stops l → ClearsStock job moves l → ⊥
+  no_stock kind k l j i a h stop clears =
+      h.fails.fails (clears_as job moves kind k h.is (subst (λ (n : ℕ). ClearsStock job moves n) (one_stop l k stop (stops_stock kind k j i a h)) clears) h.tested j i h.column)
 
   same_at : (kind : Kind) (k l j i c d : ℕ) (a b : Leaf) → FailsStock job part moves kind k j i a → FailsStock job part moves kind l c d b
-      → stock_reason kind k j i a ≡ stock_reason kind l c d b
+      → cut_reason kind k j i a ≡ cut_reason kind l c d b
   same_at kind k l j i c d a b h g = same_stock kind k l j i c d a b (one_stop k l (stops_stock kind k j i a h) (stops_stock kind l c d b g)) h g
-
-  stock_left : (kind : Kind) (k j i c d : ℕ) (a : Leaf) (s : ℤ) → FailsStock job part moves kind k j i a → FailsCut job part moves c d s → ⊥
-  stock_left kind k j i c d a s h g = no_stop k (stops_stock kind k j i a h) g.before
 
   one_reason : (r s : Reason) → IsRejection job part moves r → IsRejection job part moves s → r ≡ s
   one_reason (Floor k) (Floor l) h g = ap (λ (n : ℕ). Floor n) (one_stop k l (stops_floor k h) (stops_floor l g))
-  one_reason (Floor k) (Gouge l t b) h g = absurd (floor_part k l t b h g)
-  one_reason (Floor k) (RapidCut l j i b) h g = absurd (floor_stock Rapid k l j i b h g)
-  one_reason (Floor k) (Cut l j i b) h g = absurd (floor_stock Feed k l j i b h g)
-  one_reason (Floor k) (Left j i s) h g = absurd (no_stop k (stops_floor k h) g.before)
-  one_reason (Gouge l t b) (Floor k) h g = absurd (floor_part k l t b g h)
+  one_reason (Floor k) (Gouge l u b) h g = absurd (no_floor k l h (stops_part l u b g) g.floor)
+  one_reason (Floor k) (Holder l u b) h g = absurd (no_floor k l h (stops_held l u b g) g.floor)
+  one_reason (Floor k) (RapidCut l c d b) h g = absurd (no_floor k l h (stops_stock Rapid l c d b g) g.floor)
+  one_reason (Floor k) (Cut l c d b) h g = absurd (no_floor k l h (stops_stock Feed l c d b g) g.floor)
+  one_reason (Floor k) (HolderStock l c d b) h g = absurd (no_floor k l h (stops_held_stock l c d b g) g.floor)
+  one_reason (Floor k) (Left c d z) h g = absurd (no_stop k (stops_floor k h) g.before)
+  one_reason (Gouge k t a) (Floor l) h g = absurd (no_floor l k g (stops_part k t a h) h.floor)
   one_reason (Gouge k t a) (Gouge l u b) h g = same_gouge k l t u a b (one_stop k l (stops_part k t a h) (stops_part l u b g)) h g
-  one_reason (Gouge k t a) (RapidCut l j i b) h g = absurd (part_stock Rapid k l t j i a b h g)
-  one_reason (Gouge k t a) (Cut l j i b) h g = absurd (part_stock Feed k l t j i a b h g)
-  one_reason (Gouge k t a) (Left j i s) h g = absurd (no_stop k (stops_part k t a h) g.before)
-  one_reason (RapidCut l j i b) (Floor k) h g = absurd (floor_stock Rapid k l j i b g h)
-  one_reason (RapidCut l j i b) (Gouge k t a) h g = absurd (part_stock Rapid k l t j i a b g h)
+  one_reason (Gouge k t a) (Holder l u b) h g = absurd (no_part k l t a h (stops_held l u b g) g.clears)
+  one_reason (Gouge k t a) (RapidCut l c d b) h g = absurd (no_part k l t a h (stops_stock Rapid l c d b g) g.clears)
+  one_reason (Gouge k t a) (Cut l c d b) h g = absurd (no_part k l t a h (stops_stock Feed l c d b g) g.clears)
+  one_reason (Gouge k t a) (HolderStock l c d b) h g = absurd (no_part k l t a h (stops_held_stock l c d b g) g.clears)
+  one_reason (Gouge k t a) (Left c d z) h g = absurd (no_stop k (stops_part k t a h) g.before)
+  one_reason (Holder k t a) (Floor l) h g = absurd (no_floor l k g (stops_held k t a h) h.floor)
+  one_reason (Holder k t a) (Gouge l u b) h g = absurd (no_part l k u b g (stops_held k t a h) h.clears)
+  one_reason (Holder k t a) (Holder l u b) h g = same_held k l t u a b (one_stop k l (stops_held k t a h) (stops_held l u b g)) h g
+  one_reason (Holder k t a) (RapidCut l c d b) h g = absurd (no_held k l t a h (stops_stock Rapid l c d b g) g.holder)
+  one_reason (Holder k t a) (Cut l c d b) h g = absurd (no_held k l t a h (stops_stock Feed l c d b g) g.holder)
+  one_reason (Holder k t a) (HolderStock l c d b) h g = absurd (no_held k l t a h (stops_held_stock l c d b g) g.holder_clears)
+  one_reason (Holder k t a) (Left c d z) h g = absurd (no_stop k (stops_held k t a h) g.before)
+  one_reason (RapidCut k j i a) (Floor l) h g = absurd (no_floor l k g (stops_stock Rapid k j i a h) h.floor)
+  one_reason (RapidCut k j i a) (Gouge l u b) h g = absurd (no_part l k u b g (stops_stock Rapid k j i a h) h.clears)
+  one_reason (RapidCut k j i a) (Holder l u b) h g = absurd (no_held l k u b g (stops_stock Rapid k j i a h) h.holder)
   one_reason (RapidCut k j i a) (RapidCut l c d b) h g = same_at Rapid k l j i c d a b h g
   one_reason (RapidCut k j i a) (Cut l c d b) h g = absurd (two_kinds k l j i c d a b h g)
-  one_reason (RapidCut k j i a) (Left c d s) h g = absurd (stock_left Rapid k j i c d a s h g)
-  one_reason (Cut l j i b) (Floor k) h g = absurd (floor_stock Feed k l j i b g h)
-  one_reason (Cut l j i b) (Gouge k t a) h g = absurd (part_stock Feed k l t j i a b g h)
+  one_reason (RapidCut k j i a) (HolderStock l c d b) h g = absurd (no_stock Rapid k l j i a h (stops_held_stock l c d b g) g.stock)
+  one_reason (RapidCut k j i a) (Left c d z) h g = absurd (no_stop k (stops_stock Rapid k j i a h) g.before)
+  one_reason (Cut k j i a) (Floor l) h g = absurd (no_floor l k g (stops_stock Feed k j i a h) h.floor)
+  one_reason (Cut k j i a) (Gouge l u b) h g = absurd (no_part l k u b g (stops_stock Feed k j i a h) h.clears)
+  one_reason (Cut k j i a) (Holder l u b) h g = absurd (no_held l k u b g (stops_stock Feed k j i a h) h.holder)
   one_reason (Cut k j i a) (RapidCut l c d b) h g = absurd (two_kinds l k c d j i b a g h)
   one_reason (Cut k j i a) (Cut l c d b) h g = same_at Feed k l j i c d a b h g
-  one_reason (Cut k j i a) (Left c d s) h g = absurd (stock_left Feed k j i c d a s h g)
-  one_reason (Left j i s) (Floor k) h g = absurd (no_stop k (stops_floor k g) h.before)
-  one_reason (Left j i s) (Gouge k t a) h g = absurd (no_stop k (stops_part k t a g) h.before)
-  one_reason (Left c d s) (RapidCut k j i a) h g = absurd (stock_left Rapid k j i c d a s g h)
-  one_reason (Left c d s) (Cut k j i a) h g = absurd (stock_left Feed k j i c d a s g h)
-  one_reason (Left j i s) (Left c d t) h g = same_left j i c d s t h g
+  one_reason (Cut k j i a) (HolderStock l c d b) h g = absurd (no_stock Feed k l j i a h (stops_held_stock l c d b g) g.stock)
+  one_reason (Cut k j i a) (Left c d z) h g = absurd (no_stop k (stops_stock Feed k j i a h) g.before)
+  one_reason (HolderStock k j i a) (Floor l) h g = absurd (no_floor l k g (stops_held_stock k j i a h) h.floor)
+  one_reason (HolderStock k j i a) (Gouge l u b) h g = absurd (no_part l k u b g (stops_held_stock k j i a h) h.clears)
+  one_reason (HolderStock k j i a) (Holder l u b) h g = absurd (no_held l k u b g (stops_held_stock k j i a h) h.holder_clears)
+  one_reason (HolderStock k j i a) (RapidCut l c d b) h g = absurd (no_stock Rapid l k c d b g (stops_held_stock k j i a h) h.stock)
+  one_reason (HolderStock k j i a) (Cut l c d b) h g = absurd (no_stock Feed l k c d b g (stops_held_stock k j i a h) h.stock)
+  one_reason (HolderStock k j i a) (HolderStock l c d b) h g = same_held_stock k l j i c d a b (one_stop k l (stops_held_stock k j i a h) (stops_held_stock l c d b g)) h g
+  one_reason (HolderStock k j i a) (Left c d z) h g = absurd (no_stop k (stops_held_stock k j i a h) g.before)
+  one_reason (Left j i s) (Floor l) h g = absurd (no_stop l (stops_floor l g) h.before)
+  one_reason (Left j i s) (Gouge l u b) h g = absurd (no_stop l (stops_part l u b g) h.before)
+  one_reason (Left j i s) (Holder l u b) h g = absurd (no_stop l (stops_held l u b g) h.before)
+  one_reason (Left j i s) (RapidCut l c d b) h g = absurd (no_stop l (stops_stock Rapid l c d b g) h.before)
+  one_reason (Left j i s) (Cut l c d b) h g = absurd (no_stop l (stops_stock Feed l c d b g) h.before)
+  one_reason (Left j i s) (HolderStock l c d b) h g = absurd (no_stop l (stops_held_stock l c d b g) h.before)
+  one_reason (Left j i s) (Left c d z) h g = same_left j i c d s z h g
 
   not_both : (count columns : ℕ) (left : ℤ) (r : Reason) → Accepts job part moves count columns left → IsRejection job part moves r → ⊥
-  not_both count columns left (Floor k) h g = no_stop k (stops_floor k g) h.good
-  not_both count columns left (Gouge k t a) h g = no_stop k (stops_part k t a g) h.good
-  not_both count columns left (RapidCut k j i a) h g = no_stop k (stops_stock Rapid k j i a g) h.good
-  not_both count columns left (Cut k j i a) h g = no_stop k (stops_stock Feed k j i a g) h.good
-  not_both count columns left (Left j i s) h g = g.fails (h.cut j i g.column)
+  not_both count columns left (Floor l) h g = no_stop l (stops_floor l g) h.good
+  not_both count columns left (Gouge l u b) h g = no_stop l (stops_part l u b g) h.good
+  not_both count columns left (Holder l u b) h g = no_stop l (stops_held l u b g) h.good
+  not_both count columns left (RapidCut l c d b) h g = no_stop l (stops_stock Rapid l c d b g) h.good
+  not_both count columns left (Cut l c d b) h g = no_stop l (stops_stock Feed l c d b g) h.good
+  not_both count columns left (HolderStock l c d b) h g = no_stop l (stops_held_stock l c d b g) h.good
+  not_both count columns left (Left c d z) h g = g.fails (h.cut c d g.column)
 
   same_most : (x y : ℤ) → x ≤ℤ y → y ≤ℤ x → x ≡ y
   same_most x y h k = omega (h, k, arith, ints)

@@ -66,8 +66,8 @@ pub record HolderStaysClear (holder : Holder) (job : Job) (part : List Tri) (mov
       → ¬ Holds (solid_of holder) n (holder_tip holder n (tip_at (move_at moves k) a n)) (pos 1) (point_at (column_x job i) (column_y job j) h)
 
 -- so it is of the job's holder, if it has one
-abbrev pub HolderIsClear : Job → List Tri → List Move → Type 0
-HolderIsClear job part moves = IfSome job.holder (λ holder. HolderStaysClear holder job part moves)
+abbrev pub HolderKeepsClear : Job → List Tri → List Move → Type 0
+HolderKeepsClear job part moves = IfSome job.holder (λ holder. HolderStaysClear holder job part moves)
 
 -- what an accepted program does: all six
 pub record CutsSafely (job : Job) (part : List Tri) (moves : List Move) : Type 0 where
@@ -76,4 +76,4 @@ pub record CutsSafely (job : Job) (part : List Tri) (moves : List Move) : Type 0
   pub covered : LeftIsCovered job part moves
   pub kept : PartIsLeft job part moves
   pub depth : KeepsDepth job moves
-  pub holder : HolderIsClear job part moves
+  pub holder : HolderKeepsClear job part moves

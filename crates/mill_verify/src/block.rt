@@ -1,13 +1,14 @@
-ghost use Rattle.std.specs.Prelude.{◌≡◌, ◌*◌, ◌<◌, ◌≤◌, false, length, None, IsTrue};
-ghost use Rattle.mill_base.specs.Ranges.{MovesInRange};
+ghost use Rattle.std.specs.Prelude.{◌≡◌, ◌*◌, ◌<◌, ◌≤◌, false, length, None, IsTrue, MatchOption};
+ghost use Rattle.mill_base.specs.Ranges.{MoveInRange, MovesInRange};
 ghost use Rattle.mill_cells.specs.Sorted.{sorted_of};
-ghost use Rattle.mill_job.specs.Jobs.{IsJob};
-ghost use Rattle.mill_verify.specs.Blocks.{IsBlockStopped, block_count, block_of, turned};
-ghost use Rattle.mill_verify.specs.Tests.{ClearsPart};
+ghost use Rattle.mill_dexel.specs.Turns.{move_at};
+ghost use Rattle.mill_gouge.specs.Gouges.{ToolPassesPart};
+ghost use Rattle.mill_job.specs.Jobs.{IsJob, tool_of};
+ghost use Rattle.mill_verify.specs.Blocks.{IsBlockStopped, IsPartFail, block_count, block_of, turned};
 
 use mill_base::Move;
 use mill_cells::Cells;
-use mill_gouge::{Gouge, first_gouge};
+use mill_gouge::{Gouge, first_gouge, first_holder_gouge};
 use mill_job::Job;
 use mill_part::Part;
 use std::marker::Model;
@@ -15,14 +16,24 @@ use std::marker::Model;
 /// How many moves stand in a block.
 const LENGTH: u64 = 64;
 
-/// Some moves of a program, up to 64 that follow on each other, for the test against the part. It goes
-/// through them one by one, up to one that doesn't clear the part. Moves are counted from 0.
+/// How a move fails the tests against the part: the first triangle that the cutter doesn't pass, or
+/// else the first that its holder doesn't pass, with the leaf at which that test failed.
+#[derive(Clone, Copy)]
+pub enum PartFail {
+    /// The cutter's.
+    Cutter(Gouge),
+    /// The holder's.
+    Holder(Gouge),
+}
+
+/// Some moves of a program, up to 64 that follow on each other, for the tests against the part. It goes
+/// through them one by one, up to one on which cutter or holder doesn't clear the part. Moves are counted from 0.
 #[derive(Drop)]
 pub struct Block {
     first: u64,
     limit: u64,
     next: u64,
-    failed: Option<Gouge>,
+    failed: Option<PartFail>,
 }
 
 impl Model for Block {
@@ -77,17 +88,16 @@ impl Block {
         self.next
     }
 
-    /// The first triangle that a move of the block didn't pass, with the leaf at which the test failed,
-    /// if one did.
-    pub fn failed(&self) -> Option<Gouge>
+    /// How a move of the block failed, if one did.
+    pub fn failed(&self) -> Option<PartFail>
         ensures { result ≡ self.now.failed }
     {
         self.failed
     }
 
     /// The turn of move `t`, the block's next one, in a block that hasn't failed: the move is tested
-    /// against the part. The answer is true where it clears the part; where it doesn't, the first
-    /// triangle that it doesn't pass is noted, and the answer is false.
+    /// against the part, for the cutter and then for the holder, where the job has one. The answer is true
+    /// where both clear the part; where they don't, how it failed is noted, and the answer is false.
     pub fn turn(&mut self, job: &Job, part: &Part, cells: &Cells, moves: &[Move], t: u64) -> bool
         requires job_ok { IsJob job.now }
         requires cells_ok { cells.now ≡ sorted_of part.now }
@@ -96,15 +106,34 @@ impl Block {
         requires next { t ≡ self.old.next }
         requires there { t < self.old.limit }
         requires within { self.old.limit ≤ length moves.now }
-        ensures clears { IsTrue result → ClearsPart job.now part.now moves.now t }
+        ensures clears { IsTrue result → ToolPassesPart (tool_of job.now) (move_at moves.now t) part.now }
         ensures passed { IsTrue result → self.new ≡ turned self.old }
         ensures stopped { result ≡ false → IsBlockStopped job.now part.now moves.now self.old self.new }
     {
-        if let Some(gouge) = first_gouge(job.cutter, part, cells, &moves[t as usize]) {
-            self.failed = Some(gouge);
+        if let Some(fail) = part_fail(job, part, cells, &moves[t as usize]) {
+            self.failed = Some(fail);
             return false;
         }
         self.next = t + 1;
         true
     }
+}
+
+/// How the move fails the tests against the part, the cutter's before the holder's; none where it
+/// passes both.
+fn part_fail(job: &Job, part: &Part, cells: &Cells, step: &Move) -> Option<PartFail>
+    requires job_ok { IsJob job.now }
+    requires cells_ok { cells.now ≡ sorted_of part.now }
+    requires move_ok { MoveInRange step.now }
+    ensures { MatchOption
+        result
+        (ToolPassesPart (tool_of job.now) step.now part.now)
+        (IsPartFail job.now part.now step.now) }
+{
+    if let Some(gouge) = first_gouge(job.cutter, part, cells, step) {
+        return Some(PartFail::Cutter(gouge));
+    }
+    let holder = job.holder?;
+    let gouge = first_holder_gouge(&holder, part, cells, step)?;
+    Some(PartFail::Holder(gouge))
 }

@@ -1,23 +1,49 @@
-ghost use Rattle.std.specs.Prelude.{◌≡◌, false, length, IsTrue, MatchOption};
+ghost use Rattle.std.specs.Prelude.{◌≡◌, ◌<◌, false, length, IsTrue, MatchOption};
 ghost use Rattle.mill_verify.specs.declared.verdict.Reason.{Reason as Why};
-ghost use Rattle.mill_verify.specs.inner.Failures.{HasFailed, IsFirstFailed, IsReasonOf, NoneFailed, stock_reason as reason_by};
+ghost use Rattle.mill_verify.specs.inner.Failures.{HasFailed, HasFailedBy, IsFirstFailed, IsFirstFailedBy, IsReasonOf, NoneFailed, NoneFailedBy, is_held_row as is_held, part_reason as reason_by_part, stock_reason as reason_by_stock};
 
+use crate::block::PartFail;
 use crate::piece::Piece;
 use crate::verdict::Reason;
 use mill_base::Kind;
 use mill_board::Held;
-use mill_dexel::RowFail;
+use mill_dexel::{RowFail, RowTest};
 
 /// The number of the first piece that has failed at this turn; none where none has.
+///
+/// The holder's test of a move by the stock comes after all others of the move, so a row that has failed
+/// it alone comes after all other pieces.
 pub fn first_failed(pieces: &[Held<Piece>], turn: u64) -> Option<usize>
     ensures { MatchOption result (NoneFailed turn pieces.now (length pieces.now)) (IsFirstFailed turn pieces.now) }
 {
+    match first_failed_by(pieces, turn, false) {
+        Some(number) => Some(number),
+        None => first_failed_by(pieces, turn, true),
+    }
+}
+
+/// The number of the first piece that has failed at this turn as a row by the holder's test, or, where
+/// `holder` is false, in any other way; none where none has.
+fn first_failed_by(pieces: &[Held<Piece>], turn: u64, holder: bool) -> Option<usize>
+    ensures { MatchOption result (NoneFailedBy holder turn pieces.now (length pieces.now)) (IsFirstFailedBy holder turn pieces.now) }
+{
     for number in 0..pieces.len() {
-        if has_failed(&pieces[number], turn) {
+        if has_failed_by(&pieces[number], turn, holder) {
             return Some(number);
         }
     }
     None
+}
+
+/// Whether a piece has failed so at this turn.
+fn has_failed_by(held: &Held<Piece>, turn: u64, holder: bool) -> bool
+    ensures yes { IsTrue result → HasFailedBy holder turn held.now }
+    ensures no { result ≡ false → ¬ HasFailedBy holder turn held.now }
+{
+    if !has_failed(held, turn) {
+        return false;
+    }
+    is_held_row(&held.piece) == holder
 }
 
 /// Whether a piece has failed at this turn.
@@ -28,6 +54,22 @@ fn has_failed(held: &Held<Piece>, turn: u64) -> bool
     held.failed && held.next == turn
 }
 
+/// Whether a piece is a row that has failed the holder's test.
+fn is_held_row(piece: &Piece) -> bool
+    ensures { result ≡ is_held piece.now }
+{
+    match piece {
+        Piece::Block { .. } => false,
+        Piece::Stock { number: _, row } => match row.failed() {
+            Some(fail) => match fail.test {
+                RowTest::Cut => false,
+                RowTest::Holder => true,
+            },
+            None => false,
+        },
+    }
+}
+
 /// Why a piece has failed at a move of this kind: a block at a triangle, and a row of the stock, which come
 /// after so many blocks, at a column.
 pub fn reason_of(held: &Held<Piece>, kind: Kind, blocks: u64) -> Reason
@@ -36,11 +78,7 @@ pub fn reason_of(held: &Held<Piece>, kind: Kind, blocks: u64) -> Reason
 {
     match &held.piece {
         Piece::Block { number: _, block } => match block.failed() {
-            Some(gouge) => Reason::Gouge {
-                at: held.next,
-                tri: gouge.tri,
-                leaf: gouge.leaf,
-            },
+            Some(fail) => part_reason(held.next, fail),
             None => unreachable!(),
         },
         Piece::Stock { number, row } => match row.failed() {
@@ -50,13 +88,39 @@ pub fn reason_of(held: &Held<Piece>, kind: Kind, blocks: u64) -> Reason
     }
 }
 
+/// Why a triangle stops a move.
+fn part_reason(at: u64, fail: PartFail) -> Reason
+    ensures { result ≡ reason_by_part at fail }
+{
+    match fail {
+        PartFail::Cutter(gouge) => Reason::Gouge {
+            at,
+            tri: gouge.tri,
+            leaf: gouge.leaf,
+        },
+        PartFail::Holder(gouge) => Reason::Holder {
+            at,
+            tri: gouge.tri,
+            leaf: gouge.leaf,
+        },
+    }
+}
+
 /// Why a column of this row stops a move of this kind.
 fn stock_reason(kind: Kind, at: u64, row: u32, fail: RowFail) -> Reason
-    ensures { result ≡ reason_by kind at row fail.col fail.leaf }
+    ensures { result ≡ reason_by_stock fail.test kind at row fail.col fail.leaf }
 {
-    let RowFail { at: _, col, leaf } = fail;
-    match kind {
-        Kind::Rapid => Reason::Rapid { at, row, col, leaf },
-        Kind::Feed => Reason::Cut { at, row, col, leaf },
+    let RowFail {
+        at: _,
+        col,
+        leaf,
+        test,
+    } = fail;
+    match test {
+        RowTest::Holder => Reason::HolderStock { at, row, col, leaf },
+        RowTest::Cut => match kind {
+            Kind::Rapid => Reason::Rapid { at, row, col, leaf },
+            Kind::Feed => Reason::Cut { at, row, col, leaf },
+        },
     }
 }

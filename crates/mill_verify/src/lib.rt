@@ -3,11 +3,12 @@
 //! It stands on `mill_part`, `mill_cells`, `mill_gouge`, `mill_dexel`, `mill_board` and `mill_job`. It promises that the
 //! answer is the verdict, for any number of workers, that there is at most one, that an accepted program
 //! cuts safely at every fraction of every move, and that a rejected move is blocked at the leaf that is
-//! named. Definitions: `specs/Tests` are the four tests, `specs/Verdicts` the verdict, `specs/Claims`
+//! named. Definitions: `specs/Tests` are the tests, `specs/Verdicts` the verdict, `specs/Claims`
 //! what an accepted program does, `specs/Blocks` what becomes of a block of moves that is tested
 //! against the part; what stands in `specs/inner` serves the functions within.
 //!
-//! The four tests stand in `floor`, `block`, mill_dexel's rows, and `left`. The moves before the first
+//! The tests stand in `floor`, `block`, mill_dexel's rows, and `left`; those of the holder beside those of
+//! the cutter. The moves before the first
 //! that fails test (i) are tested by blocks against the part and by rows against the stock. Both are
 //! pieces of one work that threads share (`work`), and the first piece in it that fails at the least
 //! move gives the verdict (`failure`). Test (iv) comes last.
@@ -24,7 +25,7 @@ mod stock;
 mod verdict;
 mod work;
 
-pub use block::Block;
+pub use block::{Block, PartFail};
 pub use laws::one_verdict;
 pub use mill_board::{Gate, NoGate};
 pub use program::{verdict_on_stock, verify, verify_with, verify_with_cells};

@@ -13,7 +13,7 @@ ghost use Rattle.mill_verify.specs.inner.Firsts.{IsFloorEnd, ShowsBlocks};
 ghost use Rattle.mill_verify.specs.inner.Pieces.{AreReady, AreTested};
 ghost use Rattle.mill_dexel.specs.Stocks.{IsStock};
 ghost use Rattle.mill_verify.specs.Tests.{GoodBefore};
-ghost use Rattle.mill_verify.specs.Verdicts.{BlocksMove, StopsMove, IsVerdict};
+ghost use Rattle.mill_verify.specs.Verdicts.{BlocksHolderMove, BlocksMove, StopsHolderMove, StopsMove, IsVerdict};
 
 use crate::block::Block;
 use crate::failure::{first_failed, reason_of};
@@ -29,7 +29,7 @@ use mill_cells::Cells;
 use mill_dexel::Row;
 use mill_job::Job;
 use mill_part::{Part, SortedPart};
-use mill_sweep::failing_is_blocked;
+use mill_sweep::{failing_is_blocked, holder_failing_is_blocked};
 use std::alloc::Global;
 use std::thread::Threads;
 
@@ -39,10 +39,13 @@ use std::thread::Threads;
 /// passes every triangle of the part; (iii) a rapid, halved in the same way, passes the top of every
 /// column of the stock that the moves before it left, and a feed, where the job's `max_cut` isn't 0,
 /// the point of every column that lies so far under that top, or at the floor if that is higher; then
-/// the move cuts. After the last move, (iv) every column stands at most the allowance over what covers
+/// the move cuts. Where the job has a holder, a move is also tested with it, halved in the same way:
+/// (ii h), after (ii), it passes every triangle, and (iii h), after (iii), the top of every column,
+/// whether the move is a rapid or a feed. After the last move, (iv) every column stands at most the allowance over what covers
 /// it. An accepted program cuts safely, at every fraction of every move. A rejection by (ii) or (iii)
 /// names a leaf whose outer cutter, which holds the cutter at each moment of the leaf and is wider by at
-/// most two units, has some point of the triangle, or the point of the column, strictly inside.
+/// most two units, has some point of the triangle, or the point of the column, strictly inside; one by (ii h) or
+/// (iii h) the same of the holder.
 ///
 /// The work is shared by `workers` threads, from 1 to 64; the verdict doesn't depend on their number, or
 /// on which of them does what.
@@ -81,6 +84,12 @@ pub fn verify<R: Threads + Sync>(
     ensures too_deep { (number row col : ℕ) (leaf : Leaf)
         → result ≡ Ok (Verdict.Reject (Reason.Cut number row col leaf))
         → StopsMove job.now moves.now Feed number row col leaf }
+    ensures held { (number tri : ℕ) (leaf : Leaf)
+        → result ≡ Ok (Verdict.Reject (Reason.Holder number tri leaf))
+        → BlocksHolderMove job.now part.now moves.now number tri leaf }
+    ensures held_stock { (number row col : ℕ) (leaf : Leaf)
+        → result ≡ Ok (Verdict.Reject (Reason.HolderStock number row col leaf))
+        → StopsHolderMove job.now moves.now number row col leaf }
 {
     verify_with(rt, alloc, NoGate, job, part, moves, workers)
 }
@@ -120,6 +129,12 @@ pub fn verify_with<R: Threads + Sync, G: Gate>(
     ensures too_deep { (number row col : ℕ) (leaf : Leaf)
         → result ≡ Ok (Verdict.Reject (Reason.Cut number row col leaf))
         → StopsMove job.now moves.now Feed number row col leaf }
+    ensures held { (number tri : ℕ) (leaf : Leaf)
+        → result ≡ Ok (Verdict.Reject (Reason.Holder number tri leaf))
+        → BlocksHolderMove job.now part.now moves.now number tri leaf }
+    ensures held_stock { (number row col : ℕ) (leaf : Leaf)
+        → result ≡ Ok (Verdict.Reject (Reason.HolderStock number row col leaf))
+        → StopsHolderMove job.now moves.now number row col leaf }
 {
     let sorted = SortedPart::new(alloc, part)?;
     tested(rt, alloc, gate, job, part, sorted.cells(), moves, workers)
@@ -156,6 +171,12 @@ pub fn verify_with_cells<R: Threads + Sync>(
     ensures too_deep { (number row col : ℕ) (leaf : Leaf)
         → result ≡ Ok (Verdict.Reject (Reason.Cut number row col leaf))
         → StopsMove job.now moves.now Feed number row col leaf }
+    ensures held { (number tri : ℕ) (leaf : Leaf)
+        → result ≡ Ok (Verdict.Reject (Reason.Holder number tri leaf))
+        → BlocksHolderMove job.now part.now moves.now number tri leaf }
+    ensures held_stock { (number row col : ℕ) (leaf : Leaf)
+        → result ≡ Ok (Verdict.Reject (Reason.HolderStock number row col leaf))
+        → StopsHolderMove job.now moves.now number row col leaf }
 {
     tested(rt, alloc, NoGate, job, part, cells, moves, workers)
 }
@@ -164,7 +185,7 @@ pub fn verify_with_cells<R: Threads + Sync>(
 /// moves made.
 ///
 /// It is for a program that was made so: for each move it must be known, by proof, that it passes tests
-/// (i) to (iii) after those before it (`good`), and the rows must be those that all the moves leave
+/// (i) to (iii h) after those before it (`good`), and the rows must be those that all the moves leave
 /// (`rows_ok`). Then no move can be the first that fails, and only test (iv) is left, which the rows
 /// decide; so no move is tested again, and none cuts again. Nothing of this is looked at here: a caller
 /// that hasn't proved it takes `verify`.
@@ -230,9 +251,16 @@ fn tested<R: Threads + Sync, G: Gate>(
     ensures too_deep { (number row col : ℕ) (leaf : Leaf)
         → result ≡ Ok (Verdict.Reject (Reason.Cut number row col leaf))
         → StopsMove job.now moves.now Feed number row col leaf }
+    ensures held { (number tri : ℕ) (leaf : Leaf)
+        → result ≡ Ok (Verdict.Reject (Reason.Holder number tri leaf))
+        → BlocksHolderMove job.now part.now moves.now number tri leaf }
+    ensures held_stock { (number row col : ℕ) (leaf : Leaf)
+        → result ≡ Ok (Verdict.Reject (Reason.HolderStock number row col leaf))
+        → StopsHolderMove job.now moves.now number row col leaf }
 {
-    // A law without code: a leaf that fails is one of the last of its move.
+    // Laws without code: a leaf that fails, of the cutter or of the holder, is one of the last of its move.
     failing_is_blocked();
+    holder_failing_is_blocked();
     let turns = floor_end(job, moves) as u64;
     let work = Tests::new(alloc, job, part, cells, moves, turns, gate)?;
     let pieces = work.pieces();
@@ -243,7 +271,7 @@ fn tested<R: Threads + Sync, G: Gate>(
 /// The verdict, from what the tests of the first `turns` moves came to, which all pass test (i).
 ///
 /// Of the pieces that failed at the least turn a block comes before the rows, and a row before those
-/// after it.
+/// after it; but a row that failed the holder's test alone comes after the others.
 fn verdict_of<R: Threads + Sync>(
     rt: &R,
     alloc: Global,

@@ -13,6 +13,13 @@ pub enum Reason {
         tri: u32,
         leaf: Leaf,
     },
+    /// The cutter passes the part, and the holder doesn't pass the triangle, which blocks this leaf of the
+    /// move as the holder's own tip makes it.
+    Holder {
+        at: u64,
+        tri: u32,
+        leaf: Leaf,
+    },
     /// The rapid doesn't pass the point at the top of the column, which blocks this leaf of the move.
     Rapid {
         at: u64,
@@ -23,6 +30,14 @@ pub enum Reason {
     /// The feed cuts too deep: it doesn't pass the point of the column that lies the job's greatest depth
     /// of cut under the top, or at the floor if that is higher, which blocks this leaf of the move.
     Cut {
+        at: u64,
+        row: u32,
+        col: u32,
+        leaf: Leaf,
+    },
+    /// The cutter passes the stock, as far as it is tested, and the holder doesn't pass the point at the top
+    /// of the column, which blocks this leaf of the move as the holder's own tip makes it.
+    HolderStock {
         at: u64,
         row: u32,
         col: u32,

@@ -12,7 +12,7 @@ use mill_part::Part;
 use std::alloc::Global;
 use std::marker::Model;
 
-/// Tests (ii) and (iii) of a program as work that threads share: its pieces are the blocks of moves and,
+/// Tests (ii) to (iii h) of a program as work that threads share: its pieces are the blocks of moves and,
 /// after them, the rows of the stock, and each has a turn a move. The moves that have turns are those
 /// before the first that fails test (i).
 #[derive(Drop)]

@@ -18,21 +18,25 @@ use Rattle.mill_verify.specs.declared.verdict.Reason.TheVariants.{Gouge, Holder,
 abbrev pub HasFailed : ℕ → Held Piece → Type 0
 HasFailed t h = (h.failed ≡ true) × (h.next ≡ t)
 
--- a row has failed the holder's test alone, which comes after all the cutter's of the same move
+-- no piece of a number under the bound has failed at this turn
+abbrev pub NoneFailed : ℕ → List (Held Piece) → ℕ → Type 0
+NoneFailed t pieces bound = (n : ℕ) (h : Held Piece) → n < bound → slice_get pieces n ≡ Some h → ¬ HasFailed t h
+
+-- a row's test is the holder's, which comes after all others of the same move
+abbrev pub is_holder_test : RowTest → Bool
+is_holder_test test.Cut = false
+is_holder_test test.Holder = true
+
 abbrev pub is_of_holder : Option RowFail → Bool
 is_of_holder None = false
-is_of_holder (Some f) = is_holder f.test
-  where
-    is_holder : RowTest → Bool
-    is_holder test.Cut = false
-    is_holder test.Holder = true
+is_of_holder (Some f) = is_holder_test f.test
 
--- whether a piece's failure is that of a holder by a row
+-- whether a piece is a row that has failed the holder's test
 abbrev pub is_held_row : Piece → Bool
 is_held_row (Block m b) = false
 is_held_row (Stock m r) = is_of_holder r.failed
 
--- a held piece has failed at this turn, by the stock's holder's test or by another, as told
+-- a held piece has failed at this turn, as a row by the holder's test or in another way, as told
 abbrev pub HasFailedBy : Bool → ℕ → Held Piece → Type 0
 HasFailedBy holder t h = HasFailed t h × (is_held_row h.piece ≡ holder)
 
@@ -47,23 +51,30 @@ pub record IsFirstFailedBy (holder : Bool) (t : ℕ) (pieces : List (Held Piece)
   pub failed : HasFailedBy holder t held
   pub before : NoneFailedBy holder t pieces n
 
--- no piece of a number under the bound has failed at this turn
-abbrev pub NoneFailed : ℕ → List (Held Piece) → ℕ → Type 0
-NoneFailed t pieces bound = (n : ℕ) (h : Held Piece) → n < bound → slice_get pieces n ≡ Some h → ¬ HasFailed t h
-
--- the piece of this number has failed at this turn, and none before it has
+-- the piece of this number has failed at this turn; where it is a row by the holder's test no piece has failed in another way, and none before it has failed in its way
 pub record IsFirstFailed (t : ℕ) (pieces : List (Held Piece)) (n : ℕ) : Type 0 where
   pub held : Held Piece
   pub there : slice_get pieces n ≡ Some held
   pub failed : HasFailed t held
-  pub before : NoneFailed t pieces n
+  pub cut : is_held_row held.piece ≡ true → NoneFailedBy false t pieces (length pieces)
+  pub before : NoneFailedBy (is_held_row held.piece) t pieces n
 
--- why a column stops a move of this kind
-abbrev pub stock_reason : Kind → ℕ → ℕ → ℕ → Leaf → Reason
-stock_reason motion.Rapid t j i leaf = Rapid t j i leaf
-stock_reason motion.Feed t j i leaf = Cut t j i leaf
+-- why a triangle stops a move
+abbrev pub part_reason : ℕ → PartFail → Reason
+part_reason t (fail.Cutter gouge) = Gouge t gouge.tri gouge.leaf
+part_reason t (fail.Holder gouge) = Holder t gouge.tri gouge.leaf
+
+-- why a column stops the cutter on a move of this kind
+abbrev pub cut_reason : Kind → ℕ → ℕ → ℕ → Leaf → Reason
+cut_reason motion.Rapid t j i leaf = Rapid t j i leaf
+cut_reason motion.Feed t j i leaf = Cut t j i leaf
+
+-- why it stops the cutter or the holder
+abbrev pub stock_reason : RowTest → Kind → ℕ → ℕ → ℕ → Leaf → Reason
+stock_reason test.Cut kind t j i leaf = cut_reason kind t j i leaf
+stock_reason test.Holder kind t j i leaf = HolderStock t j i leaf
 
 -- why a piece has failed at a turn, a move of this kind, where rows come after so many blocks: a block names a triangle, and a row a column
 abbrev pub IsReasonOf : Kind → ℕ → ℕ → Piece → Reason → Type 0
-IsReasonOf kind blocks t (Block m b) reason = (found : Found) × (b.failed ≡ Some found) × (reason ≡ Gouge t found.tri found.leaf)
-IsReasonOf kind blocks t (Stock m r) reason = (fail : RowFail) × (r.failed ≡ Some fail) × (m ≡ blocks + r.row) × (m < 2 ^ 32) × (reason ≡ stock_reason kind t r.row fail.col fail.leaf)
+IsReasonOf kind blocks t (Block m b) reason = (found : PartFail) × (b.failed ≡ Some found) × (reason ≡ part_reason t found)
+IsReasonOf kind blocks t (Stock m r) reason = (fail : RowFail) × (r.failed ≡ Some fail) × (m ≡ blocks + r.row) × (m < 2 ^ 32) × (reason ≡ stock_reason fail.test kind t r.row fail.col fail.leaf)

@@ -1,5 +1,5 @@
 -- Where each test fails first, apart from the tests before it.
-use Rattle.std.specs.Prelude.{◌≡◌, ◌⊎◌, ℕ, ◌<◌, ◌≤◌, ℤ, pos, ◌-ℤ◌, ◌<ℤ◌, ◌≤ℤ◌, List, length, take, Result, Ok, Err, MatchResult}
+use Rattle.std.specs.Prelude.{◌≡◌, ◌⊎◌, ℕ, ◌<◌, ◌≤◌, ℤ, pos, ◌-ℤ◌, ◌<ℤ◌, ◌≤ℤ◌, List, length, take, IfSome, Result, Ok, Err, MatchResult}
 use Rattle.std.specs.Int.{int_max}
 use Rattle.mill_base.specs.declared.points.Tri.{Tri}
 use Rattle.mill_base.specs.declared.motion.Move.{Move}
@@ -8,11 +8,12 @@ use Rattle.mill_base.specs.declared.motion.Kind.TheVariants.{Rapid, Feed}
 use Rattle.mill_base.specs.Points.{point_tri, tri_at}
 use Rattle.mill_base.specs.Covers.{Covered, IsHighestCovered}
 use Rattle.mill_sweep.specs.Halving.{Blocks}
+use Rattle.mill_sweep.specs.Holders.{HolderIsBlocked}
 use Rattle.mill_sweep.specs.Leaves.{span_of}
 use Rattle.mill_sweep.specs.declared.leaf.Leaf.{Leaf}
 use Rattle.mill_job.specs.declared.job.Job.{Job}
 use Rattle.mill_job.specs.Columns.{IsColumn, IsBefore, column_x, column_y, column_count}
-use Rattle.mill_dexel.specs.Tops.{tested_point, top_after}
+use Rattle.mill_dexel.specs.Tops.{tested_point, top_after, top_point}
 use Rattle.mill_verify.specs.Blocks.{BlockState}
 use Rattle.mill_verify.specs.Tests.{IsOverFloor, IsCut}
 use Rattle.mill_dexel.specs.Turns.{move_at}
@@ -20,19 +21,25 @@ use Rattle.mill_verify.specs.Verdicts.{IsLeftOver, IsMostLeft}
 use Rattle.mill_verify.specs.declared.verdict.Verdict.{Verdict}
 use Rattle.mill_verify.specs.declared.verdict.Verdict.TheVariants.{Accept, Reject}
 use Rattle.mill_verify.specs.declared.verdict.Reason.{Reason}
-use Rattle.mill_verify.specs.declared.verdict.Reason.TheVariants.{Floor, Gouge, Rapid as RapidCut, Cut, Left}
+use Rattle.mill_verify.specs.declared.verdict.Reason.TheVariants.{Floor, Gouge, Holder, Rapid as RapidCut, Cut, HolderStock, Left}
 use Rattle.mill_verify.specs.declared.left.Uncut.{Uncut}
 
 -- the point of column (j, i) at which a move of this kind is tested after the moves before move k blocks this leaf of that move
 abbrev pub StopsAt : Job → List Move → Kind → ℕ → ℕ → ℕ → Leaf → Type 0
 StopsAt job moves kind k j i leaf = Blocks job.cutter (span_of (move_at moves k) leaf.d leaf.k) (point_tri (tested_point job kind (take k moves) j i))
 
--- a rejection by test (ii) or (iii) names a leaf that is blocked
+-- this triangle blocks the job's holder on this leaf of move k
+abbrev pub BlocksHeld : Job → List Move → ℕ → Leaf → Tri → Type 0
+BlocksHeld job moves k leaf tri = IfSome job.holder (λ holder. HolderIsBlocked holder (move_at moves k) tri leaf)
+
+-- a rejection by tests (ii) to (iii h) names a leaf that is blocked
 abbrev pub ShowsBlock : Job → List Tri → List Move → Reason → Type 0
 ShowsBlock job part moves (Floor k) = Unit {0}
 ShowsBlock job part moves (Gouge k t leaf) = Blocks job.cutter (span_of (move_at moves k) leaf.d leaf.k) (tri_at part t)
+ShowsBlock job part moves (Holder k t leaf) = BlocksHeld job moves k leaf (tri_at part t)
 ShowsBlock job part moves (RapidCut k j i leaf) = StopsAt job moves Rapid k j i leaf
 ShowsBlock job part moves (Cut k j i leaf) = StopsAt job moves Feed k j i leaf
+ShowsBlock job part moves (HolderStock k j i leaf) = BlocksHeld job moves k leaf (point_tri (top_point job (take k moves) j i))
 ShowsBlock job part moves (Left j i top) = Unit {0}
 
 abbrev pub ShowsBlocks : Job → List Tri → List Move → Verdict → Type 0

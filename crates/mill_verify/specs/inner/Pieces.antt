@@ -1,4 +1,4 @@
--- Tests (ii) and (iii) of a program as pieces of work that threads share: the blocks of its moves and, after them, the rows of the stock.
+-- Tests (ii) to (iii h) of a program as pieces of work that threads share: the blocks of its moves and, after them, the rows of the stock.
 use Rattle.std.specs.Prelude.{◌≡◌, ℕ, ◌+◌, ◌-◌, ◌<◌, ◌≤◌, cond, ltb, List, [], ◌∷◌, length}
 use Rattle.mill_base.specs.declared.limits.TheConstants.{MAX_MOVES}
 use Rattle.mill_base.specs.declared.points.Tri.{Tri}
@@ -8,12 +8,12 @@ use Rattle.mill_board.specs.Works.{IsClosed, Means}
 use Rattle.mill_board.specs.declared.work.Held.{Held}
 use Rattle.mill_cells.specs.Sorted.{Sorted, sorted_of}
 use Rattle.mill_job.specs.declared.job.Job.{Job}
-use Rattle.mill_job.specs.Jobs.{IsJob}
+use Rattle.mill_job.specs.Jobs.{IsJob, tool_of}
 use Rattle.mill_job.specs.Columns.{row_count}
 use Rattle.mill_dexel.specs.Rows.{RowState, uncut_row}
 use Rattle.mill_dexel.specs.Turns.{ClearsRow, IsRowStopped, move_at, row_before}
 use Rattle.mill_verify.specs.Blocks.{IsBlockStopped, block_count, block_of}
-use Rattle.mill_verify.specs.Tests.{ClearsPart}
+use Rattle.mill_gouge.specs.Gouges.{ToolPassesPart}
 use Rattle.mill_verify.specs.inner.Firsts.{block_before}
 use Rattle.mill_verify.specs.declared.piece.Piece.{Piece}
 use Rattle.mill_verify.specs.declared.piece.Piece.TheVariants.{Block, Stock}
@@ -57,9 +57,9 @@ abbrev pub IsPieceAt : TestsShown → ℕ → ℕ → Piece → Type 0
 IsPieceAt w n t (Block m b) = (m ≡ n) × (n < blocks_of w) × (b ≡ block_before (block_of w.turns n) t)
 IsPieceAt w n t (Stock m r) = (m ≡ n) × (n ≡ blocks_of w + r.row) × (r ≡ row_before w.job w.moves (uncut_row w.job r.row) t)
 
--- move t passes the test of piece n: a block's is that against the part, and a row's that against the row's columns
+-- move t passes the tests of piece n: a block's are those against the part, and a row's those against the row's columns
 pub record PassesTest (w : TestsShown) (n t : ℕ) : Type 0 where
-  pub part : n < blocks_of w → ClearsPart w.job w.part w.moves t
+  pub part : n < blocks_of w → ToolPassesPart (tool_of w.job) (move_at w.moves t) w.part
   pub stock : (j : ℕ) → n ≡ blocks_of w + j → ClearsRow w.job (row_before w.job w.moves (uncut_row w.job j) t) (move_at w.moves t)
 
 -- piece n as its turn t leaves it, which it failed

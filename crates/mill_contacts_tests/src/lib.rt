@@ -1,0 +1,20 @@
+//! The tests of the crates on cutters and their contacts with triangles, on the part and on its cells,
+//! by their public calls.
+//!
+//! They stand apart, since a crate with tests of its own is proved twice, with them and without.
+#![tactic(auto)]
+
+#[cfg(test)]
+mod cells;
+#[cfg(test)]
+mod contact_ball;
+#[cfg(test)]
+mod contact_cone;
+#[cfg(test)]
+mod contact_flat;
+#[cfg(test)]
+mod geom;
+#[cfg(test)]
+mod part;
+#[cfg(test)]
+mod shape;

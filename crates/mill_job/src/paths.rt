@@ -1,0 +1,56 @@
+ghost use Rattle.std.specs.Prelude.{◌≡◌, pos, IfOk, IfErr, None, Some};
+ghost use Rattle.mill_base.specs.Units.{greatest_of};
+ghost use Rattle.toml.specs.View.{table_view};
+ghost use Rattle.mill_job.specs.Jobs.{IsFrom};
+ghost use Rattle.mill_job.specs.Tables.{are_levels, array_fault_if_there, first, levels_of, number_fault_if_there, number_or as number_or_other, numbers_at};
+ghost use Rattle.mill_job.specs.declared.limits.TheConstants.{MAX_DISTANCE};
+ghost use Rattle.mill_job.specs.inner.Groups.{paths_faults};
+ghost use Rattle.mill_job.specs.inner.Ranged.{ArePaths};
+
+use crate::arrays::levels;
+use crate::fault::JobFault;
+use crate::key::Key;
+use crate::levels::Levels;
+use crate::limits::MAX_DISTANCE;
+use crate::values::{depth, number_or};
+use mill_base::Unit;
+use toml::Table;
+
+/// By which paths a job's plans go, as in the fields of `Job`.
+#[derive(Clone, Copy)]
+pub struct Paths {
+    pub lift: i32,
+    pub raster: i32,
+    pub rough_raster: i32,
+    pub layer: i32,
+    pub rough_stock: i32,
+    pub levels: Levels,
+}
+
+/// By which paths the document's plans go; the raster is the pitch where the document doesn't say.
+pub fn paths_in(table: &Table, unit: Unit, pitch: i32) -> Result<Paths, JobFault>
+    requires { IsFrom (pos 1) MAX_DISTANCE pitch }
+    ensures lift { IfOk result (λ paths. (number_fault_if_there Key.Lift (pos 0) MAX_DISTANCE (table_view table.now) ≡ None) × (paths.lift ≡ number_or_other Key.Lift (pos 0) (table_view table.now))) }
+    ensures raster { IfOk result (λ paths. (number_fault_if_there Key.Raster (pos 1) MAX_DISTANCE (table_view table.now) ≡ None) × (paths.raster ≡ number_or_other Key.Raster pitch (table_view table.now))) }
+    ensures rough_raster { IfOk result (λ paths. (number_fault_if_there Key.RoughRaster (pos 1) MAX_DISTANCE (table_view table.now) ≡ None) × (paths.rough_raster ≡ number_or_other Key.RoughRaster paths.raster (table_view table.now))) }
+    ensures layer { IfOk result (λ paths. (number_fault_if_there Key.Layer (pos 0) (pos (greatest_of unit)) (table_view table.now) ≡ None) × (paths.layer ≡ number_or_other Key.Layer (pos 0) (table_view table.now))) }
+    ensures rough_stock { IfOk result (λ paths. (number_fault_if_there Key.RoughStock (pos 0) MAX_DISTANCE (table_view table.now) ≡ None) × (paths.rough_stock ≡ number_or_other Key.RoughStock (pos 0) (table_view table.now))) }
+    ensures levels { IfOk result (λ paths. (array_fault_if_there Key.Levels (are_levels unit) (table_view table.now) ≡ None) × (paths.levels ≡ levels_of (numbers_at Key.Levels (table_view table.now)))) }
+    ensures err { IfErr result (λ fault. first (paths_faults unit (table_view table.now)) ≡ Some fault) }
+    ensures in_range { IfOk result (ArePaths unit) }
+{
+    let lift = number_or(table, Key::Lift, 0, MAX_DISTANCE, 0)?;
+    let raster = number_or(table, Key::Raster, 1, MAX_DISTANCE, pitch)?;
+    let rough_raster = number_or(table, Key::RoughRaster, 1, MAX_DISTANCE, raster)?;
+    let layer = depth(table, Key::Layer, unit)?;
+    let rough_stock = number_or(table, Key::RoughStock, 0, MAX_DISTANCE, 0)?;
+    let levels = levels(table, unit)?;
+    Ok(Paths {
+        lift,
+        raster,
+        rough_raster,
+        layer,
+        rough_stock,
+        levels,
+    })
+}
