@@ -100,7 +100,11 @@ fn tell_stock<S: Shelf, O: Sink>(
     match draw(alloc, cutting) {
         Ok(drawn) => store_surface(alloc, shelf, name, &drawn, out),
         Err(SurfaceFault::TooManyTriangles { count }) => {
-            tell_made(line_of_triangles(alloc, b"over", count), Status::TooLarge, out)
+            tell_made(
+                line_of_triangles(alloc, b"over", count),
+                Status::TooLarge,
+                out,
+            )
         }
         Err(SurfaceFault::WantOfMemory) => tell(out, b"out of memory\n", Status::Memory),
     }
