@@ -20,12 +20,12 @@ use Rattle.mill_dexel.proofs.TopLaws.{top_after_stays}
 use Rattle.mill_dexel.proofs.Cleared.{passes_after_cut}
 use Rattle.mill_dexel.proofs.Limits.{passes_limit_after_cut}
 use Rattle.mill_job.specs.Columns.{column_x, column_y, home}
-use Rattle.mill_job.specs.Jobs.{IsJob}
+use Rattle.mill_gouge.specs.Gouges.{ToolPassesPart}
+use Rattle.mill_job.specs.Jobs.{IsJob, tool_of}
 use Rattle.mill_job.specs.declared.job.Job.{Job}
-use Rattle.mill_sweep.specs.Halving.{Passes, PassesPoint}
+use Rattle.mill_sweep.specs.Halving.{PassesPoint}
 use Rattle.mill_sweep.specs.Vertical.{StaysOver}
 use Rattle.mill_sweep.proofs.Far.{top_passes}
-use Rattle.mill_sweep.proofs.Vertical.{vertical_passes}
 use Rattle.mill_paths.specs.Links.{at_height, feed_to, rapid_to, is_over_place, climb, cross, descend, peck_count, pecks, plunge, detour, MayFeed, IsLink, way_home}
 use Rattle.mill_paths.specs.Tours.{AreLinks, last_place}
 use Rattle.mill_paths.specs.Safety.{IsSafeMove, AreSafe, Connect, IsFreePlace, IsEndOf, IsReached, GoSafely, LinkIsSafe, TourIsSafe, WayHomeIsSafe}
@@ -33,6 +33,7 @@ use Rattle.mill_paths.specs.declared.visit.Visit.{Visit}
 use Rattle.mill_paths.proofs.Kept.{between}
 use Rattle.mill_paths.proofs.Pecks.{Fit, pecks_connect, pecks_end, pecks_fit}
 use Rattle.mill_paths.proofs.Points.{same_pair}
+use Rattle.mill_paths.proofs.ToolLemmas.{passes_over, passes_under}
 
 through : (a b c : ℤ) → a ≤ℤ b → b ≤ℤ c → a ≤ℤ c
 through a b c p q = omega (p, q, arith, ints)
@@ -99,7 +100,7 @@ module _ (job : Job) (part : List Tri) (ok : IsJob job) (under : IsUnder part jo
     ranged = ranged;
     floor_from = through _ _ _ ok.stock from;
     floor_to = through _ _ _ ok.stock to;
-    passes = λ t inside. let h = low_tri t inside in top_passes job.cutter m (tri_at part t) (through _ _ _ h from) (through _ _ _ h to);
+    passes = passes_under (tool_of job) m part ok.holder_ok (λ t inside. let h = low_tri t inside in (through _ _ _ h from, through _ _ _ h to));
     stock = λ rapid x y. let h = low_column x y in
         top_passes job.cutter m (point_tri (point_at x y (top_after job x y done))) (through _ _ _ h from) (through _ _ _ h to);
     depth = λ feed. absurd (rapid_is_no_feed feed);
@@ -117,10 +118,9 @@ module _ (job : Job) (part : List Tri) (ok : IsJob job) (under : IsUnder part jo
       low_column : (x y : ℤ) → highest (point_tri (point_at x y (top_after job x y done))) ≤ℤ job.top
       low_column x y = let h = (top_after_stays job x y done ok.stock).high in all_low _ _ _ job.top h h h
 
-  -- the cutter touches no triangle at a free place, so a move straight over it passes each
-  passes_over : (m : Move) (p : Pt3) → IsFreePlace job part p → StaysOver p m → (t : ℕ) → t < length part → Passes job.cutter m (tri_at part t)
-  passes_over m p at over t inside =
-      vertical_passes job.cutter m (tri_at part t) p over (λ touches. at.free (record { tri = tri_at part t; member = Contains-get_or part t _ inside; touches = touches }))
+  -- the tool doesn't gouge at a free place, so it passes the part on a move straight over it
+  passes_free : (m : Move) (p : Pt3) → IsFreePlace job part p → StaysOver p m → ToolPassesPart (tool_of job) m part
+  passes_free m p at over = passes_over (tool_of job) m part p at.free over
 
   raised_range : (p : Pt3) (z : ℤ) → IsInUnitRange job.unit p → Within (greatest_of job.unit) z → IsInUnitRange job.unit (at_height p z)
   raised_range p z ranged high = record { x_ok = ranged.x_ok; y_ok = ranged.y_ok; z_ok = high }
@@ -149,7 +149,7 @@ module _ (job : Job) (part : List Tri) (ok : IsJob job) (under : IsUnder part jo
     ranged = record { from_ok = at.ranged; to_ok = raised_range from job.clear at.ranged ok.clear_ok };
     floor_from = at.floor;
     floor_to = through _ _ _ ok.stock ok.over_stock;
-    passes = passes_over up from at stays;
+    passes = passes_free up from at stays;
     stock = λ rapid x y. passes_after_cut job done end.move up x y ok.cutter_ok end.member
         (subst (λ p. job.floor ≤ℤ p.z) (sym end.here) at.floor) (subst (λ p. StaysOver p up) (sym end.here) stays);
     depth = λ feed. absurd (rapid_is_no_feed feed);
@@ -219,7 +219,7 @@ module _ (job : Job) (part : List Tri) (ok : IsJob job) (under : IsUnder part jo
     };
     floor_from = from_floor;
     floor_to = to_floor;
-    passes = passes_over peck at free (record {
+    passes = passes_free peck at free (record {
       from = record { x_same = refl; y_same = refl; z_least = through _ _ _ over under };
       to = record { x_same = refl; y_same = refl; z_least = over };
     });

@@ -4,6 +4,7 @@ mod Plunging
 mod Ranged
 mod Straight
 mod Joining
+mod ToolLemmas
 pub mod Going
 mod Points
 pub mod Changes

@@ -4,10 +4,10 @@ use Rattle.std.specs.Prelude.{◌==◌, ℤ, pos}
 use Rattle.std.specs.List.{AllZip, flat_map}
 use Rattle.std.proofs.lemmas.Bool.{eqb-true}
 use Rattle.std.proofs.lemmas.List.{nil_from_length}
-use Rattle.mill_base.specs.Tools.{bare}
 use Rattle.mill_base.specs.declared.points.Tri.{Tri}
 use Rattle.mill_drop.specs.Maps.{AreDropHeights}
 use Rattle.mill_drop.proofs.Uniqueness.{one_map}
+use Rattle.mill_job.specs.Jobs.{tool_of}
 use Rattle.mill_job.specs.declared.job.Job.{Job}
 use Rattle.mill_level.specs.Waterlines.{IsWaterline, Outline}
 use Rattle.mill_paths.specs.Lattices.{finish_lattice, rough_lattice}
@@ -23,17 +23,17 @@ over n few many = omega arith
 none_over : most_changes < 0 → ⊥
 none_over many = omega arith
 
-pub few_finish : (job : Job) (part : List Tri) (heights : List ℤ) (list : List Visit) → AreDropHeights (bare job.cutter) part job.floor (finish_lattice job) heights
+pub few_finish : (job : Job) (part : List Tri) (heights : List ℤ) (list : List Visit) → AreDropHeights (tool_of job) part job.floor (finish_lattice job) heights
     → list ≡ finish_visits_of job heights → change_count list ≤ most_changes → ¬ HaveManyFinishVisits job part
 few_finish job part heights list are is few many =
     over (change_count list) few (subst (λ (visits : List Visit). most_changes < change_count visits) (sym is)
-    (subst (λ (hs : List ℤ). most_changes < change_count (finish_visits_of job hs)) (one_map (bare job.cutter) part job.floor (finish_lattice job) many.heights heights many.are are) many.many))
+    (subst (λ (hs : List ℤ). most_changes < change_count (finish_visits_of job hs)) (one_map (tool_of job) part job.floor (finish_lattice job) many.heights heights many.are are) many.many))
 
-pub few_rough : (job : Job) (part : List Tri) (heights : List ℤ) (list : List Visit) → AreDropHeights (bare job.cutter) part job.floor (rough_lattice job) heights
+pub few_rough : (job : Job) (part : List Tri) (heights : List ℤ) (list : List Visit) → AreDropHeights (tool_of job) part job.floor (rough_lattice job) heights
     → list ≡ rough_visits_of job heights → change_count list ≤ most_changes → ¬ HaveManyRoughVisits job part
 few_rough job part heights list are is few many =
     over (change_count list) few (subst (λ (visits : List Visit). most_changes < change_count visits) (sym is)
-    (subst (λ (hs : List ℤ). most_changes < change_count (rough_visits_of job hs)) (one_map (bare job.cutter) part job.floor (rough_lattice job) many.heights heights many.are are) many.many))
+    (subst (λ (hs : List ℤ). most_changes < change_count (rough_visits_of job hs)) (one_map (tool_of job) part job.floor (rough_lattice job) many.heights heights many.are are) many.many))
 
 -- without a layer there are none
 pub none_rough : (job : Job) (part : List Tri) → job.layer ≡ pos 0 → ¬ HaveManyRoughVisits job part
@@ -52,7 +52,7 @@ no_level levels slice empty same test holds = sym same ∙ nil_from_length slice
 
 -- without levels there are none
 pub no_waterlines : (job : Job) (part : List Tri) → job.levels ≡ [] → AreWaterlines job part []
-no_waterlines job part none = subst (λ (zs : List ℤ). AllZip (λ z outlines. IsWaterline (bare job.cutter) part z (finish_lattice job) outlines) zs []) (sym none) tt
+no_waterlines job part none = subst (λ (zs : List ℤ). AllZip (λ z outlines. IsWaterline (tool_of job) part z (finish_lattice job) outlines) zs []) (sym none) tt
 
 pub none_level : (job : Job) (part : List Tri) → job.levels ≡ [] → ¬ HaveManyLevelVisits job part
 none_level job part none = few_level job part [] [] (no_waterlines job part none) refl (omega arith)

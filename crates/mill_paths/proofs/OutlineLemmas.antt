@@ -5,21 +5,19 @@ use Rattle.std.specs.List.{AllZip, flat_map}
 use Rattle.std.proofs.lemmas.Bool.{cases_lt, and_parts, ltb-true}
 use Rattle.std.proofs.lemmas.Int.{ints}
 use Rattle.std.proofs.lemmas.List.Elements.{All-append, All-contains_itself, All-head, All-map, All-nil, All-tail, All-take, All-weaker}
-use Rattle.mill_base.specs.Contact.{Gouges}
 use Rattle.mill_base.specs.Lattices.{lattice_xs, lattice_ys}
 use Rattle.mill_base.specs.Numbers.{Within}
 use Rattle.mill_base.specs.Points.{point_at}
-use Rattle.mill_base.specs.Tools.{ToolGouges, bare}
+use Rattle.mill_base.specs.Tools.{ToolGouges}
 use Rattle.mill_base.specs.Units.{greatest_of}
-use Rattle.mill_base.specs.declared.cutter.Cutter.{Cutter}
 use Rattle.mill_base.specs.declared.lattice.Lattice.{Lattice}
 use Rattle.mill_base.specs.declared.points.Pt3.{Pt3}
 use Rattle.mill_base.specs.declared.points.Tri.{Tri}
+use Rattle.mill_base.specs.declared.tool.Tool.{Tool}
 use Rattle.mill_base.specs.declared.unit.Unit.{Unit}
-use Rattle.mill_drop.proofs.Heights.{lowered}
 use Rattle.mill_geom.specs.declared.touch.Axis.{Axis}
 use Rattle.mill_geom.specs.declared.touch.Axis.TheVariants.{X, Y}
-use Rattle.mill_job.specs.Jobs.{IsJob, IsLevel}
+use Rattle.mill_job.specs.Jobs.{IsJob, IsLevel, tool_of}
 use Rattle.mill_job.specs.declared.job.Job.{Job}
 use Rattle.mill_level.specs.Grids.{Grid, differ, edge, is_blocked, is_crossing, upper_column, upper_row}
 use Rattle.mill_level.specs.Crossings.{Crossing, HasLastFree, TellsBlocked, on_the_way}
@@ -31,6 +29,7 @@ use Rattle.mill_level.proofs.SameChain.{IsOn, times_from_on}
 use Rattle.mill_paths.specs.Lattices.{finish_lattice}
 use Rattle.mill_paths.specs.Visits.{AreWaterlines, IsVisit, LevelVisitsAreFree, level_visits_of, outline_visits}
 use Rattle.mill_paths.specs.declared.visit.Visit.{Visit}
+use Rattle.mill_paths.proofs.ToolLemmas.{gouges_lower}
 use Rattle.mill_paths.proofs.VisitLemmas.{IsJobLattice, area_in_range, positions_within}
 
 in_contains : {X : Type 0} (x : X) (xs : List X) → Contains xs x → IsIn x xs
@@ -94,9 +93,9 @@ record IsNear (unit : Unit) (p : Pt3) : Type 0 where
   pub x_ok : Within (greatest_of unit) p.x
   pub y_ok : Within (greatest_of unit) p.y
 
-module _ (cutter : Cutter) (part : List Tri) (z : ℤ) (unit : Unit) (lattice : Lattice) (ok : IsJobLattice unit lattice) (grid : Grid) (tells : TellsBlocked (bare cutter) part z lattice grid) where
+module _ (tool : Tool) (part : List Tri) (z : ℤ) (unit : Unit) (lattice : Lattice) (ok : IsJobLattice unit lattice) (grid : Grid) (tells : TellsBlocked tool part z lattice grid) where
   abbrev Gouged : Pt3 → Type 0
-  Gouged p = ToolGouges (bare cutter) (pos 1) p part
+  Gouged p = ToolGouges tool (pos 1) p part
 
   abbrev node_x : ℕ → ℤ
   node_x i = get_or (lattice_xs lattice) i (pos 0)
@@ -140,18 +139,17 @@ module _ (cutter : Cutter) (part : List Tri) (z : ℤ) (unit : Unit) (lattice : 
       subst (λ p. IsNear unit p) (sym found.is) (record { x_ok = x_within i column; y_ok = found.at_ok })
 
   -- so is the place of a crossing
-  crossing_within : (c : Crossing) → is_crossing grid c.edge ≡ true → HasLastFree (bare cutter) part z lattice grid c → IsNear unit (point_at c.x c.y z)
+  crossing_within : (c : Crossing) → is_crossing grid c.edge ≡ true → HasLastFree tool part z lattice grid c → IsNear unit (point_at c.x c.y z)
   crossing_within c crosses last =
       let parts = and_parts _ _ crosses in
       let ends = and_parts _ _ parts.0 in
       subst (λ p. IsNear unit p) (sym last.place)
       (on_edge c.edge.axis c.edge.column c.edge.row last.k (ltb-true (upper_column c.edge) grid.columns ends.0) (ltb-true (upper_row c.edge) grid.rows ends.1) parts.1 last.free)
 
-  -- and the cutter doesn't gouge there, nor higher
-  crossing_free : (c : Crossing) → HasLastFree (bare cutter) part z lattice grid c → (higher : ℤ) → z ≤ℤ higher → ¬ Gouges cutter (pos 1) (point_at c.x c.y higher) part
+  -- and the tool doesn't gouge there, nor higher
+  crossing_free : (c : Crossing) → HasLastFree tool part z lattice grid c → (higher : ℤ) → z ≤ℤ higher → ¬ Gouged (point_at c.x c.y higher)
   crossing_free c last higher over gouges =
-      subst (λ p. ¬ Gouged p) (sym last.place) (last.free last.k (itself last.k))
-      (inl (record { tri = gouges.tri; member = gouges.member; touches = lowered cutter gouges.tri c.x c.y higher z over gouges.touches }))
+      subst (λ p. ¬ Gouged p) (sym last.place) (last.free last.k (itself last.k)) (gouges_lower tool part c.x c.y z higher over gouges)
     where
       itself : (n : ℕ) → n ≤ n
       itself n = omega arith
@@ -189,16 +187,16 @@ module _ (job : Job) (part : List Tri) (ok : IsJob job) (z : ℤ) (low : job.flo
       by most a b a_ok b_ok h g = let p = a_ok.within in let q = b_ok.within in record { within = omega (arith, ints) }
 
   -- a visit at a crossing of a waterline
-  crossing_ok : (outlines : List Outline) (line : IsWaterline (bare job.cutter) part z (finish_lattice job) outlines) (chain : Chain) (c : Crossing) → Contains line.chains chain
+  crossing_ok : (outlines : List Outline) (line : IsWaterline (tool_of job) part z (finish_lattice job) outlines) (chain : Chain) (c : Crossing) → Contains line.chains chain
       → Contains (crossings_of chain) c → IsVisit job part (visit_of (point_at c.x c.y z))
   crossing_ok outlines line chain c there on =
       let last = line.places chain c there on in
-      let near = crossing_within job.cutter part z job.unit (finish_lattice job) lattice_ok line.grid line.tells c (crosses line.grid line.chains chain c line.are_chains there on) last in
+      let near = crossing_within (tool_of job) part z job.unit (finish_lattice job) lattice_ok line.grid line.tells c (crosses line.grid line.chains chain c line.are_chains there on) last in
       record {
         in_range = record { x_ok = near.x_ok; y_ok = near.y_ok; z_ok = z_within };
         kept = low;
         under_top = high;
-        free = crossing_free job.cutter part z job.unit (finish_lattice job) lattice_ok line.grid line.tells c last;
+        free = crossing_free (tool_of job) part z job.unit (finish_lattice job) lattice_ok line.grid line.tells c last;
         step_ok = ok.raster_ok;
       }
 
@@ -212,7 +210,7 @@ module _ (job : Job) (part : List Tri) (ok : IsJob job) (z : ℤ) (low : job.flo
       again true = All-take (λ p. IsVisit job part (visit_of p)) 1 o.points each
       again false = All-nil (λ p. IsVisit job part (visit_of p))
 
-  pub waterline_ok : (outlines : List Outline) → IsWaterline (bare job.cutter) part z (finish_lattice job) outlines → All (IsVisit job part) (flat_map (outline_visits job.raster) outlines)
+  pub waterline_ok : (outlines : List Outline) → IsWaterline (tool_of job) part z (finish_lattice job) outlines → All (IsVisit job part) (flat_map (outline_visits job.raster) outlines)
   waterline_ok outlines line =
       subst (λ (os : List Outline). All (IsVisit job part) (flat_map (outline_visits job.raster) os)) (sym line.points)
       (all_given (IsVisit job part) (outline_visits job.raster) (map (outline z) line.chains)
@@ -225,7 +223,7 @@ module _ (job : Job) (part : List Tri) (ok : IsJob job) (z : ℤ) (low : job.flo
 -- so are those along all waterlines of a job
 pub level_visits_ok : (job : Job) (part : List Tri) (waterlines : List (List Outline)) → IsJob job → AreWaterlines job part waterlines → All (IsVisit job part) (level_visits_of job waterlines)
 level_visits_ok job part waterlines ok are =
-    zip_given (IsVisit job part) (IsLevel job.floor job.top) (λ z outlines. IsWaterline (bare job.cutter) part z (finish_lattice job) outlines) (flat_map (outline_visits job.raster))
+    zip_given (IsVisit job part) (IsLevel job.floor job.top) (λ z outlines. IsWaterline (tool_of job) part z (finish_lattice job) outlines) (flat_map (outline_visits job.raster))
     (λ z outlines level line. waterline_ok job part ok z level.over_floor level.under_top outlines line) job.levels waterlines ok.levels_ok.within are
 
 pub level_visits_are_free : LevelVisitsAreFree

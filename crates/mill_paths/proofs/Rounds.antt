@@ -18,7 +18,7 @@ use Rattle.mill_paths.proofs.Going.{go_on, tour_is_safe, way_home_is_safe}
 level : (z : ℤ) → z ≤ℤ z
 level z = omega (arith, ints)
 
--- the cutter may stand at a visit
+-- the tool may stand at a visit
 pub free_place : (job : Job) (part : List Tri) (visit : Visit) → IsVisit job part visit → IsFreePlace job part visit.at
 free_place job part visit is = record {
   ranged = is.in_range;

@@ -3,12 +3,12 @@ use Rattle.std.specs.Prelude.{◌≡◌, Bool, true, false, if◌then◌else◌,
 use Rattle.std.specs.List.{AllZip, flat_map, range_with_len}
 use Rattle.std.proofs.Common.{inl, inr, refl, sym, ap, ◌∙◌, subst, arith}
 use Rattle.std.proofs.lemmas.Int.{ints}
-use Rattle.mill_base.specs.Tools.{bare}
 use Rattle.mill_base.specs.declared.motion.Move.{Move}
 use Rattle.mill_base.specs.declared.points.Pt3.{Pt3}
 use Rattle.mill_base.specs.declared.points.Tri.{Tri}
 use Rattle.mill_drop.proofs.Uniqueness.{one_map}
 use Rattle.mill_job.specs.Columns.{home}
+use Rattle.mill_job.specs.Jobs.{tool_of}
 use Rattle.mill_job.specs.declared.job.Job.{Job}
 use Rattle.mill_level.specs.Waterlines.{IsWaterline, Outline}
 use Rattle.mill_level.proofs.Apart.{joins_are_apart}
@@ -34,13 +34,13 @@ one_rough job part a b h g = h.visits ∙ by (int_lt (pos 0) job.layer) refl ∙
     by : (t : Bool) → int_lt (pos 0) job.layer ≡ t → rough_visits_of job h.heights ≡ rough_visits_of job g.heights
     by true e =
         ap (λ (heights : List ℤ). rough_visits_of job heights)
-        (one_map (bare job.cutter) part job.floor (rough_lattice job) h.heights g.heights (h.are (some job.layer e)) (g.are (some job.layer e)))
+        (one_map (tool_of job) part job.floor (rough_lattice job) h.heights g.heights (h.are (some job.layer e)) (g.are (some job.layer e)))
     by false e = none_rough job h.heights e ∙ sym (none_rough job g.heights e)
 
 pub one_finish : (job : Job) (part : List Tri) (a b : List Visit) → AreFinishVisits job part a → AreFinishVisits job part b → a ≡ b
 one_finish job part a b h g =
     h.visits
-    ∙ ap (λ (heights : List ℤ). finish_visits_of job heights) (one_map (bare job.cutter) part job.floor (finish_lattice job) h.heights g.heights h.are g.are)
+    ∙ ap (λ (heights : List ℤ). finish_visits_of job heights) (one_map (tool_of job) part job.floor (finish_lattice job) h.heights g.heights h.are g.are)
     ∙ sym g.visits
 
 -- lists that each item of another settles place by place
@@ -55,8 +55,8 @@ one_list R one (x ∷ xs) (y ∷ ys) (z ∷ zs) h g = ap (λ w. w ∷ ys) (one x
 
 pub one_waterlines : (job : Job) (part : List Tri) (a b : List (List Outline)) → AreWaterlines job part a → AreWaterlines job part b → a ≡ b
 one_waterlines job part a b h g =
-    one_list (λ z outlines. IsWaterline (bare job.cutter) part z (finish_lattice job) outlines)
-    (λ z ours theirs p q. one_waterline joins_are_apart (bare job.cutter) part z (finish_lattice job) ours theirs p q) job.levels a b h g
+    one_list (λ z outlines. IsWaterline (tool_of job) part z (finish_lattice job) outlines)
+    (λ z ours theirs p q. one_waterline joins_are_apart (tool_of job) part z (finish_lattice job) ours theirs p q) job.levels a b h g
 
 pub one_level : (job : Job) (part : List Tri) (a b : List Visit) → AreLevelVisits job part a → AreLevelVisits job part b → a ≡ b
 one_level job part a b h g =

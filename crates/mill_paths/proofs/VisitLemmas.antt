@@ -7,7 +7,6 @@ use Rattle.std.proofs.lemmas.Int.{ints}
 use Rattle.std.proofs.lemmas.List.Elements.{All-append, All-cons, All-nil}
 use Rattle.std.proofs.lemmas.List.FromFn.{length-range_with_len, get_or-range_with_len}
 use Rattle.mill_base.specs.Numbers.{Within}
-use Rattle.mill_base.specs.Tools.{bare}
 use Rattle.mill_base.specs.Units.{greatest_of}
 use Rattle.mill_base.specs.Lattices.{lattice_positions, lattice_xs, lattice_ys, nodes_of, node_at}
 use Rattle.mill_base.specs.declared.lattice.Lattice.{Lattice}
@@ -16,7 +15,7 @@ use Rattle.mill_base.specs.declared.unit.Unit.{Unit}
 use Rattle.mill_drop.specs.Drops.{IsDropHeight}
 use Rattle.mill_drop.specs.Maps.{AreDropHeights, IsHeightAt}
 use Rattle.mill_base.proofs.NodeLemmas.{length-rows, get_or-rows, row_within, length-positions, get_or-positions}
-use Rattle.mill_job.specs.Jobs.{IsFrom, IsJob}
+use Rattle.mill_job.specs.Jobs.{IsFrom, IsJob, tool_of}
 use Rattle.mill_job.specs.Tables.{IsArea}
 use Rattle.mill_job.specs.declared.job.Job.{Job}
 use Rattle.mill_paths.specs.Lattices.{finish_lattice, rough_lattice, zigzag_of, zigzag_row}
@@ -85,19 +84,19 @@ node_within unit lattice number ok inside =
 
 -- a visit of a job over a node, from its drop height on and under the top
 visit_ok : (job : Job) (part : List Tri) (lattice : Lattice) (heights : List ℤ) (number : ℕ) (z : ℤ) → IsJob job → IsJobLattice job.unit lattice
-    → AreDropHeights (bare job.cutter) part job.floor lattice heights → number < length (nodes_of lattice) → height_at heights number ≤ℤ z → z <ℤ job.top
+    → AreDropHeights (tool_of job) part job.floor lattice heights → number < length (nodes_of lattice) → height_at heights number ≤ℤ z → z <ℤ job.top
     → IsVisit job part (visit_at lattice number z)
 visit_ok job part lattice heights number z ok lattice_ok are inside free under =
     let node : ℤ × ℤ = node_at lattice number in
     let place : IsPlace job.unit node = node_within job.unit lattice number lattice_ok inside in
-    let drop : IsDropHeight (bare job.cutter) part node.0 node.1 job.floor (height_at heights number) =
-    AllZip-at (IsHeightAt (bare job.cutter) part job.floor) (nodes_of lattice) heights number (pos 0, pos 0) (pos 0) are inside in
+    let drop : IsDropHeight (tool_of job) part node.0 node.1 job.floor (height_at heights number) =
+    AllZip-at (IsHeightAt (tool_of job) part job.floor) (nodes_of lattice) heights number (pos 0, pos 0) (pos 0) are inside in
     let kept : job.floor ≤ℤ z = upto job.floor (height_at heights number) z drop.kept free in
     record {
       in_range = record { x_ok = place.x_ok; y_ok = place.y_ok; z_ok = between (greatest_of job.unit) job.floor z job.top ok.floor_ok ok.top_ok kept under };
       kept = kept;
       under_top = under;
-      free = λ higher h g. drop.free higher (upto (height_at heights number) z higher free h) (inl g);
+      free = λ higher h. drop.free higher (upto (height_at heights number) z higher free h);
       step_ok = lattice_ok.step_ok;
     }
   where
@@ -114,7 +113,7 @@ if_ok P false lattice number z h = All-nil P
 
 -- each visit on a level between floor and top
 rough_visit_ok : (job : Job) (part : List Tri) (heights : List ℤ) (z : ℤ) (number : ℕ) → IsJob job → IsLevel job z
-    → AreDropHeights (bare job.cutter) part job.floor (rough_lattice job) heights → number < length (nodes_of (rough_lattice job)) → All (IsVisit job part) (rough_visit job heights z number)
+    → AreDropHeights (tool_of job) part job.floor (rough_lattice job) heights → number < length (nodes_of (rough_lattice job)) → All (IsVisit job part) (rough_visit job heights z number)
 rough_visit_ok job part heights z number ok level are inside =
     if_ok (IsVisit job part) (int_le (height_at heights number +ℤ job.rough_stock) z) (rough_lattice job) number z
     (λ holds. visit_ok job part (rough_lattice job) heights number z ok (record { area_ok = area_in_range job ok; step_ok = ok.rough_raster_ok }) are inside (less (height_at heights number) job.rough_stock z ok.rough_stock_ok.low holds) level.under)
@@ -123,7 +122,7 @@ rough_visit_ok job part heights z number ok level are inside =
     less h stock z least e = omega (arith, ints)
 
 finish_visit_ok : (job : Job) (part : List Tri) (heights : List ℤ) (number : ℕ) → IsJob job
-    → AreDropHeights (bare job.cutter) part job.floor (finish_lattice job) heights → number < length (nodes_of (finish_lattice job)) → All (IsVisit job part) (finish_visit job heights number)
+    → AreDropHeights (tool_of job) part job.floor (finish_lattice job) heights → number < length (nodes_of (finish_lattice job)) → All (IsVisit job part) (finish_visit job heights number)
 finish_visit_ok job part heights number ok are inside =
     if_ok (IsVisit job part) (int_lt (height_at heights number +ℤ job.lift) job.top) (finish_lattice job) number (height_at heights number +ℤ job.lift)
     (λ holds. visit_ok job part (finish_lattice job) heights number (height_at heights number +ℤ job.lift) ok (record { area_ok = area_in_range job ok; step_ok = ok.raster_ok }) are inside
@@ -153,12 +152,12 @@ zigzag_ok P f lattice each =
 
 -- the finishing visits, and the roughing visits
 pub finish_visits_ok : (job : Job) (part : List Tri) (heights : List ℤ) → IsJob job
-    → AreDropHeights (bare job.cutter) part job.floor (finish_lattice job) heights → All (IsVisit job part) (finish_visits_of job heights)
+    → AreDropHeights (tool_of job) part job.floor (finish_lattice job) heights → All (IsVisit job part) (finish_visits_of job heights)
 finish_visits_ok job part heights ok are =
     zigzag_ok (IsVisit job part) (finish_visit job heights) (finish_lattice job) (λ number inside. finish_visit_ok job part heights number ok are inside)
 
 pub rough_visits_ok : (job : Job) (part : List Tri) (heights : List ℤ) → IsJob job → (pos 0) <ℤ job.layer
-    → AreDropHeights (bare job.cutter) part job.floor (rough_lattice job) heights → All (IsVisit job part) (rough_visits_of job heights)
+    → AreDropHeights (tool_of job) part job.floor (rough_lattice job) heights → All (IsVisit job part) (rough_visits_of job heights)
 rough_visits_ok job part heights ok some are =
     All-flat_map (IsVisit job part) (rough_visits_on job heights) (rough_levels job) (pos 0) (λ k inside.
     zigzag_ok (IsVisit job part) (rough_visit job heights (get_or (rough_levels job) k (pos 0))) (rough_lattice job) (λ number within.

@@ -1,10 +1,9 @@
 ghost use Rattle.std.specs.Prelude.{◌≡◌, ◌↔◌, ℕ, ◌<◌, ◌≤◌, ◌++◌, [], ◌∷◌, length, map as map_list, All, IfErr, IfOk, IsErrOf, OnOk};
 ghost use Rattle.std.specs.List.{flat_map};
 ghost use Rattle.mill_base.specs.Lattices.{node_count};
-ghost use Rattle.mill_base.specs.Tools.{bare};
 ghost use Rattle.mill_base.specs.declared.limits.TheConstants.{MAX_NODES};
 ghost use Rattle.mill_cells.specs.Sorted.{sorted_of};
-ghost use Rattle.mill_job.specs.Jobs.{IsJob};
+ghost use Rattle.mill_job.specs.Jobs.{IsJob, tool_of};
 ghost use Rattle.mill_level.specs.Waterlines.{IsWaterline, seen};
 ghost use Rattle.mill_paths.specs.Lattices.{finish_lattice as finish_lattice_of};
 ghost use Rattle.mill_paths.specs.Limits.{change_count, most_changes, HasManyNodes, IsHeightsFault, IsListFault};
@@ -16,7 +15,7 @@ use crate::fault::PathFault;
 use crate::lattices::finish_lattice;
 use crate::visit::Visit;
 use crate::visit_list::VisitList;
-use mill_base::{MAX_NODES, Pt3, Tool};
+use mill_base::{MAX_NODES, Pt3};
 use mill_cells::Cells;
 use mill_job::Job;
 use mill_level::{Chain, waterline};
@@ -25,7 +24,7 @@ use rayon::prelude::*;
 use std::alloc::Global;
 use std::thread::Threads;
 
-/// The visits of a plan's levels, from the first level on: along each chain of the waterline there,
+/// The visits of a plan's levels, from the first level on: along each chain of the tool's waterline there,
 /// over the finishing lattice, and along a closed one up to its first point again. Without levels there
 /// are none, and the lattice isn't gone over.
 ///
@@ -62,8 +61,8 @@ pub fn level_visits<R: Threads + Sync>(
     Ok(list.into_visits())
 }
 
-/// The waterlines at the job's levels over the finishing lattice, where it has at most 4,000,000
-/// nodes. They are worked out side by side.
+/// The waterlines of the job's tool at its levels over the finishing lattice, where that has at most
+/// 4,000,000 nodes. They are worked out side by side.
 fn waterlines_of<R: Threads + Sync>(
     rt: &R,
     alloc: Global,
@@ -87,14 +86,14 @@ fn waterlines_of<R: Threads + Sync>(
         .map(
             |number: usize| -> Result<Vec<Chain>, PathFault>
                 requires { IsLevelTask job.now part.now cells.now number }
-                ensures chains { IfOk result (λ chains. IsWaterline (bare job.entry.now.cutter) part.entry.now (level_at job.entry.now number) (finish_lattice_of job.entry.now) (map_list seen chains.items)) }
+                ensures chains { IfOk result (λ chains. IsWaterline (tool_of job.entry.now) part.entry.now (level_at job.entry.now number) (finish_lattice_of job.entry.now) (map_list seen chains.items)) }
                 ensures fault { IfErr result (λ fault. fault ≡ WantOfMemory) }
             { waterline_at(alloc, job, part, cells, number) },
         )
         .collect::<Result<Vec<Vec<Chain>>, PathFault>>(rt, alloc)?
 }
 
-/// The waterline at the level of this number, over the finishing lattice.
+/// The waterline of the job's tool at the level of this number, over the finishing lattice.
 fn waterline_at(
     alloc: Global,
     job: &Job,
@@ -103,12 +102,12 @@ fn waterline_at(
     number: usize,
 ) -> Result<Vec<Chain>, PathFault>
     requires { IsLevelTask job.now part.now cells.now number }
-    ensures chains { IfOk result (λ chains. IsWaterline (bare job.now.cutter) part.now (level_at job.now number) (finish_lattice_of job.now) (map_list seen chains.items)) }
+    ensures chains { IfOk result (λ chains. IsWaterline (tool_of job.now) part.now (level_at job.now number) (finish_lattice_of job.now) (map_list seen chains.items)) }
     ensures fault { IfErr result (λ fault. fault ≡ WantOfMemory) }
 {
     let z = job.levels.as_slice()[number];
     let lattice = finish_lattice(job);
-    let tool = Tool::bare(job.cutter);
+    let tool = job.tool();
     // The nodes were counted before, and so only memory can be wanting.
     waterline(alloc, part, cells, &tool, z, &lattice).map_err(
         |_| -> PathFault

@@ -1,8 +1,9 @@
 ghost use Rattle.mill_paths.specs.Safety.{LinkIsSafe, TourIsSafe, WayHomeIsSafe};
 
 /// From where the cutter is, a link to a free place goes there safely: its moves lead on from each
-/// other, stay in the unit's range and over the floor, and pass the part, its rapids pass every
-/// column, and its feeds cut none deeper than the job allows.
+/// other, and stay in the unit's range and over the floor; on each of them the cutter, and its holder if
+/// it has one, passes the part; its rapids pass every column, and its feeds cut none deeper than the job
+/// allows.
 pub fn link_is_safe()
     ensures { LinkIsSafe }
 {}

@@ -12,16 +12,17 @@ use crate::visit::Visit;
 use mill_base::{Kind, Move, Pt3, WantOfMemory};
 use mill_cells::Cells;
 use mill_dexel::{Row, cut_rows, keeps_depth};
-use mill_gouge::clears;
+use mill_gouge::tool_clears;
 use mill_job::Job;
 use mill_part::Part;
 
 /// Adds the moves that link the place `from`, where the cutter is, to the visit.
 ///
 /// There are none where the cutter is at the visit already. A visit that is at most twice its step
-/// away in x and in y is fed to straight, where that feed passes each triangle of the part and cuts no
-/// column of the stock deeper than the job allows. To each other the cutter goes round: up to the
-/// clear height, across, down to the top of the stock, and then by feeds straight down to the visit,
+/// away in x and in y is fed to straight, where on that feed the cutter, and its holder if it has one,
+/// passes each triangle of the part, and no column of the stock is cut deeper than the job allows.
+/// Whether the holder passes the stock isn't looked at. To each other visit the cutter goes round: up to
+/// the clear height, across, down to the top of the stock, and then by feeds straight down to the visit,
 /// none of which is longer than the job's greatest depth of cut. The cells are those of the part's
 /// triangles.
 ///
@@ -61,8 +62,8 @@ pub fn link(
 }
 
 /// Whether nothing but the stock may stand in the way of the link from the place `from`, where the
-/// cutter is, to the visit: it is no move, or the straight feed is short enough and passes the part.
-/// The cells are those of the part's triangles.
+/// cutter is, to the visit: it is no move, or the straight feed is short enough, and on it the cutter, and
+/// its holder if it has one, passes the part. The cells are those of the part's triangles.
 ///
 /// Coordinates are in the job's units, of at most 524,287 in magnitude.
 pub fn goes_clear(job: &Job, part: &Part, cells: &Cells, from: Pt3, to: Visit) -> bool
@@ -139,7 +140,7 @@ fn is_clear(job: &Job, part: &Part, cells: &Cells, from: Pt3, to: Visit) -> bool
     if !is_near_by(from, to) {
         return false;
     }
-    clears(job.cutter, part, cells, &feed_to(from, to.at))
+    tool_clears(&job.tool(), part, cells, &feed_to(from, to.at))
 }
 
 /// Whether the visit is at most twice its step away from the place, in x and in y.

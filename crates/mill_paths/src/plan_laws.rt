@@ -25,7 +25,7 @@ pub fn round_is_safe()
 {}
 
 /// Each visit of a plan is a place that it may come to: in the unit's range, from the floor on and under
-/// the top, and the cutter doesn't gouge there nor at any greater height.
+/// the top, and neither the cutter nor its holder gouges there or at any greater height.
 pub fn visits_are_free()
     ensures rough { RoughVisitsAreFree }
     ensures level { LevelVisitsAreFree }

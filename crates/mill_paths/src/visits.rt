@@ -1,9 +1,8 @@
 ghost use Rattle.std.specs.Prelude.{◌≡◌, ◌↔◌, ℕ, ◌<◌, ◌≤◌, ◌++◌, pos, ◌<ℤ◌, length, slice_index_or, All, IfErr, IfOk, IsErrOf, OnOk};
 ghost use Rattle.mill_cells.specs.Sorted.{sorted_of};
 ghost use Rattle.mill_base.specs.Lattices.{nodes_of, IsMapLattice};
-ghost use Rattle.mill_base.specs.Tools.{bare};
 ghost use Rattle.mill_drop.specs.Maps.{AreDropHeights};
-ghost use Rattle.mill_job.specs.Jobs.{IsFrom, IsJob};
+ghost use Rattle.mill_job.specs.Jobs.{IsFrom, IsJob, tool_of};
 ghost use Rattle.mill_paths.specs.Lattices.{finish_lattice, lattice_by, rough_lattice};
 ghost use Rattle.mill_paths.specs.Limits.{change_count, most_changes, HasManyNodes, IsHeightsFault, IsListFault};
 ghost use Rattle.mill_paths.specs.Visits.{AreRoughVisits, AreFinishVisits, HaveManyRoughVisits, HaveManyFinishVisits, IsVisit, rough_levels, rough_visits_of};
@@ -14,7 +13,7 @@ use crate::path::Path;
 use crate::visit::Visit;
 use crate::visit_list::VisitList;
 use crate::zigzag::add_path;
-use mill_base::{Lattice, MAX_NODES, Tool};
+use mill_base::{Lattice, MAX_NODES};
 use mill_cells::Cells;
 use mill_drop::drop_map;
 use mill_job::Job;
@@ -24,7 +23,7 @@ use std::thread::Threads;
 
 /// The visits of a plan's roughing, level by level from the top, and on each in zigzag order: over
 /// each node of the rough lattice at which the level is at least the rough stock over the drop
-/// height. Without a layer there are none, and the lattice isn't gone over.
+/// height of the job's tool. Without a layer there are none, and the lattice isn't gone over.
 ///
 /// `cells` are those of the part's triangles. The visits are the same whatever the number of threads.
 ///
@@ -62,7 +61,7 @@ pub fn rough_visits<R: Threads + Sync>(
 }
 
 /// The visits of a plan's finishing path, in zigzag order: over each node of the finishing lattice
-/// at its drop height and the lift, where that is under the top.
+/// at the drop height of the job's tool there and the lift, where that is under the top.
 ///
 /// `cells` are those of the part's triangles. The visits are the same whatever the number of threads.
 ///
@@ -94,8 +93,8 @@ pub fn finish_visits<R: Threads + Sync>(
     Ok(list.into_visits())
 }
 
-/// The drop heights over the lattice of the job's area by this step, where it has at most 4,000,000
-/// nodes.
+/// The drop heights of the job's tool over the lattice of its area by this step, where that has at most
+/// 4,000,000 nodes.
 fn drop_heights<R: Threads + Sync>(
     rt: &R,
     alloc: Global,
@@ -107,7 +106,7 @@ fn drop_heights<R: Threads + Sync>(
     requires job_ok { IsJob job.now }
     requires cells_ok { cells.now ≡ sorted_of part.now }
     requires step_ok { IsFrom (pos 1) (pos 10000) step }
-    ensures heights { IfOk result (λ heights. AreDropHeights (bare job.now.cutter) part.now job.now.floor (lattice_by job.now step) heights.items) }
+    ensures heights { IfOk result (λ heights. AreDropHeights (tool_of job.now) part.now job.now.floor (lattice_by job.now step) heights.items) }
     ensures lattice_ok { IfOk result (λ _. IsMapLattice (lattice_by job.now step)) }
     ensures fault { IfErr result (IsHeightsFault (lattice_by job.now step)) }
 {
@@ -119,7 +118,7 @@ fn drop_heights<R: Threads + Sync>(
     if nodes > MAX_NODES {
         return Err(PathFault::TooManyNodes { nodes });
     }
-    let tool = Tool::bare(job.cutter);
+    let tool = job.tool();
     Ok(drop_map(rt, alloc, part, cells, &tool, &lattice, job.floor)?)
 }
 

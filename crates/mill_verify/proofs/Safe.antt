@@ -1,5 +1,5 @@
 -- An accepted program cuts safely, by the laws of the layers below.
-use Rattle.std.specs.Prelude.{◌≡◌, ℕ, ◌+◌, ◌<◌, ℤ, pos, ◌-ℤ◌, ◌+ℤ◌, ◌*ℤ◌, ◌<ℤ◌, ◌≤ℤ◌, List, Contains, length, take, drop, slice_index_or, [], ◌∷◌, zero, suc, negsuc, int_lt, Bool, true, false, IfSome, Some, refl}
+use Rattle.std.specs.Prelude.{◌≡◌, ℕ, ◌+◌, ◌<◌, ℤ, pos, ◌-ℤ◌, ◌+ℤ◌, ◌*ℤ◌, ◌<ℤ◌, ◌≤ℤ◌, List, Contains, length, take, drop, slice_index_or, [], ◌∷◌, zero, suc, negsuc, int_lt, Bool, true, false, Some, refl}
 use Rattle.std.proofs.Common.{sym, subst, ap, inl, inr, arith, ◌∙◌}
 use Rattle.std.proofs.lemmas.Int.{ints}
 use lib.IntN.{*ℤ_comm}
@@ -195,7 +195,7 @@ module _ (job : Job) (part : List Tri) (moves : List Move) (ok : IsJob job) (all
         (in_range k hk) (top_ok (take k moves) j i point.column) (each j i point.column) (under_top removed (take k moves) (moves_ok k) j i h point leaves) moment
 
     stays_clear : HolderIsClear → HolderKeepsPoint → HolderStaysClear holder job part moves
-    stays_clear clear keeps = record { part = misses_part clear; stock = misses_stock keeps }
+    stays_clear clear keeps = record { misses_part = misses_part clear; misses_stock = misses_stock keeps }
 
   keeps_clear : HolderIsClear → HolderKeepsPoint → OverTopIsRemoved → GoodBefore job part moves (length moves) → HolderKeepsClear job part moves
   keeps_clear clear keeps removed good = if_some (λ (holder : Holder). HolderStaysClear holder job part moves) job.holder (λ holder mounted. stays_clear good removed holder mounted clear keeps)

@@ -7,12 +7,11 @@ use Rattle.mill_job.specs.declared.job.Job.{Job}
 use Rattle.mill_dexel.specs.Turns.{move_at}
 use Rattle.mill_base.specs.declared.tool.Holder.{Holder}
 use Rattle.mill_job.specs.Jobs.{tool_of}
-use Rattle.mill_gouge.specs.Gouges.{HolderPassesPart, IsFirstHolderGouge, PassesPart, ToolPassesPart}
-use Rattle.mill_gouge.specs.declared.gouge.Gouge.{Gouge}
+use Rattle.mill_gouge.specs.Gouges.{HolderPassesPart, ToolPassesPart}
 use Rattle.mill_verify.specs.Blocks.{BlockState, turned, IsBlockStopped, IsPartFail}
 use Rattle.mill_verify.specs.declared.block.PartFail.{PartFail}
 use Rattle.mill_verify.specs.declared.block.PartFail.TheVariants as fail
-use Rattle.mill_verify.proofs.Mounted.{for_some, of_some}
+use Rattle.mill_verify.proofs.Mounted.{of_some}
 use Rattle.mill_verify.specs.inner.Firsts.{block_before}
 
 -- a number before the end is one of a move

@@ -135,9 +135,12 @@ module _ (job : Job) (part : List Tri) (moves : List Move) (turns least : ℕ) (
   held_of : (m : ℕ) (p : Piece) → IsPieceFailed w m least p → is_held_row p ≡ true → FailsHeld m
   held_of m (Block b s) f e = absurd (cc)
   held_of m (Stock b r) f e =
-      let found = f.2.fail in
-      (r.row, f.1, cut_of (row_before job moves (uncut_row job r.row) least) (move_at moves least) found.col found.leaf found.test
-      (sym (ap is_of_holder (ap (λ (x : RowState). x.failed) f.2.noted)) ∙ e) f.2.stops.stops)
+      let found = f.2.fail in (
+        r.row,
+        f.1,
+        cut_of (row_before job moves (uncut_row job r.row) least) (move_at moves least) found.col found.leaf found.test
+            (sym (ap is_of_holder (ap (λ (x : RowState). x.failed) f.2.noted)) ∙ e) f.2.stops.stops,
+      )
 
   -- how a piece failed that failed at the least turn
   failed_there : (m : ℕ) (h : Held Piece) → IsDone tests w least m h → HasFailed least h → FailsAt tests w m least × IsPieceFailed w m least h.piece
@@ -158,7 +161,7 @@ module _ (job : Job) (part : List Tri) (moves : List Move) (turns least : ℕ) (
       let t = done m under in
       elim (failed_or_not least t.0) [
         | inl f ↦ by t.0 t.1 t.2 f (is_held_row t.0.piece) refl
-        | inr no ↦ inl (passes_to tests w least m t.0 t.2 (λ k. closed.under m k under) least from to (omega arith) no)
+        | inr passed ↦ inl (passes_to tests w least m t.0 t.2 (λ k. closed.under m k under) least from to (omega arith) passed)
       ]
     where
       by : (h : Held Piece) → slice_get hs m ≡ Some h → IsDone tests w least m h → HasFailed least h → (b : Bool) → is_held_row h.piece ≡ b → PassesTest w m least ⊎ FailsHeld m
@@ -293,23 +296,25 @@ module _ (job : Job) (part : List Tri) (moves : List Move) (turns least : ℕ) (
     held_rejects j i leaf number none held stop =
         let s = row_holder_stops job moves least j i leaf stop.holder in
         let u = under in let count = closed.count in
-        let tool = block_passed (length hs) none (omega (u, number, count, arith)) in
-        (record {
-          there = move_there;
-          before = good_to least (omega arith);
-          floor = floor.over least turn_there;
-          clears = tool.cutter;
-          holder_clears = tool.holder;
-          stock = λ tested a b column. row_cut (length hs) a none (let r = column.row in omega (r, count, arith)) column.row tested b column.column;
-          holder = s.holder;
-          mounted = s.mounted;
-          column = record { row = omega (number, u, arith); column = s.column };
-          first = λ a b column order. elim order [
-            | inl less ↦ of_some (λ (h : OneHolder). HolderPassesTops h job moves least a) job.holder s.holder s.mounted (row_passed a none held (omega (less, number, arith))) b column.column
-            | inr same ↦ subst (λ (v : ℕ). HolderPassesPoint s.holder (move_at moves least) (top_point job (take least moves) v b)) (sym same.0) (s.before b same.1)
-          ];
-          fails = s.fails;
-        }, s.blocked)
+        let tool = block_passed (length hs) none (omega (u, number, count, arith)) in (
+          record {
+            there = move_there;
+            before = good_to least (omega arith);
+            floor = floor.over least turn_there;
+            clears = tool.cutter;
+            holder_clears = tool.holder;
+            stock = λ tested a b column. row_cut (length hs) a none (let r = column.row in omega (r, count, arith)) column.row tested b column.column;
+            holder = s.holder;
+            mounted = s.mounted;
+            column = record { row = omega (number, u, arith); column = s.column };
+            first = λ a b column order. elim order [
+              | inl less ↦ of_some (λ (h : OneHolder). HolderPassesTops h job moves least a) job.holder s.holder s.mounted (row_passed a none held (omega (less, number, arith))) b column.column
+              | inr same ↦ subst (λ (v : ℕ). HolderPassesPoint s.holder (move_at moves least) (top_point job (take least moves) v b)) (sym same.0) (s.before b same.1)
+            ];
+            fails = s.fails;
+          },
+          s.blocked,
+        )
 
     stock_rejects : (j i : ℕ) (leaf : Leaf) (t : RowTest) → n ≡ blocks_of w + j → (is_holder_test t ≡ true → NoCut (length hs)) → NoneFailedBy (is_holder_test t) least hs n
         → StopsBy t job (row_before job moves (uncut_row job j) least) (move_at moves least) i leaf → Rejects (stock_reason t kind least j i leaf)

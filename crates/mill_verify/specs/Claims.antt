@@ -61,8 +61,8 @@ KeepsDepth job moves = (pos 0) <ℤ job.max_cut → CutsShallow job moves
 
 -- at no moment of any move is a part point strictly inside the holder, nor a column point that the moves before that one left
 pub record HolderStaysClear (holder : Holder) (job : Job) (part : List Tri) (moves : List Move) : Type 0 where
-  pub part : (m : Move) (a n : ℤ) → Contains moves m → IsMoment a n → ¬ HolderGouges holder n (tip_at m a n) part
-  pub stock : (k j i : ℕ) (h a n : ℤ) → k < length moves → IsColumnPoint job j i h → LeavesPoint job (take k moves) j i h → IsMoment a n
+  pub misses_part : (m : Move) (a n : ℤ) → Contains moves m → IsMoment a n → ¬ HolderGouges holder n (tip_at m a n) part
+  pub misses_stock : (k j i : ℕ) (h a n : ℤ) → k < length moves → IsColumnPoint job j i h → LeavesPoint job (take k moves) j i h → IsMoment a n
       → ¬ Holds (solid_of holder) n (holder_tip holder n (tip_at (move_at moves k) a n)) (pos 1) (point_at (column_x job i) (column_y job j) h)
 
 -- so it is of the job's holder, if it has one

@@ -15,5 +15,5 @@ waterline-requires-clause-z_ok c =
 pub returns-clause-chains : goal.returns-clause-chains
 returns-clause-chains c =
     let in_range : Within MAX_COORDINATE (level_at c.args.job.now c.args.number) = level_in_range c.args.job.now c.args.number (pos 0) c.requires.job_ok c.requires.number_ok in
-    let made = rw (c.as_slice.ensures.list, coordinate (level_at c.args.job.now c.args.number) in_range, c.finish_lattice-lattice.ensures) at c.waterline.ensures.chains in
+    let made = rw (c.as_slice.ensures.list, coordinate (level_at c.args.job.now c.args.number) in_range, c.finish_lattice-lattice.ensures, c.tool-tool.ensures) at c.waterline.ensures.chains in
     search (rules, made)

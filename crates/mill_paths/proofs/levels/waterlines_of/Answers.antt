@@ -4,9 +4,9 @@ use Rattle.std.specs.List.{range_with_len}
 use Rattle.rayon.specs.Numbers.{nat_range}
 use Rattle.rayon.proofs.ToStd.{nat_range-All}
 use Rattle.mill_base.specs.Lattices.{node_count}
-use Rattle.mill_base.specs.Tools.{bare}
 use Rattle.mill_base.specs.declared.lattice.Lattice.{Lattice}
 use Rattle.mill_base.specs.declared.limits.TheConstants.{MAX_NODES}
+use Rattle.mill_job.specs.Jobs.{tool_of}
 use Rattle.mill_level.specs.Waterlines.{IsWaterline, seen}
 use Rattle.mill_paths.specs.Lattices.{finish_lattice}
 use Rattle.mill_paths.specs.Limits.{IsHeightsFault}
@@ -32,7 +32,7 @@ returns-clause-waterlines g c =
     let whole : length c.as_slice.result.now - 0 ≡ length c.as_slice.result.now = omega arith in
     let all : length c.as_slice.result.now ≡ length c.args.job.now.levels = ap (λ zs. length zs) c.as_slice.ensures.list in
     let numbers : chain.0 ≡ range_with_len 0 (length c.args.job.now.levels) = chain.1 ∙ (λ i. nat_range (ends.0 i) (ends.1 i)) ∙ ap (range_with_len 0) (whole ∙ all) in
-    when_made _ (λ v. v.items) chain.0 h.0 chain.2 (λ z outlines. IsWaterline (bare c.args.job.now.cutter) c.args.part.now z (finish_lattice c.args.job.now) outlines) (λ chains. map seen chains.items)
+    when_made _ (λ v. v.items) chain.0 h.0 chain.2 (λ z outlines. IsWaterline (tool_of c.args.job.now) c.args.part.now z (finish_lattice c.args.job.now) outlines) (λ chains. map seen chains.items)
     c.args.job.now.levels (pos 0) numbers (λ k v p. p.0) c.in_ok-collect.field-0 h.2
 
 pub returns-clause-fault : goal.returns-clause-fault

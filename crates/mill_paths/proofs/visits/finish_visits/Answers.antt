@@ -3,8 +3,8 @@ use Rattle.std.specs.Prelude.{All, Err}
 use Rattle.std.proofs.lemmas.Result.{err_from_is_err_and}
 use Rattle.std.proofs.lemmas.Slice.Zip.{AllZip-long}
 use Rattle.mill_base.specs.Lattices.{nodes_of, IsMapLattice}
-use Rattle.mill_base.specs.Tools.{bare}
 use Rattle.mill_drop.specs.Maps.{AreDropHeights, IsHeightAt}
+use Rattle.mill_job.specs.Jobs.{tool_of}
 use Rattle.mill_part.proofs.Stored.{band_kept}
 use Rattle.mill_paths.specs.Lattices.{finish_lattice}
 use Rattle.mill_paths.specs.Limits.{IsHeightsFault, IsListFault}
@@ -39,8 +39,8 @@ add_path-requires-clause-lattice_ok g c =
 pub add_path-requires-clause-heights_ok : goal.add_path-requires-clause-heights_ok
 add_path-requires-clause-heights_ok g c =
     let step = band_kept c.args.job.now.raster (step_least c.args.job.now.raster c.requires.job_ok.raster_ok.low) c.requires.job_ok.raster_ok.high in
-    let are : AreDropHeights (bare c.args.job.now.cutter) c.args.part.now c.args.job.now.floor (finish_lattice c.args.job.now) c.in_ok-heights.heights.items = simp step at c.in_ok-heights.ensures.heights in
-    rw c.deref.ensures.value (AllZip-long (IsHeightAt (bare c.args.job.now.cutter) c.args.part.now c.args.job.now.floor) (nodes_of (finish_lattice c.args.job.now)) c.in_ok-heights.heights.items are)
+    let are : AreDropHeights (tool_of c.args.job.now) c.args.part.now c.args.job.now.floor (finish_lattice c.args.job.now) c.in_ok-heights.heights.items = simp step at c.in_ok-heights.ensures.heights in
+    rw c.deref.ensures.value (AllZip-long (IsHeightAt (tool_of c.args.job.now) c.args.part.now c.args.job.now.floor) (nodes_of (finish_lattice c.args.job.now)) c.in_ok-heights.heights.items are)
 
 pub returns-in_err-add_path-clause-nodes : goal.returns-in_err-add_path-clause-nodes
 returns-in_err-add_path-clause-nodes g c =
@@ -57,7 +57,7 @@ returns-in_err-add_path-clause-visits g c =
     let is : c.from_residual-in_err-add_path.result ≡ Err c.in_err-add_path.field-0.0 = rw (p.1, p.2) refl in
     let fault : IsListFault (finish_visits_of c.args.job.now c.in_ok-heights.heights.items) c.in_err-add_path.field-0.0 = rw (c.new-list.ensures, c.deref.ensures.value) at c.in_err-add_path.ensures.fault in
     let step = band_kept c.args.job.now.raster (step_least c.args.job.now.raster c.requires.job_ok.raster_ok.low) c.requires.job_ok.raster_ok.high in
-    let are : AreDropHeights (bare c.args.job.now.cutter) c.args.part.now c.args.job.now.floor (finish_lattice c.args.job.now) c.in_ok-heights.heights.items = simp step at c.in_ok-heights.ensures.heights in
+    let are : AreDropHeights (tool_of c.args.job.now) c.args.part.now c.args.job.now.floor (finish_lattice c.args.job.now) c.in_ok-heights.heights.items = simp step at c.in_ok-heights.ensures.heights in
     λ told. record {
       heights = c.in_ok-heights.heights.items;
       are = are;
@@ -67,7 +67,7 @@ returns-in_err-add_path-clause-visits g c =
 pub returns-clause-list : goal.returns-clause-list
 returns-clause-list g c =
     let step = band_kept c.args.job.now.raster (step_least c.args.job.now.raster c.requires.job_ok.raster_ok.low) c.requires.job_ok.raster_ok.high in
-    let are : AreDropHeights (bare c.args.job.now.cutter) c.args.part.now c.args.job.now.floor (finish_lattice c.args.job.now) c.in_ok-heights.heights.items = simp step at c.in_ok-heights.ensures.heights in
+    let are : AreDropHeights (tool_of c.args.job.now) c.args.part.now c.args.job.now.floor (finish_lattice c.args.job.now) c.in_ok-heights.heights.items = simp step at c.in_ok-heights.ensures.heights in
     let added = rw (c.new-list.ensures, c.deref.ensures.value) at c.in_ok-add_path.ensures.ok in
     let visits : c.into_visits.result.items ≡ finish_visits_of c.args.job.now c.in_ok-heights.heights.items = c.into_visits.ensures.visits ∙ added in
     record { heights = c.in_ok-heights.heights.items; are = are; visits = visits }
@@ -75,7 +75,7 @@ returns-clause-list g c =
 pub returns-clause-each : goal.returns-clause-each
 returns-clause-each g c =
     let step = band_kept c.args.job.now.raster (step_least c.args.job.now.raster c.requires.job_ok.raster_ok.low) c.requires.job_ok.raster_ok.high in
-    let are : AreDropHeights (bare c.args.job.now.cutter) c.args.part.now c.args.job.now.floor (finish_lattice c.args.job.now) c.in_ok-heights.heights.items = simp step at c.in_ok-heights.ensures.heights in
+    let are : AreDropHeights (tool_of c.args.job.now) c.args.part.now c.args.job.now.floor (finish_lattice c.args.job.now) c.in_ok-heights.heights.items = simp step at c.in_ok-heights.ensures.heights in
     let map_ok : IsMapLattice (finish_lattice c.args.job.now) = simp step at c.in_ok-heights.ensures.lattice_ok in
     let added = rw (c.new-list.ensures, c.deref.ensures.value) at c.in_ok-add_path.ensures.ok in
     let visits : c.into_visits.result.items ≡ finish_visits_of c.args.job.now c.in_ok-heights.heights.items = c.into_visits.ensures.visits ∙ added in
@@ -90,6 +90,6 @@ returns-clause-nodes g c =
 pub returns-clause-many : goal.returns-clause-many
 returns-clause-many g c =
     let step = band_kept c.args.job.now.raster (step_least c.args.job.now.raster c.requires.job_ok.raster_ok.low) c.requires.job_ok.raster_ok.high in
-    let are : AreDropHeights (bare c.args.job.now.cutter) c.args.part.now c.args.job.now.floor (finish_lattice c.args.job.now) c.in_ok-heights.heights.items = simp step at c.in_ok-heights.ensures.heights in
+    let are : AreDropHeights (tool_of c.args.job.now) c.args.part.now c.args.job.now.floor (finish_lattice c.args.job.now) c.in_ok-heights.heights.items = simp step at c.in_ok-heights.ensures.heights in
     let added = rw (c.new-list.ensures, c.deref.ensures.value) at c.in_ok-add_path.ensures.ok in
     few_finish c.args.job.now c.args.part.now c.in_ok-heights.heights.items c.into_visits.result.items are (c.into_visits.ensures.visits ∙ added) c.into_visits.ensures.few

@@ -5,8 +5,8 @@ use Rattle.std.proofs.lemmas.List.Elements.{All-nil}
 use Rattle.std.proofs.lemmas.Result.{err_from_is_err_and}
 use Rattle.std.proofs.lemmas.Slice.Zip.{AllZip-long}
 use Rattle.mill_base.specs.Lattices.{nodes_of, IsMapLattice}
-use Rattle.mill_base.specs.Tools.{bare}
 use Rattle.mill_drop.specs.Maps.{AreDropHeights, IsHeightAt}
+use Rattle.mill_job.specs.Jobs.{tool_of}
 use Rattle.mill_part.proofs.Stored.{band_kept}
 use Rattle.mill_paths.specs.Lattices.{rough_lattice}
 use Rattle.mill_paths.specs.Limits.{IsHeightsFault, IsListFault}
@@ -61,8 +61,8 @@ add_levels-requires-clause-lattice_ok g c =
 pub add_levels-requires-clause-heights_ok : goal.add_levels-requires-clause-heights_ok
 add_levels-requires-clause-heights_ok g c =
     let step = band_kept c.args.job.now.rough_raster (step_least c.args.job.now.rough_raster c.requires.job_ok.rough_raster_ok.low) c.requires.job_ok.rough_raster_ok.high in
-    let are : AreDropHeights (bare c.args.job.now.cutter) c.args.part.now c.args.job.now.floor (rough_lattice c.args.job.now) c.in_ok-heights.heights.items = simp step at c.in_ok-heights.ensures.heights in
-    rw c.deref.ensures.value (AllZip-long (IsHeightAt (bare c.args.job.now.cutter) c.args.part.now c.args.job.now.floor) (nodes_of (rough_lattice c.args.job.now)) c.in_ok-heights.heights.items are)
+    let are : AreDropHeights (tool_of c.args.job.now) c.args.part.now c.args.job.now.floor (rough_lattice c.args.job.now) c.in_ok-heights.heights.items = simp step at c.in_ok-heights.ensures.heights in
+    rw c.deref.ensures.value (AllZip-long (IsHeightAt (tool_of c.args.job.now) c.args.part.now c.args.job.now.floor) (nodes_of (rough_lattice c.args.job.now)) c.in_ok-heights.heights.items are)
 
 pub returns-in_err-add_levels-clause-nodes : goal.returns-in_err-add_levels-clause-nodes
 returns-in_err-add_levels-clause-nodes g c =
@@ -81,7 +81,7 @@ returns-in_err-add_levels-clause-visits g c =
     let is : c.from_residual-in_err-add_levels.result ≡ Err c.in_err-add_levels.field-0.0 = rw (p.1, p.2) refl in
     let fault : IsListFault (rough_visits_of c.args.job.now c.in_ok-heights.heights.items) c.in_err-add_levels.field-0.0 = rw (c.new-list.ensures, c.deref.ensures.value) at c.in_err-add_levels.ensures.fault in
     let step = band_kept c.args.job.now.rough_raster (step_least c.args.job.now.rough_raster c.requires.job_ok.rough_raster_ok.low) c.requires.job_ok.rough_raster_ok.high in
-    let are : AreDropHeights (bare c.args.job.now.cutter) c.args.part.now c.args.job.now.floor (rough_lattice c.args.job.now) c.in_ok-heights.heights.items = simp step at c.in_ok-heights.ensures.heights in
+    let are : AreDropHeights (tool_of c.args.job.now) c.args.part.now c.args.job.now.floor (rough_lattice c.args.job.now) c.in_ok-heights.heights.items = simp step at c.in_ok-heights.ensures.heights in
     λ told. (
       some,
       record {
@@ -94,7 +94,7 @@ returns-in_err-add_levels-clause-visits g c =
 pub returns-clause-list : goal.returns-clause-list
 returns-clause-list g c =
     let step = band_kept c.args.job.now.rough_raster (step_least c.args.job.now.rough_raster c.requires.job_ok.rough_raster_ok.low) c.requires.job_ok.rough_raster_ok.high in
-    let are : AreDropHeights (bare c.args.job.now.cutter) c.args.part.now c.args.job.now.floor (rough_lattice c.args.job.now) c.in_ok-heights.heights.items = simp step at c.in_ok-heights.ensures.heights in
+    let are : AreDropHeights (tool_of c.args.job.now) c.args.part.now c.args.job.now.floor (rough_lattice c.args.job.now) c.in_ok-heights.heights.items = simp step at c.in_ok-heights.ensures.heights in
     let added = rw (c.new-list.ensures, c.deref.ensures.value) at c.in_ok-add_levels.ensures.ok in
     let visits : c.into_visits.result.items ≡ rough_visits_of c.args.job.now c.in_ok-heights.heights.items = c.into_visits.ensures.visits ∙ added in
     record { heights = c.in_ok-heights.heights.items; are = λ some. are; visits = visits }
@@ -103,7 +103,7 @@ pub returns-clause-each : goal.returns-clause-each
 returns-clause-each g c =
     let some : (pos 0) <ℤ c.args.job.now.layer = layer_some c.args.job.now.layer c.requires.job_ok.layer_ok.low c.if-job-eq0.false in
     let step = band_kept c.args.job.now.rough_raster (step_least c.args.job.now.rough_raster c.requires.job_ok.rough_raster_ok.low) c.requires.job_ok.rough_raster_ok.high in
-    let are : AreDropHeights (bare c.args.job.now.cutter) c.args.part.now c.args.job.now.floor (rough_lattice c.args.job.now) c.in_ok-heights.heights.items = simp step at c.in_ok-heights.ensures.heights in
+    let are : AreDropHeights (tool_of c.args.job.now) c.args.part.now c.args.job.now.floor (rough_lattice c.args.job.now) c.in_ok-heights.heights.items = simp step at c.in_ok-heights.ensures.heights in
     let map_ok : IsMapLattice (rough_lattice c.args.job.now) = simp step at c.in_ok-heights.ensures.lattice_ok in
     let added = rw (c.new-list.ensures, c.deref.ensures.value) at c.in_ok-add_levels.ensures.ok in
     let visits : c.into_visits.result.items ≡ rough_visits_of c.args.job.now c.in_ok-heights.heights.items = c.into_visits.ensures.visits ∙ added in
@@ -123,6 +123,6 @@ returns-then-job-eq0-clause-many g c =
 pub returns-clause-many : goal.returns-clause-many
 returns-clause-many g c =
     let step = band_kept c.args.job.now.rough_raster (step_least c.args.job.now.rough_raster c.requires.job_ok.rough_raster_ok.low) c.requires.job_ok.rough_raster_ok.high in
-    let are : AreDropHeights (bare c.args.job.now.cutter) c.args.part.now c.args.job.now.floor (rough_lattice c.args.job.now) c.in_ok-heights.heights.items = simp step at c.in_ok-heights.ensures.heights in
+    let are : AreDropHeights (tool_of c.args.job.now) c.args.part.now c.args.job.now.floor (rough_lattice c.args.job.now) c.in_ok-heights.heights.items = simp step at c.in_ok-heights.ensures.heights in
     let added = rw (c.new-list.ensures, c.deref.ensures.value) at c.in_ok-add_levels.ensures.ok in
     few_rough c.args.job.now c.args.part.now c.in_ok-heights.heights.items c.into_visits.result.items are (c.into_visits.ensures.visits ∙ added) c.into_visits.ensures.few
