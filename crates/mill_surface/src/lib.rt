@@ -9,4 +9,4 @@ mod fault;
 mod surfaces;
 
 pub use fault::SurfaceFault;
-pub use surfaces::surface;
+pub use surfaces::{surface, triangle_count};

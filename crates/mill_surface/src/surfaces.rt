@@ -45,8 +45,8 @@ pub fn surface(alloc: Global, job: &Job, rows: &[Row]) -> Result<Vec<Tri>, Surfa
     Ok(all_tris(alloc, job, rows, count)?)
 }
 
-// How many triangles the surface has.
-fn triangle_count(job: &Job) -> u64
+/// How many triangles the surface of a job's stock has: two for each square of four neighbouring columns.
+pub fn triangle_count(job: &Job) -> u64
     requires { IsJob job.now }
     ensures { result ≡ triangle_count_of job.now }
 {
