@@ -68,7 +68,8 @@ fn writes_what_it_reads(rt: HostRuntime) -> Result<(), Fail> {
 // A part that came with other normals, words and line ends, and finer than the unit.
 #[test]
 fn writes_in_one_form(rt: HostRuntime) -> Result<(), Fail> {
-    let given = "SOLID a\r\nFACET NORMAL nan 1 -1e3 outer loop\r\n\tvertex 0 .001 2\r\n\tvertex 1e0 -0.0 1.999
+    let given =
+        "SOLID a\r\nFACET NORMAL nan 1 -1e3 outer loop\r\n\tvertex 0 .001 2\r\n\tvertex 1e0 -0.0 1.999
 vertex +1 001 2 endloop endfacet\r\nendsolid b\r\nsolid c\r\nendsolid";
     let want = "solid stock
 facet normal 0 0 1
