@@ -1,5 +1,6 @@
 -- The work on `stock`: what was read, stored and printed, put together.
-use Rattle.std.proofs.Common.{◌≡◌, ℕ, List, Option, Result, Ok, Err, refl, subst, inl, inr}
+use Rattle.std.proofs.Common.{◌≡◌, ℕ, List, ◌++◌, length, take, drop, Option, Result, Ok, Err, refl, subst, inl, inr, arith}
+use Rattle.std.proofs.lemmas.List.{append-nil, drop_all, take_all}
 use Rattle.std.specs.Prelude.{IfSome}
 use Rattle.mill_command.specs.Requests.{stock}
 use Rattle.mill_io.specs.Views.{StoreView}
@@ -52,6 +53,16 @@ pub stock_load_fault : (contents : List ℕ → Option (List ℕ)) (job program 
 stock_load_fault contents job program name Memory h = tt
 stock_load_fault contents job program name (ReadFault file) h = h
 stock_load_fault contents job program name (Unfit fault) h = h
+
+-- ---- the work
+
+-- an error that is handed on is the same
+pub handed_on : {T U E : Type 0} (r : Result T E) (x y e : E) → r ≡ Err x → x ≡ y → r ≡ Err e → (let q : Result U E = Err y in q) ≡ Err e
+handed_on r x y e is same other = cc
+
+-- a list that is written back whole
+pub put_back : {T : Type 0} (old new : List T) (n : ℕ) → length new ≡ n → length old ≡ n → take n (new ++ drop (length new) old) ≡ new
+put_back old new n as_long long = rw (drop_all (length new) old (omega arith), append-nil new, take_all n new (omega arith)) refl
 
 -- ---- the answer
 
