@@ -7,8 +7,9 @@ A bench gives the text of the program's module `call`, which has
 - `show`, which prints the answer.
 
 `Program` writes a copy of the crates that it uses with the program as one more, has it proved and built
-as every other, and runs it. The task is a cutter, a lattice and a height, of words that the baselines take
-too, so that `words_of` writes them for both.
+as every other, and runs it. The task is a tool, a lattice and a height, of words that the baselines take
+too, so that `words_of` writes them for both; but for the last one, which says how far the cutter stands out
+of a holder of twice its radius, or 0 where there is none.
 """
 import os
 import shutil
@@ -25,7 +26,7 @@ LIBRARIES = (
 MAIN = """\
 //! Times a call on a part. The script bench/crate_program.py writes this program.
 //!
-//! Its words: PART CUTTER RADIUS RISE RUN X0 Y0 X1 Y1 STEP HEIGHT and `times` or `answer`. It prints
+//! Its words: PART CUTTER RADIUS RISE RUN X0 Y0 X1 Y1 STEP HEIGHT STICKOUT and `times` or `answer`. It prints
 //! the two numbers of the answer's summary, and the microseconds of sorting the triangles into cells
 //! and of the call; or the answer.
 #![tactic(auto)]
@@ -35,6 +36,7 @@ mod task;
 
 use anyhow::{Context, Result, bail};
 use call::{call, show, summary};
+use mill_base::Unit;
 use mill_decimal::Snap;
 use mill_part::{Part, SortedPart};
 use mill_stl::read_stl;
@@ -49,11 +51,11 @@ fn main(rt: HostRuntime) -> Result<()> {
         words.push(word)?;
     }
     let [name, numbers @ .., shown] = words.as_slice() else {
-        bail!("the words are a part's file, a cutter, an area, a step, a height and what to print");
+        bail!("the words are a part's file, a cutter, an area, a step, a height, a stickout and what to print");
     };
     let task = task_of(numbers).context("a word isn't what it has to be")?;
     let text = fs::read(&rt, name)?;
-    let part = Part::new(read_stl(alloc, &text, Snap::Nearest)?.tris);
+    let part = Part::new(read_stl(alloc, &text, Snap::Nearest, Unit::Hundredth)?.tris);
 
     let start = Instant::now(&rt)?;
     let sorted = SortedPart::new(alloc, &part).ok().context("out of memory")?;
@@ -81,26 +83,27 @@ ghost use Rattle.std.specs.Prelude.{◌≤◌, ◌≤ℤ◌, pos, IfSome};
 ghost use Rattle.mill_base.specs.Lattices.{node_count};
 ghost use Rattle.mill_base.specs.Numbers.{Within};
 ghost use Rattle.mill_base.specs.Sizes.{IsCutter};
+ghost use Rattle.mill_base.specs.Tools.{IsHolder, IsTool};
 ghost use Rattle.mill_base.specs.declared.limits.TheConstants.{MAX_COORDINATE};
 ghost use Rattle.LATTICE;
 
-use mill_base::{Box2, Cutter, Lattice, MAX_NODES, MAX_RADIUS, MAX_TEXT_COORDINATE};
+use mill_base::{Box2, Cutter, Holder, Lattice, MAX_NODES, MAX_RADIUS, MAX_TEXT_COORDINATE, Tool};
 
-/// A cutter, the lattice of places for it, and a height.
+/// A tool, the lattice of places for it, and a height.
 #[derive(Clone, Copy)]
 pub struct Task {
-    pub cutter: Cutter,
+    pub tool: Tool,
     pub lattice: Lattice,
     pub height: i32,
 }
 
-/// The task of the words CUTTER RADIUS RISE RUN X0 Y0 X1 Y1 STEP HEIGHT, none where one is out of range.
+/// The task of the words CUTTER RADIUS RISE RUN X0 Y0 X1 Y1 STEP HEIGHT STICKOUT, none where one is out of range.
 pub fn task_of(words: &[String]) -> Option<Task>
-    ensures cutter { IfSome result (λ task. IsCutter task.cutter) }
+    ensures tool { IfSome result (λ task. IsTool task.tool) }
     ensures lattice { IfSome result (λ task. IsTaskLattice task.lattice) }
     ensures height { IfSome result (λ task. Within MAX_COORDINATE task.height) }
 {
-    let [kind, radius, rise, run, x0, y0, x1, y1, step, height] = words else {
+    let [kind, radius, rise, run, x0, y0, x1, y1, step, height, stickout] = words else {
         return None;
     };
     let cutter = cutter_of(kind, number(radius)?, number(rise)?, number(run)?)?;
@@ -111,8 +114,9 @@ pub fn task_of(words: &[String]) -> Option<Task>
         y1: number(y1)?,
     };
     let lattice = lattice_of(area, number(step)?)?;
+    let holder = holder_of(number(radius)?, number(stickout)?)?;
     Some(Task {
-        cutter,
+        tool: Tool { cutter, holder },
         lattice,
         height: number(height)?,
     })
@@ -126,6 +130,22 @@ fn number(word: &str) -> Option<i32>
         Ok(value) if value.unsigned_abs() <= MAX_TEXT_COORDINATE => Some(value),
         _ => None,
     }
+}
+
+/// The holder of a cutter that stands out so far, none where that is 0.
+fn holder_of(radius: i32, stickout: i32) -> Option<Option<Holder>>
+    requires radius_ok { Within MAX_COORDINATE radius }
+    requires stickout_ok { Within MAX_COORDINATE stickout }
+    ensures { IfSome result (λ holder. IfSome holder IsHolder) }
+{
+    if stickout == 0 {
+        return Some(None);
+    }
+    let radius = 2 * radius;
+    if stickout < 0 || radius < 1 || radius > MAX_RADIUS {
+        return None;
+    }
+    Some(Some(Holder { radius, stickout }))
 }
 
 fn cutter_of(kind: &str, radius: i32, rise: i32, run: i32) -> Option<Cutter>
@@ -235,5 +255,5 @@ class Program:
         if not os.path.exists(self.file):
             sys.exit(built.stdout + "the build failed")
 
-    def run(self, stl, words, shown, threads):
-        return common.run([self.file, stl, *words, shown], threads)
+    def run(self, stl, words, shown, threads, stickout=0):
+        return common.run([self.file, stl, *words, stickout, shown], threads)

@@ -16,7 +16,7 @@ use Rattle.mill_job.proofs.OneAnswer.{one_answer}
 use Rattle.mill_verify.specs.Verdicts.{IsVerdict}
 use Rattle.mill_verify.specs.declared.verdict.Verdict.{Verdict}
 use Rattle.mill_plan.specs.Plans.{done, too_many_nodes, too_many_moves, uncut, held}
-use Rattle.mill_command.specs.Requests.{verify, plan, drop, level, sample}
+use Rattle.mill_command.specs.Requests.{verify, plan, drop, level, stock, sample}
 use Rattle.camtool.specs.declared.file.File.TheVariants.{Job as JobFile, Part as PartFile, Program as ProgramFile}
 use Rattle.camtool.specs.declared.load.Unfit.{Unfit}
 use Rattle.camtool.specs.declared.load.Unfit.TheVariants.{TooLong, JobRefused, PartRefused, ProgramRefused, PartTop}
@@ -24,12 +24,13 @@ use Rattle.camtool.specs.declared.place.Coordinate.{Coordinate}
 use Rattle.camtool.specs.declared.place.Coordinate.TheVariants.{X, Y, Z}
 use Rattle.mill_job.specs.declared.job.Place.{Place}
 use Rattle.mill_decimal.specs.declared.fault.DecFault.{DecFault}
-use Rattle.camtool.specs.Answers.{Answer, refused_word, unfit, judged, planned, dropped, leveled, sampled, answer_status, IsAnswer}
+use Rattle.camtool.specs.Answers.{Answer, refused_word, unfit, judged, planned, dropped, leveled, stocked, sampled, answer_status, IsAnswer}
 use Rattle.camtool.specs.Drop.{ReadsPlace, RefusesWord, RefusesPlace}
 use Rattle.camtool.specs.Level.{ReadsHeight, RefusesZ, RefusesHeight, outlines, too_many_nodes as too_fine}
 use Rattle.camtool.specs.Setup.{SetupTexts, setup_texts, AreSetupTold, IsTooLong, IsJobText, IsRefusedJob, ReadsJob, IsPartText, IsRefusedPart, ReadsPart, ReadsSetup, LongPart, RefusesPart, HighPart, IsUnfit, IsUnfitWith}
+use Rattle.camtool.specs.Stock.{StockTexts, stock_texts, AreStockTold, ReadsStockJob, ReadsStock, LongStockProgram, RefusesStockProgram, IsUnfitStock, drawn, too_many_triangles}
 use Rattle.camtool.specs.Verify.{Texts, texts_of, AreTold, IsProgramText, IsRefusedProgram, ReadsProgram, Reads, LongProgram, RefusesProgram, IsUnfitProgram, Judges, verdict_status}
-use Rattle.camtool.specs.Words.{Files, PlanFiles, DropWords, LevelWords}
+use Rattle.camtool.specs.Words.{Files, PlanFiles, DropWords, LevelWords, StockFiles}
 use Rattle.camtool.proofs.Told.{told_both}
 
 ok_is : {A E : Type 0} (a b : A) → (let r : Result A E = Ok a in r) ≡ Ok b → a ≡ b
@@ -182,6 +183,7 @@ is_judged contents files workers job part moves (judged j p m v) told r h =
 is_judged contents files workers job part moves (planned unit name answer) told r h = absurd h
 is_judged contents files workers job part moves (dropped unit height) told r h = absurd h
 is_judged contents files workers job part moves (leveled unit answer) told r h = absurd h
+is_judged contents files workers job part moves (stocked name answer) told r h = absurd h
 is_judged contents files workers job part moves (sampled n answer) told r h = absurd h
 
 -- ---- `plan`
@@ -200,6 +202,7 @@ is_planned contents files workers job part (planned unit name (too_many_nodes no
 is_planned contents files workers job part (planned unit name too_many_moves) told r h = inr (inr refl)
 is_planned contents files workers job part (dropped unit height) told r h = absurd h
 is_planned contents files workers job part (leveled unit answer) told r h = absurd h
+is_planned contents files workers job part (stocked name answer) told r h = absurd h
 is_planned contents files workers job part (sampled n answer) told r h = absurd h
 
 -- ---- `drop`
@@ -226,6 +229,7 @@ is_dropped contents given place job part (judged j q m v) p told r h = absurd h
 is_dropped contents given place job part (planned unit name answer) p told r h = absurd h
 is_dropped contents given place job part (dropped unit height) p told r h = refl
 is_dropped contents given place job part (leveled unit answer) p told r h = absurd h
+is_dropped contents given place job part (stocked name answer) p told r h = absurd h
 is_dropped contents given place job part (sampled n answer) p told r h = absurd h
 
 -- ---- `level`
@@ -253,7 +257,52 @@ is_leveled contents given height job part (planned unit name answer) z told r h 
 is_leveled contents given height job part (dropped unit place) z told r h = absurd h
 is_leveled contents given height job part (leveled unit (outlines found)) z told r h = inl refl
 is_leveled contents given height job part (leveled unit (too_fine nodes)) z told r h = inr refl
+is_leveled contents given height job part (stocked name answer) z told r h = absurd h
 is_leveled contents given height job part (sampled n answer) z told r h = absurd h
+
+-- ---- `stock`
+
+same_stock_job : (texts : StockTexts) (a b : Job) → IsSome texts.job → ReadsStockJob texts a → ReadsStockJob texts b → a ≡ b
+same_stock_job texts a b told r s =
+    let both = told_both (λ text. IsJobText text a) (λ text. IsJobText text b) texts.job told r s in
+    job_text both.0 a b both.1 both.2
+
+fit_long_stock : (texts : StockTexts) (job : Job) (moves : List Move) → AreStockTold texts → ReadsStock texts job moves → LongStockProgram texts → ⊥
+fit_long_stock texts job moves told r h =
+    let both = told_both IsTooLong (λ text. IsProgramText job text moves) texts.program told.program h.long r.moves_are in
+    too_long _ _ both.1 both.2.fits
+
+fit_stock_moves : (texts : StockTexts) (job : Job) (moves : List Move) (fault : NgcFault) → AreStockTold texts → ReadsStock texts job moves → RefusesStockProgram texts fault → ⊥
+fit_stock_moves texts job moves fault told r h =
+    let same : h.job ≡ job = same_stock_job texts h.job job told.job h.job_is r.job_is in
+    let both = told_both (λ text. IsRefusedProgram h.job text fault) (λ text. IsProgramText job text moves) texts.program told.program h.refused r.moves_are in
+    no_program_text job both.0 moves fault both.2 (subst (λ (j : Job). IsRefusedProgram j both.0 fault) same both.1)
+
+fit_stock : (texts : StockTexts) (job : Job) (moves : List Move) (u : Unfit) → AreStockTold texts → ReadsStock texts job moves → IsUnfitStock texts u → ⊥
+fit_stock texts job moves (TooLong JobFile) told r h =
+    let both = told_both IsTooLong (λ text. IsJobText text job) texts.job told.job h r.job_is in
+    too_long _ _ both.1 both.2.fits
+fit_stock texts job moves (TooLong PartFile) told r h = h
+fit_stock texts job moves (TooLong ProgramFile) told r h = fit_long_stock texts job moves told r h
+fit_stock texts job moves (JobRefused fault) told r h =
+    let both = told_both (λ text. IsRefusedJob text fault) (λ text. IsJobText text job) texts.job told.job h r.job_is in
+    no_job_text both.0 job fault both.2 both.1
+fit_stock texts job moves (PartRefused fault) told r h = h
+fit_stock texts job moves (ProgramRefused fault) told r h = fit_stock_moves texts job moves fault told r h
+fit_stock texts job moves (PartTop height top unit) told r h = h
+
+-- files that are told and read give a surface or too many triangles, and nothing is refused
+pub is_stocked : (contents : List ℕ → Option (List ℕ)) (files : StockFiles) (job : Job) (moves : List Move) (a : Answer) → AreStockTold (stock_texts contents files.job files.program)
+    → ReadsStock (stock_texts contents files.job files.program) job moves → IsAnswer contents (stock files.job files.program files.out) a → (answer_status a ≡ 0) ⊎ (answer_status a ≡ 9)
+is_stocked contents files job moves (refused_word coordinate fault) told r h = absurd h
+is_stocked contents files job moves (unfit u) told r h = absurd (fit_stock (stock_texts contents files.job files.program) job moves u told r h)
+is_stocked contents files job moves (judged j p m v) told r h = absurd h
+is_stocked contents files job moves (planned unit name answer) told r h = absurd h
+is_stocked contents files job moves (dropped unit height) told r h = absurd h
+is_stocked contents files job moves (leveled unit answer) told r h = absurd h
+is_stocked contents files job moves (stocked name (drawn text count)) told r h = inl refl
+is_stocked contents files job moves (stocked name (too_many_triangles count)) told r h = inr refl
+is_stocked contents files job moves (sampled n answer) told r h = absurd h
 
 -- ---- `sample`
 
@@ -266,6 +315,7 @@ is_sampled contents n workers (judged j p m v) h = absurd h
 is_sampled contents n workers (planned unit name answer) h = absurd h
 is_sampled contents n workers (dropped unit height) h = absurd h
 is_sampled contents n workers (leveled unit answer) h = absurd h
+is_sampled contents n workers (stocked name answer) h = absurd h
 is_sampled contents n workers (sampled size (done text count columns left)) h = inl refl
 is_sampled contents n workers (sampled size (uncut row col top)) h = inr (inl refl)
 is_sampled contents n workers (sampled size (held number row col)) h = inr (inl refl)

@@ -2,14 +2,15 @@
 use Rattle.std.proofs.Common.{◌≡◌, ◌≢◌, ◌⊎◌, ℕ, List, Option, Some, None, refl, sym, subst, ◌∙◌, inl, inr, arith}
 use Rattle.std.specs.Prelude.{◌<◌}
 use Rattle.mill_io.specs.Views.{ReadsOnly}
-use Rattle.mill_command.specs.Requests.{Request, verify, plan, drop, level, sample, request}
+use Rattle.mill_command.specs.Requests.{Request, verify, plan, drop, level, stock, sample, request}
 use Rattle.mill_plan.specs.Plans.{done, too_many_nodes, too_many_moves, uncut, held}
 use Rattle.mill_verify.specs.declared.verdict.Verdict.TheVariants.{Accept, Reject}
-use Rattle.camtool.specs.Answers.{Answer, refused_word, unfit, judged, planned, dropped, leveled, sampled, answer_status, answer_file, IsAnswer}
+use Rattle.camtool.specs.Answers.{Answer, refused_word, unfit, judged, planned, dropped, leveled, stocked, sampled, answer_status, answer_file, IsAnswer}
 use Rattle.camtool.specs.Calls.{Call, NamedText, NoFault, Stores, BlamesWrites, BlamesReads}
 use Rattle.camtool.specs.Level.{outlines, too_many_nodes as too_fine}
 use Rattle.camtool.specs.Outcomes.{Outcome, help, bad_words, no_memory, read_fault, answered, outcome_status, outcome_file, IsOutcomeOf, ShowsWhole, FailsToStore, FailsToPrint, CountsReads, Shows, HasOutcome}
-use Rattle.camtool.specs.Words.{AsksNoPlan}
+use Rattle.camtool.specs.Stock.{drawn, too_many_triangles}
+use Rattle.camtool.specs.Words.{AsksNoFileStored}
 
 pub stays : (a b : ℕ) → a < b → b ≡ a → ⊥
 stays a b h e = omega (h, e, arith)
@@ -33,6 +34,8 @@ status_not n n0 n3 n4 n8 n9 (planned unit name too_many_moves) e = n9 e
 status_not n n0 n3 n4 n8 n9 (dropped unit height) e = n0 e
 status_not n n0 n3 n4 n8 n9 (leveled unit (outlines found)) e = n0 e
 status_not n n0 n3 n4 n8 n9 (leveled unit (too_fine nodes)) e = n9 e
+status_not n n0 n3 n4 n8 n9 (stocked name (drawn text count)) e = n0 e
+status_not n n0 n3 n4 n8 n9 (stocked name (too_many_triangles count)) e = n9 e
 status_not n n0 n3 n4 n8 n9 (sampled size (done text moves columns left)) e = n0 e
 status_not n n0 n3 n4 n8 n9 (sampled size (uncut row column top)) e = n8 e
 status_not n n0 n3 n4 n8 n9 (sampled size (held number row column)) e = n8 e
@@ -144,33 +147,40 @@ shown_whole call o shows n7 = which shows.way
 
 -- ---- what is stored
 
--- a program alone is stored, and `plan` alone has one
-answer_stores : (contents : List ℕ → Option (List ℕ)) (words : List (List ℕ)) (asked : Request) (a : Answer) → request words ≡ Some asked → AsksNoPlan words
+-- programs and stocks alone are stored, and `plan` and `stock` alone have them
+answer_stores : (contents : List ℕ → Option (List ℕ)) (words : List (List ℕ)) (asked : Request) (a : Answer) → request words ≡ Some asked → AsksNoFileStored words
     → IsAnswer contents asked a → answer_file a ≡ None
-answer_stores contents words asked (refused_word coordinate fault) taken no_plan h = refl
-answer_stores contents words asked (unfit fault) taken no_plan h = refl
-answer_stores contents words asked (judged job part moves verdict) taken no_plan h = refl
-answer_stores contents words (verify job part program workers) (planned unit name answer) taken no_plan h = absurd h
-answer_stores contents words (plan job part out workers) (planned unit name answer) taken no_plan h = absurd (no_plan (record { job = job; part = part; out = out }) (workers, taken))
-answer_stores contents words (drop job part x y) (planned unit name answer) taken no_plan h = absurd h
-answer_stores contents words (level job part z) (planned unit name answer) taken no_plan h = absurd h
-answer_stores contents words (sample n workers) (planned unit name answer) taken no_plan h = absurd h
-answer_stores contents words asked (dropped unit height) taken no_plan h = refl
-answer_stores contents words asked (leveled unit answer) taken no_plan h = refl
-answer_stores contents words asked (sampled n answer) taken no_plan h = refl
+answer_stores contents words asked (refused_word coordinate fault) taken nothing h = refl
+answer_stores contents words asked (unfit fault) taken nothing h = refl
+answer_stores contents words asked (judged job part moves verdict) taken nothing h = refl
+answer_stores contents words (verify job part program workers) (planned unit name answer) taken nothing h = absurd h
+answer_stores contents words (plan job part out workers) (planned unit name answer) taken nothing h = absurd (nothing.no_plan (record { job = job; part = part; out = out }) (workers, taken))
+answer_stores contents words (drop job part x y) (planned unit name answer) taken nothing h = absurd h
+answer_stores contents words (level job part z) (planned unit name answer) taken nothing h = absurd h
+answer_stores contents words (stock job program out) (planned unit name answer) taken nothing h = absurd h
+answer_stores contents words (sample n workers) (planned unit name answer) taken nothing h = absurd h
+answer_stores contents words asked (dropped unit height) taken nothing h = refl
+answer_stores contents words asked (leveled unit answer) taken nothing h = refl
+answer_stores contents words (verify job part program workers) (stocked name answer) taken nothing h = absurd h
+answer_stores contents words (plan job part out workers) (stocked name answer) taken nothing h = absurd h
+answer_stores contents words (drop job part x y) (stocked name answer) taken nothing h = absurd h
+answer_stores contents words (level job part z) (stocked name answer) taken nothing h = absurd h
+answer_stores contents words (stock job program out) (stocked name answer) taken nothing h = absurd (nothing.no_stock (record { job = job; program = program; out = out }) taken)
+answer_stores contents words (sample n workers) (stocked name answer) taken nothing h = absurd h
+answer_stores contents words asked (sampled n answer) taken nothing h = refl
 
-outcome_stores : (contents : List ℕ → Option (List ℕ)) (words : List (List ℕ)) (o : Outcome) → AsksNoPlan words → IsOutcomeOf words contents o → outcome_file o ≡ None
-outcome_stores contents words (help text) no_plan h = refl
-outcome_stores contents words (bad_words text) no_plan h = refl
-outcome_stores contents words no_memory no_plan h = refl
-outcome_stores contents words (read_fault file) no_plan h = refl
-outcome_stores contents words (answered a) no_plan h = answer_stores contents words h.asked a h.taken no_plan h.is
+outcome_stores : (contents : List ℕ → Option (List ℕ)) (words : List (List ℕ)) (o : Outcome) → AsksNoFileStored words → IsOutcomeOf words contents o → outcome_file o ≡ None
+outcome_stores contents words (help text) nothing h = refl
+outcome_stores contents words (bad_words text) nothing h = refl
+outcome_stores contents words no_memory nothing h = refl
+outcome_stores contents words (read_fault file) nothing h = refl
+outcome_stores contents words (answered a) nothing h = answer_stores contents words h.asked a h.taken nothing h.is
 
-pub keeps : (words : List (List ℕ)) (call : Call) → HasOutcome words call → AsksNoPlan words → ReadsOnly call.store call.store_after
-keeps words call has no_plan = which has.shows.way
+pub keeps : (words : List (List ℕ)) (call : Call) → HasOutcome words call → AsksNoFileStored words → ReadsOnly call.store call.store_after
+keeps words call has nothing = which has.shows.way
   where
     none : outcome_file has.outcome ≡ None
-    none = outcome_stores call.store.contents words has.outcome no_plan has.is
+    none = outcome_stores call.store.contents words has.outcome nothing has.is
 
     which : ShowsWhole call has.outcome ⊎ (FailsToStore call has.outcome ⊎ FailsToPrint call has.outcome) → ReadsOnly call.store call.store_after
     which (inl w) = subst (λ (f : Option NamedText). Stores call f) none w.stored

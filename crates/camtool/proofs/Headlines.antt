@@ -2,19 +2,20 @@
 use Rattle.std.proofs.Common.{◌≡◌, ◌≢◌, ℕ, List, Option, sym, ap, subst, ◌∙◌, arith}
 use Rattle.std.specs.Prelude.{ℤ}
 use Rattle.mill_base.specs.declared.unit.Unit.{Unit as LengthUnit}
-use Rattle.mill_command.specs.Requests.{verify, plan}
+use Rattle.mill_command.specs.Requests.{verify, plan, stock}
 use Rattle.mill_io.specs.Views.{IsStored, IsWritten}
 use Rattle.mill_plan.specs.Plans.{done, too_many_nodes, too_many_moves, uncut, held}
 use Rattle.mill_verify.specs.Verdicts.{IsVerdict, OneVerdict}
 use Rattle.mill_verify.specs.declared.verdict.Verdict.TheVariants.{Accept, Reject}
-use Rattle.camtool.specs.Answers.{Answer, refused_word, unfit, judged, planned, dropped, leveled, sampled, answer_status, answer_line, answer_file, IsAnswer}
+use Rattle.camtool.specs.Answers.{Answer, refused_word, unfit, judged, planned, dropped, leveled, stocked, sampled, answer_status, answer_line, answer_file, IsAnswer}
 use Rattle.camtool.specs.Calls.{Call, Stores}
-use Rattle.camtool.specs.Headline.{AcceptsSafely, RejectsFirst, Headline, StoresSafely, PlanHeadline}
+use Rattle.camtool.specs.Headline.{AcceptsSafely, RejectsFirst, Headline, StoresSafely, PlanHeadline, StoresStock, StockHeadline}
 use Rattle.camtool.specs.Outcomes.{HasOutcome}
 use Rattle.camtool.specs.Plan.{Plans, plan_line}
 use Rattle.camtool.specs.Setup.{setup_texts}
+use Rattle.camtool.specs.Stock.{stock_texts, stock_line, drawn, too_many_triangles, DrawsStock}
 use Rattle.camtool.specs.Verify.{texts_of, verdict_status}
-use Rattle.camtool.specs.Words.{Files, PlanFiles}
+use Rattle.camtool.specs.Words.{Files, PlanFiles, StockFiles}
 use Rattle.camtool.proofs.Answering.{is_judged}
 use Rattle.camtool.proofs.Blaming.{no, on}
 use Rattle.camtool.proofs.Lengths.{plan_fits}
@@ -36,6 +37,7 @@ accepts_by contents files workers (judged job part moves (Reject reason)) is e =
 accepts_by contents files workers (planned unit name answer) is e = absurd is
 accepts_by contents files workers (dropped unit height) is e = absurd is
 accepts_by contents files workers (leveled unit answer) is e = absurd is
+accepts_by contents files workers (stocked name answer) is e = absurd is
 accepts_by contents files workers (sampled n answer) is e = absurd is
 
 rejects_by : (call : Call) (files : Files) (workers : ℕ) (a : Answer) → IsAnswer call.store.contents (verify files.job files.part files.program workers) a
@@ -48,6 +50,7 @@ rejects_by call files workers (judged job part moves (Reject reason)) is e print
 rejects_by call files workers (planned unit name answer) is e printed = absurd is
 rejects_by call files workers (dropped unit height) is e printed = absurd is
 rejects_by call files workers (leveled unit answer) is e printed = absurd is
+rejects_by call files workers (stocked name answer) is e printed = absurd is
 rejects_by call files workers (sampled n answer) is e printed = absurd is
 
 pub headline_of : OneVerdict → (words : List (List ℕ)) (call : Call) → HasOutcome words call → Headline words call
@@ -105,6 +108,7 @@ plans_by call files workers (planned unit name (too_many_nodes nodes)) is e prin
 plans_by call files workers (planned unit name too_many_moves) is e printed stored = absurd (on 9 0 (omega arith) e)
 plans_by call files workers (dropped unit height) is e printed stored = absurd is
 plans_by call files workers (leveled unit answer) is e printed stored = absurd is
+plans_by call files workers (stocked name answer) is e printed stored = absurd is
 plans_by call files workers (sampled n answer) is e printed stored = absurd is
 
 pub plan_headline_of : (words : List (List ℕ)) (call : Call) → HasOutcome words call → PlanHeadline words call
@@ -112,3 +116,37 @@ plan_headline_of words call has = λ files asks e.
     let a = answered_by words call (plan files.job files.part files.out asks.0) has asks.1
     (apart _ 0 5 e (no 0 5 (omega arith))) (apart _ 0 6 e (no 0 6 (omega arith))) (apart _ 0 7 e (no 0 7 (omega arith))) in
     plans_by call files asks.0 a.answer a.is (sym a.status ∙ e) a.printed a.stored
+
+-- ---- `stock`
+
+drawn_stored : (call : Call) (files : StockFiles) (text : List ℕ) (count : ℕ) → DrawsStock (stock_texts call.store.contents files.job files.program) (drawn text count)
+    → IsStored files.out text call.store call.store_after → IsWritten (stock_line (drawn text count)) call.sink call.sink_after → StoresStock call files
+drawn_stored call files text count d stored printed = record {
+  job = d.job;
+  moves = d.moves;
+  text = text;
+  all_read = d.all_read;
+  stored = stored;
+  fits = d.is.fits;
+  reads = d.is.reads;
+  printed = subst (λ (n : ℕ). IsWritten (stock_line (drawn text n)) call.sink call.sink_after) d.is.count_is printed;
+}
+
+stocks_by : (call : Call) (files : StockFiles) (a : Answer) → IsAnswer call.store.contents (stock files.job files.program files.out) a
+    → answer_status a ≡ 0 → IsWritten (answer_line a) call.sink call.sink_after → Stores call (answer_file a) → StoresStock call files
+stocks_by call files (refused_word coordinate fault) is e printed stored = absurd is
+stocks_by call files (unfit fault) is e printed stored = absurd (on 4 0 (omega arith) e)
+stocks_by call files (judged job part moves verdict) is e printed stored = absurd is
+stocks_by call files (planned unit name answer) is e printed stored = absurd is
+stocks_by call files (dropped unit height) is e printed stored = absurd is
+stocks_by call files (leveled unit answer) is e printed stored = absurd is
+stocks_by call files (stocked name (drawn text count)) is e printed stored =
+    drawn_stored call files text count is.1 (subst (λ (n : List ℕ). IsStored n text call.store call.store_after) is.0 stored) printed
+stocks_by call files (stocked name (too_many_triangles count)) is e printed stored = absurd (on 9 0 (omega arith) e)
+stocks_by call files (sampled n answer) is e printed stored = absurd is
+
+pub stock_headline_of : (words : List (List ℕ)) (call : Call) → HasOutcome words call → StockHeadline words call
+stock_headline_of words call has = λ files asks e.
+    let a = answered_by words call (stock files.job files.program files.out) has asks
+    (apart _ 0 5 e (no 0 5 (omega arith))) (apart _ 0 6 e (no 0 6 (omega arith))) (apart _ 0 7 e (no 0 7 (omega arith))) in
+    stocks_by call files a.answer a.is (sym a.status ∙ e) a.printed a.stored

@@ -5,7 +5,9 @@ pub mod Programs
 pub mod Answering
 pub mod Blaming
 pub mod Serving
+pub mod Storing
 pub mod Planning
+pub mod Stocks
 pub mod Samples
 pub mod Lengths
 pub mod Outcomes

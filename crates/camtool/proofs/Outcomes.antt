@@ -1,6 +1,6 @@
 -- What a call came to, where its words are taken and nothing of the outside is blamed.
 use Rattle.std.proofs.Common.{◌≡◌, ◌≢◌, ◌⊎◌, ℕ, List, Some, false, sym, ◌∙◌, inl, inr, arith}
-use Rattle.mill_command.specs.Requests.{Request, is_taken, request, verify, plan, drop, level, sample}
+use Rattle.mill_command.specs.Requests.{Request, is_taken, request, verify, plan, drop, level, stock, sample}
 use Rattle.mill_verify.specs.declared.verdict.Verdict.{Verdict}
 use Rattle.mill_verify.specs.declared.verdict.Verdict.TheVariants.{Accept, Reject}
 use Rattle.camtool.specs.Answers.{answer_status}
@@ -8,7 +8,7 @@ use Rattle.camtool.specs.Calls.{Call, NoFault}
 use Rattle.camtool.specs.Headline.{Answered, Answers, Completes, Untaken}
 use Rattle.camtool.specs.Outcomes.{Outcome, help, bad_words, no_memory, read_fault, answered, outcome_status, IsOutcomeOf, ShowsHelp, RefusesWords, ShowsWhole, HasOutcome}
 use Rattle.camtool.specs.Verify.{verdict_status}
-use Rattle.camtool.proofs.Answering.{is_judged, is_planned, is_dropped, is_leveled, is_sampled}
+use Rattle.camtool.proofs.Answering.{is_judged, is_planned, is_dropped, is_leveled, is_stocked, is_sampled}
 use Rattle.camtool.proofs.Blaming.{no, on, answer_not_2, not_6, not_7, shown_whole}
 use Rattle.camtool.proofs.Taken.{not_taken, asked_outcome}
 
@@ -82,6 +82,11 @@ completes_of words call has = record {
   levels = λ given height job part asks reads told read fine.
       elim (served_fine words call (level given.job given.part given.z) has asks fine) [
         | inl a ↦ level_statuses call.status (answer_status a.answer) a.status (is_leveled call.store.contents given height job part a.answer reads told read a.is)
+        | inr e ↦ inr (inr e)
+      ];
+  stocks = λ files job moves asks told read fine.
+      elim (served_fine words call (stock files.job files.program files.out) has asks fine) [
+        | inl a ↦ level_statuses call.status (answer_status a.answer) a.status (is_stocked call.store.contents files job moves a.answer told read a.is)
         | inr e ↦ inr (inr e)
       ];
   samples = λ n asks fine.

@@ -6,6 +6,7 @@ use Rattle.mill_base.specs.declared.motion.Move.{Move}
 use Rattle.mill_command.specs.Requests.{Request, is_taken, request}
 use Rattle.mill_job.specs.declared.job.Job.{Job}
 use Rattle.mill_plan.specs.Plans.{done}
+use Rattle.mill_stl.specs.Written.{ReadsBack}
 use Rattle.mill_verify.specs.Verdicts.{IsRejection}
 use Rattle.mill_verify.specs.Claims.{CutsSafely}
 use Rattle.mill_verify.specs.declared.verdict.Verdict.TheVariants.{Accept, Reject}
@@ -17,9 +18,10 @@ use Rattle.camtool.specs.Drop.{ReadsPlace}
 use Rattle.camtool.specs.Level.{ReadsHeight}
 use Rattle.camtool.specs.Outcomes.{ShowsHelp, RefusesWords}
 use Rattle.camtool.specs.Plan.{plan_line}
-use Rattle.camtool.specs.Setup.{setup_texts, AreSetupTold, ReadsSetup}
+use Rattle.camtool.specs.Setup.{Fits, setup_texts, AreSetupTold, ReadsSetup}
+use Rattle.camtool.specs.Stock.{stock_texts, AreStockTold, ReadsStock, stock_surface, drawn, stock_line}
 use Rattle.camtool.specs.Verify.{Texts, texts_of, AreTold, Reads, Judges, NamesBlocked, verdict_line}
-use Rattle.camtool.specs.Words.{Files, AsksVerify, PlanFiles, AsksPlan, DropWords, AsksDrop, LevelWords, AsksLevel, AsksSample}
+use Rattle.camtool.specs.Words.{Files, AsksVerify, PlanFiles, AsksPlan, DropWords, AsksDrop, LevelWords, AsksLevel, StockFiles, AsksStock, AsksSample}
 
 -- ---- from bytes to bytes
 
@@ -37,6 +39,7 @@ Answers words call = (asked : Request) → request words ≡ Some asked → NoFa
 
 -- where the files are told and read, the part isn't over the job's top and nothing of the outside failed, a program is accepted or rejected;
 -- a plan is stored, or leaves stock uncut, or its holder would touch stock, or it is too large; a drop height is told; the chains at a height are told, or the lattice is too large; or memory was short;
+-- where the job's and the program's file are told and read and nothing of the outside failed, the stock is stored, or its surface is too large; or memory was short;
 -- where nothing of the outside failed, a sample is planned, or its plan leaves stock uncut, or its holder would touch stock, or it is too large; or memory was short
 pub record Completes (words : List (List ℕ)) (call : Call) : Type 0 where
   pub verifies : (files : Files) (job : Job) (part : List Tri) (moves : List Move) → AsksVerify words files → AreTold (texts_of call.store.contents files)
@@ -50,6 +53,8 @@ pub record Completes (words : List (List ℕ)) (call : Call) : Type 0 where
   pub levels : (given : LevelWords) (height : ℤ) (job : Job) (part : List Tri) → AsksLevel words given → ReadsHeight job.unit given.z height
       → AreSetupTold (setup_texts call.store.contents given.job given.part) → ReadsSetup (setup_texts call.store.contents given.job given.part) job part
       → NoFault call → (call.status ≡ 0) ⊎ ((call.status ≡ 9) ⊎ (call.status ≡ 5))
+  pub stocks : (files : StockFiles) (job : Job) (moves : List Move) → AsksStock words files → AreStockTold (stock_texts call.store.contents files.job files.program)
+      → ReadsStock (stock_texts call.store.contents files.job files.program) job moves → NoFault call → (call.status ≡ 0) ⊎ ((call.status ≡ 9) ⊎ (call.status ≡ 5))
   pub samples : (n : ℕ) → AsksSample words n → NoFault call → (call.status ≡ 0) ⊎ ((call.status ≡ 8) ⊎ ((call.status ≡ 9) ⊎ (call.status ≡ 5)))
 
 -- where the words aren't taken and nothing of the outside failed, the status is that of help, of a mistake or of want of memory;
@@ -109,3 +114,19 @@ pub record StoresSafely (call : Call) (files : PlanFiles) : Type 0 where
 -- when `plan` answers 0, the program that it stored is accepted and cuts safely
 abbrev pub PlanHeadline : List (List ℕ) → Call → Type 0
 PlanHeadline words call = (files : PlanFiles) → AsksPlan words files → call.status ≡ 0 → StoresSafely call files
+
+-- the job and the program, where they are told, read as this job and these moves; the file holds a text that reads, in the job's unit, as exactly the surface of the stock after the moves,
+-- of which each corner is the point at its column's top and no coordinate is rounded; and the line has the number of its triangles
+pub record StoresStock (call : Call) (files : StockFiles) : Type 0 where
+  pub job : Job
+  pub moves : List Move
+  pub text : List ℕ
+  pub all_read : ReadsStock (stock_texts call.store.contents files.job files.program) job moves
+  pub stored : IsStored files.out text call.store call.store_after
+  pub fits : Fits text
+  pub reads : ReadsBack job.unit (stock_surface job moves) text
+  pub printed : IsWritten (stock_line (drawn text (length (stock_surface job moves)))) call.sink call.sink_after
+
+-- when `stock` answers 0, what it stored is the surface of the stock after the program's moves
+abbrev pub StockHeadline : List (List ℕ) → Call → Type 0
+StockHeadline words call = (files : StockFiles) → AsksStock words files → call.status ≡ 0 → StoresStock call files

@@ -8,6 +8,7 @@ pub mod Verify
 pub mod Plan
 pub mod Drop
 pub mod Level
+pub mod Stock
 pub mod Sample
 pub mod Answers
 pub mod Outcomes

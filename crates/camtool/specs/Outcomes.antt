@@ -2,7 +2,7 @@
 use Rattle.std.specs.Prelude.{◌⊎◌, ◌≡◌, ◌<◌, ℕ, codes, false, List, [], ◌∷◌, Option, None, Some}
 use Rattle.mill_io.specs.Contents.{AppendedPart}
 use Rattle.mill_io.specs.Views.{IsWritten, IsPartStored}
-use Rattle.mill_command.specs.Requests.{AsksHelp, IsMistaken, Request, faults, is_taken, request, verify, plan, drop, level, sample}
+use Rattle.mill_command.specs.Requests.{AsksHelp, IsMistaken, Request, faults, is_taken, request, verify, plan, drop, level, stock, sample}
 use Rattle.camtool.specs.declared.file.File.{File}
 use Rattle.camtool.specs.Answers.{Answer, IsAnswer, answer_status, answer_line, answer_file}
 use Rattle.camtool.specs.Calls.{Call, NamedText, Stores}
@@ -11,6 +11,7 @@ use Rattle.camtool.specs.Faults.{file_name}
 use Rattle.camtool.specs.Level.{HasHeight}
 use Rattle.camtool.specs.Printed.{line}
 use Rattle.camtool.specs.Setup.{setup_texts, IsReadBefore, IsReadBeforeWith}
+use Rattle.camtool.specs.Stock.{stock_texts, IsReadBeforeStock}
 use Rattle.camtool.specs.Verify.{texts_of, IsReadBeforeProgram}
 
 -- what a call comes to before it prints: clap's text of help or of a mistake in the words; or no answer; or one
@@ -50,6 +51,7 @@ ReadsBefore contents (verify job part program workers) file = IsReadBeforeProgra
 ReadsBefore contents (plan job part out workers) file = IsReadBefore (setup_texts contents job part) file
 ReadsBefore contents (drop job part x y) file = IsReadBeforeWith (HasPlace (setup_texts contents job part) x y) file
 ReadsBefore contents (level job part z) file = IsReadBeforeWith (HasHeight (setup_texts contents job part) z) file
+ReadsBefore contents (stock job program out) file = IsReadBeforeStock (stock_texts contents job program) file
 ReadsBefore contents (sample n workers) file = ⊥
 
 -- the work on a request comes to this: memory was short; or a file couldn't be read, and all before it could; or this is the answer

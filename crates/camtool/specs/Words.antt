@@ -1,6 +1,6 @@
 -- What the words of the command line ask for.
 use Rattle.std.specs.Prelude.{◌≡◌, ◌⊎◌, ℕ, false, List, Some}
-use Rattle.mill_command.specs.Requests.{is_taken, request, verify, plan, drop, level, sample}
+use Rattle.mill_command.specs.Requests.{is_taken, request, verify, plan, drop, level, stock, sample}
 
 -- the names of the job's, the part's and the program's file
 pub record Files : Type 0 where
@@ -22,10 +22,6 @@ pub record PlanFiles : Type 0 where
 abbrev pub AsksPlan : List (List ℕ) → PlanFiles → Type 0
 AsksPlan words files = (workers : ℕ) × (request words ≡ Some (plan files.job files.part files.out workers))
 
--- the words aren't taken as `plan`
-abbrev pub AsksNoPlan : List (List ℕ) → Type 0
-AsksNoPlan words = (files : PlanFiles) → ¬ AsksPlan words files
-
 -- the names of the job's and the part's file, and the words for x and y
 pub record DropWords : Type 0 where
   pub job : List ℕ
@@ -46,6 +42,21 @@ pub record LevelWords : Type 0 where
 -- the words are taken as `level` with these
 abbrev pub AsksLevel : List (List ℕ) → LevelWords → Type 0
 AsksLevel words given = request words ≡ Some (level given.job given.part given.z)
+
+-- the names of the job's and the program's file, and of the file that the stock is stored in
+pub record StockFiles : Type 0 where
+  pub job : List ℕ
+  pub program : List ℕ
+  pub out : List ℕ
+
+-- the words are taken as `stock` with these files
+abbrev pub AsksStock : List (List ℕ) → StockFiles → Type 0
+AsksStock words files = request words ≡ Some (stock files.job files.program files.out)
+
+-- the words ask for nothing to be stored: they are taken neither as `plan` nor as `stock`
+pub record AsksNoFileStored (words : List (List ℕ)) : Type 0 where
+  pub no_plan : (files : PlanFiles) → ¬ AsksPlan words files
+  pub no_stock : (files : StockFiles) → ¬ AsksStock words files
 
 -- the words are taken as `sample` with this size, with any number of workers
 abbrev pub AsksSample : List (List ℕ) → ℕ → Type 0

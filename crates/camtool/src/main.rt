@@ -2,7 +2,8 @@
 //! part, a tool and a stock. `camtool plan JOB PART OUT [--workers=W]` plans a program that it
 //! accepts, and stores it. `camtool drop JOB PART --x=X --y=Y` tells how low the tool comes at one
 //! place. `camtool level JOB PART --z=Z` prints the lines along which the tool goes round the part
-//! at one height. `camtool sample N [--workers=W]` plans and verifies a sample part.
+//! at one height. `camtool stock JOB FILE OUT` stores what a program leaves of the stock, as a surface.
+//! `camtool sample N [--workers=W]` plans and verifies a sample part.
 //!
 //! `run` is all that the program does, over any store of files and any sink. Its contract goes
 //! from bytes to bytes: `specs/Answers` says which answer a command has on its files,
@@ -22,6 +23,7 @@ mod program;
 mod run;
 mod sample;
 mod status;
+mod stock;
 mod tell;
 #[cfg(test)]
 mod tests;

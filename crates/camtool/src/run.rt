@@ -3,17 +3,18 @@ ghost use Rattle.std.specs.Prelude.{◌≡◌, ◌-◌, ◌^◌, ◌<◌, ℕ, m
 ghost use Rattle.mill_command.specs.Requests.{IsBounded, request_of, sample as asks_sample};
 ghost use Rattle.mill_io.specs.Views.{ReadsOnly};
 ghost use Rattle.camtool.specs.Calls.{CanCount, BlamesReads, BlamesWrites, call_of};
-ghost use Rattle.camtool.specs.Headline.{Answers, Completes, Untaken, Headline, PlanHeadline};
+ghost use Rattle.camtool.specs.Headline.{Answers, Completes, Untaken, Headline, PlanHeadline, StockHeadline};
 ghost use Rattle.camtool.specs.Outcomes.{HasOutcome, Serves};
 ghost use Rattle.camtool.specs.inner.Prints.{PrintsOutcome, refusal_outcome};
 ghost use Rattle.camtool.specs.Statuses.{status_code};
-ghost use Rattle.camtool.specs.Words.{AsksNoFile, AsksNoPlan};
+ghost use Rattle.camtool.specs.Words.{AsksNoFile, AsksNoFileStored};
 
 use crate::drop::drop_cutter;
 use crate::level::level_part;
 use crate::plan::plan_program;
 use crate::sample::sample;
 use crate::status::Status;
+use crate::stock::stock_program;
 use crate::tell::tell;
 use crate::verify::verify_program;
 use mill_command::{Command, Refusal, read_words};
@@ -27,8 +28,9 @@ use std::thread::Threads;
 ///
 /// The words don't have the program's name. The answer goes to the sink whole, or the status is
 /// `WriteFault` and a prefix of it went there. The contents of every file stay, but where the words
-/// ask for a plan: then the contents of the file that they name for it become the program, if there
-/// is one. A store that fails at that leaves them as they were, or a prefix of the program.
+/// ask for a plan or a stock: then the contents of the file that they name for it become the program,
+/// or the text of the stock's surface, if there is one. A store that fails at that leaves them as they
+/// were, or a prefix of that text.
 pub fn run<R: Threads + Sync, S: Shelf, O: Sink>(
     rt: &R,
     alloc: Global,
@@ -46,8 +48,8 @@ pub fn run<R: Threads + Sync, S: Shelf, O: Sink>(
     ensures read { BlamesReads (call_of result
         (S.shows shelf.old) (S.shows shelf.new) (O.shows out.old) (O.shows out.new)) }
 
-    // Where the words don't ask for a plan, nothing is written to the store.
-    ensures kept { AsksNoPlan (map string_bytes words.now) →
+    // Where the words ask neither for a plan nor for a stock, nothing is written to the store.
+    ensures kept { AsksNoFileStored (map string_bytes words.now) →
         ReadsOnly (S.shows shelf.old) (S.shows shelf.new) }
 
     // Where the words name no file, no call on the store is made.
@@ -66,10 +68,12 @@ pub fn run<R: Threads + Sync, S: Shelf, O: Sink>(
     ensures untaken { Untaken (map string_bytes words.now) (call_of result
         (S.shows shelf.old) (S.shows shelf.new) (O.shows out.old) (O.shows out.new)) }
 
-    // What status 0 and status 3 of `verify` mean, and status 0 of `plan`.
+    // What status 0 and status 3 of `verify` mean, and status 0 of `plan` and of `stock`.
     ensures headline { Headline (map string_bytes words.now) (call_of result
         (S.shows shelf.old) (S.shows shelf.new) (O.shows out.old) (O.shows out.new)) }
     ensures plan_headline { PlanHeadline (map string_bytes words.now) (call_of result
+        (S.shows shelf.old) (S.shows shelf.new) (O.shows out.old) (O.shows out.new)) }
+    ensures stock_headline { StockHeadline (map string_bytes words.now) (call_of result
         (S.shows shelf.old) (S.shows shelf.new) (O.shows out.old) (O.shows out.new)) }
 {
     // A law without code: there is at most one verdict. The headline's last part rests on it.
@@ -139,6 +143,11 @@ fn serve<R: Threads + Sync, S: Shelf, O: Sink>(
         } => plan_program(rt, alloc, shelf, job, part, name, workers, out),
         Command::Drop { job, part, x, y } => drop_cutter(alloc, shelf, job, part, x, y, out),
         Command::Level { job, part, z } => level_part(alloc, shelf, job, part, z, out),
+        Command::Stock {
+            job,
+            file,
+            out: name,
+        } => stock_program(alloc, shelf, job, file, name, out),
         Command::Sample { size, workers } => sample(rt, alloc, size, workers, out),
     }
 }

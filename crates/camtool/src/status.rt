@@ -4,8 +4,8 @@ ghost use Rattle.camtool.specs.Statuses.{status_code};
 /// How a run ends.
 #[derive(Clone, Copy, Debug, PartialEq, Eq)]
 pub enum Status {
-    /// The program is accepted, a planned program is stored, the drop height or the chains at a height
-    /// are told, a sample's program is verified, or clap's help or version is shown.
+    /// The program is accepted, a planned program or a stock is stored, the drop height or the chains at
+    /// a height are told, a sample's program is verified, or clap's help or version is shown.
     Done,
     /// The words aren't taken.
     Words,
@@ -17,11 +17,12 @@ pub enum Status {
     Memory,
     /// A file could not be read.
     ReadFault,
-    /// A line could not be printed, or a program could not be stored.
+    /// A line could not be printed, or a program or a stock could not be stored.
     WriteFault,
     /// A plan leaves stock uncut, or its holder would touch stock that is still there.
     Uncut,
-    /// A plan is larger than the planner goes, or a lattice has too many nodes.
+    /// A plan is larger than the planner goes, a lattice has too many nodes, or the surface of a stock
+    /// has too many triangles.
     TooLarge,
 }
 

@@ -20,13 +20,14 @@ mod levels;
 mod missing;
 mod plans;
 mod samples;
+mod stocks;
 mod untaken;
 mod verdicts;
 
 /// The files of every store: behind `#` a name, and then the text. `groove` is two plates, with a
 /// groove between them that is one unit narrower than the cutter of `groove-job`; `peak` is the point
 /// (0, 0, 3), and `wall` the line from (2, -1, 3) to (2, 3, 3); `planned` is what is planned for `job` and
-/// `plate`.
+/// `plate`, and `stocked` what `down` leaves of the stock of `job`.
 const FILES: &str = r#"# job
 cutter = "flat"
 radius = 150
@@ -143,6 +144,10 @@ G21 G90
 G1 Z2
 G0 Z4
 M2
+# deep
+G21 G90
+G1 Z1
+M2
 # planned
 %
 G17 G21 G90
@@ -159,6 +164,68 @@ G0 X2.00 Y2.00 Z4.00
 G0 X1.00 Y1.00 Z4.00
 M2
 %
+# stocked
+solid stock
+facet normal 0 0 1
+outer loop
+vertex 0.00 0.00 2.00
+vertex 1.00 0.00 2.00
+vertex 1.00 1.00 2.00
+endloop
+endfacet
+facet normal 0 0 1
+outer loop
+vertex 0.00 0.00 2.00
+vertex 1.00 1.00 2.00
+vertex 0.00 1.00 2.00
+endloop
+endfacet
+facet normal 0 0 1
+outer loop
+vertex 1.00 0.00 2.00
+vertex 2.00 0.00 2.00
+vertex 2.00 1.00 2.00
+endloop
+endfacet
+facet normal 0 0 1
+outer loop
+vertex 1.00 0.00 2.00
+vertex 2.00 1.00 2.00
+vertex 1.00 1.00 2.00
+endloop
+endfacet
+facet normal 0 0 1
+outer loop
+vertex 0.00 1.00 2.00
+vertex 1.00 1.00 2.00
+vertex 1.00 2.00 2.00
+endloop
+endfacet
+facet normal 0 0 1
+outer loop
+vertex 0.00 1.00 2.00
+vertex 1.00 2.00 2.00
+vertex 0.00 2.00 2.00
+endloop
+endfacet
+facet normal 0 0 1
+outer loop
+vertex 1.00 1.00 2.00
+vertex 2.00 1.00 2.00
+vertex 2.00 2.00 2.00
+endloop
+endfacet
+facet normal 0 0 1
+outer loop
+vertex 1.00 1.00 2.00
+vertex 2.00 2.00 2.00
+vertex 1.00 2.00 2.00
+endloop
+endfacet
+endsolid stock
+# no-triangles
+solid stock
+endsolid stock
 # out
 before
 "#;
@@ -189,6 +256,9 @@ narrow: plate: vertex 2 -> vertex 1.5
 point: peak: 0 0 3 -> 5 5 3
 beside: peak: 0 0 3 -> 2.8 1 3
 far-wall: wall: vertex 2 -> vertex 4
+one-row: job: 200, 200 -> 200, 0
+many-columns: job: pitch = 100 -> pitch = 1; 200, 200 -> 317, 317
+deep-stocked: stocked: 2.00\n -> 1.00\n
 high: peak: 0 0 3 -> 0 0 3.01
 abnormal: cut-short: solid\n -> solid\nfacet abnormal"#;
 

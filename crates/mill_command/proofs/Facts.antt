@@ -2,7 +2,7 @@
 use Rattle.std.proofs.Common.{◌≡◌, ◌∷◌, [], codes, refl, Some}
 use Rattle.clap.specs.declared.error.kind.ErrorKind.TheVariants as kind
 use Rattle.clap.proofs.OnLiterals.{clap_on_literals}
-use Rattle.mill_command.specs.Requests.{faults, request, verify, plan, drop, level, sample}
+use Rattle.mill_command.specs.Requests.{faults, request, verify, plan, drop, level, stock, sample}
 
 verify_of_files : request (codes "verify" ∷ codes "j" ∷ codes "p" ∷ codes "f" ∷ []) ≡ Some (verify (codes "j") (codes "p") (codes "f") 1)
 unfolding clap_on_literals
@@ -64,6 +64,14 @@ level_at_height = refl
 height_missing : faults (codes "level" ∷ codes "j" ∷ codes "p" ∷ []) ≡ kind.MissingRequiredArgument ∷ []
 unfolding clap_on_literals
 height_missing = refl
+
+stock_to_file : request (codes "stock" ∷ codes "j" ∷ codes "--workers=2" ∷ codes "p" ∷ codes "o" ∷ []) ≡ Some (stock (codes "j") (codes "p") (codes "o"))
+unfolding clap_on_literals
+stock_to_file = refl
+
+stock_missing : faults (codes "stock" ∷ codes "j" ∷ codes "p" ∷ []) ≡ kind.MissingRequiredArgument ∷ []
+unfolding clap_on_literals
+stock_missing = refl
 
 sample_of_size : request (codes "sample" ∷ codes "100" ∷ []) ≡ Some (sample 100 1)
 unfolding clap_on_literals

@@ -1,6 +1,6 @@
 -- Rows in which clap finds no fault give the numbers that arguments take.
-use Rattle.std.proofs.Common.{◌≡◌, ◌≤◌, ◌<◌, ◌^◌, ◌∙◌, ◌&&◌, ◌||◌, ◌∷◌, [], ℕ, Bool, true, false, not, cond, refl, sym, ap, arith, true≢false, List, Option, Some, None}
-use Rattle.std.specs.Prelude.{codes, find, option_and_then, option_map, slice_get, Result, Ok, Err}
+use Rattle.std.proofs.Common.{◌≡◌, ◌≤◌, ◌<◌, ◌^◌, ◌∙◌, ◌||◌, ◌∷◌, [], ℕ, Bool, true, false, cond, refl, sym, ap, arith, true≢false, List, Option, Some, None}
+use Rattle.std.specs.Prelude.{find, option_and_then, option_map, slice_get, Result, Ok, Err}
 use Rattle.std.specs.List.{list_all}
 use Rattle.std.specs.Str.{bytes_eq}
 use Rattle.std.proofs.lemmas.Slice.Eq.{bytes_eq-Decides}
@@ -9,7 +9,7 @@ use Rattle.clap.specs.Lexer.{without_minus}
 use Rattle.clap.specs.Matches.{ReadsOne}
 use Rattle.clap.specs.Values.{IsUnsignedIn, read_as}
 use Rattle.clap.specs.ValueTests.{accepts, is_unsigned_in}
-use Rattle.clap.specs.Walk.{Row, Text, has_row, one_of, row_text}
+use Rattle.clap.specs.Walk.{Row, Text, has_row, row_text}
 use Rattle.clap.specs.declared.builder.value_parser.Reading.{Reading}
 use Rattle.clap.specs.declared.builder.value_parser.Reading.TheVariants.{AsWritten, WithoutMinus, Boolish, Falsey}
 use Rattle.clap.specs.declared.builder.value_parser.ValueParser.TheVariants.{Unsigned}
@@ -18,7 +18,7 @@ use Rattle.clap.proofs.ValueTestLemmas.{accepts-Accepts, Accepts-accepts}
 use Rattle.clap.proofs.WalkLemmas.{both}
 use Rattle.mill_command.specs.Set.{up_to}
 use Rattle.mill_command.specs.Requests.{number_of, number_in}
-use Rattle.mill_command.proofs.Faultless.{all_right, are_numbers, are_numbers_if, is_full, is_right, is_unsigned, most_of, suits}
+use Rattle.mill_command.proofs.Faultless.{all_right, are_numbers, are_numbers_if, is_full, is_right, most_of, suits}
 
 -- ---- the number of a text
 

@@ -1,5 +1,5 @@
 -- Words that clap takes make a request.
-use Rattle.std.proofs.Common.{◌≡◌, ◌∙◌, ◌&&◌, ◌||◌, ◌≤◌, ◌∷◌, [], ℕ, Bool, true, false, not, cond, refl, sym, ap, subst, arith, true≢false, List, Option, Some, None, Err, is_some}
+use Rattle.std.proofs.Common.{◌≡◌, ◌∙◌, ◌&&◌, ◌||◌, ◌∷◌, [], ℕ, Bool, true, false, not, cond, refl, sym, ap, subst, arith, true≢false, List, Option, Some, None, Err, is_some}
 use Rattle.std.specs.Prelude.{codes, option_and_then}
 use Rattle.std.specs.Option.{option_map, option_map_or}
 use Rattle.std.specs.Str.{bytes_eq}
@@ -10,11 +10,11 @@ use Rattle.clap.specs.Simple.{Shape, filled, built_leaf, built, entered, help_sh
 use Rattle.clap.proofs.OnLiterals.{clap_on_literals}
 use Rattle.mill_command.proofs.Takes.{built_test, is_bare_app, none}
 use Rattle.clap.specs.Takes.{built_takes, is_given, takes}
-use Rattle.clap.specs.Faults.{entered_fault, level_fault}
-use Rattle.mill_command.specs.Set.{commands, verify, plan, drop, level, sample, workers}
+use Rattle.clap.specs.Faults.{entered_fault, is_simple_and_free, level_fault}
+use Rattle.mill_command.specs.Set.{commands, verify, plan, drop, level, stock, sample, workers}
 use Rattle.clap.specs.Kinds.{IsAmong, Kinds}
 use Rattle.clap.specs.declared.error.kind.ErrorKind.{ErrorKind}
-use Rattle.mill_command.specs.Requests.{IsBounded, ReadsWords, Refuses, Request, drop_of, faults, is_taken, level_of, number_in, plan_of, request, request_in, sample_of, verify_of, verify as verify_files, plan as plan_to, drop as drop_at, level as level_at, sample as sample_with}
+use Rattle.mill_command.specs.Requests.{IsBounded, ReadsWords, Refuses, Request, drop_of, faults, is_taken, level_of, number_in, plan_of, request, request_in, sample_of, stock_of, verify_of, verify as verify_files, plan as plan_to, drop as drop_at, level as level_at, stock as stock_to, sample as sample_with}
 use Rattle.mill_command.specs.declared.refusal.Refusal.{Refusal}
 use Rattle.mill_command.specs.declared.refusal.Refusal.TheVariants as refusal
 use Rattle.mill_command.proofs.Faultless.{AreSound, IsSound, IsStopped, defaults_make, given_row, given_value, is_full, level_faultless, none_missing, other_sound}
@@ -39,13 +39,16 @@ drop_shape = built_leaf (inherited above drop.top)
 abbrev level_shape : Shape
 level_shape = built_leaf (inherited above level.top)
 
+abbrev stock_shape : Shape
+stock_shape = built_leaf (inherited above stock.top)
+
 abbrev sample_shape : Shape
 sample_shape = built_leaf (inherited above sample.top)
 
 abbrev topic_shape : Shape
 topic_shape = built_leaf help_shape
 
-are_built : (built commands).subs ≡ verify_shape ∷ plan_shape ∷ drop_shape ∷ level_shape ∷ sample_shape ∷ topic_shape ∷ []
+are_built : (built commands).subs ≡ verify_shape ∷ plan_shape ∷ drop_shape ∷ level_shape ∷ stock_shape ∷ sample_shape ∷ topic_shape ∷ []
 are_built = refl
 
 abbrev HasRequest : Option Request → Type 0
@@ -65,6 +68,9 @@ drop_some job part x y j p a b = (drop_at j.0 p.0 a.0 b.0, rw (j.1, p.1, a.1, b.
 
 level_some : (job part z : Option Text) → ((v : Text) × (job ≡ Some v)) → ((v : Text) × (part ≡ Some v)) → ((v : Text) × (z ≡ Some v)) → HasRequest (level_of job part z)
 level_some job part z j p a = (level_at j.0 p.0 a.0, rw (j.1, p.1, a.1) refl, tt)
+
+stock_some : (job file out : Option Text) → ((v : Text) × (job ≡ Some v)) → ((v : Text) × (file ≡ Some v)) → ((v : Text) × (out ≡ Some v)) → HasRequest (stock_of job file out)
+stock_some job file out j f o = (stock_to j.0 f.0 o.0, rw (j.1, f.1, o.1) refl, tt)
 
 sample_some : (n count : Option ℕ) → HasNumber 100 n → HasNumber 64 count → HasRequest (sample_of n count)
 sample_some n count s w = (sample_with s.0 w.0, rw (s.1, w.1) refl, (s.2, s.3, w.2, w.3))
@@ -105,6 +111,9 @@ drop_sound = (workers_sound, (other_sound _ refl refl, (other_sound _ refl refl,
 
 level_sound : AreSound level_shape.rules
 level_sound = (workers_sound, (other_sound _ refl refl, (other_sound _ refl refl, (other_sound _ refl refl, (other_sound _ refl refl, tt)))))
+
+stock_sound : AreSound stock_shape.rules
+stock_sound = (workers_sound, (other_sound _ refl refl, (other_sound _ refl refl, (other_sound _ refl refl, (other_sound _ refl refl, tt)))))
 
 sample_sound : AreSound sample_shape.rules
 unfolding clap_on_literals
@@ -150,6 +159,14 @@ level_asks words none =
     level_some (first_of (codes "job") rows) (first_of (codes "part") rows) (first_of (codes "z") rows)
     (given_value (codes "job") rows level.right given.0) (given_value (codes "part") rows level.right given.1) (given_value (codes "z") rows level.right given.2)
 
+stock_asks : (words : List Text) → level_fault stock_shape [] nothing_held words false [] ≡ [] → HasRequest (request_in (codes "stock") (rows_after stock_shape.rules [] words))
+stock_asks words none =
+    let rows = rows_after stock_shape.rules [] words in
+    let level = level_faultless stock_shape [] words false [] stock_sound none in
+    let given = three_given (is_given (codes "job") rows) (is_given (codes "file") rows) (is_given (codes "out") rows) (none_missing stock_shape rows false level.checked).1 in
+    stock_some (first_of (codes "job") rows) (first_of (codes "file") rows) (first_of (codes "out") rows)
+    (given_value (codes "job") rows level.right given.0) (given_value (codes "file") rows level.right given.1) (given_value (codes "out") rows level.right given.2)
+
 sample_asks : (words : List Text) → level_fault sample_shape [] nothing_held words false [] ≡ [] → HasRequest (request_in (codes "sample") (rows_after sample_shape.rules [] words))
 sample_asks words none =
     let rows = rows_after sample_shape.rules [] words in
@@ -160,22 +177,23 @@ sample_asks words none =
     (number_found (codes "workers") 64 rows refl (omega arith) level.right (has_workers sample_shape.rules words refl))
 
 -- the command that answers to a name, given which names are its own
-abbrev met : Bool → Bool → Bool → Bool → Bool → Bool → Option Shape
-met v p d l s h =
-    cond (v || false) (Some verify_shape) (cond (p || false) (Some plan_shape) (cond (d || false) (Some drop_shape) (cond (l || false) (Some level_shape) (cond (s || false) (Some sample_shape) (cond (h || false) (Some topic_shape) None)))))
+abbrev met : Bool → Bool → Bool → Bool → Bool → Bool → Bool → Option Shape
+met v p d l t s h =
+    cond (v || false) (Some verify_shape) (cond (p || false) (Some plan_shape) (cond (d || false) (Some drop_shape) (cond (l || false) (Some level_shape) (cond (t || false) (Some stock_shape) (cond (s || false) (Some sample_shape) (cond (h || false) (Some topic_shape) None))))))
 
 -- the subcommand that was met is one of the commands
-named : (v p d l s h : Bool) (words : List Text) → h ≡ false
-    → option_map_or (λ (s : Shape). level_fault s [] nothing_held words false []) (met v p d l s h) [] ≡ []
-    → is_some (option_map (λ (s : Shape). rows_at s words) (met v p d l s h)) ≡ true
-    → HasRequest (option_and_then (λ (m : Text × List Row). request_in m.0 m.1) (option_map (λ (s : Shape). rows_at s words) (met v p d l s h)))
-named true p d l s h words other none some = verify_asks words none
-named false true d l s h words other none some = plan_asks words none
-named false false true l s h words other none some = drop_asks words none
-named false false false true s h words other none some = level_asks words none
-named false false false false true h words other none some = sample_asks words none
-named false false false false false true words other none some = absurd (true≢false other)
-named false false false false false false words other none some = absurd (true≢false (sym some))
+named : (v p d l t s h : Bool) (words : List Text) → h ≡ false
+    → option_map_or (λ (s : Shape). level_fault s [] nothing_held words false []) (met v p d l t s h) [] ≡ []
+    → is_some (option_map (λ (s : Shape). rows_at s words) (met v p d l t s h)) ≡ true
+    → HasRequest (option_and_then (λ (m : Text × List Row). request_in m.0 m.1) (option_map (λ (s : Shape). rows_at s words) (met v p d l t s h)))
+named true p d l t s h words other none some = verify_asks words none
+named false true d l t s h words other none some = plan_asks words none
+named false false true l t s h words other none some = drop_asks words none
+named false false false true t s h words other none some = level_asks words none
+named false false false false true s h words other none some = stock_asks words none
+named false false false false false true h words other none some = sample_asks words none
+named false false false false false false true words other none some = absurd (true≢false other)
+named false false false false false false false words other none some = absurd (true≢false (sym some))
 
 -- the name of the command for help, either way round
 help_named : (name : Text) → (bytes_eq name (codes "help") && true) ≡ false → bytes_eq (codes "help") name ≡ false
@@ -189,7 +207,7 @@ help_named name other = go (bytes_eq (codes "help") name) refl
 entered_asks : (stop : Option (Text × List Text)) → IsStopped top stop → entered_fault (built commands) stop ≡ [] → is_some (entered (built commands) stop) ≡ true
     → HasRequest (option_and_then (λ (m : Text × List Row). request_in m.0 m.1) (entered (built commands) stop))
 entered_asks None stop none some = absurd (true≢false (sym some))
-entered_asks (Some p) stop none some = named (bytes_eq (codes "verify") p.0) (bytes_eq (codes "plan") p.0) (bytes_eq (codes "drop") p.0) (bytes_eq (codes "level") p.0) (bytes_eq (codes "sample") p.0) (bytes_eq (codes "help") p.0) p.1 (help_named p.0 stop) none some
+entered_asks (Some p) stop none some = named (bytes_eq (codes "verify") p.0) (bytes_eq (codes "plan") p.0) (bytes_eq (codes "drop") p.0) (bytes_eq (codes "level") p.0) (bytes_eq (codes "stock") p.0) (bytes_eq (codes "sample") p.0) (bytes_eq (codes "help") p.0) p.1 (help_named p.0 stop) none some
 
 wanted : (b : Bool) → (not b && true) ≡ false → b ≡ true
 wanted true e = refl
@@ -202,9 +220,13 @@ taken_asks words none =
     let level = level_faultless top (names_of (built commands)) words (is_some (entered (built commands) stop)) (entered_fault (built commands) stop) top_sound none in
     entered_asks stop level.stop level.under (wanted (is_some (entered (built commands) stop)) (none_missing top (rows_after top.rules (names_of (built commands)) words) (is_some (entered (built commands) stop)) level.checked).0)
 
-are_plain : is_simple commands ≡ true
+pub are_plain : is_simple commands ≡ true
 unfolding clap_on_literals
 are_plain = refl
+
+pub are_simple : is_simple_and_free commands ≡ true
+unfolding clap_on_literals
+are_simple = refl
 
 are_bare : is_bare_app (built commands) ≡ true
 unfolding clap_on_literals

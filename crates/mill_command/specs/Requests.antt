@@ -17,6 +17,7 @@ pub data Request : Type 0 where
   plan : Text → Text → Text → ℕ → Request
   drop : Text → Text → Text → Text → Request
   level : Text → Text → Text → Request
+  stock : Text → Text → Text → Request
   sample : ℕ → ℕ → Request
 
 -- what a command of the code says
@@ -25,6 +26,7 @@ request_of (command.Verify job part file workers) = verify job.now part.now file
 request_of (command.Plan job part out workers) = plan job.now part.now out.now workers
 request_of (command.Drop job part x y) = drop job.now part.now x.now y.now
 request_of (command.Level job part z) = level job.now part.now z.now
+request_of (command.Stock job file out) = stock job.now file.now out.now
 request_of (command.Sample size workers) = sample size workers
 
 -- the numbers that a request has are in their ranges: workers from 1 to 64, the size of a sample part from 1 to 100
@@ -33,6 +35,7 @@ IsBounded (verify job part file workers) = (1 ≤ workers) × (workers ≤ 64)
 IsBounded (plan job part out workers) = (1 ≤ workers) × (workers ≤ 64)
 IsBounded (drop job part x y) = Unit {0}
 IsBounded (level job part z) = Unit {0}
+IsBounded (stock job file out) = Unit {0}
 IsBounded (sample size workers) = (1 ≤ size) × (size ≤ 100) × (1 ≤ workers) × (workers ≤ 64)
 
 -- the number of `u32` that a text stands for
@@ -63,6 +66,11 @@ abbrev pub level_of : Option Text → Option Text → Option Text → Option Req
 level_of (Some job) (Some part) (Some z) = Some (level job part z)
 level_of _ _ _ = None
 
+-- `stock` where each of its words is there
+abbrev pub stock_of : Option Text → Option Text → Option Text → Option Request
+stock_of (Some job) (Some file) (Some out) = Some (stock job file out)
+stock_of _ _ _ = None
+
 -- `sample` where both of its numbers are there
 abbrev pub sample_of : Option ℕ → Option ℕ → Option Request
 sample_of (Some size) (Some workers) = Some (sample size workers)
@@ -75,8 +83,9 @@ request_in name rows =
     else (if bytes_eq name (codes "plan") then plan_of (first_of (codes "job") rows) (first_of (codes "part") rows) (first_of (codes "out") rows) (number_in (codes "workers") rows)
     else (if bytes_eq name (codes "drop") then drop_of (first_of (codes "job") rows) (first_of (codes "part") rows) (first_of (codes "x") rows) (first_of (codes "y") rows)
     else (if bytes_eq name (codes "level") then level_of (first_of (codes "job") rows) (first_of (codes "part") rows) (first_of (codes "z") rows)
+    else (if bytes_eq name (codes "stock") then stock_of (first_of (codes "job") rows) (first_of (codes "file") rows) (first_of (codes "out") rows)
     else (if bytes_eq name (codes "sample") then sample_of (number_in (codes "n") rows) (number_in (codes "workers") rows)
-    else None))))
+    else None)))))
 
 -- clap takes the words: its own test, for this set of commands
 abbrev pub is_taken : List Text → Bool

@@ -34,9 +34,13 @@ size = record (place (codes "n")) { parser = Some size_parser }
 abbrev pub workers : Rule
 workers = record (new_rule (codes "workers")) { long = Some (codes "workers"); defaults = codes "1" ∷ []; parser = Some count_parser; value_names = 1 }
 
+-- a command on a job, with a number of workers
+abbrev pub with_job : Text → App
+with_job name = with_rule (with_rule (new_app name) workers) (place (codes "job"))
+
 -- a command on a job and a part, with a number of workers
 abbrev pub with_files : Text → App
-with_files name = with_rule (with_rule (with_rule (new_app name) workers) (place (codes "job"))) (place (codes "part"))
+with_files name = with_rule (with_job name) (place (codes "part"))
 
 -- `verify JOB PART FILE`
 abbrev pub verify : App
@@ -54,6 +58,10 @@ drop = with_rule (with_rule (with_files (codes "drop")) (option (codes "x"))) (o
 abbrev pub level : App
 level = with_rule (with_files (codes "level")) (option (codes "z"))
 
+-- `stock JOB FILE OUT`
+abbrev pub stock : App
+stock = with_rule (with_rule (with_job (codes "stock")) (place (codes "file"))) (place (codes "out"))
+
 -- `sample N`
 abbrev pub sample : App
 sample = with_rule (with_rule (new_app (codes "sample")) workers) size
@@ -64,7 +72,7 @@ program = record (new_app (codes "camtool")) { top = record (new_app (codes "cam
 
 -- the set of commands
 abbrev pub commands : App
-commands = with_subcommand (with_subcommand (with_subcommand (with_subcommand (with_subcommand program verify.top) plan.top) drop.top) level.top) sample.top
+commands = with_subcommand (with_subcommand (with_subcommand (with_subcommand (with_subcommand (with_subcommand program verify.top) plan.top) drop.top) level.top) stock.top) sample.top
 
 -- the command is as clap sees this one, and none of its arguments is global
 abbrev pub Is : App → Command → Type 0

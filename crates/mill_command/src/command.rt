@@ -1,6 +1,6 @@
 ghost use Rattle.std.specs.Prelude.{◌≡◌, codes, option_map, Some};
 ghost use Rattle.clap.specs.Words.{first_of, found_of, rows_of};
-ghost use Rattle.mill_command.specs.Requests.{drop_of, level_of, number_in, plan_of, request_in, request_of, sample_of, verify_of};
+ghost use Rattle.mill_command.specs.Requests.{drop_of, level_of, number_in, plan_of, request_in, request_of, sample_of, stock_of, verify_of};
 
 use clap::ArgMatches;
 
@@ -37,6 +37,13 @@ pub enum Command<'a> {
         part: &'a str,
         z: &'a str,
     },
+    /// The stock after the moves of the program in `file`, by the job in the first file, stored as the
+    /// text of a surface in the file `out`.
+    Stock {
+        job: &'a str,
+        file: &'a str,
+        out: &'a str,
+    },
     /// A sample part with `size` squares along each side, from 1 to 100, planned and verified.
     /// `workers` is how many threads share the work, from 1 to 64.
     Sample {
@@ -55,6 +62,7 @@ impl<'a> Command<'a> {
             "plan" => Command::plan_from(matches),
             "drop" => Command::drop_from(matches),
             "level" => Command::level_from(matches),
+            "stock" => Command::stock_from(matches),
             "sample" => Command::sample_from(matches),
             _ => None,
         }
@@ -100,6 +108,16 @@ impl<'a> Command<'a> {
             job: value(matches, "job")?,
             part: value(matches, "part")?,
             z: value(matches, "z")?,
+        })
+    }
+
+    fn stock_from(matches: &ArgMatches<'a>) -> Option<Command<'a>>
+        ensures { option_map request_of result ≡ stock_of (first_of (codes "job") (rows_of (found_of matches.now))) (first_of (codes "file") (rows_of (found_of matches.now))) (first_of (codes "out") (rows_of (found_of matches.now))) }
+    {
+        Some(Command::Stock {
+            job: value(matches, "job")?,
+            file: value(matches, "file")?,
+            out: value(matches, "out")?,
         })
     }
 

@@ -2,7 +2,7 @@
 //! in `specs/Set.antt`, and where matches are read.
 ghost use Rattle.std.specs.Prelude.{◌≡◌, false, IfOk};
 ghost use Rattle.clap.specs.Words.{App, Rule, new_app, rule_of, with_rule, with_subcommand};
-ghost use Rattle.mill_command.specs.Set.{Is, commands, count_parser, drop as drop_command, level, option, place, plan, program, sample, size, size_parser, verify, with_files, workers};
+ghost use Rattle.mill_command.specs.Set.{Is, commands, count_parser, drop as drop_command, level, option, place, plan, program, sample, size, size_parser, stock, verify, with_files, with_job, workers};
 
 use clap::builder::ValueParser;
 use clap::{Arg, Command, value_parser};
@@ -19,6 +19,7 @@ pub fn commands<'a>(alloc: Global) -> Result<Command<'a>, AllocError>
     let program = with_command(program, plan(alloc)?)?;
     let program = with_command(program, drop_height(alloc)?)?;
     let program = with_command(program, level(alloc)?)?;
+    let program = with_command(program, stock(alloc)?)?;
     with_command(program, sample(alloc)?)
 }
 
@@ -92,6 +93,30 @@ fn level<'a>(alloc: Global) -> Result<Command<'a>, AllocError>
     )
 }
 
+/// `stock JOB FILE OUT`, with how many workers.
+fn stock<'a>(alloc: Global) -> Result<Command<'a>, AllocError>
+    ensures { IfOk result (Is stock) }
+{
+    let command = with_job(
+        alloc,
+        "stock",
+        "Stores what a program leaves of the stock, as a surface to look at",
+    )?;
+    let command = with_arg(
+        command,
+        place(alloc, "file", "FILE", "The program's file, RS274/NGC"),
+    )?;
+    with_arg(
+        command,
+        place(
+            alloc,
+            "out",
+            "OUT",
+            "The file that the stock is stored in, ASCII STL",
+        ),
+    )
+}
+
 /// `sample N`, with how many workers.
 fn sample<'a>(alloc: Global) -> Result<Command<'a>, AllocError>
     ensures { IfOk result (Is sample) }
@@ -105,6 +130,18 @@ fn sample<'a>(alloc: Global) -> Result<Command<'a>, AllocError>
     with_arg(command, size(alloc))
 }
 
+/// A command whose first word is the job's file, and that takes how many workers.
+fn with_job<'a>(
+    alloc: Global,
+    name: &'static str,
+    about: &'static str,
+) -> Result<Command<'a>, AllocError>
+    ensures { IfOk result (Is (with_job name.entry.now)) }
+{
+    let command = with_arg(command(alloc, name, about), workers(alloc))?;
+    with_arg(command, place(alloc, "job", "JOB", "The job's file, TOML"))
+}
+
 /// A command whose first two words are the job's and the part's file, and that takes how many
 /// workers.
 fn with_files<'a>(
@@ -114,8 +151,7 @@ fn with_files<'a>(
 ) -> Result<Command<'a>, AllocError>
     ensures { IfOk result (Is (with_files name.entry.now)) }
 {
-    let command = with_arg(command(alloc, name, about), workers(alloc))?;
-    let command = with_arg(command, place(alloc, "job", "JOB", "The job's file, TOML"))?;
+    let command = with_job(alloc, name, about)?;
     with_arg(
         command,
         place(alloc, "part", "PART", "The part's file, ASCII STL"),

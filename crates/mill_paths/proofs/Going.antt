@@ -19,8 +19,8 @@ use Rattle.mill_dexel.specs.Tops.{cut_limit, top_after}
 use Rattle.mill_dexel.proofs.TopLaws.{top_after_stays}
 use Rattle.mill_dexel.proofs.Cleared.{passes_after_cut}
 use Rattle.mill_dexel.proofs.Limits.{passes_limit_after_cut}
-use Rattle.mill_job.specs.Columns.{column_x, column_y, home}
 use Rattle.mill_gouge.specs.Gouges.{ToolPassesPart}
+use Rattle.mill_job.specs.Columns.{column_x, column_y, home}
 use Rattle.mill_job.specs.Jobs.{IsJob, tool_of}
 use Rattle.mill_job.specs.declared.job.Job.{Job}
 use Rattle.mill_sweep.specs.Halving.{PassesPoint}

@@ -1,4 +1,5 @@
 pub mod Faults
 pub mod Facets
 pub mod Parts
+pub mod Written
 pub mod inner

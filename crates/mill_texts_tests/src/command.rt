@@ -64,6 +64,8 @@ drop --workers=64 a b --x=-1 --y=2.5 => Drop { job: "a", part: "b", x: "-1", y: 
 level a b --z=-1.5 => Level { job: "a", part: "b", z: "-1.5" }
 level --z=-1.5 a -- b => Level { job: "a", part: "b", z: "-1.5" }
 level a b --workers=64 --z=-1.5 => Level { job: "a", part: "b", z: "-1.5" }
+stock a b c => Stock { job: "a", file: "b", out: "c" }
+stock a --workers=64 b -- c => Stock { job: "a", file: "b", out: "c" }
 sample 100 => Sample { size: 100, workers: 1 }
 sample -- 0100 => Sample { size: 100, workers: 1 }
 sample 1 --workers=8 => Sample { size: 1, workers: 8 }
@@ -84,6 +86,7 @@ plan -h => Usage: camtool plan [OPTIONS] <JOB> <PART> <OUT>
 drop -h => Usage: camtool drop [OPTIONS] --x <X> --y <Y> <JOB> <PART>
 level -h => Usage: camtool level [OPTIONS] --z <Z> <JOB> <PART>
 level -h => as in --z=-1.5
+stock -h => Usage: camtool stock [OPTIONS] <JOB> <FILE> <OUT>
 sample -h => Usage: camtool sample [OPTIONS] <N>
 --version => camtool 0.1.0\n
 -V => camtool 0.1.0\n
@@ -131,6 +134,9 @@ level a b => not provided:\n  --z <Z>\n
 level a --z=1 => not provided:\n  <PART>\n
 level a b --z -1 => unexpected argument '-1'
 level a b --z=1 --x=1 => unexpected argument '--x'
+stock a b => not provided:\n  <OUT>\n
+stock a b c d => unexpected argument 'd'
+stock a b c --workers=65 => 65 is not in 1..=64
 sample => not provided:\n  <N>\n
 sample 0 => 0 is not in 1..=100
 sample 101 => 101 is not in 1..=100

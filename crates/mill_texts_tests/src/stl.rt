@@ -2,6 +2,8 @@ use mill_base::{Pt3, Tri, Unit};
 use mill_decimal::{DecFault, Snap};
 use mill_stl::{StlFault, StlRead, What, read_stl};
 
+mod writing;
+
 const TWO_SOLIDS: &str =
     "SOLID a\r\nFACET NORMAL nan nan nan\r\nOUTER LOOP\r\nVERTEX 0 0 2\r\nVERTEX 1e1 0 2\r\nVERTEX 0 10.000 2\r\nENDLOOP\r\nENDFACET\r\nENDSOLID a\r\nsolid b\r\nendsolid b\r\n";
 

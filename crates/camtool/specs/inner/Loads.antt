@@ -27,6 +27,7 @@ use Rattle.camtool.specs.declared.load.LoadFault.TheVariants.{Memory, ReadFault,
 use Rattle.camtool.specs.declared.load.Unfit.TheVariants.{TooLong, JobRefused, PartRefused, ProgramRefused, PartTop}
 use Rattle.camtool.specs.declared.load.Setup.{Setup}
 use Rattle.camtool.specs.declared.verify.Loaded.{Loaded}
+use Rattle.camtool.specs.declared.stock.Cutting.{Cutting}
 use Rattle.camtool.specs.declared.place.Coordinate.{Coordinate}
 use Rattle.mill_job.specs.declared.job.Place.{Place}
 use Rattle.camtool.specs.declared.place.WordFault.{WordFault}
@@ -34,6 +35,7 @@ use Rattle.camtool.specs.Drop.{ReadsPlace, RefusesWord}
 use Rattle.camtool.specs.Level.{ReadsHeight, RefusesZ}
 use Rattle.camtool.specs.Sample.{sample_job, sample_part}
 use Rattle.camtool.specs.Setup.{SetupTexts, Fits, IsTooLong, IsJobText, IsRefusedJob, IsPartText, IsRefusedPart, ReadsSetup, IsUnfit, IsReadBefore}
+use Rattle.camtool.specs.Stock.{StockTexts, ReadsStock, IsUnfitStock, IsReadBeforeStock}
 use Rattle.camtool.specs.Verify.{Texts, IsProgramText, IsRefusedProgram, Reads, IsUnfitProgram, IsReadBeforeProgram}
 
 -- ---- one file
@@ -139,6 +141,13 @@ Loads texts (Err Memory) = Unit {0}
 Loads texts (Err (ReadFault file)) = IsReadBeforeProgram texts file
 Loads texts (Err (Unfit fault)) = IsUnfitProgram texts fault
 
+-- job and moves, or why there are none
+abbrev pub LoadsCutting : StockTexts → Result Cutting LoadFault → Type 0
+LoadsCutting texts (Ok c) = ReadsStock texts c.job c.moves.items
+LoadsCutting texts (Err Memory) = Unit {0}
+LoadsCutting texts (Err (ReadFault file)) = IsReadBeforeStock texts file
+LoadsCutting texts (Err (Unfit fault)) = IsUnfitStock texts fault
+
 -- ---- what reading does to the store
 
 -- the count of failed reads rose where the fault is a read fault, and else stays
@@ -171,6 +180,11 @@ pub record IsReady (l : Loaded) : Type 0 where
   pub job_ok : IsJob l.job
   pub under : IsUnder l.part l.job.top
   pub moves_ok : AreMoves l.job l.moves.items
+
+-- a job, and moves within the ranges that cutting asks for
+pub record IsCutting (c : Cutting) : Type 0 where
+  pub job_ok : IsJob c.job
+  pub moves_ok : AreMoves c.job c.moves.items
 
 -- a number of workers that a command may have
 pub record AreWorkers (workers : ℕ) : Type 0 where

@@ -19,12 +19,14 @@ use Rattle.camtool.specs.declared.load.Setup.{Setup}
 use Rattle.mill_job.specs.declared.job.Place.{Place}
 use Rattle.mill_job.specs.Jobs.{tool_of}
 use Rattle.camtool.specs.declared.verify.Loaded.{Loaded}
-use Rattle.camtool.specs.Answers.{unfit, judged, dropped, leveled, planned, sampled}
+use Rattle.camtool.specs.declared.stock.Cutting.{Cutting}
+use Rattle.camtool.specs.Answers.{unfit, judged, dropped, leveled, planned, stocked, sampled}
 use Rattle.camtool.specs.Calls.{Call}
 use Rattle.camtool.specs.Level.{LevelAnswer, IsLevelAnswer}
 use Rattle.camtool.specs.Outcomes.{Outcome, help, bad_words, no_memory, read_fault, answered, outcome_status, outcome_line, Shows}
 use Rattle.camtool.specs.Plan.{plan_line, plan_status}
 use Rattle.camtool.specs.Sample.{Samples}
+use Rattle.camtool.specs.Stock.{StockAnswer, IsStockAnswer}
 use Rattle.camtool.specs.Verify.{IsNamed, IsSafe}
 
 -- the line was printed, and the status is the one that was wanted
@@ -121,6 +123,16 @@ pub record ShowsPlan (s : Setup) (name : List ℕ) (call : Call) : Type 0 where
 -- so it is, or it is shown that memory was short
 abbrev pub ShowsPlanOr : Setup → List ℕ → Call → Type 0
 ShowsPlanOr s name call = ShowsPlan s name call ⊎ Shows call no_memory
+
+-- the surface of the stock that was cut is shown and its text stored, or it is shown that it is too large
+pub record ShowsStock (c : Cutting) (name : List ℕ) (call : Call) : Type 0 where
+  pub answer : StockAnswer
+  pub is : IsStockAnswer c.job c.moves.items answer
+  pub shows : Shows call (answered (stocked name answer))
+
+-- so it is, or it is shown that memory was short
+abbrev pub ShowsStockOr : Cutting → List ℕ → Call → Type 0
+ShowsStockOr c name call = ShowsStock c name call ⊎ Shows call no_memory
 
 -- the beginning of a sample's line: its size, and how many triangles it has
 abbrev pub sample_start : ℕ → List ℕ

@@ -60,21 +60,30 @@ drop job plate --x=1 --y=1, out 1000 3, 200 0 => 7 <> => out
 level job plate --z=0, out 1000 1, 200 => 6 <read fault job\n> => out
 level job plate --z=0, out 1000 1, 200 0 => 7 <> => out
 level job plate --z=0, out 1000 3, 200 => 6 <read fault part\n> => out
-level job plate --z=0, out 1000 3, 200 0 => 7 <> => out";
+level job plate --z=0, out 1000 3, 200 0 => 7 <> => out
+stock job down out, out 1000 1, 200 => 6 <read fault job\n> => out
+stock job down out, out 1000 1, 200 0 => 7 <> => out
+stock job down out, out 1000 3, 200 => 6 <read fault program\n> => out
+stock job down out, out 1000 3, 200 0 => 7 <> => out";
 
 #[test]
 fn blames_each_failed_read(rt: HostRuntime) -> Result<(), Fail> {
     each_ends(&rt, rt.alloc(), READS)
 }
 
-// Of `plan`, the store's call 4 creates OUT, and call 5 is the first append. A failed write leaves a
-// prefix of the program, or what was there, and then nothing is printed.
+// Of `plan` and `stock`, the store's call 4 creates OUT, and call 5 is the first append. A failed write
+// leaves a prefix of the text, or what was there, and then nothing is printed.
 const WRITES: &str = r"plan job plate out, out 1000 4, 200 => 7 <> => out
 plan job plate out, out 1000 5, 200 => 7 <> => <>
 plan job plate out, out 5, 200 => 7 <> => <%\nG17>
 plan job plate out, out 100, 200 => 7 <> => <%\nG17 G21 G90\nG1 X0.00 Y0.00 Z2.00\nG1 X1.00 Y0.00 Z2.00\nG1 X2.00 Y0.00 Z2.00\nG1 X2.00 Y1.00 Z2.00\nG1>
 plan job plate out, out 1000, 200 0 => 7 <> => planned
 plan job plate out, out 1000, 8 => 7 <planned > => planned
+stock job down out, out 1000 4, 200 => 7 <> => out
+stock job down out, out 1000 5, 200 => 7 <> => <>
+stock job down out, out 9, 200 => 7 <> => <solid sto>
+stock job down out, out 1000, 200 0 => 7 <> => stocked
+stock job down out, out 1000, 6 => 7 <stock > => stocked
 verify job plate <M2>, out 1000, 200 0 => 7 <> => out
 verify job plate <M2>, out 1000, 9 => 7 <rejected > => out
 drop job plate --x=1 --y=1, out 1000, 200 0 => 7 <> => out

@@ -12,6 +12,7 @@ plan garbled absent out => 4 refused job syntax
 drop garbled absent --x=0 --y=0 => 4 refused job syntax
 drop job absent --x=0 --y=0.005 => 4 refused word y off-grid
 drop absent absent --x=0 --y=0.005 => 6 read fault job
+stock garbled absent out => 4 refused job syntax
 level garbled absent --z=0 => 4 refused job syntax
 level job absent --z=0 => 6 read fault part
 level job absent --z=0.001 => 4 refused word z off-grid";

@@ -1,6 +1,6 @@
 use Rattle.camtool.proofs.Blaming.{blames_writes, blames_reads, keeps}
 use Rattle.camtool.proofs.Outcomes.{answers_of, completes_of, untaken_of}
-use Rattle.camtool.proofs.Headlines.{headline_of, plan_headline_of}
+use Rattle.camtool.proofs.Headlines.{headline_of, plan_headline_of, stock_headline_of}
 use Rattle.camtool.proofs.run.run.Goals as goal
 
 pub returns-clause-write : goal.returns-clause-write
@@ -10,7 +10,7 @@ pub returns-clause-read : goal.returns-clause-read
 returns-clause-read g c = blames_reads _ c.work.ensures.outcome.outcome c.work.ensures.outcome.shows
 
 pub returns-clause-kept : goal.returns-clause-kept
-returns-clause-kept g c = λ none. keeps _ _ c.work.ensures.outcome none
+returns-clause-kept g c = λ nothing. keeps _ _ c.work.ensures.outcome nothing
 
 pub returns-clause-answers : goal.returns-clause-answers
 returns-clause-answers g c = answers_of _ _ c.work.ensures.outcome
@@ -26,3 +26,6 @@ returns-clause-headline g c = headline_of c.one_verdict.ensures _ _ c.work.ensur
 
 pub returns-clause-plan_headline : goal.returns-clause-plan_headline
 returns-clause-plan_headline g c = plan_headline_of _ _ c.work.ensures.outcome
+
+pub returns-clause-stock_headline : goal.returns-clause-stock_headline
+returns-clause-stock_headline g c = stock_headline_of _ _ c.work.ensures.outcome

@@ -1,4 +1,4 @@
-use Rattle.std.proofs.Common.{◌≡◌, ◌∙◌, ap, sym, Option, Some, None, List, ℕ, refl}
+use Rattle.std.proofs.Common.{◌≡◌, ◌∙◌, ap, Option, Some, None, List, ℕ, refl}
 use Rattle.std.specs.Prelude.{option_and_then}
 use Rattle.std.specs.Str.Parse.{ParsesUnsigned, ExplainsUnsignedError, HasUnsignedDigitsIfOk}
 use Rattle.clap.specs.Words.{found_of, one_text}

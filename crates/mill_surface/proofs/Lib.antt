@@ -1,0 +1,3 @@
+mod Strips
+mod Counts
+mod RangeLemmas

@@ -1,0 +1,35 @@
+-- Triangles and tops in range.
+use Rattle.std.proofs.Common.{◌≡◌, ◌⊎◌, ℕ, ◌<◌, inl, inr, sym, subst, length, get_or, arith}
+use Rattle.std.specs.Prelude.{ℤ, pos, List, [], ◌∷◌, ◌++◌, All, Contains}
+use Rattle.std.proofs.lemmas.List.Elements.{Contains-push_cases}
+use Rattle.mill_base.specs.Ranges.{TriInUnitRange, TrisInUnitRange}
+use Rattle.mill_base.specs.declared.points.Tri.{Tri}
+use Rattle.mill_base.specs.declared.unit.Unit.{Unit}
+use Rattle.mill_job.specs.declared.job.Job.{Job}
+use Rattle.mill_job.specs.Columns.{column_count}
+use Rattle.mill_job.specs.Jobs.{IsFrom}
+use Rattle.mill_dexel.specs.Rows.{RowState, IsRowOf}
+
+pub no_tris : (unit : Unit) → TrisInUnitRange unit []
+no_tris unit tri member = absurd (omega (arith, member.1))
+
+one_more_tri : (unit : Unit) (tris : List Tri) (tri : Tri) → TrisInUnitRange unit tris → TriInUnitRange unit tri → TrisInUnitRange unit (tris ++ tri ∷ [])
+one_more_tri unit tris tri all one = λ other member. by other (Contains-push_cases tris tri other member)
+  where
+    by : (other : Tri) → Contains tris other ⊎ (tri ≡ other) → TriInUnitRange unit other
+    by other (inl before) = all other before
+    by other (inr here) = subst (TriInUnitRange unit) here one
+
+-- two triangles more
+pub two_more_tris : (unit : Unit) (tris next last : List Tri) (s t : Tri) → next ≡ tris ++ s ∷ [] → last ≡ next ++ t ∷ []
+    → TrisInUnitRange unit tris → TriInUnitRange unit s → TriInUnitRange unit t → TrisInUnitRange unit last
+two_more_tris unit tris next last s t first second all s_ok t_ok =
+    let one : TrisInUnitRange unit next = subst (TrisInUnitRange unit) (sym first) (one_more_tri unit tris s all s_ok) in
+    subst (TrisInUnitRange unit) (sym second) (one_more_tri unit next t one t_ok)
+
+-- a top that is read from a row stays from the floor to the uncut stock's top
+pub top_in_stock : (job : Job) (rows : List RowState) (j i : ℕ) (r : RowState) (tops : List ℤ) → All (IsRowOf job) rows → j < length rows → r ≡ get_or rows j r → tops ≡ r.tops
+    → i < column_count job → IsFrom job.floor job.top (get_or tops i (pos 0))
+top_in_stock job rows j i r tops all there read same inside =
+    let is : IsRowOf job r = subst (IsRowOf job) (sym read) (all j r there) in
+    subst (λ (ts : List ℤ). IsFrom job.floor job.top (get_or ts i (pos 0))) (sym same) (is.in_stock i (pos 0) (omega (arith, is.columns, inside)))
