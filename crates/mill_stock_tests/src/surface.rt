@@ -1,14 +1,16 @@
 //! Surfaces of small stocks, and of one that is too large.
-ghost use Rattle.std.specs.Prelude.{◌≤◌, ◌*◌, pos};
+ghost use Rattle.std.specs.Prelude.{◌≤◌, ◌*◌, pos, [], All};
 ghost use Rattle.mill_base.specs.Numbers.{Within};
 ghost use Rattle.mill_base.specs.declared.limits.TheConstants.{MAX_COLUMNS, MAX_COORDINATE};
 ghost use Rattle.mill_base.specs.Ranges.{MoveInRange};
 ghost use Rattle.mill_job.specs.Columns.{positions};
 ghost use Rattle.mill_job.specs.Jobs.{IsFrom, IsJob};
+ghost use Rattle.mill_dexel.specs.Rows.{IsRowOf};
+ghost use Rattle.mill_dexel.specs.Stocks.{IsStock};
 
 use mill_base::{Box2, Cutter, Kind, Move, Pt3, Tri, Unit};
 use mill_decimal::Snap;
-use mill_dexel::{cut_rows, uncut_rows};
+use mill_dexel::{Row, cut_rows, uncut_rows};
 use mill_job::{Job, Levels, Place};
 use mill_surface::{SurfaceFault, surface};
 use std::alloc::Global;
@@ -58,8 +60,23 @@ fn surface_after(alloc: Global, job: &Job, x: i32, y: i32) -> Result<Vec<Tri>, S
     requires y_ok { Within MAX_COORDINATE y }
 {
     let mut rows = uncut_rows(alloc, job)?;
-    cut_rows(job, &mut rows, &plunge(x, y));
-    surface(alloc, job, &rows)
+    cut_surface(alloc, job, &mut rows, &plunge(x, y))
+}
+
+/// The surface of an uncut stock after a move.
+fn cut_surface(
+    alloc: Global,
+    job: &Job,
+    rows: &mut [Row],
+    step: &Move,
+) -> Result<Vec<Tri>, SurfaceFault>
+    requires job { IsJob job.now }
+    requires stock { IsStock job.now [] rows.old }
+    requires rows_ok { All (IsRowOf job.now) rows.old }
+    requires step { MoveInRange step.now }
+{
+    cut_rows(job, rows, step);
+    surface(alloc, job, rows)
 }
 
 fn plunge(x: i32, y: i32) -> Move
@@ -129,25 +146,20 @@ fn joins_cut_and_uncut(rt: HostRuntime) -> Result<(), Fail> {
 
 #[test]
 fn one_row_or_column_has_none(rt: HostRuntime) -> Result<(), Fail> {
-    for (x1, y1) in [(200, 0), (0, 200), (0, 0)] {
-        let job = stock(x1, y1, 100);
-        let tris = surface_after(rt.alloc(), &job, 0, 0)?;
-        assert_eq!(rt; tris.len(), 0, "up to ({x1}, {y1})");
-    }
+    let row = surface_after(rt.alloc(), &stock(200, 0, 100), 0, 0)?;
+    assert_eq!(rt; row.len(), 0);
+    let column = surface_after(rt.alloc(), &stock(0, 200, 100), 0, 0)?;
+    assert_eq!(rt; column.len(), 0);
     Ok(())
 }
 
+// 317 by 317 squares are too many; 400 by 250 are the most that there may be.
 #[test]
-fn counts_too_many(rt: HostRuntime) {
-    for (x1, y1, over) in [
-        (317, 317, Some(200_978)),
-        (316, 316, None),
-        (400, 250, None),
-        (401, 250, Some(200_500)),
-    ] {
-        let job = stock(x1, y1, 1);
-        let fault = surface_after(rt.alloc(), &job, 0, 0).err();
-        let want = over.map(|count| SurfaceFault::TooManyTriangles { count });
-        assert_eq!(rt; fault, want, "up to ({x1}, {y1})");
-    }
+fn counts_too_many(rt: HostRuntime) -> Result<(), Fail> {
+    let over = surface_after(rt.alloc(), &stock(317, 317, 1), 0, 0).err();
+    let want = SurfaceFault::TooManyTriangles { count: 200_978 };
+    assert_eq!(rt; over, Some(want));
+    let most = surface_after(rt.alloc(), &stock(400, 250, 1), 0, 0)?;
+    assert_eq!(rt; most.len(), 200_000);
+    Ok(())
 }

@@ -411,6 +411,8 @@ fn measures_a_cut_from_what_is_left(rt: HostRuntime) {
 #[test]
 fn names_the_leaf_at_which_the_holder_comes_too_low(rt: HostRuntime) {
     let alloc = rt.alloc();
+    let near = held_job(150, 50);
+    let far = held_job(150, 100);
     let part = plate(alloc, 200).unwrap_or_else(|_| panic!(rt; "want of memory"));
     let moves = down_and_up(Kind::Feed, 200);
     let accept = Verdict::Accept {
@@ -425,14 +427,16 @@ fn names_the_leaf_at_which_the_holder_comes_too_low(rt: HostRuntime) {
         leaf: Leaf { d: 8, k: 192 },
     });
     for workers in [1, 4, 64] {
-        for (stickout, want) in [(50, held), (100, accept)] {
-            let job = held_job(150, stickout);
-            assert_eq!(rt;
-                verify(&rt, alloc, &job, &part, &moves, workers),
-                Ok(want),
-                "by {workers} at {stickout}"
-            );
-        }
+        assert_eq!(rt;
+            verify(&rt, alloc, &near, &part, &moves, workers),
+            Ok(held),
+            "by {workers}"
+        );
+        assert_eq!(rt;
+            verify(&rt, alloc, &far, &part, &moves, workers),
+            Ok(accept),
+            "by {workers}"
+        );
     }
 }
 
@@ -441,8 +445,8 @@ fn names_the_leaf_at_which_the_holder_comes_too_low(rt: HostRuntime) {
 #[test]
 fn names_the_holder_in_its_turn(rt: HostRuntime) {
     let alloc = rt.alloc();
-    let part = plate(alloc, 0).unwrap_or_else(|_| panic!(rt; "want of memory"));
     let job = held_job(90, 50);
+    let part = plate(alloc, 0).unwrap_or_else(|_| panic!(rt; "want of memory"));
     let holder = Verdict::Reject(Reason::Holder {
         at: 0,
         tri: 0,
