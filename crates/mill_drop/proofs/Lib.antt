@@ -8,3 +8,4 @@ pub mod Scanning
 pub mod Holders
 pub mod Listed
 pub mod Uniqueness
+pub mod Halving

@@ -1,13 +1,28 @@
 -- A path along a row: the places between which a tool goes straight, from drop height to drop height.
 use Rattle.std.specs.Prelude.{◌≡◌, ℕ, zero, suc, ◌+◌, ◌-◌, ◌/◌, ◌<◌, ◌==◌, nat_abs, Bool, true, false, ◌&&◌, if◌then◌else◌, ℤ, pos, ◌+ℤ◌, ◌-ℤ◌, ◌*ℤ◌, ◌<ℤ◌, ◌≤ℤ◌, int_le, List, [], ◌∷◌, ◌++◌, map, All, slice_index_or}
 use Rattle.std.specs.List.{list_all, range_with_len}
+use Rattle.mill_base.specs.Numbers.{Within}
 use Rattle.mill_base.specs.Points.{point_at}
+use Rattle.mill_base.specs.declared.limits.TheConstants.{MAX_COORDINATE}
 use Rattle.mill_base.specs.declared.lattice.Lattice.{Lattice}
 use Rattle.mill_base.specs.declared.points.Pt3.{Pt3}
 use Rattle.mill_base.specs.declared.points.Tri.{Tri}
 use Rattle.mill_base.specs.declared.tool.Tool.{Tool}
 use Rattle.mill_drop.specs.Drops.{IsDropHeight}
 use Rattle.mill_drop.specs.Maps.{AreDropHeights}
+use Rattle.mill_drop.specs.declared.path.TheConstants.{MAX_TOLERANCE}
+
+-- the row at y from x0 to x1 is in range, and its ends are the right way round
+pub record IsRow (y x0 x1 : ℤ) : Type 0 where
+  pub y_ok : Within MAX_COORDINATE y
+  pub x0_ok : Within MAX_COORDINATE x0
+  pub x1_ok : Within MAX_COORDINATE x1
+  pub order : x0 ≤ℤ x1
+
+-- how far over the drop heights a path may stay
+pub record IsTolerance (tol : ℤ) : Type 0 where
+  pub some : (pos 0) ≤ℤ tol
+  pub within : tol ≤ℤ MAX_TOLERANCE
 
 -- the places of a row at y: one at each whole x from x0 to x1
 abbrev pub row_lattice : ℤ → ℤ → ℤ → Lattice
@@ -40,7 +55,7 @@ middle p q = (p + q) / 2
 
 -- the path's places after p, up to q: q alone where the tool may go straight to it, else those up to the middle, and those after it; the first number says how
 -- often it may be halved
-pub places_by : ℕ → List ℤ → ℤ → ℕ → ℕ → List ℕ
+abbrev pub places_by : ℕ → List ℤ → ℤ → ℕ → ℕ → List ℕ
 places_by zero heights tol p q = q ∷ []
 places_by (suc n) heights tol p q =
     if is_straight heights tol p q then q ∷ [] else places_by n heights tol p (middle p q) ++ places_by n heights tol (middle p q) q
@@ -76,7 +91,7 @@ pub record IsLeg (tool : Tool) (part : List Tri) (y floor tol : ℤ) (a b : Pt3)
   pub between : (x z : ℤ) → a.x <ℤ x → x <ℤ b.x → IsDropHeight tool part x y floor z → IsLineOver a b x z tol
 
 -- from a on through these points, leg by leg, to x1
-pub GoesOn : Tool → List Tri → ℤ → ℤ → ℤ → ℤ → Pt3 → List Pt3 → Type 0
+abbrev pub GoesOn : Tool → List Tri → ℤ → ℤ → ℤ → ℤ → Pt3 → List Pt3 → Type 0
 GoesOn tool part y x1 floor tol a [] = a.x ≡ x1
 GoesOn tool part y x1 floor tol a (b ∷ points) = IsLeg tool part y floor tol a b × GoesOn tool part y x1 floor tol b points
 

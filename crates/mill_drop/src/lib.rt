@@ -17,9 +17,11 @@ mod laws;
 mod map;
 mod near;
 mod once;
+mod path;
 mod search;
 
 pub use drop::drop_at;
-pub use laws::drop_heights_are_unique;
+pub use laws::{drop_heights_are_unique, paths_are_halved};
 pub use map::drop_map;
 pub use once::drop_once;
+pub use path::MAX_TOLERANCE;
