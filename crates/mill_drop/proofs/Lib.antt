@@ -9,3 +9,6 @@ pub mod Holders
 pub mod Listed
 pub mod Uniqueness
 pub mod Halving
+pub mod Straightness
+pub mod RowLemmas
+pub mod PathLemmas

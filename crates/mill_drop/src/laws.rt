@@ -1,4 +1,4 @@
-ghost use Rattle.mill_drop.specs.Paths.{PathsAreHalved};
+ghost use Rattle.mill_drop.specs.Paths.{OnePath, PathsAreHalved};
 ghost use Rattle.mill_drop.specs.Unique.{OneListOfHeights};
 
 /// A lattice has one list of drop heights at most, for a tool, a part and a floor.
@@ -14,4 +14,11 @@ pub fn drop_heights_are_unique()
 /// It has no code: what it promises is its contract.
 pub fn paths_are_halved()
     ensures { PathsAreHalved }
+{}
+
+/// A row has one path at most, for a tool, a part, a floor and a tolerance.
+///
+/// It has no code: what it promises is its contract.
+pub fn one_path()
+    ensures { OnePath }
 {}

@@ -18,10 +18,11 @@ mod map;
 mod near;
 mod once;
 mod path;
+mod places;
 mod search;
 
 pub use drop::drop_at;
-pub use laws::{drop_heights_are_unique, paths_are_halved};
+pub use laws::{drop_heights_are_unique, one_path, paths_are_halved};
 pub use map::drop_map;
 pub use once::drop_once;
-pub use path::MAX_TOLERANCE;
+pub use path::{MAX_TOLERANCE, path_drop};
