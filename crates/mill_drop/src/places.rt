@@ -1,6 +1,4 @@
-ghost use Rattle.std.specs.Prelude.{◌≡◌, ◌+◌, ◌-◌, ◌^◌, ◌<◌, ◌++◌, ℤ, pos, ◌*ℤ◌, nat_abs, length, All, IfOk, OnOk};
-ghost use Rattle.mill_base.specs.Numbers.{Within};
-ghost use Rattle.mill_base.specs.declared.limits.TheConstants.{MAX_COORDINATE};
+ghost use Rattle.std.specs.Prelude.{◌≡◌, ◌-◌, ◌^◌, ◌<◌, ◌++◌, pos, ◌*ℤ◌, nat_abs, length, IfOk, OnOk};
 ghost use Rattle.mill_drop.specs.Paths.{is_kept_at, is_straight, line_at, path_places, places_after, IsTolerance};
 ghost use Rattle.mill_drop.specs.inner.Rows.{AreHeights};
 
