@@ -13,8 +13,12 @@ mod contact_cone;
 #[cfg(test)]
 mod contact_flat;
 #[cfg(test)]
+mod contacts;
+#[cfg(test)]
 mod geom;
 #[cfg(test)]
 mod part;
 #[cfg(test)]
 mod shape;
+#[cfg(test)]
+mod tables;

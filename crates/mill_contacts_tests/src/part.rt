@@ -1,263 +1,224 @@
-ghost use Rattle.std.specs.Prelude.{IsTrue, ◌<◌, ◌^◌, ◌≤ℤ◌, pos, length};
+ghost use Rattle.std.specs.Prelude.{◌≤ℤ◌, pos, IfOk};
 ghost use Rattle.mill_base.specs.Numbers.{Within};
 ghost use Rattle.mill_base.specs.declared.limits.TheConstants.{MAX_COORDINATE, MAX_RADIUS};
-ghost use Rattle.mill_base.specs.Ranges.{IsInRange, TriInRange};
 
-use mill_base::{MAX_COORDINATE, MAX_RADIUS, Pt3, Tri};
+use crate::tables::{coordinate, first_word, halves, part_of, placed};
+use mill_base::MAX_RADIUS;
 use mill_cells::Cells;
-use mill_part::{Part, SortedPart, covered_below};
+use mill_part::{SortedPart, covered_below};
 use std::process::Abort;
 use std::test::Fail;
 
-fn tri(a: (i32, i32, i32), b: (i32, i32, i32), c: (i32, i32, i32)) -> Tri {
-    Tri {
-        a: Pt3 {
-            x: a.0,
-            y: a.1,
-            z: a.2,
-        },
-        b: Pt3 {
-            x: b.0,
-            y: b.1,
-            z: b.2,
-        },
-        c: Pt3 {
-            x: c.0,
-            y: c.1,
-            z: c.2,
-        },
-    }
-}
-
-fn fits(number: i32) -> bool
-    ensures { IsTrue result → Within MAX_COORDINATE number }
+fn band_of(text: &str) -> Result<i32, Fail>
+    ensures least { IfOk result (λ band. pos 0 ≤ℤ band) }
+    ensures most { IfOk result (λ band. band ≤ℤ MAX_RADIUS) }
 {
-    number.unsigned_abs() <= MAX_COORDINATE
+    let band: i32 = text.parse()?;
+    if band < 0 || band > MAX_RADIUS {
+        return Err(Fail::from("out of range"));
+    }
+    Ok(band)
 }
 
-fn point_fits(point: &Pt3) -> bool
-    ensures { IsTrue result → IsInRange point.now }
+/// Looks at the column (x, y): it's covered up to `height` and no higher, by all triangles and by those
+/// near it.
+fn look<R: Abort>(
+    rt: &R,
+    shape: &SortedPart<'_>,
+    floor: i32,
+    x: i32,
+    y: i32,
+    band: i32,
+    height: i32,
+    row: &str,
+)
+    requires floor_ok { Within MAX_COORDINATE floor }
+    requires x_ok { Within MAX_COORDINATE x }
+    requires y_ok { Within MAX_COORDINATE y }
+    requires band_least { pos 0 ≤ℤ band }
+    requires band_most { band ≤ℤ MAX_RADIUS }
+    requires height_ok { Within MAX_COORDINATE height }
 {
-    if !fits(point.x) {
-        return false;
-    }
-    if !fits(point.y) {
-        return false;
-    }
-    fits(point.z)
+    let part = shape.part();
+    assert_eq!(rt; part.covered_height(floor, x, y, band), height, "{row}");
+    assert!(rt; part.covered(floor, x, y, height, band), "{row}");
+    assert!(rt; !part.covered(floor, x, y, height + 1, band), "{row}");
+    let cells = shape.cells();
+    assert_eq!(rt;
+        part.covered_height_near(cells, floor, x, y, band),
+        height,
+        "{row}"
+    );
+    assert!(rt;
+        part.covered_near(cells, floor, x, y, height, band),
+        "{row}"
+    );
+    assert!(rt;
+        !part.covered_near(cells, floor, x, y, height + 1, band),
+        "{row}"
+    );
 }
 
-fn tri_fits(tri: &Tri) -> bool
-    ensures { IsTrue result → TriInRange tri.now }
+/// Looks at the column of a row's text: its x and y, and the band.
+fn look_at<R: Abort>(
+    rt: &R,
+    shape: &SortedPart<'_>,
+    floor: i32,
+    column: &str,
+    wanted: &str,
+    row: &str,
+) -> Result<(), Fail>
+    requires { Within MAX_COORDINATE floor }
 {
-    if !point_fits(&tri.a) {
-        return false;
-    }
-    if !point_fits(&tri.b) {
-        return false;
-    }
-    point_fits(&tri.c)
+    let (x, others) = first_word(column)?;
+    let (y, band) = first_word(others)?;
+    let (x, y, band) = (coordinate(x)?, coordinate(y)?, band_of(band)?);
+    look(rt, shape, floor, x, y, band, coordinate(wanted)?, row);
+    Ok(())
 }
 
-fn part_of<R: Abort + AllocGlobal>(rt: &R, tris: &[Tri]) -> Result<Part, Fail>
-    requires { length tris.now < 2 ^ 32 }
+/// Looks at many columns of one part: each row has x, y and the band, and the height up to which that
+/// column is covered.
+fn each_column<R: Abort + AllocGlobal>(
+    rt: &R,
+    floor: i32,
+    part: &str,
+    table: &str,
+) -> Result<(), Fail>
+    requires { Within MAX_COORDINATE floor }
 {
-    let mut kept = Vec::new(rt.alloc());
-    for tri in tris {
-        assert!(rt; tri_fits(tri));
-        kept.push(*tri)?;
+    let part = part_of(rt.alloc(), part)?;
+    let shape = SortedPart::new(rt.alloc(), &part)?;
+    for row in table.lines() {
+        let (column, wanted) = halves(row)?;
+        look_at(rt, &shape, floor, column, wanted, row)?;
     }
-    Ok(Part::new(kept))
+    Ok(())
 }
 
-fn plate<R: Abort + AllocGlobal>(rt: &R) -> Result<Part, Fail> {
-    let plate = [
-        tri((0, 0, 200), (200, 0, 200), (200, 200, 200)),
-        tri((0, 0, 200), (200, 200, 200), (0, 200, 200)),
-    ];
-    part_of(rt, plate.as_slice())
+/// Looks at a column of many parts of one triangle, over a floor at -50: each row has the triangle, the
+/// column and the height.
+fn each_triangle<R: Abort + AllocGlobal>(rt: &R, table: &str) -> Result<(), Fail> {
+    for row in table.lines() {
+        let (text, wanted) = halves(row)?;
+        let (corners, column) = placed(text);
+        let part = part_of(rt.alloc(), corners)?;
+        let shape = SortedPart::new(rt.alloc(), &part)?;
+        look_at(rt, &shape, -50, column, wanted, row)?;
+    }
+    Ok(())
 }
+
+const PLATE: &str = "\
+0 0 200, 200 0 200, 200 200 200
+0 0 200, 200 200 200, 0 200 200";
+
+// Without a band, and within one.
+const PLATE_COLUMNS: &str = "\
+100 100 0 => 200
+0 0 0 => 200
+200 200 0 => 200
+50 150 0 => 200
+201 0 0 => 0
+-1 100 0 => 0
+100 100 10000 => 200
+250 100 0 => 0
+250 100 50 => 0
+250 100 51 => 200
+230 240 50 => 0
+230 240 51 => 200
+999 999 0 => 0";
 
 #[test]
 fn covers_columns(rt: HostRuntime) -> Result<(), Fail> {
-    let plate = plate(&rt)?;
-    let table = [
-        (0, 100, 100, 200),
-        (0, 0, 0, 200),
-        (0, 200, 200, 200),
-        (0, 50, 150, 200),
-        (0, 201, 0, 0),
-        (0, -1, 100, 0),
-        (300, 100, 100, 300),
-    ];
-    for (floor, x, y, want) in table {
-        assert!(rt; fits(floor));
-        assert!(rt; fits(x));
-        assert!(rt; fits(y));
-        assert_eq!(rt; plate.covered_height(floor, x, y, 0), want, "at {x}, {y}");
-    }
+    each_column(&rt, 0, PLATE, PLATE_COLUMNS)?;
+    each_column(&rt, 300, PLATE, "100 100 0 => 300")?;
     covered_below();
     Ok(())
 }
 
-fn is_band(band: i32) -> bool
-    ensures { IsTrue result → (pos 0 ≤ℤ band) × (band ≤ℤ MAX_RADIUS) }
-{
-    if band < 0 {
-        return false;
-    }
-    band <= MAX_RADIUS
-}
-
 #[test]
-fn covers_heights(rt: HostRuntime) -> Result<(), Fail> {
-    let plate = plate(&rt)?;
-    let sorted = SortedPart::new(rt.alloc(), &plate)?;
-    let table = [
-        (100, 100, 200, 0, true),
-        (100, 100, 201, 0, false),
-        (100, 100, 201, 10_000, false),
-        (250, 100, 200, 0, false),
-        (250, 100, 200, 50, false),
-        (250, 100, 200, 51, true),
-        (250, 100, 1, 50, false),
-        (250, 100, 0, 50, true),
-        (230, 240, 200, 50, false),
-        (230, 240, 200, 51, true),
-        (999, 999, 0, 0, true),
-        (999, 999, 1, 0, false),
-        (100, 100, i32::MIN, 10, true),
-        (100, 100, i32::MAX, 10, false),
-    ];
-    for (x, y, height, band, want) in table {
-        assert!(rt; fits(x));
-        assert!(rt; fits(y));
-        assert!(rt; is_band(band));
-        let part = sorted.part();
-        let got = part.covered(0, x, y, height, band);
-        assert_eq!(rt; got, want, "{x}, {y}, {height}, {band}");
-        let near = part.covered_near(sorted.cells(), 0, x, y, height, band);
-        assert_eq!(rt; near, want, "{x}, {y}, {height}, {band}");
-    }
+fn covers_up_to_any_height(rt: HostRuntime) -> Result<(), Fail> {
+    let part = part_of(rt.alloc(), PLATE)?;
+    let shape = SortedPart::new(rt.alloc(), &part)?;
+    assert!(rt; part.covered(0, 100, 100, i32::MIN, 10));
+    assert!(rt; !part.covered(0, 100, 100, i32::MAX, 10));
+    assert!(rt; part.covered_near(shape.cells(), 0, 100, 100, i32::MIN, 10));
+    assert!(rt; !part.covered_near(shape.cells(), 0, 100, 100, i32::MAX, 10));
     Ok(())
 }
 
-#[test]
-fn covers_within_a_band(rt: HostRuntime) -> Result<(), Fail> {
-    // It rises by 1 over 2: the greatest height nearer than 100 lies between its corners.
-    let slope = tri((0, -1000, 0), (0, 1000, 0), (1000, 0, 500));
-    let corner = tri((0, 0, -7), (0, 0, -7), (0, 0, -7));
-    let table = [
-        (slope, 300, 0, 0, 150),
-        (slope, 300, 0, 1, 150),
-        (slope, 300, 0, 2, 150),
-        (slope, 300, 0, 3, 151),
-        (slope, 300, 0, 100, 199),
-        (slope, 300, 0, 101, 200),
-        (slope, 950, 0, 51, 500),
-        (slope, 1050, 0, 50, -50),
-        (slope, 1050, 0, 51, 500),
-        (corner, 3, 4, 5, -50),
-        (corner, 3, 4, 6, -7),
-        (corner, 0, 0, 0, -7),
-    ];
-    for (tri, x, y, band, want) in table {
-        assert!(rt; fits(x));
-        assert!(rt; fits(y));
-        assert!(rt; is_band(band));
-        let part = part_of(&rt, [tri].as_slice())?;
-        let got = part.covered_height(-50, x, y, band);
-        assert_eq!(rt; got, want, "{x}, {y}, {band}");
-    }
-    Ok(())
-}
+// A slope rises by 1 over 2: the greatest height nearer than 100 lies between its corners. Then a point,
+// and triangles that slope, that stand, and whose corners lie on one line, of which some lie in it.
+const TRIANGLES: &str = "\
+0 -1000 0, 0 1000 0, 1000 0 500 at 300 0 0 => 150
+0 -1000 0, 0 1000 0, 1000 0 500 at 300 0 1 => 150
+0 -1000 0, 0 1000 0, 1000 0 500 at 300 0 2 => 150
+0 -1000 0, 0 1000 0, 1000 0 500 at 300 0 3 => 151
+0 -1000 0, 0 1000 0, 1000 0 500 at 300 0 100 => 199
+0 -1000 0, 0 1000 0, 1000 0 500 at 300 0 101 => 200
+0 -1000 0, 0 1000 0, 1000 0 500 at 950 0 51 => 500
+0 -1000 0, 0 1000 0, 1000 0 500 at 1050 0 50 => -50
+0 -1000 0, 0 1000 0, 1000 0 500 at 1050 0 51 => 500
+0 0 -7 at 3 4 5 => -50
+0 0 -7 at 3 4 6 => -7
+0 0 -7 at 0 0 0 => -7
+0 0 0, 3 0 10, 0 3 0 at 1 1 0 => 3
+0 0 0, 3 0 10, 0 3 0 at 2 0 0 => 6
+0 0 0, 3 0 10, 0 3 0 at 3 1 0 => -50
+0 0 0, 0 3 0, 3 0 -10 at 1 1 0 => -4
+5 5 7 at 5 5 0 => 7
+5 5 7 at 5 6 0 => -50
+0 0 0, 10 0 0, 5 0 20 at 5 0 0 => 20
+0 0 0, 10 0 0, 5 0 20 at 2 0 0 => 8
+0 0 0, 10 0 0, 5 0 20 at 5 1 0 => -50
+0 0 0, 0 10 10, 0 4 9 at 0 2 0 => 4
+0 0 0, 0 10 10, 0 4 9 at 0 7 0 => 9
+0 0 5, 10 10 5, 4 4 9 at 5 5 0 => 8
+0 0 5, 10 10 5, 4 4 9 at 5 6 0 => -50";
 
 #[test]
-fn stands_over_columns(rt: HostRuntime) -> Result<(), Fail> {
-    let slanted = tri((0, 0, 0), (3, 0, 10), (0, 3, 0));
-    let sunken = tri((0, 0, 0), (0, 3, 0), (3, 0, -10));
-    let point = tri((5, 5, 7), (5, 5, 7), (5, 5, 7));
-    let upright = tri((0, 0, 0), (10, 0, 0), (5, 0, 20));
-    let along = tri((0, 0, 0), (0, 10, 10), (0, 4, 9));
-    let diagonal = tri((0, 0, 5), (10, 10, 5), (4, 4, 9));
-    let table = [
-        (slanted, 1, 1, 3),
-        (slanted, 2, 0, 6),
-        (slanted, 3, 1, -50),
-        (sunken, 1, 1, -4),
-        (point, 5, 5, 7),
-        (point, 5, 6, -50),
-        (upright, 5, 0, 20),
-        (upright, 2, 0, 8),
-        (upright, 5, 1, -50),
-        (along, 0, 2, 4),
-        (along, 0, 7, 9),
-        (diagonal, 5, 5, 8),
-        (diagonal, 5, 6, -50),
-    ];
-    for (tri, x, y, want) in table {
-        assert!(rt; fits(x));
-        assert!(rt; fits(y));
-        let part = part_of(&rt, [tri].as_slice())?;
-        assert_eq!(rt; part.covered_height(-50, x, y, 0), want, "at {x}, {y}");
-    }
-    Ok(())
+fn covers_by_one_triangle(rt: HostRuntime) -> Result<(), Fail> {
+    each_triangle(&rt, TRIANGLES)
 }
 
-// Two plates over squares of 256, and a post at (512, 1000) between them. The cells are of 256 too, so
-// that the post and the plates' edges lie on their borders.
+// Two plates over squares of 256, and a post at (512, 1000) between them. The cells are of 512, so that
+// the post and a plate's edge lie on their borders.
+const PLATES: &str = "\
+0 0 200, 256 0 200, 256 256 200
+0 0 200, 256 256 200, 0 256 200
+768 0 300, 1024 0 300, 1024 256 300
+768 0 300, 1024 256 300, 768 256 300
+512 1000 500, 512 1000 -40, 512 1000 90";
+
+const PLATES_COLUMNS: &str = "\
+100 100 0 => 200
+256 100 0 => 200
+257 100 0 => 0
+256 256 0 => 200
+768 256 0 => 300
+512 100 256 => 0
+512 100 257 => 300
+512 1000 0 => 500
+513 1000 1 => 0
+513 1000 2 => 500
+513 1000 800 => 500
+-600 -800 1000 => 0
+-600 -800 1001 => 200
+100000 5 10000 => 0
+-524287 524287 10000 => 0";
+
 #[test]
 fn covers_by_near_triangles(rt: HostRuntime) -> Result<(), Fail> {
-    let plates = [
-        tri((0, 0, 200), (256, 0, 200), (256, 256, 200)),
-        tri((0, 0, 200), (256, 256, 200), (0, 256, 200)),
-        tri((768, 0, 300), (1024, 0, 300), (1024, 256, 300)),
-        tri((768, 0, 300), (1024, 256, 300), (768, 256, 300)),
-        tri((512, 1000, 500), (512, 1000, -40), (512, 1000, 90)),
-    ];
-    let part = part_of(&rt, plates.as_slice())?;
-    let size = Cells::size_for(part.tris());
-    assert_eq!(rt; size, 512);
-    let cells = Cells::new(rt.alloc(), part.tris(), size)?;
-    let table = [
-        (100, 100, 0, 200),
-        (256, 100, 0, 200),
-        (257, 100, 0, 0),
-        (256, 256, 0, 200),
-        (768, 256, 0, 300),
-        (512, 100, 256, 0),
-        (512, 100, 257, 300),
-        (512, 1000, 0, 500),
-        (513, 1000, 1, 0),
-        (513, 1000, 2, 500),
-        (513, 1000, 800, 500),
-        (-600, -800, 1000, 0),
-        (-600, -800, 1001, 200),
-        (100_000, 5, 10_000, 0),
-        (-524_287, 524_287, 10_000, 0),
-    ];
-    for (x, y, band, want) in table {
-        assert!(rt; fits(x));
-        assert!(rt; fits(y));
-        assert!(rt; is_band(band));
-        let near = part.covered_height_near(&cells, 0, x, y, band);
-        assert_eq!(rt; near, want, "{x}, {y}, {band}");
-        assert_eq!(rt;
-            part.covered_height(0, x, y, band),
-            want,
-            "{x}, {y}, {band}"
-        );
-        assert!(rt; part.covered_near(&cells, 0, x, y, want, band));
-        assert!(rt; !part.covered_near(&cells, 0, x, y, want.wrapping_add(1), band));
-    }
-    Ok(())
+    let plates = part_of(rt.alloc(), PLATES)?;
+    assert_eq!(rt; Cells::size_for(plates.tris()), 512);
+    each_column(&rt, 0, PLATES, PLATES_COLUMNS)
 }
 
 #[test]
 fn has_a_top(rt: HostRuntime) -> Result<(), Fail> {
-    let none: [Tri; 0] = [];
-    assert_eq!(rt; part_of(&rt, none.as_slice())?.top(), None);
-    let roof = part_of(&rt, [tri((0, 0, 3), (4, 0, 9), (0, 4, -5))].as_slice())?;
+    assert_eq!(rt; part_of(rt.alloc(), "")?.top(), None);
+    let roof = part_of(rt.alloc(), "0 0 3, 4 0 9, 0 4 -5")?;
     assert_eq!(rt; roof.top(), Some(9));
     assert_eq!(rt; roof.tris().len(), 1);
     Ok(())

@@ -1,114 +1,73 @@
-ghost use Rattle.mill_base.specs.Ranges.{IsInRange, MoveInRange};
+ghost use Rattle.mill_base.specs.Ranges.{IsInRange, MoveInRange, TriInRange};
 ghost use Rattle.mill_base.specs.Tools.{IsHolder};
 
-use mill_base::{Holder, Kind, Move, Pt3, Tri};
+use crate::tables::{feed, halves, holder, leaf, point, triangle};
+use mill_base::{Holder, Move, Tri};
 use mill_sweep::{Leaf, Sweep, holder_block, holder_passes_point, holder_passes_tri};
+use std::process::Abort;
+use std::test::Fail;
 
-/// A holder of radius 200 whose lower face is 50 over the tip.
-fn holder() -> Holder
-    ensures { IsHolder result }
-{
-    Holder {
-        radius: 200,
-        stickout: 50,
-    }
-}
+// A plunge at the origin, with a holder of radius 200 whose lower face is 50 over the tip. It passes a
+// point at its radius and stops at one a unit nearer; it passes a point on its lower face at the end of
+// the plunge, at the stickout over the tip, and stops at one a unit higher. A holder's tip that leaves
+// the range upward is over everything.
+const POINTS: &str = "\
+200 50 from 0 0 1000 to 0 0 0: 200 0 500 => true
+200 50 from 0 0 1000 to 0 0 0: 199 0 500 => false
+200 50 from 0 0 1000 to 0 0 0: -200 0 500 => true
+200 50 from 0 0 1000 to 0 0 0: -199 0 500 => false
+200 50 from 0 0 1000 to 0 0 0: 0 0 49 => true
+200 50 from 0 0 1000 to 0 0 0: 0 0 50 => true
+200 50 from 0 0 1000 to 0 0 0: 0 0 51 => false
+10000 524287 from 0 0 524287 to 524287 0 524287: 0 0 524287 => true";
 
-fn at(x: i16, z: i16) -> Pt3
-    ensures { IsInRange result }
-{
-    Pt3 {
-        x: i32::from(x),
-        y: 0,
-        z: i32::from(z),
-    }
-}
-
-/// A plunge at the origin, from z 1,000 to z 0.
-fn plunge() -> Move
-    ensures { MoveInRange result }
-{
-    Move {
-        kind: Kind::Feed,
-        from: at(0, 1_000),
-        to: at(0, 0),
-    }
-}
-
-// It passes a point at its radius and stops at one a unit nearer; it passes a point on its lower face
-// at the end of the plunge, at the stickout over the tip, and stops at one a unit higher.
 #[test]
-fn holder_stops_beside_and_under(rt: HostRuntime) {
-    for (x, z, want) in [
-        (200, 500, true),
-        (199, 500, false),
-        (-200, 500, true),
-        (-199, 500, false),
-        (0, 49, true),
-        (0, 50, true),
-        (0, 51, false),
-    ] {
-        assert_eq!(rt;
-            holder_passes_point(&holder(), &plunge(), at(x, z)),
-            want,
-            "at {x}, {z}"
-        );
+fn holder_stops_beside_and_under(rt: HostRuntime) -> Result<(), Fail> {
+    for row in POINTS.lines() {
+        let (text, wanted) = halves(row)?;
+        let (held, along, place) = parts(text)?;
+        let passes = holder_passes_point(&holder(held)?, &feed(along)?, point(place)?);
+        assert_eq!(rt; passes, wanted == "true", "{row}");
     }
+    Ok(())
 }
 
-// A sweep of the holder tells what the call does.
-#[test]
-fn holder_stops_at_a_triangle(rt: HostRuntime) {
-    let step = plunge();
-    let sweep = Sweep::of_holder(&holder(), &step);
-    for (x, z, want) in [
-        (200, 60, None),
-        (199, 60, Some(Leaf { d: 10, k: 1013 })),
-        (199, 50, None),
-    ] {
-        let tri = Tri {
-            a: at(x, z),
-            b: at(300, z),
-            c: at(400, 0),
-        };
-        assert_eq!(rt;
-            holder_passes_tri(&holder(), &step, &tri),
-            want.is_none(),
-            "at {x}, {z}"
-        );
-        assert_eq!(rt; holder_block(&holder(), &step, &tri), want, "at {x}, {z}");
-        assert_eq!(rt; sweep.first_block(&tri), want, "at {x}, {z}");
-    }
+/// The holder, the move and the corners of a row.
+fn parts(text: &str) -> Result<(&str, &str, &str), Fail> {
+    let (held, text) = text.split_once(" from ").ok_or("a row without a move")?;
+    let (along, corners) = text.split_once(": ").ok_or("a row without a corner")?;
+    Ok((held, along, corners))
 }
 
-// A holder's tip that leaves the range upward is over everything.
+const TRIANGLES: &str = "\
+200 50 from 0 0 1000 to 0 0 0: 200 0 60, 300 0 60, 400 0 0 => none
+200 50 from 0 0 1000 to 0 0 0: 199 0 60, 300 0 60, 400 0 0 => 10 1013
+200 50 from 0 0 1000 to 0 0 0: 199 0 50, 300 0 50, 400 0 0 => none
+10000 524287 from 0 0 524287 to 524287 0 524287: \
+    0 0 524287, 0 524287 524287, 524287 0 524287 => none";
+
+/// Looks where a triangle stops the holder. A sweep of the holder tells what the call does.
+fn look<R: Abort>(rt: &R, held: &Holder, step: &Move, tri: &Tri, stop: Option<Leaf>, row: &str)
+    requires holder_ok { IsHolder held.now }
+    requires move_ok { MoveInRange step.now }
+    requires tri_ok { TriInRange tri.now }
+{
+    assert_eq!(rt; holder_passes_tri(held, step, tri), stop.is_none(), "{row}");
+    assert_eq!(rt; holder_block(held, step, tri), stop, "{row}");
+    assert_eq!(rt;
+        Sweep::of_holder(held, step).first_block(tri),
+        stop,
+        "{row}"
+    );
+}
+
 #[test]
-fn holder_over_the_range_passes(rt: HostRuntime) {
-    let far = Holder {
-        radius: 10_000,
-        stickout: 524_287,
-    };
-    let place = Pt3 {
-        x: 0,
-        y: 0,
-        z: 524_287,
-    };
-    let step = Move {
-        kind: Kind::Rapid,
-        from: place,
-        to: Pt3 {
-            x: 524_287,
-            ..place
-        },
-    };
-    let tri = Tri {
-        a: place,
-        b: Pt3 {
-            y: 524_287,
-            ..place
-        },
-        c: step.to,
-    };
-    assert!(rt; holder_passes_point(&far, &step, place));
-    assert!(rt; holder_passes_tri(&far, &step, &tri));
+fn holder_stops_at_a_triangle(rt: HostRuntime) -> Result<(), Fail> {
+    for row in TRIANGLES.lines() {
+        let (text, wanted) = halves(row)?;
+        let (held, along, corners) = parts(text)?;
+        let (held, along, tri) = (holder(held)?, feed(along)?, triangle(corners)?);
+        look(&rt, &held, &along, &tri, leaf(wanted)?, row);
+    }
+    Ok(())
 }

@@ -1,249 +1,141 @@
-ghost use Rattle.std.specs.Prelude.{IsTrue};
-ghost use Rattle.mill_base.specs.Numbers.{Within};
-ghost use Rattle.mill_base.specs.declared.limits.TheConstants.{MAX_COORDINATE, MAX_RADIUS};
-ghost use Rattle.mill_base.specs.Ranges.{IsInRange, TriInRange};
-ghost use Rattle.mill_base.specs.Sizes.{HasRadius, IsCutter};
-ghost use Rattle.mill_base.specs.Lattices.{IsLattice};
-ghost use Rattle.mill_base.specs.Tools.{IsTool};
-
-use mill_base::{Box2, Cutter, Lattice, MAX_COORDINATE, Pt3, Tool, Tri};
-use mill_level::{LevelFault, joins_are_apart, one_waterline, waterline};
-use mill_part::{Part, SortedPart};
+use crate::tables::{coordinate, halves, lattice, part_of, tool};
+use mill_base::Pt3;
+use mill_level::{Chain, joins_are_apart, one_waterline, waterline};
+use mill_part::SortedPart;
+use std::alloc::Global;
 use std::process::Abort;
 use std::test::Fail;
 
 mod ends;
 mod shapes;
 
-/// A lattice whose first node is the origin, over so much in x and in y.
-fn lattice(x1: u16, y1: u16, step: u16) -> Lattice
-    ensures { IsLattice result }
-{
-    Lattice {
-        area: Box2 {
-            x0: 0,
-            y0: 0,
-            x1: i32::from(x1),
-            y1: i32::from(y1),
-        },
-        step: i32::from(step.max(1)),
-    }
-}
-
-fn at(x: i32, y: i32, z: i32) -> Pt3 {
-    Pt3 { x, y, z }
-}
-
-fn tri(a: Pt3, b: Pt3, c: Pt3) -> Tri {
-    Tri { a, b, c }
-}
-
-/// The triangle of one point, at the height 300.
-fn point(x: i32, y: i32) -> Tri {
-    let place = at(x, y, 300);
-    tri(place, place, place)
-}
-
-fn fits(point: Pt3) -> bool
-    ensures { IsTrue result → IsInRange point }
-{
-    let most = MAX_COORDINATE;
-    point.x.unsigned_abs() <= most
-        && point.y.unsigned_abs() <= most
-        && point.z.unsigned_abs() <= most
-}
-
-fn tri_fits(tri: &Tri) -> bool
-    ensures { IsTrue result → TriInRange tri.now }
-{
-    fits(tri.a) && fits(tri.b) && fits(tri.c)
-}
-
-/// The part of a few triangles, which have to be in range.
-fn part_of<R: Abort + AllocGlobal>(rt: &R, tris: &[Tri]) -> Result<Part, Fail> {
-    assert!(rt; tris.len() < 10);
-    assert!(rt; tris.iter().all(tri_fits));
-    Ok(Part::new(Vec::from_slice(rt.alloc(), tris)?))
-}
-
-/// The waterline as numbers: for each chain 1 if it is closed and 0 if it is open, how many points it
-/// has, and their coordinates in x and y. All have to be at the height z.
-fn numbers<R: Abort + AllocGlobal>(
-    rt: &R,
-    part: &Part,
-    tool: &Tool,
-    z: i32,
-    lattice: &Lattice,
-) -> Result<Vec<i32>, Fail>
-    requires tool_ok { IsTool tool.now }
-    requires z_ok { Within MAX_COORDINATE z }
-    requires lattice_ok { IsLattice lattice.now }
-{
-    let shape = SortedPart::new(rt.alloc(), part)?;
-    let chains = waterline(rt.alloc(), shape.part(), shape.cells(), tool, z, lattice)?;
-    let mut numbers = Vec::new(rt.alloc());
-    for chain in &chains {
-        numbers.push(i32::from(chain.closed))?;
-        numbers.push(i32::try_from(chain.points.len())?)?;
-        for point in &chain.points {
-            assert_eq!(rt; point.z, z);
-            numbers.push(point.x)?;
-            numbers.push(point.y)?;
+/// A chain by its points in x and y, which have to be at the height z.
+fn told_chain(alloc: Global, chain: &Chain, z: i32) -> Result<String, Fail> {
+    let mut told = String::new(alloc);
+    told.push_str(if chain.closed { "closed" } else { "open" })?;
+    for point in &chain.points {
+        let Pt3 { x, y, .. } = point;
+        if point.z != z {
+            return Err(Fail::from("a point at another height"));
         }
+        told.push_str(&format!(in alloc; " ({x} {y})")?)?;
     }
-    Ok(numbers)
+    Ok(told)
 }
 
-/// Whether the tool's waterline at height z round the triangles is these numbers.
-fn tool_has_waterline<R: Abort + AllocGlobal>(
-    rt: &R,
-    tris: &[Tri],
-    tool: &Tool,
-    z: i32,
-    lattice: Lattice,
-    wanted: &[i32],
-) -> Result<bool, Fail>
-    requires tool_ok { IsTool tool.now }
-    requires z_ok { Within MAX_COORDINATE z }
-    requires lattice_ok { IsLattice lattice }
-{
-    let part = part_of(rt, tris)?;
-    let found = numbers(rt, &part, tool, z, &lattice)?;
-    Ok(found.as_slice() == wanted)
+fn told(alloc: Global, chains: &[Chain], z: i32) -> Result<String, Fail> {
+    let mut told = String::new(alloc);
+    for chain in chains {
+        if !told.is_empty() {
+            told.push_str(", ")?;
+        }
+        told.push_str(&told_chain(alloc, chain, z)?)?;
+    }
+    if told.is_empty() {
+        told.push_str("none")?;
+    }
+    Ok(told)
 }
 
-/// The same of a cutter alone.
-fn has_waterline<R: Abort + AllocGlobal>(
-    rt: &R,
-    tris: &[Tri],
-    cutter: Cutter,
-    z: i32,
-    lattice: Lattice,
-    wanted: &[i32],
-) -> Result<bool, Fail>
-    requires cutter_ok { IsCutter cutter }
-    requires z_ok { Within MAX_COORDINATE z }
-    requires lattice_ok { IsLattice lattice }
-{
-    tool_has_waterline(rt, tris, &Tool::bare(cutter), z, lattice, wanted)
+/// What the waterline comes to that a row asks for: by which tool, at which height, over which lattice,
+/// and round which part.
+fn told_of(alloc: Global, text: &str) -> Result<String, Fail> {
+    let (held, others) = text.split_once(" at ").ok_or("a row without a height")?;
+    let (z, others) = others
+        .split_once(" over ")
+        .ok_or("a row without a lattice")?;
+    let (nodes, tris) = others.split_once(": ").ok_or("a row without a part")?;
+    let (held, z, nodes) = (tool(held)?, coordinate(z)?, lattice(nodes)?);
+    let part = part_of(alloc, tris)?;
+    let shape = SortedPart::new(alloc, &part)?;
+    match waterline(alloc, shape.part(), shape.cells(), &held, z, &nodes) {
+        Ok(chains) => told(alloc, &chains, z),
+        Err(fault) => Ok(format!(in alloc; "{fault:?}")?),
+    }
 }
 
-/// Whether a flat cutter's waterline at height 0 round the triangles is these numbers.
-fn goes_round<R: Abort + AllocGlobal>(
-    rt: &R,
-    tris: &[Tri],
-    radius: i32,
-    lattice: Lattice,
-    wanted: &[i32],
-) -> Result<bool, Fail>
-    requires radius_ok { HasRadius radius MAX_RADIUS }
-    requires lattice_ok { IsLattice lattice }
-{
-    has_waterline(rt, tris, Cutter::Flat { radius }, 0, lattice, wanted)
+/// Looks at many waterlines: each row has what it asks for, and what that comes to.
+fn each_waterline<R: Abort + AllocGlobal>(rt: &R, table: &str) -> Result<(), Fail> {
+    for row in table.lines() {
+        let (text, wanted) = halves(row)?;
+        assert_eq!(rt; told_of(rt.alloc(), text)?.as_str(), wanted, "{row}");
+    }
+    Ok(())
 }
 
 // One blocked node inside a lattice, at its corner, in its one row, in its one column, and as its one
 // node.
+const ONE_BLOCKED_NODE: &str = "\
+flat 100 at 0 over 0 0 to 1000 1000 by 100: 500 500 300 => closed (400 500) (500 400) (600 500) (500 600)
+flat 100 at 0 over 0 0 to 1000 1000 by 100: 0 0 300 => open (100 0) (0 100)
+flat 100 at 0 over 0 0 to 1000 1000 by 5000: 0 0 300 => open (100 0) (0 100)
+flat 100 at 0 over 0 0 to 1000 0 by 100: 500 0 300 => open (400 0), open (600 0)
+flat 100 at 0 over 0 0 to 0 1000 by 100: 0 500 300 => open (0 400), open (0 600)
+flat 100 at 0 over 0 0 to 0 0 by 100: 0 0 300 => none";
+
 #[test]
 fn one_blocked_node(rt: HostRuntime) -> Result<(), Fail> {
-    let ring = [1, 4, 400, 500, 500, 400, 600, 500, 500, 600];
-    assert!(rt;
-        goes_round(
-            &rt,
-            &[point(500, 500)],
-            100,
-            lattice(1000, 1000, 100),
-            &ring
-        )?
-    );
-    let corner = [0, 2, 100, 0, 0, 100];
-    assert!(rt; goes_round(&rt, &[point(0, 0)], 100, lattice(1000, 1000, 100), &corner)?);
-    assert!(rt; goes_round(&rt, &[point(0, 0)], 100, lattice(1000, 1000, 5000), &corner)?);
-    let row = [0, 1, 400, 0, 0, 1, 600, 0];
-    assert!(rt; goes_round(&rt, &[point(500, 0)], 100, lattice(1000, 0, 100), &row)?);
-    let column = [0, 1, 0, 400, 0, 1, 0, 600];
-    assert!(rt; goes_round(&rt, &[point(0, 500)], 100, lattice(0, 1000, 100), &column)?);
-    assert!(rt; goes_round(&rt, &[point(0, 0)], 100, lattice(0, 0, 100), &[])?);
-    Ok(())
+    each_waterline(&rt, ONE_BLOCKED_NODE)
 }
 
 // All nodes free, all blocked, and no triangle.
+const NO_CROSSING: &str = "\
+flat 100 at 0 over 0 0 to 1000 1000 by 100: -200 0 300 => none
+flat 800 at 0 over 0 0 to 1000 1000 by 100: 500 500 300 => none
+flat 100 at 0 over 0 0 to 1000 1000 by 100: nothing => none";
+
 #[test]
 fn no_crossing(rt: HostRuntime) -> Result<(), Fail> {
-    assert!(rt; goes_round(&rt, &[point(-200, 0)], 100, lattice(1000, 1000, 100), &[])?);
-    assert!(rt; goes_round(&rt, &[point(500, 500)], 800, lattice(1000, 1000, 100), &[])?);
-    assert!(rt; goes_round(&rt, &[], 100, lattice(1000, 1000, 100), &[])?);
-    Ok(())
+    each_waterline(&rt, NO_CROSSING)
 }
 
 // More than one blocked stretch between two nodes: the crossing is the last free place on the way from
 // the free node. Two free nodes have none, nor have two blocked ones. Then a shorter last step.
+const BETWEEN_NODES: &str = "\
+flat 100 at 0 over 0 0 to 1000 0 by 1000: 0 0 300; 500 0 300 => open (600 0)
+flat 100 at 0 over 0 0 to 1000 0 by 1000: 500 0 300; 1000 0 300 => open (400 0)
+flat 100 at 0 over 0 0 to 1000 0 by 1000: 500 0 300 => none
+flat 100 at 0 over 0 0 to 1000 0 by 1000: 0 0 300; 1000 0 300 => none
+flat 50 at 0 over 0 0 to 1000 0 by 300: 1000 0 300 => open (950 0)";
+
 #[test]
 fn between_nodes(rt: HostRuntime) -> Result<(), Fail> {
-    let row = lattice(1000, 0, 1000);
-    let low = [point(0, 0), point(500, 0)];
-    assert!(rt; goes_round(&rt, &low, 100, row, &[0, 1, 600, 0])?);
-    let high = [point(500, 0), point(1000, 0)];
-    assert!(rt; goes_round(&rt, &high, 100, row, &[0, 1, 400, 0])?);
-    assert!(rt; goes_round(&rt, &[point(500, 0)], 100, row, &[])?);
-    assert!(rt; goes_round(&rt, &[point(0, 0), point(1000, 0)], 100, row, &[])?);
-    let uneven = lattice(1000, 0, 300);
-    assert!(rt; goes_round(&rt, &[point(1000, 0)], 50, uneven, &[0, 1, 950, 0])?);
-    Ok(())
+    each_waterline(&rt, BETWEEN_NODES)
 }
 
 // Squares with four crossings: the blocked corners stay apart, also where crossings have equal points.
+const FOUR_CROSSINGS: &str = "\
+flat 100 at 0 over 0 0 to 1000 1000 by 1000: 0 0 300; 1000 1000 300 => \
+    open (100 0) (0 100), open (900 1000) (1000 900)
+flat 100 at 0 over 0 0 to 1000 1000 by 1000: 1000 0 300; 0 1000 300 => \
+    open (0 900) (100 1000), open (1000 100) (900 0)
+flat 1 at 0 over 0 0 to 3 3 by 1: 1 1 300; 2 2 300 => \
+    closed (0 1) (1 0) (2 1) (1 2), closed (1 2) (2 1) (3 2) (2 3)";
+
 #[test]
 fn four_crossings(rt: HostRuntime) -> Result<(), Fail> {
-    let square = lattice(1000, 1000, 1000);
-    let rising = [0, 2, 100, 0, 0, 100, 0, 2, 900, 1000, 1000, 900];
-    assert!(rt; goes_round(&rt, &[point(0, 0), point(1000, 1000)], 100, square, &rising)?);
-    let falling = [0, 2, 0, 900, 100, 1000, 0, 2, 1000, 100, 900, 0];
-    assert!(rt;
-        goes_round(
-            &rt,
-            &[point(1000, 0), point(0, 1000)],
-            100,
-            square,
-            &falling
-        )?
-    );
-    let star = [1, 4, 0, 1, 1, 0, 2, 1, 1, 2, 1, 4, 1, 2, 2, 1, 3, 2, 2, 3];
-    assert!(rt; goes_round(&rt, &[point(1, 1), point(2, 2)], 1, lattice(3, 3, 1), &star)?);
-    Ok(())
+    each_waterline(&rt, FOUR_CROSSINGS)
 }
 
 // A ring of blocked nodes: the line round it, and the line round the free node inside, whose four
 // crossings are all at that node.
+const RING: &str = "\
+flat 1 at 0 over 0 0 to 4 4 by 1: \
+    1 1 300; 2 1 300; 3 1 300; 1 2 300; 3 2 300; 1 3 300; 2 3 300; 3 3 300 => \
+    closed (0 1) (1 0) (2 0) (3 0) (4 1) (4 2) (4 3) (3 4) (2 4) (1 4) (0 3) (0 2), \
+    closed (2 2) (2 2) (2 2) (2 2)";
+
 #[test]
 fn ring(rt: HostRuntime) -> Result<(), Fail> {
-    let places = [
-        point(1, 1),
-        point(2, 1),
-        point(3, 1),
-        point(1, 2),
-        point(3, 2),
-        point(1, 3),
-        point(2, 3),
-        point(3, 3),
-    ];
-    let wanted = [
-        1, 12, 0, 1, 1, 0, 2, 0, 3, 0, 4, 1, 4, 2, 4, 3, 3, 4, 2, 4, 1, 4, 0, 3, 0, 2, 1, 4, 2, 2,
-        2, 2, 2, 2, 2, 2,
-    ];
-    assert!(rt; goes_round(&rt, &places, 1, lattice(4, 4, 1), &wanted)?);
-    Ok(())
+    each_waterline(&rt, RING)
 }
+
+const TOO_MANY_NODES: &str = "\
+flat 100 at 0 over 0 0 to 20010 20010 by 10: 0 0 300 => TooManyNodes { nodes: 4008004 }";
 
 #[test]
 fn too_many_nodes(rt: HostRuntime) -> Result<(), Fail> {
-    let part = part_of(&rt, &[point(0, 0)])?;
-    let shape = SortedPart::new(rt.alloc(), &part)?;
-    let tool = Tool::bare(Cutter::Flat { radius: 100 });
-    let lattice = lattice(20_010, 20_010, 10);
-    let answer = waterline(rt.alloc(), shape.part(), shape.cells(), &tool, 0, &lattice);
-    let over = LevelFault::TooManyNodes { nodes: 4_008_004 };
-    assert_eq!(rt; answer.err(), Some(over));
+    each_waterline(&rt, TOO_MANY_NODES)?;
     joins_are_apart();
     one_waterline();
     Ok(())

@@ -15,3 +15,5 @@ mod level;
 mod push;
 #[cfg(test)]
 mod sweep;
+#[cfg(test)]
+mod tables;

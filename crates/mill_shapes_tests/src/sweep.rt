@@ -1,144 +1,115 @@
 ghost use Rattle.mill_base.specs.Ranges.{IsInRange, MoveInRange, TriInRange};
+ghost use Rattle.mill_base.specs.Sizes.{IsCutter};
 
-use mill_base::{Cutter, Kind, Move, Pt3, Tri};
+use crate::tables::{cutter, feed, halves, leaf, point, triangle};
+use mill_base::{Box2, Cutter, Move, Pt3, Tri};
 use mill_sweep::{Leaf, first_block, first_block_point, passes_point, passes_tri, reach_box};
+use std::process::Abort;
+use std::test::Fail;
 
 mod leaves;
 
-fn at(x: i16, y: i16, z: i16) -> Pt3
-    ensures { IsInRange result }
+/// Looks where a triangle stops the cutter.
+fn look<R: Abort>(rt: &R, cutter: Cutter, step: &Move, tri: &Tri, stop: Option<Leaf>, row: &str)
+    requires cutter_ok { IsCutter cutter }
+    requires move_ok { MoveInRange step.now }
+    requires tri_ok { TriInRange tri.now }
 {
-    Pt3 {
-        x: i32::from(x),
-        y: i32::from(y),
-        z: i32::from(z),
-    }
+    assert_eq!(rt; first_block(cutter, step, tri), stop, "{row}");
+    assert_eq!(rt; passes_tri(cutter, step, tri), stop.is_none(), "{row}");
 }
 
-/// A feed along the straight line between two points.
-fn feed(from: (i16, i16, i16), to: (i16, i16, i16)) -> Move
-    ensures { MoveInRange result }
+/// Looks where a point stops the cutter, also as a triangle of three equal corners.
+fn look_at_point<R: Abort>(
+    rt: &R,
+    cutter: Cutter,
+    step: &Move,
+    point: Pt3,
+    stop: Option<Leaf>,
+    row: &str,
+)
+    requires cutter_ok { IsCutter cutter }
+    requires move_ok { MoveInRange step.now }
+    requires point_ok { IsInRange point }
 {
-    Move {
-        kind: Kind::Feed,
-        from: at(from.0, from.1, from.2),
-        to: at(to.0, to.1, to.2),
-    }
-}
-
-/// A level triangle at height 200 whose nearest corner to the left is (x, 100).
-fn plate_at(x: i16) -> Tri
-    ensures { TriInRange result }
-{
-    Tri {
-        a: at(x, 100, 200),
-        b: at(500, 0, 200),
-        c: at(500, 300, 200),
-    }
-}
-
-// A flat that plunges onto a plate, or as near beside it as its radius lets it.
-#[test]
-fn flat_stops_at_a_plate(rt: HostRuntime) {
-    let flat = Cutter::Flat { radius: 150 };
-    let last = Some(Leaf { d: 8, k: 254 });
-    for (z, x, want) in [
-        (199, 200, last),
-        (200, 200, None),
-        (199, 249, last),
-        (199, 250, None),
-    ] {
-        let step = feed((100, 100, 400), (100, 100, z));
-        assert_eq!(rt;
-            first_block(flat, &step, &plate_at(x)),
-            want,
-            "to {z} at {x}"
-        );
-        assert_eq!(rt;
-            passes_tri(flat, &step, &plate_at(x)),
-            want.is_none(),
-            "to {z} at {x}"
-        );
-    }
-}
-
-/// The triangle of three equal points.
-fn triangle_at(point: Pt3) -> Tri
-    requires { IsInRange point }
-    ensures { TriInRange result }
-{
-    Tri {
+    assert_eq!(rt; first_block_point(cutter, step, point), stop, "{row}");
+    assert_eq!(rt; passes_point(cutter, step, point), stop.is_none(), "{row}");
+    let tri = Tri {
         a: point,
         b: point,
         c: point,
-    }
+    };
+    look(rt, cutter, step, &tri, stop, row);
 }
 
-// A plunge 60 beside the point is stopped where the ball, 20 over its tip there, comes to it.
-#[test]
-fn ball_comes_down_on_a_point(rt: HostRuntime) {
-    let ball = Cutter::Ball { radius: 100 };
-    let point = at(0, 0, 300);
-    for (high, low, want) in [
-        (500, 280, None),
-        (280, 279, Some(Leaf { d: 0, k: 0 })),
-        (500, 279, Some(Leaf { d: 8, k: 254 })),
-    ] {
-        let step = feed((60, 0, high), (60, 0, low));
-        assert_eq!(rt; first_block(ball, &step, &triangle_at(point)), want);
-        assert_eq!(rt; first_block_point(ball, &step, point), want);
-        assert_eq!(rt;
-            passes_tri(ball, &step, &triangle_at(point)),
-            want.is_none()
-        );
-        assert_eq!(rt; passes_point(ball, &step, point), want.is_none());
+/// Looks at many moves: each row has the cutter, the move, a triangle or a point, and where that stops it.
+fn each_move<R: Abort>(rt: &R, table: &str) -> Result<(), Fail> {
+    for row in table.lines() {
+        let (text, wanted) = halves(row)?;
+        let (held, text) = text.split_once(" from ").ok_or("a row without a move")?;
+        let (along, corners) = text.split_once(": ").ok_or("a row without a triangle")?;
+        let (held, along, stop) = (cutter(held)?, feed(along)?, leaf(wanted)?);
+        if corners.contains(',') {
+            look(rt, held, &along, &triangle(corners)?, stop, row);
+        } else {
+            look_at_point(rt, held, &along, point(corners)?, stop, row);
+        }
     }
+    Ok(())
 }
 
-// A flat that goes past a point at its radius and a little nearer.
+// A flat that plunges onto a plate, or as near beside it as its radius lets it.
+const PLATES: &str = "\
+flat 150 from 100 100 400 to 100 100 199: 200 100 200, 500 0 200, 500 300 200 => 8 254
+flat 150 from 100 100 400 to 100 100 200: 200 100 200, 500 0 200, 500 300 200 => none
+flat 150 from 100 100 400 to 100 100 199: 249 100 200, 500 0 200, 500 300 200 => 8 254
+flat 150 from 100 100 400 to 100 100 199: 250 100 200, 500 0 200, 500 300 200 => none";
+
 #[test]
-fn flat_goes_past_a_point(rt: HostRuntime) {
-    let flat = Cutter::Flat { radius: 100 };
-    let point = at(500, 0, 300);
-    for (y, want) in [(100, Some(Leaf { d: 10, k: 497 })), (101, None)] {
-        let step = feed((0, y, 0), (1000, y, 0));
-        assert_eq!(rt; first_block_point(flat, &step, point), want, "at {y}");
-        assert_eq!(rt; passes_point(flat, &step, point), want.is_none(), "at {y}");
-    }
+fn flat_stops_at_a_plate(rt: HostRuntime) -> Result<(), Fail> {
+    each_move(&rt, PLATES)
 }
 
-// A ball that runs into a point as high as its middle, and one that slides under it.
+// A plunge 60 beside the point is stopped where the ball, 20 over its tip there, comes to it. A ball runs
+// into a point as high as its middle, and another one slides under it. A flat goes past a point at its
+// radius, and a little nearer.
+const POINTS: &str = "\
+ball 100 from 60 0 500 to 60 0 280: 0 0 300 => none
+ball 100 from 60 0 280 to 60 0 279: 0 0 300 => 0 0
+ball 100 from 60 0 500 to 60 0 279: 0 0 300 => 8 254
+ball 100 from 0 0 200 to 1000 0 200: 500 0 300 => 10 409
+ball 100 from 0 0 300 to 1000 0 300: 500 0 300 => none
+flat 100 from 0 100 0 to 1000 100 0: 500 0 300 => 10 497
+flat 100 from 0 101 0 to 1000 101 0: 500 0 300 => none";
+
 #[test]
-fn ball_runs_into_a_point(rt: HostRuntime) {
-    let ball = Cutter::Ball { radius: 100 };
-    let point = at(500, 0, 300);
-    for (z, want) in [(200, Some(Leaf { d: 10, k: 409 })), (300, None)] {
-        let step = feed((0, 0, z), (1000, 0, z));
-        assert_eq!(rt; first_block_point(ball, &step, point), want, "at {z}");
-        assert_eq!(rt; passes_point(ball, &step, point), want.is_none(), "at {z}");
-    }
+fn cutters_stop_at_a_point(rt: HostRuntime) -> Result<(), Fail> {
+    each_move(&rt, POINTS)
 }
 
 // The ends' box, wider by the radius and 2, and the lower end; no further out than 524,287.
 #[test]
-fn reach_is_the_box_of_the_ends(rt: HostRuntime) {
+fn reach_is_the_box_of_the_ends(rt: HostRuntime) -> Result<(), Fail> {
     let flat = Cutter::Flat { radius: 150 };
-    let (area, low) = reach_box(flat, &feed((100, -200, 400), (300, 50, 20)));
-    assert_eq!(rt; (area.x0, area.y0, area.x1, area.y1), (-52, -352, 452, 202));
-    assert_eq!(rt; low, 20);
-    let corner = Move {
-        kind: Kind::Feed,
-        from: Pt3 {
-            x: -524_287,
-            y: 524_287,
-            z: 0,
-        },
-        to: at(0, 0, 5),
+    let wide = Box2 {
+        x0: -52,
+        y0: -352,
+        x1: 452,
+        y1: 202,
     };
-    let (area, low) = reach_box(flat, &corner);
     assert_eq!(rt;
-        (area.x0, area.y0, area.x1, area.y1),
-        (-524_287, -152, 152, 524_287)
+        reach_box(flat, &feed("100 -200 400 to 300 50 20")?),
+        (wide, 20)
     );
-    assert_eq!(rt; low, 0);
+    let cut_off = Box2 {
+        x0: -524_287,
+        y0: -152,
+        x1: 152,
+        y1: 524_287,
+    };
+    assert_eq!(rt;
+        reach_box(flat, &feed("-524287 524287 0 to 0 0 5")?),
+        (cut_off, 0)
+    );
+    Ok(())
 }

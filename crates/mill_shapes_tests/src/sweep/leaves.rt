@@ -1,99 +1,84 @@
 //! How often moves are halved, and where their leaves lie.
-ghost use Rattle.std.specs.Prelude.{◌≡◌};
+ghost use Rattle.std.specs.Prelude.{◌≤◌, ◌<◌, ◌^◌};
 
-use mill_base::{Kind, Move, Pt3};
-use mill_sweep::{Leaf, Span, depth, span};
+use crate::tables::{feed, first_word, halves, leaf};
+use mill_base::{Kind, Move, Pt3, power_of_two};
+use mill_sweep::{Span, depth, span};
+use std::test::Fail;
 
-fn at(x: i32, y: i32, z: i32) -> Pt3
-    ensures { result ≡ record { x = x; y = y; z = z } }
-{
-    Pt3 { x, y, z }
+/// A span by its middle in x and in y, its reach and its lower end.
+fn span_of(text: &str) -> Result<Span, Fail> {
+    let (x, others) = first_word(text)?;
+    let (y, others) = first_word(others)?;
+    let (reach, zlow) = first_word(others)?;
+    Ok(Span {
+        x: x.parse()?,
+        y: y.parse()?,
+        reach: reach.parse()?,
+        zlow: zlow.parse()?,
+    })
 }
 
-fn feed(from: Pt3, to: Pt3) -> Move
-    ensures from { result.from ≡ from }
-    ensures to { result.to ≡ to }
-{
-    Move {
-        kind: Kind::Feed,
-        from,
-        to,
+// From 500 down to 279: the last leaf but one is at rest in x and y. Of a whole move the middle of -3 and
+// 0 is -1, the half rounded up, and the lower end is at -1. Then the leaves at which a flat and a ball
+// are stopped by a point at (500, 0).
+const SPANS: &str = "\
+60 0 500 to 60 0 279 at 8 254 => 60 0 0 279
+-3 0 0 to 0 0 -1 at 0 0 => -1 0 2 -1
+0 100 200 to 1000 100 200 at 10 497 => 486 100 1 200
+0 100 200 to 1000 100 200 at 10 409 => 400 100 1 200";
+
+#[test]
+fn spans_of_leaves(rt: HostRuntime) -> Result<(), Fail> {
+    for row in SPANS.lines() {
+        let (text, wanted) = halves(row)?;
+        let (along, part) = text.split_once(" at ").ok_or("a row without a leaf")?;
+        let (along, part) = (feed(along)?, leaf(part)?.ok_or("a row without a leaf")?);
+        if part.d > depth(&along) || part.k >= power_of_two(part.d) {
+            return Err(Fail::from("no leaf of the move"));
+        }
+        assert_eq!(rt; span(&along, part), span_of(wanted)?, "{row}");
     }
+    Ok(())
 }
 
-// From 500 down to 279: the last leaf but one is at rest in x and y.
-#[test]
-fn span_of_a_leaf(rt: HostRuntime) {
-    let down = feed(at(60, 0, 500), at(60, 0, 279));
-    let want = Span {
-        x: 60,
-        y: 0,
-        reach: 0,
-        zlow: 279,
-    };
-    assert_eq!(rt; span(&down, Leaf { d: 8, k: 254 }), want);
+/// A point of any coordinates.
+fn place(text: &str) -> Result<Pt3, Fail> {
+    let (x, others) = first_word(text)?;
+    let (y, z) = first_word(others)?;
+    Ok(Pt3 {
+        x: x.parse()?,
+        y: y.parse()?,
+        z: z.parse()?,
+    })
 }
 
-// The middle of -3 and 0 is -1, the half rounded up, and the lower end is at -1.
-#[test]
-fn span_of_a_whole_move(rt: HostRuntime) {
-    let below = feed(at(-3, 0, 0), at(0, 0, -1));
-    let want = Span {
-        x: -1,
-        y: 0,
-        reach: 2,
-        zlow: -1,
-    };
-    assert_eq!(rt; span(&below, Leaf { d: 0, k: 0 }), want);
-}
+// A length of a power of two, and one less and one more; and the longest that there is. By the longest
+// axis; and of the longest moves that a text gives and that calls take.
+const DEPTHS: &str = "\
+0 7 7 to 0 7 7 => 0
+0 7 7 to 1 7 7 => 0
+0 7 7 to 2 7 7 => 1
+3 7 7 to 0 7 7 => 2
+0 7 7 to 4 7 7 => 2
+5 7 7 to 0 7 7 => 3
+-1000 7 7 to 0 7 7 => 10
+-2147483648 7 7 to 2147483647 7 7 => 32
+60 0 500 to 60 3 279 => 8
+-131071 -131071 0 to 131071 131071 0 => 18
+-524287 -524287 0 to 524287 524287 0 => 20";
 
-// The leaves at which a flat and a ball are stopped by a point at (500, 0).
 #[test]
-fn spans_at_the_depth(rt: HostRuntime) {
-    let along = feed(at(0, 100, 200), at(1000, 100, 200));
-    let past = Span {
-        x: 486,
-        y: 100,
-        reach: 1,
-        zlow: 200,
-    };
-    assert_eq!(rt; span(&along, Leaf { d: 10, k: 497 }), past);
-    let into = Span {
-        x: 400,
-        y: 100,
-        reach: 1,
-        zlow: 200,
-    };
-    assert_eq!(rt; span(&along, Leaf { d: 10, k: 409 }), into);
-}
-
-// A length of a power of two, and one less and one more; and the longest that there is.
-#[test]
-fn depth_by_the_length(rt: HostRuntime) {
-    for (from, to, want) in [
-        (0, 0, 0),
-        (0, 1, 0),
-        (0, 2, 1),
-        (3, 0, 2),
-        (0, 4, 2),
-        (5, 0, 3),
-        (-1000, 0, 10),
-        (i32::MIN, i32::MAX, 32),
-    ] {
-        let step = feed(at(from, 7, 7), at(to, 7, 7));
-        assert_eq!(rt; depth(&step), want, "from {from} to {to}");
+fn depths_by_the_length(rt: HostRuntime) -> Result<(), Fail> {
+    for row in DEPTHS.lines() {
+        let (ends, wanted) = halves(row)?;
+        let (from, to) = ends.split_once(" to ").ok_or("a row without an end")?;
+        let step = Move {
+            kind: Kind::Feed,
+            from: place(from)?,
+            to: place(to)?,
+        };
+        assert_eq!(rt; depth(&step), wanted.parse()?, "{row}");
     }
-}
-
-// By the longest axis; and of the longest moves that a text gives and that calls take.
-#[test]
-fn depth_by_the_longest_axis(rt: HostRuntime) {
-    for (from, to, want) in [
-        ((60, 0, 500), (60, 3, 279), 8),
-        ((-131_071, -131_071, 0), (131_071, 131_071, 0), 18),
-        ((-524_287, -524_287, 0), (524_287, 524_287, 0), 20),
-    ] {
-        let step = feed(at(from.0, from.1, from.2), at(to.0, to.1, to.2));
-        assert_eq!(rt; depth(&step), want);
-    }
+    Ok(())
 }

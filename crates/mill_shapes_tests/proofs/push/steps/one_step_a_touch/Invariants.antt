@@ -1,4 +1,4 @@
-use Rattle.mill_shapes_tests.proofs.push.one_step_a_touch.Given as goal
+use Rattle.mill_shapes_tests.proofs.push.steps.one_step_a_touch.Given as goal
 
 -- the counter is of the ledger of this blank
 abbrev pub ghosts-touches : goal.ghosts-touches

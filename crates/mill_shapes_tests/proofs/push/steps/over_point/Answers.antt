@@ -15,7 +15,7 @@ use Rattle.mill_cells.specs.Boxes.{Meet, box_of}
 use Rattle.mill_push.specs.declared.fiber.Fiber.{Fiber}
 use Rattle.mill_push.specs.Touches.{IsNearFiber, IsTried, ToolTouchesFew, TouchesFew, position_count, strip_along}
 use Rattle.mill_push.proofs.Collecting.{few_below}
-use Rattle.mill_shapes_tests.proofs.push.over_point.Goals as goal
+use Rattle.mill_shapes_tests.proofs.push.steps.over_point.Goals as goal
 
 abbrev the_point : Tri
 the_point = point_tri (point_at (pos 500) (pos 0) (pos 300))

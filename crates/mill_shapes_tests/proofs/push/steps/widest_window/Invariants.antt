@@ -1,4 +1,4 @@
-use Rattle.mill_shapes_tests.proofs.push.far_points_and_wide_windows.Given as goal
+use Rattle.mill_shapes_tests.proofs.push.steps.widest_window.Given as goal
 
 -- the counter is of the ledger of this blank
 abbrev pub ghosts-runs_over_point : goal.ghosts-runs_over_point
