@@ -162,6 +162,7 @@ job_ok n few = record {
   max_cut_ok = record { low = omega (arith, ints); high = omega (arith, ints) };
   holder_ok = tt;
   wider = tt;
+  path_tol_ok = tt;
 }
 
 -- the job and the part of a size are such that a plan can be made

@@ -58,6 +58,7 @@ sample_job n = record {
   snap = Nearest;
   max_cut = pos 0;
   holder = None;
+  path_tol = None;
 }
 
 -- ---- the answers

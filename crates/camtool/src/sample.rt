@@ -226,6 +226,7 @@ fn sample_job(size: u32) -> Job
         snap: Snap::Nearest,
         max_cut: 0,
         holder: None,
+        path_tol: None,
     }
 }
 

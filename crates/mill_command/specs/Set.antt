@@ -70,9 +70,19 @@ sample = with_rule (with_rule (new_app (codes "sample")) workers) size
 abbrev pub program : App
 program = record (new_app (codes "camtool")) { top = record (new_app (codes "camtool")).top { no_binary_name = true; has_version = true; subcommand_required = true } }
 
+-- with the commands on programs, with those on a part, and with the others
+abbrev pub with_programs : App → App
+with_programs a = with_subcommand (with_subcommand a verify.top) plan.top
+
+abbrev pub with_parts : App → App
+with_parts a = with_subcommand (with_subcommand a drop.top) level.top
+
+abbrev pub with_others : App → App
+with_others a = with_subcommand (with_subcommand a stock.top) sample.top
+
 -- the set of commands
 abbrev pub commands : App
-commands = with_subcommand (with_subcommand (with_subcommand (with_subcommand (with_subcommand (with_subcommand program verify.top) plan.top) drop.top) level.top) stock.top) sample.top
+commands = with_others (with_parts (with_programs program))
 
 -- the command is as clap sees this one, and none of its arguments is global
 abbrev pub Is : App → Command → Type 0

@@ -2,7 +2,7 @@
 //! in `specs/Set.antt`, and where matches are read.
 ghost use Rattle.std.specs.Prelude.{◌≡◌, false, IfOk};
 ghost use Rattle.clap.specs.Words.{App, Rule, new_app, rule_of, with_rule, with_subcommand};
-ghost use Rattle.mill_command.specs.Set.{Is, commands, count_parser, drop as drop_command, level, option, place, plan, program, sample, size, size_parser, stock, verify, with_files, with_job, workers};
+ghost use Rattle.mill_command.specs.Set.{Is, commands, count_parser, drop as drop_command, level, option, place, plan, program, sample, size, size_parser, stock, verify, with_files, with_job, with_others, with_parts, with_programs, workers};
 
 use clap::builder::ValueParser;
 use clap::{Arg, Command, value_parser};
@@ -15,10 +15,32 @@ const VERSION: &str = "0.1.0";
 pub fn commands<'a>(alloc: Global) -> Result<Command<'a>, AllocError>
     ensures { IfOk result (Is commands) }
 {
-    let program = with_command(program(alloc)?, verify(alloc)?)?;
-    let program = with_command(program, plan(alloc)?)?;
+    let program = with_programs(alloc, program(alloc)?)?;
+    let program = with_parts(alloc, program)?;
+    with_others(alloc, program)
+}
+
+/// The program with the commands on programs.
+// The commands are added by twos, since each that may fail costs a proof that all before it are dropped.
+fn with_programs<'a>(alloc: Global, program: Command<'a>) -> Result<Command<'a>, AllocError>
+    ensures { IfOk result (λ c. (a : App) → Is a program.entry → Is (with_programs a) c) }
+{
+    let program = with_command(program, verify(alloc)?)?;
+    with_command(program, plan(alloc)?)
+}
+
+/// The program with the commands on a part.
+fn with_parts<'a>(alloc: Global, program: Command<'a>) -> Result<Command<'a>, AllocError>
+    ensures { IfOk result (λ c. (a : App) → Is a program.entry → Is (with_parts a) c) }
+{
     let program = with_command(program, drop_height(alloc)?)?;
-    let program = with_command(program, level(alloc)?)?;
+    with_command(program, level(alloc)?)
+}
+
+/// The program with the other commands.
+fn with_others<'a>(alloc: Global, program: Command<'a>) -> Result<Command<'a>, AllocError>
+    ensures { IfOk result (λ c. (a : App) → Is a program.entry → Is (with_others a) c) }
+{
     let program = with_command(program, stock(alloc)?)?;
     with_command(program, sample(alloc)?)
 }

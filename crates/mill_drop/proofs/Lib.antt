@@ -8,3 +8,7 @@ pub mod Scanning
 pub mod Holders
 pub mod Listed
 pub mod Uniqueness
+pub mod Halving
+pub mod Straightness
+pub mod RowLemmas
+pub mod PathLemmas

@@ -1,4 +1,4 @@
-ghost use Rattle.std.specs.Prelude.{◌≡◌, IfOk};
+ghost use Rattle.std.specs.Prelude.{◌≡◌, IfOk, All};
 ghost use Rattle.mill_base.specs.Numbers.{Within};
 ghost use Rattle.mill_base.specs.declared.limits.TheConstants.{MAX_COORDINATE};
 ghost use Rattle.mill_cells.specs.Sorted.{sorted_of};
@@ -47,6 +47,30 @@ pub fn drop_map<R: Threads + Sync>(
     Ok(heights)
 }
 
+/// The drop heights at all nodes of the lattice, as `drop_map` gives them, one after another.
+pub fn drop_each(
+    alloc: Global,
+    part: &Part,
+    cells: &Cells,
+    tool: &Tool,
+    lattice: &Lattice,
+    floor: i32,
+) -> Result<Vec<i32>, WantOfMemory>
+    requires cells_ok { cells.now ≡ sorted_of part.now }
+    requires tool_ok { IsTool tool.now }
+    requires lattice_ok { IsMapLattice lattice.now }
+    requires floor_ok { Within MAX_COORDINATE floor }
+    ensures heights { IfOk result (λ heights. AreDropHeights tool.now part.now floor lattice.now heights.items) }
+    ensures bound { IfOk result (λ heights. All (Within MAX_COORDINATE) heights.items) }
+{
+    let nodes = lattice.nodes() as u32;
+    let mut dropped = Vec::with_capacity(alloc, nodes as usize)?;
+    for number in 0..nodes {
+        dropped.push(height_at(part, cells, tool, lattice, floor, number))?;
+    }
+    Ok(dropped)
+}
+
 /// The drop height at the node of this number.
 fn height_at(
     part: &Part,
@@ -57,7 +81,8 @@ fn height_at(
     number: u32,
 ) -> i32
     requires { IsNodeTask part.now cells.now tool.now lattice.now floor number }
-    ensures { IsHeightAt tool.now part.now floor (node_at lattice.now number) result }
+    ensures height { IsHeightAt tool.now part.now floor (node_at lattice.now number) result }
+    ensures bound { Within MAX_COORDINATE result }
 {
     let (x, y) = lattice.node(number);
     drop_at(part, cells, tool, x, y, floor)

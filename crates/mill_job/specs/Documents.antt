@@ -34,7 +34,7 @@ unit_from (Some text) = if bytes_eq text (codes "thousandth") then Thousandth el
 unfoldable pub unit_of : Members → Unit
 unit_of ms = unit_from (option_and_then as_str (get_member (name_of key.Unit) ms))
 
--- what is wrong with each key but that of the unit, in the format's order: the last two, which are the holder's, by one entry
+-- what is wrong with each key but that of the unit, in the format's order: the two that are the holder's by one entry
 abbrev pub key_faults_in : Unit → Members → List (Option JobFault)
 key_faults_in unit ms =
     shape_fault ms
@@ -59,6 +59,7 @@ key_faults_in unit ms =
     ∷ text_fault_if_there key.Snap (codes "nearest" ∷ codes "exact" ∷ []) ms
     ∷ number_fault_if_there key.MaxCut (pos 0) (pos (greatest_of unit)) ms
     ∷ holder_fault unit ms
+    ∷ number_fault_if_there key.PathTol (pos 0) MAX_DISTANCE ms
     ∷ []
 
 -- what is wrong with each key, in the format's order: the unit comes first, since the ranges of others are by it
@@ -104,6 +105,7 @@ job_with unit ms = record {
   snap = snap_of ms;
   max_cut = number_or key.MaxCut (pos 0) ms;
   holder = holder_of ms;
+  path_tol = number_given key.PathTol ms;
 }
 
 -- the same in the document's unit

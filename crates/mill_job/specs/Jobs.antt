@@ -62,6 +62,7 @@ pub record IsJob (job : Job) : Type 0 where
   pub max_cut_ok : IsFrom (pos 0) (pos (greatest_of job.unit)) job.max_cut
   pub holder_ok : IfSome job.holder IsHolder
   pub wider : IfSome job.holder (λ holder. radius_of job.cutter <ℤ holder.radius)
+  pub path_tol_ok : IfSome job.path_tol (IsFrom (pos 0) MAX_DISTANCE)
 
 -- a job's cutter, with its holder if it has one
 abbrev pub tool_of : Job → Tool

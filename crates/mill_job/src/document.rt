@@ -60,6 +60,7 @@ fn is_known(name: &str) -> bool
             | "max_cut"
             | "holder_radius"
             | "stickout"
+            | "path_tol"
     )
 }
 

@@ -61,6 +61,10 @@ pub struct Job {
     pub max_cut: i32,
     /// What holds the cutter, where that is watched; it is wider than the cutter.
     pub holder: Option<Holder>,
+    /// How much the straight ways between the places of a plan's finishing path may run over the drop
+    /// heights under them, the lift aside, from 0 to 10,000; with `None` the path comes to each node of
+    /// its lattice instead.
+    pub path_tol: Option<i32>,
 }
 
 impl Job {

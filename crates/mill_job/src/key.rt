@@ -30,6 +30,7 @@ pub enum Key {
     MaxCut,
     HolderRadius,
     Stickout,
+    PathTol,
 }
 
 impl Key {
@@ -62,6 +63,7 @@ impl Key {
             Key::MaxCut => "max_cut",
             Key::HolderRadius => "holder_radius",
             Key::Stickout => "stickout",
+            Key::PathTol => "path_tol",
         }
     }
 }

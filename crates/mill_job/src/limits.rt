@@ -1,6 +1,7 @@
 //! The limits of a job's numbers that the program's limits don't name.
 
-/// The greatest pitch, sample, raster, allowance, band, lift and stock that roughing leaves.
+/// The greatest pitch, sample, raster, allowance, band, lift, stock that roughing leaves and tolerance
+/// of paths.
 pub const MAX_DISTANCE: i32 = 10_000;
 
 /// The most layers that roughing may take off.

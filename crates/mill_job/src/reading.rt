@@ -22,7 +22,7 @@ use crate::limits::{MAX_DISTANCE, MAX_LAYERS};
 use crate::paths::paths_in;
 use crate::positions::count;
 use crate::space::space_in;
-use crate::values::{depth, number, snap, unit};
+use crate::values::{depth, number, number_if_there, snap, unit};
 use mill_base::{MAX_COLUMNS, MAX_RADIUS, Unit};
 use std::alloc::Global;
 use toml::Table;
@@ -142,6 +142,7 @@ fn job_in(table: &Table, unit: Unit) -> Result<Job, JobFault>
     let snap = snap(table)?;
     let max_cut = depth(table, Key::MaxCut, unit)?;
     let holder = holder(table, unit)?;
+    let path_tol = number_if_there(table, Key::PathTol, 0, MAX_DISTANCE)?;
     let cutter = cutter(shape, radius, rise, run)?;
     let job = Job {
         unit,
@@ -164,26 +165,27 @@ fn job_in(table: &Table, unit: Unit) -> Result<Job, JobFault>
         snap,
         max_cut,
         holder,
+        path_tol,
     };
     unless(relation_fault(&job), job)
 }
 
 /// Reads a job: a TOML 1.0 document with each key of [`Key`] and no other; `unit`, `snap`, `lift`,
-/// `raster`, `rough_raster`, `layer`, `rough_stock`, `levels` and `max_cut` may be left out, `rise` and
-/// `run` where the cutter is no cone, and `holder_radius` and `stickout` both or neither.
+/// `raster`, `rough_raster`, `layer`, `rough_stock`, `levels`, `max_cut` and `path_tol` may be left out,
+/// `rise` and `run` where the cutter is no cone, and `holder_radius` and `stickout` both or neither.
 ///
 /// `unit` is a text, `hundredth` for 0.01 mm or `thousandth` for 0.001 mm; numbers are whole, in
 /// that unit. `cutter` is a text, `flat`, `ball` or `cone`. `radius`, `pitch`, `sample`, `raster`,
 /// `rough_raster` and `holder_radius` are from 1 to 10,000, `rise` and `run` from 1 to 100, `allowance`,
-/// `band`, `lift` and `rough_stock` from 0 to 10,000; `layer` and `max_cut` from 0, and `stickout` from
-/// 1, to the unit's greatest coordinate, which is 131,071 or 524,287. `floor`, `top`, `clear` and the
-/// members of `area`, `home` and `levels` are coordinates, of a magnitude of at most that. `area` has
-/// x0, y0, x1, y1, with x0 at most x1 and y0 at most y1; `home` has x, y; `levels` has at most 64
-/// members, each less than the one before it. `snap` is a text, `nearest` or `exact`.
+/// `band`, `lift`, `rough_stock` and `path_tol` from 0 to 10,000; `layer` and `max_cut` from 0, and
+/// `stickout` from 1, to the unit's greatest coordinate, which is 131,071 or 524,287. `floor`, `top`,
+/// `clear` and the members of `area`, `home` and `levels` are coordinates, of a magnitude of at most
+/// that. `area` has x0, y0, x1, y1, with x0 at most x1 and y0 at most y1; `home` has x, y; `levels` has
+/// at most 64 members, each less than the one before it. `snap` is a text, `nearest` or `exact`.
 ///
 /// In a document without them `unit` is `hundredth`, `lift`, `layer`, `rough_stock` and `max_cut` are 0,
 /// `raster` is the pitch, `rough_raster` the raster, `levels` has no member, `snap` is `nearest`, and
-/// there is no holder.
+/// there is no holder and no tolerance of paths.
 ///
 /// The relations are: only a cone has a rise, only a cone has a run, rise is at most 16 times run,
 /// floor at most top, top at most clear, there are at most 4,000,000 columns, band is at most

@@ -1,4 +1,4 @@
-ghost use Rattle.std.specs.Prelude.{◌≡◌, codes, neg_ℤ, pos, true, false, IfOk, IfErr, None, Some, [], ◌∷◌, option_map};
+ghost use Rattle.std.specs.Prelude.{◌≡◌, codes, neg_ℤ, pos, true, false, IfOk, IfErr, IfSome, None, Some, [], ◌∷◌, option_map};
 ghost use Rattle.mill_base.specs.Numbers.{Within};
 ghost use Rattle.mill_base.specs.Units.{greatest_of};
 ghost use Rattle.toml.specs.Data.{as_integer, get_member};
@@ -6,7 +6,7 @@ ghost use Rattle.toml.specs.View.{table_view, view};
 ghost use Rattle.mill_job.specs.Documents.{snap_of, unit_of, unit_texts};
 ghost use Rattle.mill_job.specs.Jobs.{IsFrom};
 ghost use Rattle.mill_job.specs.Keys.{name_of};
-ghost use Rattle.mill_job.specs.Tables.{coordinate_fault, is_coordinate, is_from, kind_fault, number_at, number_fault, number_fault_if_there, number_or as number_or_other, text_fault_if_there};
+ghost use Rattle.mill_job.specs.Tables.{coordinate_fault, is_coordinate, is_from, kind_fault, number_at, number_fault, number_fault_if_there, number_given, number_or as number_or_other, text_fault_if_there};
 
 use crate::fault::JobFault;
 use crate::key::Key;
@@ -86,6 +86,24 @@ pub fn number_or(table: &Table, key: Key, low: i32, high: i32, other: i32) -> Re
     match find(table, key) {
         Some(value) => whole_number(value, key, low, high),
         None => Ok(other),
+    }
+}
+
+/// The whole number from `low` to `high` at a key, if the document has the key.
+#[tactic(auto, unfolding(crate::specs::Tables::number_fault_if_there, crate::specs::Tables::number_given))]
+pub fn number_if_there(
+    table: &Table,
+    key: Key,
+    low: i32,
+    high: i32,
+) -> Result<Option<i32>, JobFault>
+    ensures ok { IfOk result (λ given. (number_fault_if_there key low high (table_view table.now) ≡ None) × (given ≡ number_given key (table_view table.now))) }
+    ensures err { IfErr result (λ fault. number_fault_if_there key low high (table_view table.now) ≡ Some fault) }
+    ensures in_range { IfOk result (λ given. IfSome given (IsFrom low high)) }
+{
+    match find(table, key) {
+        Some(value) => Ok(Some(whole_number(value, key, low, high)?)),
+        None => Ok(None),
     }
 }
 

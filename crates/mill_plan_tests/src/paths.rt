@@ -47,6 +47,7 @@ fn block_job(layer: i32, lift: i32) -> Job
         snap: Snap::Nearest,
         max_cut: 0,
         holder: None,
+        path_tol: None,
     }
 }
 
@@ -80,6 +81,7 @@ fn wide_job() -> Job
         snap: Snap::Nearest,
         max_cut: 0,
         holder: None,
+        path_tol: None,
     }
 }
 
@@ -119,6 +121,7 @@ fn fine_job(raster: i32, rough_raster: i32, layer: i32) -> Job
         snap: Snap::Nearest,
         max_cut: 0,
         holder: None,
+        path_tol: None,
     }
 }
 

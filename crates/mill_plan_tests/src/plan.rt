@@ -50,6 +50,7 @@ fn block_job(layer: i32, lift: i32) -> Job
         snap: Snap::Nearest,
         max_cut: 0,
         holder: None,
+        path_tol: None,
     }
 }
 
@@ -90,6 +91,7 @@ fn fine_job(raster: i32, rough_raster: i32, layer: i32) -> Job
         snap: Snap::Nearest,
         max_cut: 0,
         holder: None,
+        path_tol: None,
     }
 }
 
@@ -125,6 +127,7 @@ fn wide_job(levels: Levels) -> Job
         snap: Snap::Nearest,
         max_cut: 0,
         holder: None,
+        path_tol: None,
     }
 }
 
@@ -166,6 +169,7 @@ fn shallow_job(layer: i32, max_cut: i32, holder: Option<Holder>) -> Job
         snap: Snap::Nearest,
         max_cut,
         holder,
+        path_tol: None,
     }
 }
 
@@ -201,6 +205,7 @@ fn thousandths_job() -> Job
         snap: Snap::Nearest,
         max_cut: 0,
         holder: None,
+        path_tol: None,
     }
 }
 

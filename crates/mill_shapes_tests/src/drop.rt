@@ -1,13 +1,17 @@
-ghost use Rattle.std.specs.Prelude.{◌≤◌};
+ghost use Rattle.std.specs.Prelude.{◌≤◌, pos};
 ghost use Rattle.mill_base.specs.Numbers.{Within};
 ghost use Rattle.mill_base.specs.declared.limits.TheConstants.{MAX_COORDINATE};
 ghost use Rattle.mill_base.specs.Ranges.{IsInRange};
 ghost use Rattle.mill_base.specs.Sizes.{IsCutter};
 ghost use Rattle.mill_base.specs.Tools.{IsTool};
+ghost use Rattle.mill_drop.specs.Paths.{IsRow, IsTolerance};
 
 use mill_base::{Box2, Cutter, Holder, Lattice, Pt3, Tool, Tri};
-use mill_drop::{drop_at, drop_heights_are_unique, drop_map, drop_once};
+use mill_drop::{
+    drop_at, drop_heights_are_unique, drop_map, drop_once, one_path, path_drop, paths_are_halved,
+};
 use mill_part::{Part, SortedPart};
+use std::alloc::Global;
 use std::test::Fail;
 
 fn at(x: i16, y: i16, z: i16) -> Pt3
@@ -168,6 +172,49 @@ fn heights_along_a_row(rt: HostRuntime) -> Result<(), Fail> {
         0,
     )?;
     assert_eq!(rt; heights.as_slice(), [0, 0, 200, 200].as_slice());
+    Ok(())
+}
+
+/// The path of a flat cutter along the row at 500: the x and the height of each point.
+fn path(alloc: Global, shape: &SortedPart<'_>, x0: i32, x1: i32, tol: i32) -> Result<String, Fail>
+    requires row_ok { IsRow (pos 500) x0 x1 }
+    requires tol_ok { IsTolerance tol }
+{
+    let tool = Tool::bare(Cutter::Flat { radius: 100 });
+    let points = path_drop(
+        alloc,
+        shape.part(),
+        shape.cells(),
+        &tool,
+        500,
+        x0,
+        x1,
+        0,
+        tol,
+    )?;
+    let mut told = String::new(alloc);
+    for point in &points {
+        told.push_str(format!(in alloc; "{} {}, ", point.x, point.z)?.as_str())?;
+    }
+    Ok(told)
+}
+
+const TIGHT: &str =
+    "-300 0, -150 0, -113 0, -104 0, -102 0, -101 0, -100 0, -99 200, -94 200, -75 200, 0 200, 300 200, ";
+
+const LOOSE: &str = "-300 0, -150 0, -113 0, -104 0, -99 200, -94 200, -75 200, 0 200, 300 200, ";
+
+// The cutter's edge comes over the part's after -100.
+#[test]
+fn paths_along_a_row(rt: HostRuntime) -> Result<(), Fail> {
+    let part = part_of(&rt, at(0, 0, 200), at(1000, 0, 200), at(0, 1000, 200))?;
+    let shape = SortedPart::new(rt.alloc(), &part)?;
+    let alloc = rt.alloc();
+    assert_eq!(rt; path(alloc, &shape, -300, 300, 0)?.as_str(), TIGHT);
+    assert_eq!(rt; path(alloc, &shape, -300, 300, 200)?.as_str(), LOOSE);
+    assert_eq!(rt; path(alloc, &shape, -99, -99, 0)?.as_str(), "-99 200, ");
+    paths_are_halved();
+    one_path();
     Ok(())
 }
 

@@ -73,6 +73,7 @@ fn columns_of(max_cut: i32, holder: Option<Holder>) -> Job
         snap: Snap::Nearest,
         max_cut,
         holder,
+        path_tol: None,
     }
 }
 
@@ -314,6 +315,7 @@ fn long_row(cutter: Cutter) -> Job
         snap: Snap::Nearest,
         max_cut: 0,
         holder: None,
+        path_tol: None,
     }
 }
 
@@ -431,6 +433,7 @@ fn whole_range(cutter: Cutter) -> Job
         snap: Snap::Nearest,
         max_cut: 0,
         holder: None,
+        path_tol: None,
     }
 }
 

@@ -50,6 +50,7 @@ fn stock(x1: i32, y1: i32, pitch: i32) -> Job
         snap: Snap::Nearest,
         max_cut: 0,
         holder: None,
+        path_tol: None,
     }
 }
 

@@ -42,6 +42,7 @@ levels = [300, 300]
 snap = \"near\"
 max_cut = -9
 holder_radius = -1
+path_tol = \"0\"
 ";
 
 /// 64 heights, from the highest to the lowest.
@@ -76,6 +77,7 @@ const JOB: Job = Job {
     snap: Snap::Nearest,
     max_cut: 0,
     holder: None,
+    path_tol: None,
 };
 
 /// What is said of a text: the job as it is, and its levels, or its fault.
@@ -146,6 +148,9 @@ band = 0 => band = 0\nmax_cut = 131071 => snap: Nearest, max_cut: 131071
 band = 0 => band = 0\nmax_cut = 0 => snap: Nearest, max_cut: 0
 band = 0 => band = 0\nstickout = 131071\nholder_radius = 151 => holder: Some(Holder { radius: 151, stickout: 131071 })
 band = 0 => band = 0\nholder_radius = 10000\nstickout = 1 => holder: Some(Holder { radius: 10000, stickout: 1 })
+band = 0 => band = 0\nmax_cut = 0 => holder: None, path_tol: None }
+band = 0 => band = 0\npath_tol = 0 => holder: None, path_tol: Some(0) }
+band = 0 => band = 0\npath_tol = 10000 => holder: None, path_tol: Some(10000) }
 band = 0 => band = 0\nlevels = [] => with levels []
 band = 0 => band = 0\nlevels = [0] => with levels [0]
 band = 0 => band = 0\nlevels = [299] => with levels [299]
@@ -208,6 +213,12 @@ band = 0 => band = 0\nholder_radius = 200\nstickout = [50] => wrong kind of stic
 band = 0 => band = 0\nholder_radius = 200\nstickout = 0 => stickout out of range
 band = 0 => band = 0\nholder_radius = 200\nstickout = 131072 => stickout out of range
 band = 0 => band = 0\nholder_radius = 150\nstickout = 50 => radius doesn't fit holder_radius
+band = 0 => band = 0\npath_tol = 1.0 => wrong kind of path_tol
+band = 0 => band = 0\npath_tol = "1" => wrong kind of path_tol
+band = 0 => band = 0\npath_tol = -1 => path_tol out of range
+band = 0 => band = 0\npath_tol = 10001 => path_tol out of range
+band = 0 => band = 0\nholder_radius = 200\npath_tol = -1 => missing stickout
+band = 0 => band = 151\npath_tol = 10001 => path_tol out of range
 band = 0 => band = 0\nlevel = [1] => unknown level
 band = 0 => band = 0\nlevels = 5 => wrong kind of levels
 band = 0 => band = 0\nlevels = [5, 4.0] => wrong kind of levels
@@ -273,6 +284,7 @@ max_cut out of range => -9 => 9
 holder_radius out of range => radius = -1 => radius = 150
 missing stickout => holder => stickout = 0\nholder
 stickout out of range => stickout = 0 => stickout = 131071
+wrong kind of path_tol => path_tol = "0" => path_tol = 0
 rise doesn't fit run => rise = 17 => rise = 16
 floor doesn't fit top => floor = 301 => floor = -701
 top doesn't fit clear => clear = 200 => clear = 400
@@ -314,6 +326,7 @@ fn first_fault_decides(rt: HostRuntime) -> Result<(), Fail> {
             radius: 151,
             stickout: 131071,
         }),
+        path_tol: Some(0),
         ..JOB
     };
     assert_eq!(rt; read_job(alloc, text.as_bytes())?, want);

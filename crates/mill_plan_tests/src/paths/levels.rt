@@ -43,6 +43,7 @@ fn job(radius: i32, raster: i32, levels: Levels) -> Job
         snap: Snap::Nearest,
         max_cut: 0,
         holder: None,
+        path_tol: None,
     }
 }
 

@@ -46,6 +46,7 @@ fn job(max_cut: i32, holder: Option<Holder>) -> Job
         snap: Snap::Nearest,
         max_cut,
         holder,
+        path_tol: None,
     }
 }
 

@@ -47,6 +47,7 @@ fn five_rows() -> Job
         snap: Snap::Nearest,
         max_cut: 0,
         holder: None,
+        path_tol: None,
     }
 }
 

@@ -45,6 +45,7 @@ fn seven_rows(max_cut: i32) -> Job
         snap: Snap::Nearest,
         max_cut,
         holder: None,
+        path_tol: None,
     }
 }
 

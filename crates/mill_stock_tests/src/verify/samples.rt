@@ -97,6 +97,7 @@ fn job_of(cutter: Cutter, band: i32, allowance: u8, max_cut: u8, holder: Option<
         snap: Snap::Nearest,
         max_cut: i32::from(max_cut),
         holder,
+        path_tol: None,
     }
 }
 
@@ -163,6 +164,7 @@ pub(crate) fn whole_job(cutter: Cutter) -> Job
         snap: Snap::Nearest,
         max_cut: 0,
         holder: None,
+        path_tol: None,
     }
 }
 

@@ -83,10 +83,11 @@ returns-clause-value c =
     let snap : c.in_ok-snap.snap ≡ snap_of ms = c.in_ok-snap.ensures.ok.1 in
     let max_cut : to_z w32 (of_z w32 c.in_ok-max_cut.max_cut) ≡ number_or key.MaxCut (pos 0) ms = stored_number c.in_ok-max_cut.ensures.in_range (record { le = tt }) (most c.args.unit) ∙ c.in_ok-max_cut.ensures.ok.1 in
     let holder : c.in_ok-holder.holder ≡ holder_of ms = c.in_ok-holder.ensures.ok.1 in
+    let path_tol : c.in_ok-path_tol.path_tol ≡ number_given key.PathTol ms = c.in_ok-path_tol.ensures.ok.1 in
     let keys : first (key_faults_in c.args.unit ms) ≡ None = search rules in
     let rest : first (key_faults_in c.args.unit ms ++ cutter_faults ms ++ relation_faults (job_with c.args.unit ms)) ≡ first (relation_faults (job_with c.args.unit ms)) = first-append (key_faults_in c.args.unit ms) (cutter_faults ms ++ relation_faults (job_with c.args.unit ms)) keys ∙ first-append (cutter_faults ms) (relation_faults (job_with c.args.unit ms)) slope in
     let same = ap (λ (fault : Option JobFault). checked fault (job_with c.args.unit ms)) (sym rest) in
-    c.unless.ensures ∙ rw (c.relation_fault.ensures.value, cutter, floor, top, clear, area, home, pitch, sample, allowance, band, lift, raster, rough_raster, layer, rough_stock, levels, snap, max_cut, holder) same
+    c.unless.ensures ∙ rw (c.relation_fault.ensures.value, cutter, floor, top, clear, area, home, pitch, sample, allowance, band, lift, raster, rough_raster, layer, rough_stock, levels, snap, max_cut, holder, path_tol) same
 
 pub returns-clause-in_range : goal.returns-clause-in_range
 returns-clause-in_range c = rw c.unless.ensures (if_ok c.relation_fault.result _ IsJob (λ none. record {
@@ -123,4 +124,5 @@ returns-clause-in_range c = rw c.unless.ensures (if_ok c.relation_fault.result _
   max_cut_ok = record { low = omega (arith, ints, most c.args.unit, c.in_ok-max_cut.ensures.in_range); high = omega (arith, ints, most c.args.unit, c.in_ok-max_cut.ensures.in_range) };
   holder_ok = c.in_ok-holder.ensures.in_range;
   wider = c.relation_fault.ensures.wider none;
+  path_tol_ok = c.in_ok-path_tol.ensures.in_range;
 }))
