@@ -8,4 +8,6 @@ mod dexel;
 #[cfg(test)]
 mod surface;
 #[cfg(test)]
+mod tables;
+#[cfg(test)]
 mod verify;

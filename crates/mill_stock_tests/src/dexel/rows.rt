@@ -1,148 +1,87 @@
 ghost use Rattle.std.specs.Prelude.{◌≡◌, ◌<◌, ◌≤◌, length, IfOk, None};
-ghost use Rattle.mill_base.specs.Numbers.{Within};
-ghost use Rattle.mill_base.specs.declared.limits.TheConstants.{MAX_COORDINATE};
-ghost use Rattle.mill_base.specs.Points.{point_at};
-ghost use Rattle.mill_base.specs.Ranges.{IsInRange, MoveInRange, MovesInRange};
-ghost use Rattle.mill_job.specs.Columns.{row_count};
+ghost use Rattle.mill_base.specs.Ranges.{MovesInRange};
 ghost use Rattle.mill_job.specs.Jobs.{IsJob};
+ghost use Rattle.mill_job.specs.Columns.{row_count};
 ghost use Rattle.mill_dexel.specs.Rows.{IsRowOf, uncut_row};
 ghost use Rattle.mill_dexel.specs.Turns.{row_before};
 
-use mill_base::{Box2, Cutter, Kind, Move, Pt3, Unit, WantOfMemory};
-use mill_decimal::Snap;
-use mill_dexel::{Bands, Row, RowFail, RowTest, rows_static, uncut_rows};
-use mill_job::{Job, Levels, Place};
-use mill_sweep::Leaf;
+use super::THREE_COLUMNS;
+use crate::tables::{any_step, barred, first_word, halves, job, step_fits, told_stop};
+use mill_base::Move;
+use mill_dexel::{Bands, Row, rows_static, uncut_rows};
+use mill_job::Job;
 use std::alloc::Global;
+use std::process::Abort;
+use std::test::Fail;
 use std::thread::Threads;
 
-/// Five rows, at y = 0, 100, 200, 300 and 400, of three columns each, from 0 to 300.
-fn five_rows() -> Job
-    ensures job { IsJob result }
-    ensures row { 4 < row_count result }
+/// The moves of a program, with a semicolon between them.
+fn moves_of(alloc: Global, text: &str) -> Result<Vec<Move>, Fail>
+    ensures { IfOk result (λ moves. MovesInRange moves.items) }
 {
-    Job {
-        unit: Unit::Hundredth,
-        cutter: Cutter::Flat { radius: 150 },
-        floor: 0,
-        top: 300,
-        clear: 400,
-        area: Box2 {
-            x0: 0,
-            y0: 0,
-            x1: 200,
-            y1: 400,
-        },
-        home: Place { x: 0, y: 0 },
-        pitch: 100,
-        sample: 100,
-        allowance: 0,
-        band: 0,
-        lift: 0,
-        raster: 100,
-        rough_raster: 100,
-        layer: 0,
-        rough_stock: 0,
-        levels: Levels::NONE,
-        snap: Snap::Nearest,
-        max_cut: 0,
-        holder: None,
-        path_tol: None,
+    let mut moves = Vec::new(alloc);
+    for each in text.split("; ") {
+        moves.push(any_step(each)?)?;
     }
-}
-
-fn place(x: i32, y: i32, z: i32) -> Pt3
-    requires x_ok { Within MAX_COORDINATE x }
-    requires y_ok { Within MAX_COORDINATE y }
-    requires z_ok { Within MAX_COORDINATE z }
-    ensures { IsInRange result }
-{
-    Pt3 { x, y, z }
-}
-
-fn step(kind: Kind, from: Pt3, to: Pt3) -> Move
-    requires from_ok { IsInRange from }
-    requires to_ok { IsInRange to }
-    ensures { MoveInRange result }
-{
-    Move { kind, from, to }
-}
-
-/// A pocket to 200 over the first three rows and a rapid out of it. Then a rapid at 250 that comes
-/// too near to the fourth row, and a cut to 100 of two columns of the fifth.
-fn program() -> [Move; 4]
-    ensures { MovesInRange result }
-{
-    [
-        step(Kind::Feed, place(100, 100, 400), place(100, 100, 200)),
-        step(Kind::Rapid, place(100, 100, 200), place(100, 100, 400)),
-        step(Kind::Rapid, place(100, 100, 250), place(100, 200, 250)),
-        step(Kind::Feed, place(0, 400, 400), place(0, 400, 100)),
-    ]
-}
-
-/// Where the fourth row stops the third move.
-fn stop() -> RowFail {
-    RowFail {
-        at: 2,
-        col: 0,
-        leaf: Leaf { d: 7, k: 111 },
-        test: RowTest::Cut,
+    if !moves.iter().all(step_fits) {
+        return Err(Fail::from("out of range"));
     }
+    Ok(moves)
 }
 
-#[test]
-fn stops_at_a_rapid_that_fails(rt: HostRuntime) -> Result<(), WantOfMemory> {
-    let job = five_rows();
-    let moves = program();
-    let mut row = Row::new(rt.alloc(), &job, 3)?;
-    assert!(rt; row.turn(&job, &moves, 0));
-    assert!(rt; row.turn(&job, &moves, 1));
-    assert!(rt; !row.turn(&job, &moves, 2));
-    assert_eq!(rt; row.tops(), [300, 300, 300].as_slice());
-    assert_eq!(rt; row.done(), 2);
-    assert_eq!(rt; row.failed(), Some(stop()));
-    Ok(())
+/// A row by its tops, the number of its moves, and what stopped it.
+fn told_row(alloc: Global, row: &Row) -> Result<String, Fail> {
+    let (tops, done) = (row.tops(), row.done());
+    let Some(stop) = row.failed() else {
+        return Ok(format!(in alloc; "{tops:?} after {done}")?);
+    };
+    let place = told_stop(alloc, Some((stop.col, stop.leaf)))?;
+    let (at, test) = (stop.at, stop.test);
+    Ok(format!(in alloc; "{tops:?} after {done}, {test:?} in {at} by {place}")?)
 }
 
-/// All rows after the program, by so many workers.
-fn turned<R: Threads + Sync>(rt: &R, alloc: Global, workers: u32) -> Result<Vec<Row>, WantOfMemory>
+/// All rows after a program, by so many workers; a second time changes nothing.
+fn told_by_workers<R: Threads + Sync>(
+    rt: &R,
+    alloc: Global,
+    job: &Job,
+    moves: &[Move],
+    workers: u32,
+) -> Result<String, Fail>
+    requires job { IsJob job.now }
+    requires moves_ok { MovesInRange moves.now }
     requires some { 1 ≤ workers }
     requires few { workers ≤ 64 }
 {
-    let job = five_rows();
-    let moves = program();
-    let rows = uncut_rows(alloc, &job)?;
-    let rows = rows_static(rt, &job, rows, &moves, workers);
-    Ok(rows_static(rt, &job, rows, &moves, workers))
+    let rows = uncut_rows(alloc, job)?;
+    let rows = rows_static(rt, job, rows, moves, workers);
+    let rows = rows_static(rt, job, rows, moves, workers);
+    let mut told = String::new(alloc);
+    for row in &rows {
+        if !told.is_empty() {
+            told.push_str("; ")?;
+        }
+        told.push_str(&told_row(alloc, row)?)?;
+    }
+    Ok(told)
 }
 
-#[test]
-fn workers_change_nothing(rt: HostRuntime) -> Result<(), WantOfMemory> {
-    let alloc = rt.alloc();
-    let by_one = turned(&rt, alloc, 1)?;
-    let by_four = turned(&rt, alloc, 4)?;
-    let by_many = turned(&rt, alloc, 64)?;
-    let pocket = [200, 200, 200];
-    let want = [
-        (pocket, 4, None),
-        (pocket, 4, None),
-        (pocket, 4, None),
-        ([300, 300, 300], 2, Some(stop())),
-        ([100, 100, 300], 4, None),
-    ];
-    for rows in [&by_one, &by_four, &by_many] {
-        assert_eq!(rt; rows.len(), want.len());
-        for (row, (tops, done, failed)) in rows.iter().zip(want) {
-            assert_eq!(rt; row.tops(), tops.as_slice());
-            assert_eq!(rt; row.done(), done);
-            assert_eq!(rt; row.failed(), failed);
+/// Lets an uncut row go on from move 0 by `turn`, to the end or to the first move that fails.
+fn turned(row: &mut Row, job: &Job, moves: &[Move])
+    requires job { IsJob job.now }
+    requires moves_ok { MovesInRange moves.now }
+    requires row { IsRowOf job.now row.old }
+    requires unfailed { row.old.failed ≡ None }
+    requires undone { row.old.done ≡ 0 }
+{
+    for t in 0..moves.len() as u64 {
+        if !row.turn(job, moves, t) {
+            return;
         }
     }
-    Ok(())
 }
 
-/// Lets an uncut row go on from move 0 by `turn_on`, to the end or to the first move that fails.
+/// The same by `turn_on`.
 fn turned_on(row: &mut Row, job: &Job, moves: &[Move])
     requires job { IsJob job.now }
     requires moves_ok { MovesInRange moves.now }
@@ -157,68 +96,169 @@ fn turned_on(row: &mut Row, job: &Job, moves: &[Move])
     }
 }
 
-/// A row of the uncut stock after the program, by `turn_on`.
-fn row_after(alloc: Global, number: u64) -> Result<Row, WantOfMemory>
-    requires { number < 5 }
+/// A row after a program by itself: by `turn`, and by `turn_on`.
+fn told_alone(
+    alloc: Global,
+    job: &Job,
+    moves: &[Move],
+    number: u64,
+) -> Result<(String, String), Fail>
+    requires job { IsJob job.now }
+    requires moves_ok { MovesInRange moves.now }
+    requires row { number < row_count job.now }
 {
-    let job = five_rows();
-    let mut row = Row::new(alloc, &job, number)?;
-    turned_on(&mut row, &job, &program());
-    Ok(row)
+    let mut row = Row::new(alloc, job, number)?;
+    turned(&mut row, job, moves);
+    let mut other = Row::new(alloc, job, number)?;
+    turned_on(&mut other, job, moves);
+    Ok((told_row(alloc, &row)?, told_row(alloc, &other)?))
 }
 
-#[test]
-fn turns_on_as_it_turns(rt: HostRuntime) -> Result<(), WantOfMemory> {
-    let pocket = row_after(rt.alloc(), 2)?;
-    assert_eq!(rt; pocket.tops(), [200, 200, 200].as_slice());
-    assert_eq!(rt; pocket.done(), 4);
-    let stopped = row_after(rt.alloc(), 3)?;
-    assert_eq!(rt; stopped.tops(), [300, 300, 300].as_slice());
-    assert_eq!(rt; stopped.failed(), Some(stop()));
-    let slot = row_after(rt.alloc(), 4)?;
-    assert_eq!(rt; slot.tops(), [100, 100, 300].as_slice());
-    assert_eq!(rt; slot.done(), 4);
+/// Looks at what rows come to, by one worker, by four, by 64, and each by itself.
+fn look<R: Threads + Sync + Abort>(
+    rt: &R,
+    alloc: Global,
+    job: &Job,
+    moves: &[Move],
+    wanted: &str,
+    text: &str,
+) -> Result<(), Fail>
+    requires job { IsJob job.now }
+    requires moves_ok { MovesInRange moves.now }
+{
+    assert_eq!(rt;
+        told_by_workers(rt, alloc, job, moves, 1)?.as_str(),
+        wanted,
+        "{text}"
+    );
+    assert_eq!(rt;
+        told_by_workers(rt, alloc, job, moves, 4)?.as_str(),
+        wanted,
+        "{text}"
+    );
+    assert_eq!(rt;
+        told_by_workers(rt, alloc, job, moves, 64)?.as_str(),
+        wanted,
+        "{text}"
+    );
+    let mut rest = wanted.split("; ");
+    for number in 0..u64::from(job.rows()) {
+        let row = rest.next().ok_or("too few rows")?;
+        let (turned, turned_on) = told_alone(alloc, job, moves, number)?;
+        assert_eq!(rt; turned.as_str(), row, "row {number}: {text}");
+        assert_eq!(rt; turned_on.as_str(), row, "row {number}: {text}");
+    }
     Ok(())
 }
 
+/// Runs the program of each table's row over an uncut stock, whose job has these keys and those before
+/// the bar.
+fn each_program<R: Threads + Sync + Abort + AllocGlobal>(
+    rt: &R,
+    keys: &str,
+    table: &str,
+) -> Result<(), Fail> {
+    let alloc = rt.alloc();
+    for text in table.lines() {
+        let (before, wanted) = halves(text)?;
+        let (more, program) = barred(before);
+        let job = job(alloc, keys, more)?;
+        let moves = moves_of(alloc, program)?;
+        look(rt, alloc, &job, &moves, wanted, text)?;
+    }
+    Ok(())
+}
+
+// The limit is for feeds: a rapid stops at the top, with a limit and without one. Each cut of 50 is as
+// deep as may be, since what the ones before it cut is no more there; then one of 51 is stopped, and
+// cuts nothing. Of a rapid the cutter's test comes before the holder's.
+const OVER_THREE_COLUMNS: &str = "\
+max_cut = 0 | feed 0 0 down to 0 => [0, 0, 300] after 1
+max_cut = 50 | feed 0 0 down to 250 => [250, 250, 300] after 1
+max_cut = 50 | feed 0 0 down to 249 => [300, 300, 300] after 0, Cut in 0 by column 0 at 8 254
+max_cut = 0 | rapid 0 0 down to 300 => [300, 300, 300] after 1
+max_cut = 0 | rapid 0 0 down to 299 => [300, 300, 300] after 0, Cut in 0 by column 0 at 7 126
+max_cut = 50 | rapid 0 0 down to 300 => [300, 300, 300] after 1
+max_cut = 50 | rapid 0 0 down to 299 => [300, 300, 300] after 0, Cut in 0 by column 0 at 7 126
+max_cut = 50 | feed 0 0 down to 250; feed 0 0 down to 200 => [200, 200, 300] after 2
+max_cut = 50 | feed 0 0 down to 250; feed 0 0 down to 200; feed 0 0 down to 149 => \
+    [200, 200, 300] after 2, Cut in 2 by column 0 at 8 254
+holder_radius = 200; stickout = 50 | rapid 0 0 down to 249 => \
+    [300, 300, 300] after 0, Cut in 0 by column 0 at 8 169
+holder_radius = 200; stickout = 50 | feed 0 0 down to 249 => \
+    [300, 300, 300] after 0, Holder in 0 by column 0 at 8 254";
+
+#[test]
+fn runs_over_three_columns(rt: HostRuntime) -> Result<(), Fail> {
+    each_program(&rt, THREE_COLUMNS, OVER_THREE_COLUMNS)
+}
+
+/// Five rows, at y = 0, 100, 200, 300 and 400, of three columns each, from 0 to 300.
+const FIVE_ROWS: &str = "cutter = 'flat'; radius = 150; floor = 0; top = 300; clear = 400; \
+    area = [0, 0, 200, 400]; home = [0, 0]; pitch = 100; sample = 100; allowance = 0; band = 0";
+
+// A pocket to 200 over the first three rows and a rapid out of it. Then a rapid at 250 that comes
+// too near to the fourth row, and a cut to 100 of two columns of the fifth.
+const OVER_FIVE_ROWS: &str = "\
+feed 100 100 down to 200; rapid 100 100 200 to 100 100 400; \
+    rapid 100 100 250 to 100 200 250; feed 0 400 down to 100 => \
+    [200, 200, 200] after 4; [200, 200, 200] after 4; [200, 200, 200] after 4; \
+    [300, 300, 300] after 2, Cut in 2 by column 0 at 7 111; [100, 100, 300] after 4";
+
+#[test]
+fn runs_over_five_rows(rt: HostRuntime) -> Result<(), Fail> {
+    each_program(&rt, FIVE_ROWS, OVER_FIVE_ROWS)
+}
+
 /// Moves along y = 0, 150 of them, and then ten along y = 200.
-fn two_lines(alloc: Global) -> Result<Vec<Move>, WantOfMemory>
-    ensures range { IfOk result (λ moves. MovesInRange moves.items) }
-    ensures count { IfOk result (λ moves. length moves.items ≡ 160) }
+fn two_lines(alloc: Global) -> Result<Vec<Move>, Fail>
+    ensures { IfOk result (λ moves. MovesInRange moves.items) }
 {
     let mut moves = Vec::new(alloc);
-    for t in 0..160_u64 {
-        let y = if t < 150 { 0 } else { 200 };
-        moves.push(step(Kind::Feed, place(0, y, 400), place(100, y, 400)))?;
+    for t in 0..160 {
+        let y = if t < 150 { "0" } else { "200" };
+        let text = format!(in alloc; "feed 0 {y} 400 to 100 {y} 400")?;
+        moves.push(any_step(&text)?)?;
+    }
+    if !moves.iter().all(step_fits) {
+        return Err(Fail::from("out of range"));
     }
     Ok(moves)
 }
 
 /// Up to which move an uncut row goes over the first moves of a program.
-fn gone_over(alloc: Global, moves: &[Move], number: u64, count: u64) -> Result<u64, WantOfMemory>
-    requires moves_ok { MovesInRange moves.now }
-    requires row { number < 5 }
-    requires some { 0 < count }
-    requires there { count ≤ length moves.now }
+fn gone_over(alloc: Global, moves: &[Move], number: u64, count: u64) -> Result<u64, Fail>
+    requires { MovesInRange moves.now }
 {
-    let job = five_rows();
+    let job = job(alloc, FIVE_ROWS, "")?;
+    if number >= u64::from(job.rows()) || count == 0 || count > moves.len() as u64 {
+        return Err(Fail::from("out of range"));
+    }
     let bands = Bands::new(alloc, moves, count)?;
     let mut row = Row::new(alloc, &job, number)?;
     Ok(row.go_over(&job, &bands, 0))
 }
 
-// The cutter's radius is 150, so a row at least 152 away from a whole band goes over it: the first two
-// bands of 64 are along y = 0, and the third has moves along y = 200, too.
+// A row, of how many moves, and up to which one it goes over them. The cutter's radius is 150, so a row
+// at least 152 away from a whole band goes over it: the first two bands of 64 are along y = 0, and the
+// third has moves along y = 200, too.
+const GOES_OVER: &str = "\
+0 160 => 0
+1 160 => 0
+2 160 => 128
+3 160 => 128
+4 160 => 160
+3 150 => 150
+3 64 => 64";
+
 #[test]
-fn goes_over_what_is_far_away(rt: HostRuntime) -> Result<(), WantOfMemory> {
-    let alloc = rt.alloc();
-    let moves = two_lines(alloc)?;
-    assert_eq!(rt; gone_over(alloc, &moves, 0, 160)?, 0);
-    assert_eq!(rt; gone_over(alloc, &moves, 1, 160)?, 0);
-    assert_eq!(rt; gone_over(alloc, &moves, 2, 160)?, 128);
-    assert_eq!(rt; gone_over(alloc, &moves, 3, 160)?, 128);
-    assert_eq!(rt; gone_over(alloc, &moves, 4, 160)?, 160);
-    assert_eq!(rt; gone_over(alloc, &moves, 3, 150)?, 150);
-    assert_eq!(rt; gone_over(alloc, &moves, 3, 64)?, 64);
+fn goes_over_what_is_far_away(rt: HostRuntime) -> Result<(), Fail> {
+    let moves = two_lines(rt.alloc())?;
+    for text in GOES_OVER.lines() {
+        let (of, wanted) = halves(text)?;
+        let (number, count) = first_word(of)?;
+        let gone = gone_over(rt.alloc(), &moves, number.parse()?, count.parse()?)?;
+        assert_eq!(rt; gone, wanted.parse()?, "{text}");
+    }
     Ok(())
 }

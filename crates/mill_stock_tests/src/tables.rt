@@ -1,0 +1,119 @@
+//! Tables of cases, a case a row, and what stands in their rows: jobs and moves. A table is one text, so
+//! that a test's proof costs the same however many rows there are.
+ghost use Rattle.std.specs.Prelude.{IfOk, IsTrue};
+ghost use Rattle.mill_base.specs.Numbers.{Within};
+ghost use Rattle.mill_base.specs.Ranges.{IsInRange, MoveInRange};
+ghost use Rattle.mill_base.specs.declared.limits.TheConstants.{MAX_COORDINATE};
+ghost use Rattle.mill_job.specs.Jobs.{IsJob};
+
+use mill_base::{Kind, MAX_COORDINATE, Move, Pt3};
+use mill_job::{Job, read_job};
+use mill_sweep::Leaf;
+use std::alloc::Global;
+use std::test::Fail;
+
+/// What stands before the `=>` of a row, and what behind it.
+pub(crate) fn halves(row: &str) -> Result<(&str, &str), Fail> {
+    Ok(row.split_once(" => ").ok_or("a row without =>")?)
+}
+
+/// The first word and the others.
+pub(crate) fn first_word(text: &str) -> Result<(&str, &str), Fail> {
+    Ok(text.split_once(' ').ok_or("a row with too few words")?)
+}
+
+/// What stands before the bar of a row, and what behind it; without a bar nothing stands before it.
+pub(crate) fn barred(text: &str) -> (&str, &str) {
+    text.split_once(" | ").unwrap_or(("", text))
+}
+
+/// A job by the keys of its document, with a semicolon between them.
+pub(crate) fn job(alloc: Global, keys: &str, more: &str) -> Result<Job, Fail>
+    ensures { IfOk result IsJob }
+{
+    let text = format!(in alloc; "{keys}; {more}")?;
+    let lines = text.replace(alloc, "; ", "\n")?;
+    Ok(read_job(alloc, lines.as_bytes())?)
+}
+
+fn coordinate(text: &str) -> Result<i32, Fail>
+    ensures { IfOk result (λ number. Within MAX_COORDINATE number) }
+{
+    let number: i32 = text.parse()?;
+    if number.unsigned_abs() > MAX_COORDINATE {
+        return Err(Fail::from("out of range"));
+    }
+    Ok(number)
+}
+
+/// A point by its three coordinates.
+fn point(text: &str) -> Result<Pt3, Fail>
+    ensures { IfOk result (λ point. IsInRange point) }
+{
+    let (x, others) = first_word(text)?;
+    let (y, z) = first_word(others)?;
+    let (x, y, z) = (coordinate(x)?, coordinate(y)?, coordinate(z)?);
+    Ok(Pt3 { x, y, z })
+}
+
+/// A move straight down at x and y, from 400 to a height.
+fn down(kind: Kind, place: &str, height: &str) -> Result<Move, Fail>
+    ensures { IfOk result (λ step. MoveInRange step) }
+{
+    let (x, y) = first_word(place)?;
+    let (x, y, z) = (coordinate(x)?, coordinate(y)?, coordinate(height)?);
+    Ok(Move {
+        kind,
+        from: Pt3 { x, y, z: 400 },
+        to: Pt3 { x, y, z },
+    })
+}
+
+/// A move from one point to another, or down from 400.
+pub(crate) fn step(kind: Kind, text: &str) -> Result<Move, Fail>
+    ensures { IfOk result (λ step. MoveInRange step) }
+{
+    if let Some((place, height)) = text.split_once(" down to ") {
+        return down(kind, place, height);
+    }
+    let (from, to) = text.split_once(" to ").ok_or("a move without an end")?;
+    let (from, to) = (point(from)?, point(to)?);
+    Ok(Move { kind, from, to })
+}
+
+fn fits(point: Pt3) -> bool
+    ensures { IsTrue result → IsInRange point }
+{
+    let most = MAX_COORDINATE;
+    point.x.unsigned_abs() <= most
+        && point.y.unsigned_abs() <= most
+        && point.z.unsigned_abs() <= most
+}
+
+/// Whether calls take the move.
+pub(crate) fn step_fits(step: &Move) -> bool
+    ensures { IsTrue result → MoveInRange step.now }
+{
+    fits(step.from) && fits(step.to)
+}
+
+/// A move by its kind and its ends.
+pub(crate) fn any_step(text: &str) -> Result<Move, Fail>
+    ensures { IfOk result (λ step. MoveInRange step) }
+{
+    let (kind, ends) = first_word(text)?;
+    let kind = if kind == "rapid" {
+        Kind::Rapid
+    } else {
+        Kind::Feed
+    };
+    step(kind, ends)
+}
+
+/// A column and the part of a move at which it stops the move.
+pub(crate) fn told_stop(alloc: Global, stop: Option<(u32, Leaf)>) -> Result<String, Fail> {
+    match stop {
+        None => Ok(format!(in alloc; "none")?),
+        Some((column, Leaf { d, k })) => Ok(format!(in alloc; "column {column} at {d} {k}")?),
+    }
+}
