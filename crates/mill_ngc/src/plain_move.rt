@@ -1,21 +1,21 @@
 //! Lines that are only a move, as most lines of a program are: axis words, and with them a `G0` or
 //! `G1` and an `F`, or none.
 //!
-//! They are read without what other lines need. Where anything else stands on a line, it is read as
-//! any line is.
-ghost use Rattle.std.specs.Prelude.{◌≡◌, Bool, true, false, None, Some, IfSome, IsTrue, unwrap_or};
+//! They are read without what other lines need, and where their words are plain, straight from their
+//! bytes. Where anything else stands on a line, it is read as any line is.
+ghost use Rattle.std.specs.Prelude.{◌≡◌, ◌+◌, ◌<◌, ◌^◌, length, Bool, true, false, None, Some, IfSome, IsTrue, unwrap_or};
 ghost use Rattle.mill_base.specs.Ranges.{IsInUnitRange};
 ghost use Rattle.mill_base.specs.Units.{places_of};
 ghost use Rattle.mill_words.specs.Words.{FitsNum, FitsWord};
 ghost use Rattle.mill_ngc.specs.declared.profile.Mode.TheVariants.{On};
 ghost use Rattle.mill_ngc.specs.declared.said.Said.{Said};
-ghost use Rattle.mill_ngc.specs.inner.PlainMoves.{Goes, IsAxis, IsEnd, IsMotion, IsReady, MovesTo, Says, mode_of};
+ghost use Rattle.mill_ngc.specs.inner.PlainMoves.{Goes, IsAxis, IsCapital, IsEnd, IsMotion, IsReady, LineMovesTo, MovesTo, Says, mode_of, words_in};
 
 use crate::numbers::{signed, units_of};
 use crate::profile::Mode;
 use crate::progress::{Frame, Progress};
-use mill_base::{Kind, Pt3, Unit};
-use mill_words::{LineWords, Num, Word};
+use mill_base::{Kind, MAX_MOVES, Pt3, Unit};
+use mill_words::{LineWords, Num, Word, plain_number_behind};
 
 /// What the words of such a line have said so far.
 #[derive(Clone, Copy)]
@@ -38,6 +38,32 @@ pub(crate) struct PlainMove {
 }
 
 impl Progress {
+    /// The move of a line, if its words are plain and it is only that, and the lines before it have
+    /// settled what a move needs.
+    #[inline(always)]
+    pub fn plain_line(&self, line: &[u8]) -> Option<PlainMove>
+        requires { IsInUnitRange self.now.unit self.now.here }
+        ensures { IfSome result (λ m. LineMovesTo self.now line.now m) }
+    {
+        if !self.is_ready() {
+            return None;
+        }
+        let mut plain = PlainLine::new();
+        let mut place = 0;
+        while place < line.len() {
+            let number = plain_number_behind(line, place)?;
+            let word = Word {
+                letter: line[place],
+                num: number.num,
+            };
+            if !plain.take(self.line, self.unit, &word) {
+                return None;
+            }
+            place = number.end;
+        }
+        self.end_plain(&plain)
+    }
+
     /// The move of a line with these words, if it is only that and the lines before it have settled
     /// what a move needs.
     pub fn plain_move(&self, words: &LineWords) -> Option<PlainMove>
@@ -47,13 +73,7 @@ impl Progress {
         if !self.is_ready() || words.has_slash() {
             return None;
         }
-        let mut plain = PlainLine {
-            kind: None,
-            feed: false,
-            x: None,
-            y: None,
-            z: None,
-        };
+        let mut plain = PlainLine::new();
         for word in words.words() {
             if !plain.take(self.line, self.unit, word) {
                 return None;
@@ -67,7 +87,7 @@ impl Progress {
     {
         match self.frame {
             Frame::Unknown => false,
-            _ => self.millimetres && self.absolute,
+            _ => self.millimetres && self.absolute && self.moves < MAX_MOVES as u64,
         }
     }
 
@@ -103,12 +123,26 @@ impl Progress {
 }
 
 impl PlainLine {
+    fn new() -> Self
+        ensures { result ≡ record { kind = None; feed = false; x = None; y = None; z = None } }
+    {
+        PlainLine {
+            kind: None,
+            feed: false,
+            x: None,
+            y: None,
+            z: None,
+        }
+    }
+
     // Takes the next word, if it may stand on such a line.
     #[inline(always)]
     fn take(&mut self, line: u64, unit: Unit, word: &Word) -> bool
         requires { FitsWord word.now }
-        ensures { IsTrue result → (positioned : Bool) (s : Said) → Says unit line self.old s →
+        ensures goes { IsTrue result → (positioned : Bool) (s : Said) → Says unit line self.old s →
             Goes unit line positioned word.now s self.new }
+        ensures capital { IsTrue result → IsCapital word.now.letter }
+        ensures more { IsTrue result → words_in self.new ≡ words_in self.old + 1 }
     {
         match word.letter {
             b'X' => take_axis(&mut self.x, line, unit, &word.num),
