@@ -9,6 +9,7 @@ use Rattle.mill_base.specs.Numbers.{Within}
 use Rattle.mill_base.specs.Ranges.{IsInUnitRange}
 use Rattle.mill_base.specs.Units.{greatest_of, places_of}
 use Rattle.mill_base.specs.declared.motion.Kind.{Kind}
+use Rattle.mill_base.specs.declared.motion.Move.{Move}
 use Rattle.mill_base.specs.declared.motion.Kind.TheVariants.{Rapid, Feed}
 use Rattle.mill_base.specs.declared.unit.Unit.{Unit as LengthUnit}
 use Rattle.mill_base.specs.declared.unit.Unit.TheVariants.{Hundredth, Thousandth}
@@ -29,9 +30,9 @@ use Rattle.mill_ngc.specs.declared.said.Said.{Said}
 use Rattle.mill_ngc.specs.Motion.{acted, coordinate, made_move, moved, target}
 use Rattle.mill_ngc.specs.Numbers.{axis_units, signed, whole_of}
 use Rattle.mill_ngc.specs.Profile.{entry_in, entry_of, g_entry, is_same_group, is_tool, may_repeat, row}
-use Rattle.mill_ngc.specs.Programs.{after_words}
+use Rattle.mill_ngc.specs.Programs.{after_line, after_words, has_frame, is_percent, line_begun}
 use Rattle.mill_ngc.specs.Said.{after_entry, after_word, group_of, has_axis, noted, nothing_said, said_from}
-use Rattle.mill_ngc.specs.inner.PlainMoves.{Goes, IsAxis, IsCapital, IsEnd, IsFree, IsMotion, IsReady, LineMovesTo, MovesTo, ReadTo, Says, TakenTo, one_if, words_in}
+use Rattle.mill_ngc.specs.inner.PlainMoves.{Goes, IsAxis, IsCapital, IsEnd, IsFree, IsMotion, IsReady, LineMovesTo, MovesTo, ReadTo, Says, TakenTo, made_plain, one_if, words_in}
 use Rattle.mill_ngc.proofs.SaidLemmas.{row-x, row-y, row-z, said_from-end, said_from-first, said_from-next, said_from-none}
 
 -- ---- numbers
@@ -357,20 +358,28 @@ one-more-read p bytes place end n old new capital word takes more to =
       few = omega (arith, longer, to.few, more);
     }
 
+-- the line's number has no part in whether it is only a move
+ready-begun : (p : Progress) → IsReady p → IsReady (line_begun p)
+ready-begun p ready = record { few = ready.few; frame = ready.frame; millimetres = ready.millimetres; absolute = ready.absolute }
+
+end-begun : (p : Progress) (plain : PlainLine) (m : PlainMove) → IsEnd p plain m → IsEnd (line_begun p) plain m
+end-begun p plain m end = record { some = end.some; mode = end.mode; to = end.to }
+
 line-moves : (p : Progress) (bytes : List ℕ) (place : ℕ) (plain : PlainLine) (m : PlainMove) → IsReady p → IsInUnitRange p.unit p.here
-    → ReadTo p bytes place plain → length bytes ≤ place → IsEnd p plain m → LineMovesTo p bytes m
+    → ReadTo (line_begun p) bytes place plain → length bytes ≤ place → IsEnd p plain m → LineMovesTo (line_begun p) bytes m
 line-moves p bytes place plain m ready here to all end =
+    let q = line_begun p in
     let words = to.line.words in
-    let said : said_from p.line p.positioned nothing_said words ≡ Ok to.said =
-    rw (append-nil words) at (to.so_far []) ∙ said_from-none p.line p.positioned to.said in
+    let said : said_from q.line q.positioned nothing_said words ≡ Ok to.said =
+    rw (append-nil words) at (to.so_far []) ∙ said_from-none q.line q.positioned to.said in
     record {
       line = to.line;
       told = to.rest (λ lt. absurd (omega arith)) ∙ line_from-end to.line bytes place all;
-      moves = moves-by p to.line to.said plain m to.slash ready here said to.says end;
+      moves = moves-by q to.line to.said plain m to.slash (ready-begun p ready) here said to.says (end-begun p plain m end);
     }
 
 pub line-moves-if-ended : (o : Option PlainMove) (p : Progress) (bytes : List ℕ) (place : ℕ) (plain : PlainLine) → IsReady p → IsInUnitRange p.unit p.here
-    → ReadTo p bytes place plain → length bytes ≤ place → IfSome o (λ m. IsEnd p plain m) → IfSome o (λ m. LineMovesTo p bytes m)
+    → ReadTo (line_begun p) bytes place plain → length bytes ≤ place → IfSome o (λ m. IsEnd p plain m) → IfSome o (λ m. LineMovesTo (line_begun p) bytes m)
 line-moves-if-ended None p bytes place plain ready here to all end = end
 line-moves-if-ended (Some m) p bytes place plain ready here to all end = line-moves p bytes place plain m ready here to all end
 
@@ -399,3 +408,13 @@ capital-of b (inl (inr e)) = rw e (record { letter = refl; alphabetic = refl; up
 capital-of b (inr (inl e)) = rw e (record { letter = refl; alphabetic = refl; upper = refl })
 capital-of b (inr (inr (inl e))) = rw e (record { letter = refl; alphabetic = refl; upper = refl })
 capital-of b (inr (inr (inr e))) = rw e (record { letter = refl; alphabetic = refl; upper = refl })
+
+-- ---- the line
+
+-- so a line that is only a move, and not of the frame, makes it
+pub plain-line : (p q : Progress) (bytes : List ℕ) (m : PlainMove) (made : Move) → length bytes ≤ 256 → has_frame p.frame (is_percent bytes) ≡ false
+    → LineMovesTo (line_begun p) bytes m → made_plain (line_begun p) m ≡ Ok (q, Some made) → after_line p bytes ≡ Ok (q, Some made)
+unfolding after_line
+plain-line p q bytes m made short other to makes =
+    let fits : nat_lt 256 (length bytes) ≡ false = grind (arith, nat_tests) in
+    rw (fits, other, to.told) (to.moves.moves ∙ makes)

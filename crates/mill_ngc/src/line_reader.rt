@@ -1,5 +1,5 @@
 //! A reader that is fed a program line by line, up to its first fault.
-ghost use Rattle.std.specs.Prelude.{◌≡◌, ◌<◌, ◌^◌, length, OnOk, IfOk, IfErr, Ok, Err, Some};
+ghost use Rattle.std.specs.Prelude.{◌≡◌, ◌<◌, ◌^◌, length, OnOk, IfOk, IfErr, Ok, Err, None, Some, IfSome};
 ghost use Rattle.std.specs.Str.{bytes_eq};
 ghost use Rattle.mill_base.specs.Ranges.{IsInUnitRange};
 ghost use Rattle.mill_words.specs.Lines.{line_of};
@@ -8,7 +8,7 @@ ghost use Rattle.mill_words.specs.Marks.{is_blank as is_blank_byte};
 ghost use Rattle.mill_ngc.specs.declared.progress.Progress.{Progress};
 ghost use Rattle.mill_ngc.specs.Programs.{start_at, is_percent as is_percent_line, percent_step as percent_step_by, has_frame, with_percent, with_line, line_begun, after_line, after_words, words_or_fault};
 ghost use Rattle.mill_ngc.specs.inner.Bounds.{Keeps};
-ghost use Rattle.mill_ngc.specs.inner.PlainMoves.{line_acts, made_plain};
+ghost use Rattle.mill_ngc.specs.inner.PlainMoves.{made_plain};
 
 use crate::fault::NgcFault;
 use crate::plain_move::PlainMove;
@@ -94,39 +94,42 @@ impl LineReader {
             self.progress.take_percent();
             return Ok(None);
         }
-        self.act_line(line)
-    }
-
-    // Does what the line says.
-    #[inline(always)]
-    fn act_line(&mut self, line: &[u8]) -> Result<Option<Move>, NgcFault>
-        requires here { IsInUnitRange self.old.unit self.old.here }
-        requires small { length line.now < 2 ^ 32 }
-        ensures ok { IfOk result (λ made. line_acts self.old line.now ≡ Ok (self.new, made)) }
-        ensures fault { IfErr result (λ f. line_acts self.old line.now ≡ Err f) }
-        ensures keeps { IfOk result (λ made. Keeps self.old made self.new) }
-    {
-        if let Some(plain) = self.progress.plain_line(line) {
-            return Ok(Some(self.progress.make_plain(plain)));
-        }
-        self.act_any_line(line)
-    }
-
-    // The same of any line, word by word. It is kept apart, since most lines are plain.
-    #[inline(never)]
-    fn act_any_line(&mut self, line: &[u8]) -> Result<Option<Move>, NgcFault>
-        requires here { IsInUnitRange self.old.unit self.old.here }
-        requires small { length line.now < 2 ^ 32 }
-        ensures ok { IfOk result (λ made. line_acts self.old line.now ≡ Ok (self.new, made)) }
-        ensures fault { IfErr result (λ f. line_acts self.old line.now ≡ Err f) }
-        ensures keeps { IfOk result (λ made. Keeps self.old made self.new) }
-    {
         read_words(self.progress.line, line, &mut self.words)?;
         self.progress.act_words(&self.words, &mut self.said)
+    }
+
+    /// Takes the next line, if its words are plain and it is only a move, which is the answer.
+    // Most lines are such, and are read without what other lines need.
+    #[inline(always)]
+    pub fn read_plain(&mut self, line: &[u8]) -> Option<Move>
+        requires here { IsInUnitRange self.old.unit self.old.here }
+        requires number { self.old.line < 2 ^ 63 }
+        ensures made { IfSome result (λ made. after_line self.old line.now ≡ Ok (self.new, Some made)) }
+        ensures keeps { IfSome result (λ made. Keeps (line_begun self.old) (Some made) self.new) }
+        ensures stays { result ≡ None → self.new ≡ self.old }
+    {
+        self.progress.read_plain(line)
     }
 }
 
 impl Progress {
+    // Does what the next line says, if its words are plain and it is only a move.
+    #[inline(always)]
+    fn read_plain(&mut self, line: &[u8]) -> Option<Move>
+        requires here { IsInUnitRange self.old.unit self.old.here }
+        requires number { self.old.line < 2 ^ 63 }
+        ensures made { IfSome result (λ made. after_line self.old line.now ≡ Ok (self.new, Some made)) }
+        ensures keeps { IfSome result (λ made. Keeps (line_begun self.old) (Some made) self.new) }
+        ensures stays { result ≡ None → self.new ≡ self.old }
+    {
+        if line.len() > LONGEST || has_percent(self.frame, line) {
+            return None;
+        }
+        let plain = self.plain_line(line)?;
+        self.line += 1;
+        Some(self.make_plain(plain))
+    }
+
     // Does what the words of the line say.
     fn act_words(&mut self, words: &LineWords, said: &mut Said) -> Result<Option<Move>, NgcFault>
         requires here { IsInUnitRange self.old.unit self.old.here }

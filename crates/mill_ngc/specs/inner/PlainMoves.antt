@@ -26,8 +26,8 @@ use Rattle.mill_ngc.specs.declared.said.Said.{Said}
 use Rattle.mill_ngc.specs.Motion.{made_move}
 use Rattle.mill_ngc.specs.Numbers.{axis_units, whole_of}
 use Rattle.mill_ngc.specs.Profile.{entry_in, g_entry, is_same_group, row}
-use Rattle.mill_ngc.specs.Programs.{after_words, frame_after, words_or_fault}
-use Rattle.mill_ngc.specs.Said.{◌>>=◌, after_word, nothing_said, said_from}
+use Rattle.mill_ngc.specs.Programs.{after_words, frame_after}
+use Rattle.mill_ngc.specs.Said.{after_word, nothing_said, said_from}
 
 -- ---- what is taken
 
@@ -116,10 +116,6 @@ pub record IsEnd (p : Progress) (plain : PlainLine) (m : PlainMove) : Type 0 whe
 -- the move is made, and a program goes on
 abbrev pub made_plain : Progress → PlainMove → Result (Progress × Option Move) NgcFault
 made_plain p m = made_move (record p { mode = On m.kind; ended = false }) m.kind m.to
-
--- what a line of these bytes does, where it isn't of the frame
-abbrev pub line_acts : Progress → List ℕ → Result (Progress × Option Move) NgcFault
-line_acts p bytes = words_or_fault p.line (line_of bytes) >>= after_words p
 
 -- all that a line does is this move
 pub record MovesTo (p : Progress) (l : Line) (m : PlainMove) : Type 0 where

@@ -1,10 +1,11 @@
 use Rattle.std.proofs.Common.{◌-◌, ◌≤◌, length}
+use Rattle.mill_ngc.specs.Programs.{line_begun}
 use Rattle.mill_ngc.specs.inner.PlainMoves.{ReadTo}
 use Rattle.mill_ngc.proofs.progress.Progress.plain_line.Given as goal
 
 abbrev pub invariant-loop-place : goal.invariant-loop-place
 invariant-loop-place l = record {
-  to : ReadTo l.self l.line l.place l.plain;
+  to : ReadTo (line_begun l.self) l.line l.place l.plain;
   within : l.place ≤ length l.line;
 }
 
