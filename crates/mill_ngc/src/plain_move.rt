@@ -185,7 +185,7 @@ fn units_in_range(line: u64, unit: Unit, num: Num) -> Option<i32>
     if num.scale == unit.places() as u8 {
         return whole_units(line, unit, num);
     }
-    scaled_units(line, unit, num)
+    scaled_units(line, unit, num.neg, num.mant, num.scale)
 }
 
 // The same of a number with the unit's decimals.
@@ -200,13 +200,14 @@ fn whole_units(_line: u64, unit: Unit, num: Num) -> Option<i32>
     Some(signed(num.neg, num.mant as u32))
 }
 
-// The same of any number. It is kept apart, since most numbers of a program have the unit's decimals.
+// The same of any number. It is kept apart, since most numbers of a program have the unit's decimals,
+// and takes the number's parts, so that those others need no place in memory.
 #[inline(never)]
-fn scaled_units(line: u64, unit: Unit, num: Num) -> Option<i32>
-    requires { FitsNum 18 num }
-    ensures { IfSome result (λ units. IsUnits unit line units num) }
+fn scaled_units(line: u64, unit: Unit, neg: bool, mant: u64, scale: u8) -> Option<i32>
+    requires { FitsNum 18 (record { neg = neg; mant = mant; scale = scale }) }
+    ensures { IfSome result (λ units. IsUnits unit line units (record { neg = neg; mant = mant; scale = scale })) }
 {
-    match units_of(line, num, unit) {
+    match units_of(line, Num { neg, mant, scale }, unit) {
         Ok(units) => Some(units),
         Err(_) => None,
     }

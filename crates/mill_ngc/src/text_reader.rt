@@ -148,14 +148,19 @@ impl TextReader {
     }
 }
 
-// Adds the move of a line, if it makes one.
+// Adds the move of a line, if it makes one. It is pushed by its parts, so that none of them needs a
+// place in memory first.
 fn add(moves: &mut Vec<Move>, made: Option<Move>) -> Result<(), NgcFault>
     ensures ok { OnOk result (moves.new.items ≡ moves.old.items ++ made_list made) }
     ensures fault { IfErr result (λ f. f ≡ faults.WantOfMemory) }
     ensures kept { OnErr result (moves.new.items ≡ moves.old.items) }
 {
     if let Some(made) = made {
-        moves.push(made)?;
+        moves.push(Move {
+            kind: made.kind,
+            from: made.from,
+            to: made.to,
+        })?;
     }
     Ok(())
 }

@@ -55,7 +55,11 @@ pub fn plain_number_behind(line: &[u8], place: usize) -> Option<LetterNumber>
         return None;
     }
     Some(LetterNumber {
-        num: number.num,
+        num: Num {
+            neg: number.num.neg,
+            mant: number.num.mant,
+            scale: number.num.scale,
+        },
         end: behind_blank(line, number.end),
     })
 }
