@@ -1,5 +1,5 @@
 -- Lines that are only a move: what their words say, and what they do.
-use Rattle.std.proofs.Common.{◌≡◌, ℕ, ℤ, ◌+◌, ◌*◌, ◌<◌, ◌≤◌, List, [], ◌∷◌, ◌++◌, length, get_or, arith, Bool, true, false, Option, Some, None, IfSome, is_some, unwrap_or, Ok, refl, sym, ap, ◌∙◌}
+use Rattle.std.proofs.Common.{◌≡◌, ℕ, ℤ, ◌+◌, ◌*◌, ◌<◌, ◌≤◌, List, [], ◌∷◌, ◌++◌, length, get_or, arith, Bool, true, false, Option, Some, None, IfSome, is_some, unwrap_or, Ok, refl, sym, ap, ◌∙◌, inl, inr, ◌⊎◌, append_assoc, append-nil, length-append}
 use Rattle.std.specs.Prelude.{nat_lt}
 use Rattle.std.specs.List.{list_any}
 use Rattle.std.proofs.lemmas.List.Folds.{list_any-append}
@@ -9,10 +9,14 @@ use Rattle.mill_base.specs.Numbers.{Within}
 use Rattle.mill_base.specs.Ranges.{IsInUnitRange}
 use Rattle.mill_base.specs.Units.{greatest_of, places_of}
 use Rattle.mill_base.specs.declared.motion.Kind.{Kind}
+use Rattle.mill_base.specs.declared.motion.Move.{Move}
 use Rattle.mill_base.specs.declared.motion.Kind.TheVariants.{Rapid, Feed}
 use Rattle.mill_base.specs.declared.unit.Unit.{Unit as LengthUnit}
 use Rattle.mill_base.specs.declared.unit.Unit.TheVariants.{Hundredth, Thousandth}
-use Rattle.mill_words.specs.Words.{Line, is_blank}
+use Rattle.std.specs.Char.{to_ascii_uppercase}
+use Rattle.mill_words.specs.Lines.{EndsWord, and_word, is_word_letter, line_from}
+use Rattle.mill_words.specs.Words.{Line, empty_line, is_blank}
+use Rattle.mill_words.proofs.PlainLines.{line_from-start, line_from-end}
 use Rattle.mill_words.specs.declared.word.Num.{Num}
 use Rattle.mill_words.specs.declared.word.Word.{Word}
 use Rattle.mill_ngc.specs.declared.groups.Group.{Group}
@@ -26,10 +30,10 @@ use Rattle.mill_ngc.specs.declared.said.Said.{Said}
 use Rattle.mill_ngc.specs.Motion.{acted, coordinate, made_move, moved, target}
 use Rattle.mill_ngc.specs.Numbers.{axis_units, signed, whole_of}
 use Rattle.mill_ngc.specs.Profile.{entry_in, entry_of, g_entry, is_same_group, is_tool, may_repeat, row}
-use Rattle.mill_ngc.specs.Programs.{after_words}
+use Rattle.mill_ngc.specs.Programs.{after_line, after_words, has_frame, is_percent, line_begun}
 use Rattle.mill_ngc.specs.Said.{after_entry, after_word, group_of, has_axis, noted, nothing_said, said_from}
-use Rattle.mill_ngc.specs.inner.PlainMoves.{Goes, IsAxis, IsEnd, IsFree, IsMotion, IsReady, MovesTo, Says, TakenTo}
-use Rattle.mill_ngc.proofs.SaidLemmas.{row-x, row-y, row-z, said_from-end, said_from-next}
+use Rattle.mill_ngc.specs.inner.PlainMoves.{Goes, IsAxis, IsCapital, IsEnd, IsFree, IsMotion, IsReady, LineMovesTo, MovesTo, ReadTo, Says, TakenTo, made_plain, one_if, words_in}
+use Rattle.mill_ngc.proofs.SaidLemmas.{row-x, row-y, row-z, said_from-end, said_from-first, said_from-next, said_from-none}
 
 -- ---- numbers
 
@@ -90,7 +94,7 @@ named unit line (Some units) (Some n) axis = refl
 named unit line None (Some n) axis = absurd axis
 named unit line (Some units) None axis = absurd axis
 
-named-now : (unit : LengthUnit) (line : ℕ) (units : Option ℤ) (n : Num) → IsAxis unit line units (Some n) → is_some units ≡ true
+pub named-now : (unit : LengthUnit) (line : ℕ) (units : Option ℤ) (n : Num) → IsAxis unit line units (Some n) → is_some units ≡ true
 named-now unit line units n axis = sym (named unit line units (Some n) axis)
 
 pub goes-x : (unit : LengthUnit) (line : ℕ) (positioned : Bool) (w : Word) (s : Said) (plain : PlainLine) (x : Option ℤ) → w.letter ≡ 88 → plain.x ≡ None
@@ -259,27 +263,40 @@ after-plain : (p : Progress) (l : Line) (s : Said) → l.slash ≡ false → IsR
 unfolding after_words
 after-plain p l s slash ready said = rw (ready.frame (is_blank l), slash, said) refl
 
-pub moves-to : (p : Progress) (l : Line) (plain : PlainLine) (m : PlainMove) (i : ℕ) → l.slash ≡ false → IsReady p → IsInUnitRange p.unit p.here
+moves-by : (p : Progress) (l : Line) (s : Said) (plain : PlainLine) (m : PlainMove) → l.slash ≡ false → IsReady p → IsInUnitRange p.unit p.here
+    → said_from p.line p.positioned nothing_said l.words ≡ Ok s → Says p.unit p.line plain s → IsEnd p plain m → MovesTo p l m
+moves-by p l s plain m slash ready here said says end = record {
+  moves = after-plain p l s slash ready said ∙ acted-plain p s plain m ready says end;
+  few = ready.few;
+  in_range = rw end.to (record {
+    x_ok = ends-within p.unit p.line p.here.x plain.x s.x says.x here.x_ok;
+    y_ok = ends-within p.unit p.line p.here.y plain.y s.y says.y here.y_ok;
+    z_ok = ends-within p.unit p.line p.here.z plain.z s.z says.z here.z_ok;
+  });
+}
+
+moves-to : (p : Progress) (l : Line) (plain : PlainLine) (m : PlainMove) (i : ℕ) → l.slash ≡ false → IsReady p → IsInUnitRange p.unit p.here
     → TakenTo p l.words i plain → length l.words ≤ i → IsEnd p plain m → MovesTo p l m
 moves-to p l plain m i slash ready here to all end =
     let said : said_from p.line p.positioned nothing_said l.words ≡ Ok to.said = said_from-end p.line p.positioned l.words i to.said (said_from p.line p.positioned nothing_said l.words) all to.so_far in
-    record {
-      moves = after-plain p l to.said slash ready said ∙ acted-plain p to.said plain m ready to.says end;
-      in_range = rw end.to (record {
-        x_ok = ends-within p.unit p.line p.here.x plain.x to.said.x to.says.x here.x_ok;
-        y_ok = ends-within p.unit p.line p.here.y plain.y to.said.y to.says.y here.y_ok;
-        z_ok = ends-within p.unit p.line p.here.z plain.z to.said.z to.says.z here.z_ok;
-      });
-    }
+    moves-by p l to.said plain m slash ready here said to.says end
 
 -- ---- the words one after another
 
-pub none-taken : (p : Progress) (words : List Word) → TakenTo p words 0 (record { kind = None; feed = false; x = None; y = None; z = None })
-none-taken p words = record {
-  said = nothing_said;
-  so_far = refl;
-  says = record { x = tt; y = tt; z = tt; mode = refl; millimetres = refl; absolute = refl; ends = refl; free = record { x = λ _. refl; y = λ _. refl; z = λ _. refl; motion = λ _. refl; feed = λ _. refl } };
+nothing-says : (unit : LengthUnit) (line : ℕ) → Says unit line (record { kind = None; feed = false; x = None; y = None; z = None }) nothing_said
+nothing-says unit line = record {
+  x = tt;
+  y = tt;
+  z = tt;
+  mode = refl;
+  millimetres = refl;
+  absolute = refl;
+  ends = refl;
+  free = record { x = λ _. refl; y = λ _. refl; z = λ _. refl; motion = λ _. refl; feed = λ _. refl };
 }
+
+pub none-taken : (p : Progress) (words : List Word) → TakenTo p words 0 (record { kind = None; feed = false; x = None; y = None; z = None })
+none-taken p words = record { said = nothing_said; so_far = refl; says = nothing-says p.unit p.line }
 
 pub one-more-taken : (p : Progress) (words : List Word) (i : ℕ) (d : Word) (old new : PlainLine) → i < length words
     → ((positioned : Bool) (s : Said) → Says p.unit p.line old s → Goes p.unit p.line positioned (get_or words i d) s new)
@@ -296,3 +313,108 @@ pub moves-if-ended : (o : Option PlainMove) (p : Progress) (l : Line) (plain : P
     → TakenTo p l.words i plain → length l.words ≤ i → IfSome o (λ m. IsEnd p plain m) → IfSome o (λ m. MovesTo p l m)
 moves-if-ended None p l plain i slash ready here to all end = end
 moves-if-ended (Some m) p l plain i slash ready here to all end = moves-to p l plain m i slash ready here to all end
+
+-- ---- the bytes one after another
+
+one_if-le : (b : Bool) → one_if b ≤ 1
+one_if-le true = omega arith
+one_if-le false = omega arith
+
+few-words : (plain : PlainLine) → words_in plain ≤ 5
+few-words plain =
+    omega (arith, one_if-le (is_some plain.kind), one_if-le plain.feed, one_if-le (is_some plain.x), one_if-le (is_some plain.y), one_if-le (is_some plain.z))
+
+-- nothing is read yet
+pub none-read : (p : Progress) (bytes : List ℕ) → ReadTo p bytes 0 (record { kind = None; feed = false; x = None; y = None; z = None })
+none-read p bytes = record {
+  line = empty_line;
+  rest = λ _. line_from-start bytes;
+  slash = refl;
+  said = nothing_said;
+  so_far = λ more. refl;
+  says = nothing-says p.unit p.line;
+  few = omega arith;
+}
+
+-- the word at a place is read
+pub one-more-read : (p : Progress) (bytes : List ℕ) (place end : ℕ) (n : Num) (old new : PlainLine) → IsCapital (get_or bytes place 0)
+    → ((l : Line) → is_word_letter (get_or bytes place 0) ≡ true → length l.words < 32 → EndsWord bytes end
+    → line_from l bytes place ≡ line_from (and_word l (to_ascii_uppercase (get_or bytes place 0)) n) bytes end)
+    → ((positioned : Bool) (s : Said) → Says p.unit p.line old s → Goes p.unit p.line positioned (record { letter = get_or bytes place 0; num = n }) s new)
+    → words_in new ≡ words_in old + 1 → ReadTo p bytes place old → ReadTo p bytes end new
+one-more-read p bytes place end n old new capital word takes more to =
+    let goes = takes p.positioned to.said to.says in
+    let letter = get_or bytes place 0 in
+    let w : Word = record { letter = get_or bytes place 0; num = n } in
+    let room : length to.line.words < 32 = omega (arith, to.few, few-words old) in
+    let longer : length (to.line.words ++ w ∷ []) ≡ length to.line.words + 1 = length-append to.line.words (w ∷ []) in
+    record {
+      line = and_word to.line letter n;
+      rest = λ ends. to.rest (λ _. capital.alphabetic) ∙ rw capital.upper at (word to.line capital.letter room ends);
+      slash = to.slash;
+      said = goes.said;
+      so_far = λ more. rw (append_assoc to.line.words (w ∷ []) more) (to.so_far (w ∷ more) ∙ said_from-first p.line p.positioned w more to.said goes.said goes.taken);
+      says = goes.says;
+      few = omega (arith, longer, to.few, more);
+    }
+
+-- the line's number has no part in whether it is only a move
+ready-begun : (p : Progress) → IsReady p → IsReady (line_begun p)
+ready-begun p ready = record { few = ready.few; frame = ready.frame; millimetres = ready.millimetres; absolute = ready.absolute }
+
+end-begun : (p : Progress) (plain : PlainLine) (m : PlainMove) → IsEnd p plain m → IsEnd (line_begun p) plain m
+end-begun p plain m end = record { some = end.some; mode = end.mode; to = end.to }
+
+line-moves : (p : Progress) (bytes : List ℕ) (place : ℕ) (plain : PlainLine) (m : PlainMove) → IsReady p → IsInUnitRange p.unit p.here
+    → ReadTo (line_begun p) bytes place plain → length bytes ≤ place → IsEnd p plain m → LineMovesTo (line_begun p) bytes m
+line-moves p bytes place plain m ready here to all end =
+    let q = line_begun p in
+    let words = to.line.words in
+    let said : said_from q.line q.positioned nothing_said words ≡ Ok to.said =
+    rw (append-nil words) at (to.so_far []) ∙ said_from-none q.line q.positioned to.said in
+    record {
+      line = to.line;
+      told = to.rest (λ lt. absurd (omega arith)) ∙ line_from-end to.line bytes place all;
+      moves = moves-by q to.line to.said plain m to.slash (ready-begun p ready) here said to.says (end-begun p plain m end);
+    }
+
+pub line-moves-if-ended : (o : Option PlainMove) (p : Progress) (bytes : List ℕ) (place : ℕ) (plain : PlainLine) → IsReady p → IsInUnitRange p.unit p.here
+    → ReadTo (line_begun p) bytes place plain → length bytes ≤ place → IfSome o (λ m. IsEnd p plain m) → IfSome o (λ m. LineMovesTo (line_begun p) bytes m)
+line-moves-if-ended None p bytes place plain ready here to all end = end
+line-moves-if-ended (Some m) p bytes place plain ready here to all end = line-moves p bytes place plain m ready here to all end
+
+-- ---- words counted
+
+-- a word that such a line hasn't had makes its words one more
+pub more-x : (plain : PlainLine) (x : Option ℤ) → plain.x ≡ None → is_some x ≡ true → words_in (record plain { x = x }) ≡ words_in plain + 1
+more-x plain x new has = rw (new, has) (omega arith)
+
+pub more-y : (plain : PlainLine) (y : Option ℤ) → plain.y ≡ None → is_some y ≡ true → words_in (record plain { y = y }) ≡ words_in plain + 1
+more-y plain y new has = rw (new, has) (omega arith)
+
+pub more-z : (plain : PlainLine) (z : Option ℤ) → plain.z ≡ None → is_some z ≡ true → words_in (record plain { z = z }) ≡ words_in plain + 1
+more-z plain z new has = rw (new, has) (omega arith)
+
+pub more-feed : (plain : PlainLine) (had : Bool) → plain.feed ≡ false → had ≡ true → words_in (record plain { feed = had }) ≡ words_in plain + 1
+more-feed plain had new has = rw (new, has) (omega arith)
+
+pub more-motion : (plain : PlainLine) (n : Num) (kind : Option Kind) → plain.kind ≡ None → IsMotion n kind → words_in (record plain { kind = kind }) ≡ words_in plain + 1
+more-motion plain n None new motion = absurd motion
+more-motion plain n (Some kind) new motion = rw new (omega arith)
+
+pub capital-of : (b : ℕ) → ((b ≡ 88) ⊎ (b ≡ 89)) ⊎ ((b ≡ 90) ⊎ ((b ≡ 71) ⊎ (b ≡ 70))) → IsCapital b
+capital-of b (inl (inl e)) = rw e (record { letter = refl; alphabetic = refl; upper = refl })
+capital-of b (inl (inr e)) = rw e (record { letter = refl; alphabetic = refl; upper = refl })
+capital-of b (inr (inl e)) = rw e (record { letter = refl; alphabetic = refl; upper = refl })
+capital-of b (inr (inr (inl e))) = rw e (record { letter = refl; alphabetic = refl; upper = refl })
+capital-of b (inr (inr (inr e))) = rw e (record { letter = refl; alphabetic = refl; upper = refl })
+
+-- ---- the line
+
+-- so a line that is only a move, and not of the frame, makes it
+pub plain-line : (p q : Progress) (bytes : List ℕ) (m : PlainMove) (made : Move) → length bytes ≤ 256 → has_frame p.frame (is_percent bytes) ≡ false
+    → LineMovesTo (line_begun p) bytes m → made_plain (line_begun p) m ≡ Ok (q, Some made) → after_line p bytes ≡ Ok (q, Some made)
+unfolding after_line
+plain-line p q bytes m made short other to makes =
+    let fits : nat_lt 256 (length bytes) ≡ false = grind (arith, nat_tests) in
+    rw (fits, other, to.told) (to.moves.moves ∙ makes)

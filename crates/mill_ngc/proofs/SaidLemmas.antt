@@ -1,5 +1,5 @@
 -- The words of a line from left to right, as the reader's loop takes them.
-use Rattle.std.proofs.Common.{◌≡◌, ℕ, ◌+◌, ◌<◌, ◌≤◌, List, length, drop, get_or, Some, Result, Ok, Err, Bool, refl, sym, ap, ◌∙◌, add-one, drop-cons}
+use Rattle.std.proofs.Common.{◌≡◌, ℕ, ◌+◌, ◌<◌, ◌≤◌, List, [], ◌∷◌, length, drop, get_or, Some, Result, Ok, Err, Bool, refl, sym, ap, ◌∙◌, add-one, drop-cons}
 use Rattle.std.proofs.Math.ListN.{drop_of_length-le}
 use Rattle.mill_words.specs.declared.word.Word.{Word}
 use Rattle.mill_ngc.specs.declared.fault.NgcFault.{NgcFault}
@@ -39,6 +39,16 @@ unfolding said_from
 said_from-end line positioned words i s total le so_far =
     let one : said_from line positioned s (drop i words) ≡ Ok s = rw (drop_of_length-le words le) refl in
     sym so_far ∙ one
+
+-- the first word before those behind it
+pub said_from-first : (line : ℕ) (positioned : Bool) (w : Word) (ws : List Word) (s t : Said) → after_word line positioned s w ≡ Ok t
+    → said_from line positioned s (w ∷ ws) ≡ said_from line positioned t ws
+unfolding said_from
+said_from-first line positioned w ws s t h = ap (behind line positioned ws) h
+
+pub said_from-none : (line : ℕ) (positioned : Bool) (s : Said) → said_from line positioned s [] ≡ Ok s
+unfolding said_from
+said_from-none line positioned s = refl
 
 -- the rows of the axis words, whose letters are 88, 89 and 90
 pub row-x : (w : Word) → w.letter ≡ 88 → entry_of w ≡ Some (row 0 X)

@@ -1,5 +1,5 @@
 //! A reader that is fed a program line by line, up to its first fault.
-ghost use Rattle.std.specs.Prelude.{◌≡◌, ◌<◌, ◌^◌, length, OnOk, IfOk, IfErr, Ok, Err};
+ghost use Rattle.std.specs.Prelude.{◌≡◌, ◌<◌, ◌^◌, length, OnOk, IfOk, IfErr, Ok, Err, None, Some, IfSome};
 ghost use Rattle.std.specs.Str.{bytes_eq};
 ghost use Rattle.mill_base.specs.Ranges.{IsInUnitRange};
 ghost use Rattle.mill_words.specs.Lines.{line_of};
@@ -8,13 +8,15 @@ ghost use Rattle.mill_words.specs.Marks.{is_blank as is_blank_byte};
 ghost use Rattle.mill_ngc.specs.declared.progress.Progress.{Progress};
 ghost use Rattle.mill_ngc.specs.Programs.{start_at, is_percent as is_percent_line, percent_step as percent_step_by, has_frame, with_percent, with_line, line_begun, after_line, after_words, words_or_fault};
 ghost use Rattle.mill_ngc.specs.inner.Bounds.{Keeps};
+ghost use Rattle.mill_ngc.specs.inner.PlainMoves.{made_plain};
 
 use crate::fault::NgcFault;
+use crate::plain_move::PlainMove;
 use crate::profile::Mode;
 use crate::progress::{Frame, Progress};
 use crate::said::Said;
 use crate::unfinished::LONGEST;
-use mill_base::{Move, Pt3, Unit};
+use mill_base::{MAX_MOVES, Move, Pt3, Unit};
 use mill_words::{LineWords, read_line_into};
 use std::marker::Model;
 
@@ -95,9 +97,39 @@ impl LineReader {
         read_words(self.progress.line, line, &mut self.words)?;
         self.progress.act_words(&self.words, &mut self.said)
     }
+
+    /// Takes the next line, if its words are plain and it is only a move, which is the answer.
+    // Most lines are such, and are read without what other lines need.
+    #[inline(always)]
+    pub fn read_plain(&mut self, line: &[u8]) -> Option<Move>
+        requires here { IsInUnitRange self.old.unit self.old.here }
+        requires number { self.old.line < 2 ^ 63 }
+        ensures made { IfSome result (λ made. after_line self.old line.now ≡ Ok (self.new, Some made)) }
+        ensures keeps { IfSome result (λ made. Keeps (line_begun self.old) (Some made) self.new) }
+        ensures stays { result ≡ None → self.new ≡ self.old }
+    {
+        self.progress.read_plain(line)
+    }
 }
 
 impl Progress {
+    // Does what the next line says, if its words are plain and it is only a move.
+    #[inline(always)]
+    fn read_plain(&mut self, line: &[u8]) -> Option<Move>
+        requires here { IsInUnitRange self.old.unit self.old.here }
+        requires number { self.old.line < 2 ^ 63 }
+        ensures made { IfSome result (λ made. after_line self.old line.now ≡ Ok (self.new, Some made)) }
+        ensures keeps { IfSome result (λ made. Keeps (line_begun self.old) (Some made) self.new) }
+        ensures stays { result ≡ None → self.new ≡ self.old }
+    {
+        if line.len() > LONGEST || has_percent(self.frame, line) {
+            return None;
+        }
+        let plain = self.plain_line(line)?;
+        self.line += 1;
+        Some(self.make_plain(plain))
+    }
+
     // Does what the words of the line say.
     fn act_words(&mut self, words: &LineWords, said: &mut Said) -> Result<Option<Move>, NgcFault>
         requires here { IsInUnitRange self.old.unit self.old.here }
@@ -106,11 +138,22 @@ impl Progress {
         ensures keeps { IfOk result (λ made. Keeps self.old made self.new) }
     {
         if let Some(plain) = self.plain_move(words) {
-            self.mode = Mode::On(plain.kind);
-            self.ended = false;
-            return self.move_to(plain.kind, plain.to);
+            return Ok(Some(self.make_plain(plain)));
         }
         self.act_any_words(words, said)
+    }
+
+    // Makes the move of a line that is only that.
+    #[inline(always)]
+    fn make_plain(&mut self, plain: PlainMove) -> Move
+        requires few { self.old.moves < MAX_MOVES }
+        requires to { IsInUnitRange self.old.unit plain.to }
+        ensures made { made_plain self.old plain ≡ Ok (self.new, Some result) }
+        ensures keeps { Keeps self.old (Some result) self.new }
+    {
+        self.mode = Mode::On(plain.kind);
+        self.ended = false;
+        self.go(plain.kind, plain.to)
     }
 
     // The same of any line. It is kept apart, since most lines are only a move.

@@ -1,5 +1,5 @@
 //! What a line does that says this.
-ghost use Rattle.std.specs.Prelude.{◌≡◌, ◌<◌, ◌≤◌, ◌+◌, OnOk, IfOk, IfErr, Ok, Err, IfSome};
+ghost use Rattle.std.specs.Prelude.{◌≡◌, ◌<◌, ◌≤◌, ◌+◌, OnOk, IfOk, IfErr, Ok, Err, Some, IfSome};
 ghost use Rattle.mill_base.specs.Numbers.{Within};
 ghost use Rattle.mill_base.specs.Units.{greatest_of};
 ghost use Rattle.mill_base.specs.Ranges.{IsInUnitRange};
@@ -95,6 +95,17 @@ impl Progress {
         if self.moves >= MAX_MOVES as u64 {
             return Err(NgcFault::TooManyMoves { line: self.line });
         }
+        Ok(Some(self.go(kind, to)))
+    }
+
+    /// The same where there are fewer.
+    #[inline(always)]
+    pub fn go(&mut self, kind: Kind, to: Pt3) -> Move
+        requires few { self.old.moves < MAX_MOVES }
+        requires to { IsInUnitRange self.old.unit to }
+        ensures made { made_move self.old kind to ≡ Ok (self.new, Some result) }
+        ensures keeps { Keeps self.old (Some result) self.new }
+    {
         let made = Move {
             kind,
             from: self.here,
@@ -103,7 +114,7 @@ impl Progress {
         self.here = to;
         self.positioned = true;
         self.moves += 1;
-        Ok(Some(made))
+        made
     }
 }
 

@@ -1,21 +1,22 @@
 //! Lines that are only a move, as most lines of a program are: axis words, and with them a `G0` or
 //! `G1` and an `F`, or none.
 //!
-//! They are read without what other lines need. Where anything else stands on a line, it is read as
-//! any line is.
-ghost use Rattle.std.specs.Prelude.{◌≡◌, Bool, true, false, None, Some, IfSome, IsTrue, unwrap_or};
+//! They are read without what other lines need, and where their words are plain, straight from their
+//! bytes. Where anything else stands on a line, it is read as any line is.
+ghost use Rattle.std.specs.Prelude.{◌≡◌, ◌+◌, ◌<◌, ◌^◌, length, Bool, true, false, None, Some, IfSome, IsTrue, unwrap_or};
 ghost use Rattle.mill_base.specs.Ranges.{IsInUnitRange};
 ghost use Rattle.mill_base.specs.Units.{places_of};
 ghost use Rattle.mill_words.specs.Words.{FitsNum, FitsWord};
 ghost use Rattle.mill_ngc.specs.declared.profile.Mode.TheVariants.{On};
 ghost use Rattle.mill_ngc.specs.declared.said.Said.{Said};
-ghost use Rattle.mill_ngc.specs.inner.PlainMoves.{Goes, IsAxis, IsEnd, IsMotion, IsReady, MovesTo, Says, mode_of};
+ghost use Rattle.mill_ngc.specs.Programs.{line_begun};
+ghost use Rattle.mill_ngc.specs.inner.PlainMoves.{Goes, IsAxis, IsCapital, IsEnd, IsMotion, IsReady, IsUnits, LineMovesTo, MovesTo, Says, mode_of, words_in};
 
 use crate::numbers::{signed, units_of};
 use crate::profile::Mode;
 use crate::progress::{Frame, Progress};
-use mill_base::{Kind, Pt3, Unit};
-use mill_words::{LineWords, Num, Word};
+use mill_base::{Kind, MAX_MOVES, Pt3, Unit};
+use mill_words::{LineWords, Num, Word, plain_number_behind};
 
 /// What the words of such a line have said so far.
 #[derive(Clone, Copy)]
@@ -38,6 +39,33 @@ pub(crate) struct PlainMove {
 }
 
 impl Progress {
+    /// The move of the next line, if its words are plain and it is only that, and the lines before it
+    /// have settled what a move needs.
+    #[inline(always)]
+    pub fn plain_line(&self, line: &[u8]) -> Option<PlainMove>
+        requires here { IsInUnitRange self.now.unit self.now.here }
+        requires number { self.now.line < 2 ^ 63 }
+        ensures { IfSome result (λ m. LineMovesTo (line_begun self.now) line.now m) }
+    {
+        if !self.is_ready() {
+            return None;
+        }
+        let mut plain = PlainLine::new();
+        let mut place = 0;
+        while place < line.len() {
+            let number = plain_number_behind(line, place)?;
+            let word = Word {
+                letter: line[place],
+                num: number.num,
+            };
+            if !plain.take(self.line + 1, self.unit, word) {
+                return None;
+            }
+            place = number.end;
+        }
+        self.end_plain(&plain)
+    }
+
     /// The move of a line with these words, if it is only that and the lines before it have settled
     /// what a move needs.
     pub fn plain_move(&self, words: &LineWords) -> Option<PlainMove>
@@ -47,15 +75,9 @@ impl Progress {
         if !self.is_ready() || words.has_slash() {
             return None;
         }
-        let mut plain = PlainLine {
-            kind: None,
-            feed: false,
-            x: None,
-            y: None,
-            z: None,
-        };
+        let mut plain = PlainLine::new();
         for word in words.words() {
-            if !plain.take(self.line, self.unit, word) {
+            if !plain.take(self.line, self.unit, *word) {
                 return None;
             }
         }
@@ -67,7 +89,7 @@ impl Progress {
     {
         match self.frame {
             Frame::Unknown => false,
-            _ => self.millimetres && self.absolute,
+            _ => self.millimetres && self.absolute && self.moves < MAX_MOVES as u64,
         }
     }
 
@@ -103,18 +125,32 @@ impl Progress {
 }
 
 impl PlainLine {
+    fn new() -> Self
+        ensures { result ≡ record { kind = None; feed = false; x = None; y = None; z = None } }
+    {
+        PlainLine {
+            kind: None,
+            feed: false,
+            x: None,
+            y: None,
+            z: None,
+        }
+    }
+
     // Takes the next word, if it may stand on such a line.
     #[inline(always)]
-    fn take(&mut self, line: u64, unit: Unit, word: &Word) -> bool
-        requires { FitsWord word.now }
-        ensures { IsTrue result → (positioned : Bool) (s : Said) → Says unit line self.old s →
-            Goes unit line positioned word.now s self.new }
+    fn take(&mut self, line: u64, unit: Unit, word: Word) -> bool
+        requires { FitsWord word }
+        ensures goes { IsTrue result → (positioned : Bool) (s : Said) → Says unit line self.old s →
+            Goes unit line positioned word s self.new }
+        ensures capital { IsTrue result → IsCapital word.letter }
+        ensures more { IsTrue result → words_in self.new ≡ words_in self.old + 1 }
     {
         match word.letter {
-            b'X' => take_axis(&mut self.x, line, unit, &word.num),
-            b'Y' => take_axis(&mut self.y, line, unit, &word.num),
-            b'Z' => take_axis(&mut self.z, line, unit, &word.num),
-            b'G' => take_motion(&mut self.kind, &word.num),
+            b'X' => take_axis(&mut self.x, line, unit, word.num),
+            b'Y' => take_axis(&mut self.y, line, unit, word.num),
+            b'Z' => take_axis(&mut self.z, line, unit, word.num),
+            b'G' => take_motion(&mut self.kind, word.num),
             b'F' => take_feed(&mut self.feed),
             _ => false,
         }
@@ -123,53 +159,65 @@ impl PlainLine {
 
 // Takes an axis number, where the line has no other of its axis, and it is on the grid and in range.
 #[inline(always)]
-fn take_axis(axis: &mut Option<i32>, line: u64, unit: Unit, num: &Num) -> bool
-    requires { FitsNum 18 num.now }
+fn take_axis(axis: &mut Option<i32>, line: u64, unit: Unit, num: Num) -> bool
+    requires { FitsNum 18 num }
     ensures new { IsTrue result → axis.old ≡ None }
-    ensures units { IsTrue result → IsAxis unit line axis.new (Some num.now) }
+    ensures units { IsTrue result → IsAxis unit line axis.new (Some num) }
 {
     if axis.is_some() {
         return false;
     }
-    if num.scale == unit.places() as u8 {
-        return take_units(axis, line, unit, num);
-    }
-    take_scaled(axis, line, unit, num)
-}
-
-// The same of a number with the unit's decimals, where none stands so far.
-#[inline(always)]
-fn take_units(axis: &mut Option<i32>, _line: u64, unit: Unit, num: &Num) -> bool
-    requires { num.now.scale ≡ places_of unit }
-    ensures { IsTrue result → IsAxis unit _line axis.new (Some num.now) }
-{
-    if num.mant > u64::from(unit.greatest().unsigned_abs()) {
-        return false;
-    }
-    *axis = Some(signed(num.neg, num.mant as u32));
-    true
-}
-
-// The same of any number. It is kept apart, since most numbers of a program have the unit's decimals.
-#[inline(never)]
-fn take_scaled(axis: &mut Option<i32>, line: u64, unit: Unit, num: &Num) -> bool
-    requires { FitsNum 18 num.now }
-    ensures { IsTrue result → IsAxis unit line axis.new (Some num.now) }
-{
-    match units_of(line, *num, unit) {
-        Ok(units) => {
+    match units_in_range(line, unit, num) {
+        Some(units) => {
             *axis = Some(units);
             true
         }
-        Err(_) => false,
+        None => false,
+    }
+}
+
+// The units of an axis number, if it is on the grid and in range.
+#[inline(always)]
+fn units_in_range(line: u64, unit: Unit, num: Num) -> Option<i32>
+    requires { FitsNum 18 num }
+    ensures { IfSome result (λ units. IsUnits unit line units num) }
+{
+    if num.scale == unit.places() as u8 {
+        return whole_units(line, unit, num);
+    }
+    scaled_units(line, unit, num.neg, num.mant, num.scale)
+}
+
+// The same of a number with the unit's decimals.
+#[inline(always)]
+fn whole_units(_line: u64, unit: Unit, num: Num) -> Option<i32>
+    requires { num.scale ≡ places_of unit }
+    ensures { IfSome result (λ units. IsUnits unit _line units num) }
+{
+    if num.mant > u64::from(unit.greatest().unsigned_abs()) {
+        return None;
+    }
+    Some(signed(num.neg, num.mant as u32))
+}
+
+// The same of any number. It is kept apart, since most numbers of a program have the unit's decimals,
+// and takes the number's parts, so that those others need no place in memory.
+#[inline(never)]
+fn scaled_units(line: u64, unit: Unit, neg: bool, mant: u64, scale: u8) -> Option<i32>
+    requires { FitsNum 18 (record { neg = neg; mant = mant; scale = scale }) }
+    ensures { IfSome result (λ units. IsUnits unit line units (record { neg = neg; mant = mant; scale = scale })) }
+{
+    match units_of(line, Num { neg, mant, scale }, unit) {
+        Ok(units) => Some(units),
+        Err(_) => None,
     }
 }
 
 // Takes the number of a `G0` or `G1`, where the line has none so far.
 #[inline(always)]
-fn take_motion(kind: &mut Option<Kind>, num: &Num) -> bool
+fn take_motion(kind: &mut Option<Kind>, num: Num) -> bool
     ensures new { IsTrue result → kind.old ≡ None }
-    ensures kind { IsTrue result → IsMotion num.now kind.new }
+    ensures kind { IsTrue result → IsMotion num kind.new }
 {
     if kind.is_some() || num.neg || num.scale != 0 || num.mant > 1 {
         return false;

@@ -64,7 +64,26 @@ impl TextReader {
 
     // Takes the bytes before a line end, and reads the line that they end. The answer is its move,
     // if it makes one.
+    #[inline(always)]
     fn end_line(&mut self, bytes: &[u8]) -> Result<Option<Move>, NgcFault>
+        requires here { IsInUnitRange self.old.lines.unit self.old.lines.here }
+        requires number { self.old.lines.line < 2 ^ 63 }
+        ensures ok { IfOk result (λ made. after_line self.old.lines (self.old.unfinished ++ bytes.now) ≡ Ok (self.new.lines, made)) }
+        ensures fault { IfErr result (λ f. after_line self.old.lines (self.old.unfinished ++ bytes.now) ≡ Err f) }
+        ensures keeps { IfOk result (λ made. Keeps (line_begun self.old.lines) made self.new.lines) }
+        ensures begins { OnOk result (self.new.unfinished ≡ []) }
+    {
+        if self.unfinished.len() == 0 {
+            if let Some(made) = self.lines.read_plain(bytes) {
+                return Ok(Some(made));
+            }
+        }
+        self.end_any_line(bytes)
+    }
+
+    // The same of any line. It is kept apart, since most lines are plain.
+    #[inline(never)]
+    fn end_any_line(&mut self, bytes: &[u8]) -> Result<Option<Move>, NgcFault>
         requires here { IsInUnitRange self.old.lines.unit self.old.lines.here }
         requires number { self.old.lines.line < 2 ^ 63 }
         ensures ok { IfOk result (λ made. after_line self.old.lines (self.old.unfinished ++ bytes.now) ≡ Ok (self.new.lines, made)) }
@@ -129,14 +148,19 @@ impl TextReader {
     }
 }
 
-// Adds the move of a line, if it makes one.
+// Adds the move of a line, if it makes one. It is pushed by its parts, so that none of them needs a
+// place in memory first.
 fn add(moves: &mut Vec<Move>, made: Option<Move>) -> Result<(), NgcFault>
     ensures ok { OnOk result (moves.new.items ≡ moves.old.items ++ made_list made) }
     ensures fault { IfErr result (λ f. f ≡ faults.WantOfMemory) }
     ensures kept { OnErr result (moves.new.items ≡ moves.old.items) }
 {
     if let Some(made) = made {
-        moves.push(made)?;
+        moves.push(Move {
+            kind: made.kind,
+            from: made.from,
+            to: made.to,
+        })?;
     }
     Ok(())
 }

@@ -1,14 +1,16 @@
 -- What the marks of a line say, one after another: a slash, a line number, words, or the first fault.
-use Rattle.std.specs.Prelude.{ℕ, ◌+◌, ◌*◌, List, [], ◌∷◌, ◌++◌, length, Option, Some, None, Result, Ok, Err, Bool, true, false, not, ◌&&◌, ◌||◌, ◌==◌, if◌then◌else◌}
+use Rattle.std.specs.Prelude.{◌≡◌, ℕ, ◌+◌, ◌*◌, ◌<◌, List, [], ◌∷◌, ◌++◌, length, drop, slice_index, Option, Some, None, Result, Ok, Err, Bool, true, false, not, ◌&&◌, ◌||◌, ◌==◌, if◌then◌else◌}
 use Rattle.std.specs.Char.{is_ascii_digit, is_ascii_alphabetic, to_ascii_uppercase, digit_value}
 use Rattle.mill_words.specs.declared.word.WordFault.{WordFault}
 use Rattle.mill_words.specs.declared.word.WordFault.TheVariants as fault
 use Rattle.mill_words.specs.declared.marks.Mark.{Mark}
 use Rattle.mill_words.specs.declared.marks.Mark.TheVariants.{Byte, Gap, Broken}
+use Rattle.mill_words.specs.declared.marks.Region.TheVariants.{Outside}
 use Rattle.mill_words.specs.declared.open_word.OpenWord.{OpenWord}
 use Rattle.mill_words.specs.declared.stage.Stage.{Stage}
 use Rattle.mill_words.specs.declared.stage.Stage.TheVariants.{Start, Slashed, InLineNumber, Between, InWord}
-use Rattle.mill_words.specs.Marks.{marks_of}
+use Rattle.mill_words.specs.declared.word.Num.{Num}
+use Rattle.mill_words.specs.Marks.{marks_from, marks_of}
 use Rattle.mill_words.specs.Words.{Line, empty_line}
 
 -- a fault ends the reading
@@ -133,3 +135,25 @@ read_marks stage line (m ∷ ms) = taken_mark m stage line >>= λ s. read_marks 
 -- what a line says, or its first fault; as the marks are read from the left, it is that of the least place
 unfoldable pub line_of : List ℕ → Result Line WordFault
 line_of line = read_marks Start empty_line (marks_of line)
+
+-- ---- the line from a place on
+
+-- nothing stands before the first place, and before others a word that has ended
+abbrev pub stage_at : ℕ → Stage
+stage_at p = if p == 0 then Start else Between
+
+-- what a line says from the place p on, outside comments, where what stands before it says l
+unfoldable pub line_from : Line → List ℕ → ℕ → Result Line WordFault
+line_from l bytes p = read_marks (stage_at p) l (marks_from Outside p (drop p bytes))
+
+-- the letter of a word, which N (78) isn't
+abbrev pub is_word_letter : ℕ → Bool
+is_word_letter b = is_ascii_alphabetic b && not (to_ascii_uppercase b == 78)
+
+-- a word that stands before the place p ends there: a letter stands at it, or the line ends
+abbrev pub EndsWord : List ℕ → ℕ → Type 0
+EndsWord bytes p = p < length bytes → is_ascii_alphabetic (slice_index bytes p) ≡ true
+
+-- the line with one word more
+abbrev pub and_word : Line → ℕ → Num → Line
+and_word l letter n = record l { words = l.words ++ record { letter = letter; num = n } ∷ [] }

@@ -16,4 +16,5 @@ mod word;
 
 pub use line::{read_line, read_line_into};
 pub use line_words::LineWords;
+pub use plain::{LetterNumber, plain_number_behind};
 pub use word::{Num, Word, WordFault};

@@ -1,8 +1,8 @@
 //! Plain words, which are read at once: a letter, a minus sign or none, digits, and a point with
 //! digits behind it or none.
 ghost use Rattle.std.specs.Prelude.{◌≡◌, ℕ, Bool, false, true, ◌<◌, ◌≤◌, ◌+◌, ◌^◌, length, slice_index, IfSome, IsTrue};
-ghost use Rattle.std.specs.Char.{is_ascii_alphabetic};
-ghost use Rattle.mill_words.specs.Lines.{opened_at};
+ghost use Rattle.std.specs.Char.{is_ascii_alphabetic, to_ascii_uppercase};
+ghost use Rattle.mill_words.specs.Lines.{EndsWord, and_word, is_word_letter, line_from, opened_at};
 ghost use Rattle.mill_words.specs.Words.{Line, FitsNum};
 ghost use Rattle.mill_words.specs.declared.marks.Region.TheVariants.{Outside};
 ghost use Rattle.mill_words.specs.declared.stage.Stage.{Stage};
@@ -23,6 +23,45 @@ pub(crate) struct PlainNumber {
     pub pointed: bool,
     /// The place behind it.
     pub end: usize,
+}
+
+/// The number behind a letter, and where the next word may begin.
+#[derive(Clone, Copy)]
+pub struct LetterNumber {
+    pub num: Num,
+    pub end: usize,
+}
+
+/// The number of the word whose letter stands at a place, if it is plain: a minus sign or none, 1 to
+/// 18 digits, a point before, among or behind them or none, and behind all that a blank or none.
+///
+/// Where a letter stands at its end, or the line ends there, the line says that word and goes on
+/// there: `word` tells it of a letter other than `N`, behind at most 31 words. Where any other byte
+/// stands there, or the answer is none, nothing is said of the line, and [`read_line_into`] is to
+/// read it.
+///
+/// [`read_line_into`]: crate::read_line_into
+#[inline(always)]
+pub fn plain_number_behind(line: &[u8], place: usize) -> Option<LetterNumber>
+    requires within { place < length line.now }
+    ensures word { IfSome result (λ n. (l : Line) → is_word_letter (slice_index line.now place) ≡ true → length l.words < 32 → EndsWord line.now n.end →
+        line_from l line.now place ≡ line_from (and_word l (to_ascii_uppercase (slice_index line.now place)) n.num) line.now n.end) }
+    ensures fits { IfSome result (λ n. FitsNum 18 n.num) }
+    ensures forward { IfSome result (λ n. place < n.end) }
+    ensures within { IfSome result (λ n. n.end ≤ length line.now) }
+{
+    let number = number_at(line, place + 1);
+    if number.digits == 0 {
+        return None;
+    }
+    Some(LetterNumber {
+        num: Num {
+            neg: number.num.neg,
+            mant: number.num.mant,
+            scale: number.num.scale,
+        },
+        end: behind_blank(line, number.end),
+    })
 }
 
 /// Takes the plain words that stand from a letter on, outside comments and where nothing has begun.

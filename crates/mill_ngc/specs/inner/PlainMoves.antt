@@ -1,15 +1,20 @@
 -- What a line that is only a move has said so far, and its move.
-use Rattle.std.specs.Prelude.{◌≡◌, ℕ, ℤ, Bool, true, false, ◌||◌, List, drop, Option, Some, None, is_some, unwrap_or, Ok}
+use Rattle.std.specs.Prelude.{◌≡◌, ℕ, ℤ, ◌+◌, ◌<◌, ◌≤◌, Bool, true, false, ◌||◌, if◌then◌else◌, List, ◌++◌, drop, length, Option, Some, None, is_some, unwrap_or, Result, Ok}
+use Rattle.std.specs.Char.{is_ascii_alphabetic, to_ascii_uppercase}
 use Rattle.std.specs.List.{list_any}
 use Rattle.mill_base.specs.Numbers.{Within}
+use Rattle.mill_base.specs.declared.limits.TheConstants.{MAX_MOVES}
 use Rattle.mill_base.specs.Ranges.{IsInUnitRange}
 use Rattle.mill_base.specs.Units.{greatest_of}
 use Rattle.mill_base.specs.declared.motion.Kind.{Kind}
+use Rattle.mill_base.specs.declared.motion.Move.{Move}
 use Rattle.mill_base.specs.declared.points.Pt3.{Pt3}
 use Rattle.mill_base.specs.declared.unit.Unit.{Unit as LengthUnit}
+use Rattle.mill_words.specs.Lines.{EndsWord, is_word_letter, line_from, line_of}
 use Rattle.mill_words.specs.Words.{Line}
 use Rattle.mill_words.specs.declared.word.Num.{Num}
 use Rattle.mill_words.specs.declared.word.Word.{Word}
+use Rattle.mill_ngc.specs.declared.fault.NgcFault.{NgcFault}
 use Rattle.mill_ngc.specs.declared.groups.Group.{Group}
 use Rattle.mill_ngc.specs.declared.plain_move.PlainLine.{PlainLine}
 use Rattle.mill_ngc.specs.declared.plain_move.PlainMove.{PlainMove}
@@ -71,6 +76,19 @@ pub record Says (unit : LengthUnit) (line : ℕ) (plain : PlainLine) (s : Said) 
   pub ends : s.ends ≡ false
   pub free : AreFree plain s.groups
 
+abbrev pub one_if : Bool → ℕ
+one_if b = if b then 1 else 0
+
+-- how many words such a line has, each of which says another thing
+abbrev pub words_in : PlainLine → ℕ
+words_in plain = one_if (is_some plain.kind) + (one_if plain.feed + (one_if (is_some plain.x) + (one_if (is_some plain.y) + one_if (is_some plain.z))))
+
+-- the letter of a word, in upper case
+pub record IsCapital (b : ℕ) : Type 0 where
+  pub letter : is_word_letter b ≡ true
+  pub alphabetic : is_ascii_alphabetic b ≡ true
+  pub upper : to_ascii_uppercase b ≡ b
+
 -- one word more has said this
 pub record Goes (unit : LengthUnit) (line : ℕ) (positioned : Bool) (w : Word) (s : Said) (plain : PlainLine) : Type 0 where
   pub said : Said
@@ -79,8 +97,9 @@ pub record Goes (unit : LengthUnit) (line : ℕ) (positioned : Bool) (w : Word) 
 
 -- ---- the move
 
--- a line that is only a move changes neither the frame nor the settings
+-- a line that is only a move changes neither the frame nor the settings, and there is room for its move
 pub record IsReady (p : Progress) : Type 0 where
+  pub few : p.moves < MAX_MOVES
   pub frame : (blank : Bool) → frame_after p.frame blank ≡ p.frame
   pub millimetres : p.millimetres ≡ true
   pub absolute : p.absolute ≡ true
@@ -94,9 +113,14 @@ pub record IsEnd (p : Progress) (plain : PlainLine) (m : PlainMove) : Type 0 whe
   pub mode : unwrap_or (mode_of plain.kind) p.mode ≡ On m.kind
   pub to : m.to ≡ plain_target p.here plain
 
+-- the move is made, and a program goes on
+abbrev pub made_plain : Progress → PlainMove → Result (Progress × Option Move) NgcFault
+made_plain p m = made_move (record p { mode = On m.kind; ended = false }) m.kind m.to
+
 -- all that a line does is this move
 pub record MovesTo (p : Progress) (l : Line) (m : PlainMove) : Type 0 where
-  pub moves : after_words p l ≡ made_move (record p { mode = On m.kind; ended = false }) m.kind m.to
+  pub moves : after_words p l ≡ made_plain p m
+  pub few : p.moves < MAX_MOVES
   pub in_range : IsInUnitRange p.unit m.to
 
 -- the first i words of a line have said this
@@ -104,3 +128,19 @@ pub record TakenTo (p : Progress) (words : List Word) (i : ℕ) (plain : PlainLi
   pub said : Said
   pub so_far : said_from p.line p.positioned said (drop i words) ≡ said_from p.line p.positioned nothing_said words
   pub says : Says p.unit p.line plain said
+
+-- the bytes of a line before a place are words that have said this
+pub record ReadTo (p : Progress) (bytes : List ℕ) (place : ℕ) (plain : PlainLine) : Type 0 where
+  pub line : Line
+  pub rest : EndsWord bytes place → line_of bytes ≡ line_from line bytes place
+  pub slash : line.slash ≡ false
+  pub said : Said
+  pub so_far : (more : List Word) → said_from p.line p.positioned nothing_said (line.words ++ more) ≡ said_from p.line p.positioned said more
+  pub says : Says p.unit p.line plain said
+  pub few : length line.words ≤ words_in plain
+
+-- all that a line of these bytes does is this move
+pub record LineMovesTo (p : Progress) (bytes : List ℕ) (m : PlainMove) : Type 0 where
+  pub line : Line
+  pub told : line_of bytes ≡ Ok line
+  pub moves : MovesTo p line m

@@ -4,12 +4,12 @@ use Rattle.mill_ngc.proofs.PlainLemmas.{none-taken, one-more-taken, moves-if-end
 use Rattle.mill_ngc.proofs.progress.Progress.plain_move.Goals as goal
 
 pub loop-word-init : goal.loop-word-init
-loop-word-init c = none-taken c.args.self.now c.words-word-items.result.now
+loop-word-init c = rw c.new-plain.ensures (none-taken c.args.self.now c.words-word-items.result.now)
 
 pub loop-word-preserved : goal.loop-word-preserved
 loop-word-preserved c =
     let taken : c.take.result ≡ true = search rules in
-    one-more-taken c.args.self.now c.words-word-items.result.now c.loop-word.word-index _ c.loop-word.plain c.take.new.self c.loop-word-test.true (c.take.ensures taken) c.loop-word.invariant
+    one-more-taken c.args.self.now c.words-word-items.result.now c.loop-word.word-index _ c.loop-word.plain c.take.new.self c.loop-word-test.true (c.take.ensures.goes taken) c.loop-word.invariant
 
 pub returns : goal.returns
 returns c =

@@ -1,6 +1,6 @@
 use Rattle.std.proofs.Common.{◌++◌, ◌<◌, length, arith, rules, length-append}
 use Rattle.mill_ngc.proofs.PieceLemmas.{too_long}
-use Rattle.mill_ngc.proofs.text_reader.TextReader.end_line.Goals as goal
+use Rattle.mill_ngc.proofs.text_reader.TextReader.end_any_line.Goals as goal
 
 pub returns-then-len-bytes-gt-LONGEST-clause-fault : goal.returns-then-len-bytes-gt-LONGEST-clause-fault
 returns-then-len-bytes-gt-LONGEST-clause-fault c =
