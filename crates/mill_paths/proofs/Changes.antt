@@ -11,7 +11,7 @@ changes_more : (v : Visit) (ws us : List Visit) → changes_after v ws ≤ chang
 changes_more v [] us = omega arith
 changes_more v (w ∷ ws) us = let h : changes_after w ws ≤ changes_after w (ws ++ us) = changes_more w ws us in omega arith
 
-more_changes : (xs ys : List Visit) → change_count xs ≤ change_count (xs ++ ys)
+pub more_changes : (xs ys : List Visit) → change_count xs ≤ change_count (xs ++ ys)
 more_changes [] ys = omega arith
 more_changes (v ∷ vs) ys = changes_more v vs ys
 

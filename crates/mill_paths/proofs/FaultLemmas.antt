@@ -11,6 +11,7 @@ use Rattle.mill_base.specs.declared.lattice.Lattice.{Lattice}
 use Rattle.mill_base.specs.declared.unit.Unit.{Unit}
 use Rattle.mill_paths.proofs.Kept.{unit_coordinate}
 use Rattle.mill_paths.specs.Limits.{change_count, most_changes, HasManyNodes, IsHeightsFault, IsListFault}
+use Rattle.mill_paths.specs.inner.Rows.{IsFinishFault}
 use Rattle.mill_paths.specs.declared.fault.PathFault.{PathFault}
 use Rattle.mill_paths.specs.declared.fault.PathFault.TheVariants.{TooManyNodes, TooManyVisits, WantOfMemory}
 use Rattle.mill_paths.specs.declared.visit.Visit.{Visit}
@@ -80,6 +81,18 @@ list_fault_visits r visits WantOfMemory is h e = absurd (memory_apart_visits (sa
 pub list_there : {T : Type 0} (v : T) (lattice : Lattice) → IsMapLattice lattice → (n : ℕ)
     → (Ok v ≡ Err (TooManyNodes n) → HasManyNodes lattice n) × (HasManyNodes lattice n → Ok v ≡ Err (TooManyNodes n))
 list_there v lattice ok n = (λ e. absurd (ok_apart v (TooManyNodes n) e), λ many. absurd (few_nodes lattice n ok.few many))
+
+-- what a fault of the drop heights tells of the finishing visits, and one of a list of them over a lattice of few nodes
+pub from_heights : (lattice : Lattice) (many : Type 0) (fault : PathFault) → IsHeightsFault lattice fault → IsFinishFault lattice many fault
+from_heights lattice many (TooManyNodes n) h = h
+from_heights lattice many TooManyVisits h = absurd h
+from_heights lattice many WantOfMemory h = h
+
+pub from_list : (lattice : Lattice) (many : Type 0) (visits : List Visit) (fault : PathFault) → node_count lattice ≤ MAX_NODES → (most_changes < change_count visits → many)
+    → IsListFault visits fault → IsFinishFault lattice many fault
+from_list lattice many visits (TooManyNodes n) few gives h = absurd h
+from_list lattice many visits TooManyVisits few gives h = (few, gives h)
+from_list lattice many visits WantOfMemory few gives h = few
 
 pub no_layer : (layer : ℤ) → layer ≡ pos 0 → (pos 0) <ℤ layer → ⊥
 no_layer layer none some = absurd (omega (arith, ints))

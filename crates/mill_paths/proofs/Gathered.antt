@@ -30,6 +30,13 @@ module _ {V E : Type 0} (R : ℕ → Result V E → Type 0) where
         subst (λ vs. AllZip S zs (map f vs)) (sym h.2) (AllZip-listed S zs d (map f h.0) (subst (λ ns. AllZip (λ k y. S (get_or zs k d) y) ns (map f h.0)) numbers made))
     when_made S f zs d numbers give (Err e) h = tt
 
+    -- and so they are by these numbers themselves
+    pub when_counted : {Y : Type 0} (S : ℕ → Y → Type 0) (f : V → Y) → ((k : ℕ) (v : V) → R k (Ok v) → S k (f v))
+        → (r : Result C E) → MatchResult r (λ c. (vs : List V) × (xs ≡ map Ok vs) × (items c ≡ vs)) (λ e. Contains xs (Err e)) → IfOk r (λ c. AllZip S ks (map f (items c)))
+    when_counted S f give (Ok c) h =
+        subst (λ vs. AllZip S ks (map f vs)) (sym h.2) (each_made S f give ks h.0 (subst (λ rs. AllZip R ks rs) h.1 each))
+    when_counted S f give (Err e) h = tt
+
     pub when_failed : (G : E → Type 0) → ((k : ℕ) (e : E) → R k (Err e) → G e)
         → (r : Result C E) → MatchResult r (λ c. (vs : List V) × (xs ≡ map Ok vs) × (items c ≡ vs)) (λ e. Contains xs (Err e)) → IfErr r G
     when_failed G give (Ok c) h = tt

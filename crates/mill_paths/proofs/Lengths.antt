@@ -1,5 +1,5 @@
 -- How many moves a plan has at least.
-use Rattle.std.specs.Prelude.{◌≡◌, ℕ, zero, suc, ◌+◌, ◌<◌, ◌≤◌, Bool, true, false, ◌&&◌, if◌then◌else◌, ℤ, pos, ◌+ℤ◌, int_lt, int_le, List, [], ◌∷◌, ◌++◌, length, map, take, get_or, All}
+use Rattle.std.specs.Prelude.{◌≡◌, ℕ, zero, suc, ◌+◌, ◌<◌, ◌≤◌, Bool, true, false, ◌&&◌, if◌then◌else◌, ℤ, pos, ◌+ℤ◌, int_lt, int_le, List, [], ◌∷◌, ◌++◌, length, map, take, get_or, All, Option, None, Some, MatchOption}
 use Rattle.std.specs.Ordering.{int_eq}
 use Rattle.std.specs.List.{flat_map}
 use Rattle.std.proofs.Common.{inl, inr, refl, sym, ap, ◌∙◌, subst, arith}
@@ -11,7 +11,9 @@ use Rattle.mill_base.specs.declared.lattice.Lattice.{Lattice}
 use Rattle.mill_base.specs.declared.motion.Move.{Move}
 use Rattle.mill_base.specs.declared.points.Pt3.{Pt3}
 use Rattle.mill_base.specs.declared.points.Tri.{Tri}
+use Rattle.mill_drop.proofs.Uniqueness.{one_map}
 use Rattle.mill_job.specs.Columns.{home}
+use Rattle.mill_job.specs.Jobs.{tool_of}
 use Rattle.mill_job.specs.declared.job.Job.{Job}
 use Rattle.mill_level.specs.Waterlines.{Outline}
 use Rattle.mill_paths.specs.Lattices.{finish_lattice, rough_lattice, zigzag_of}
@@ -19,9 +21,10 @@ use Rattle.mill_paths.specs.Limits.{change_count, changes_after, is_same_point, 
 use Rattle.mill_paths.specs.Links.{IsLink, climb, cross, descend, pecks, plunge, way_home}
 use Rattle.mill_paths.specs.Tours.{AreLinks, IsPlan, IsTour, last_place}
 use Rattle.mill_paths.specs.Unique.{ManyFinishVisitsMakeMoves, ManyLevelVisitsMakeMoves, ManyRoughVisitsMakeMoves, PlanIsLonger}
-use Rattle.mill_paths.specs.Visits.{finish_visit, finish_visits_of, height_at, level_visits_of, outline_visits, rough_levels, rough_visit, rough_visits_of, rough_visits_on, visit_at, visit_if}
+use Rattle.mill_paths.specs.Visits.{AreNodeVisits, AreRowVisits, HaveManyNodeVisits, HaveManyRowVisits, finish_visit, finish_visits_of, height_at, level_visits_of, outline_visits, rough_levels, rough_visit, rough_visits_of, rough_visits_on, row_visits_from, visit_at, visit_if}
 use Rattle.mill_paths.specs.declared.visit.Visit.{Visit}
-use Rattle.mill_paths.proofs.Uniqueness.{one_finish, one_level, one_link, one_rough, one_visits}
+use Rattle.mill_paths.proofs.Uniqueness.{first_changes, one_level, one_link, one_rough, one_visits}
+use Rattle.mill_paths.proofs.Elsewhere.{Apart, Elsewhere, all_elsewhere}
 use Rattle.mill_paths.proofs.OutlineLemmas.{all_given}
 use Rattle.mill_paths.proofs.VisitLemmas.{All-flat_map}
 
@@ -138,11 +141,45 @@ level_steps job waterlines =
     all_given (λ (v : Visit). v.step ≡ job.raster) (outline_visits job.raster) (get_or waterlines k d) (λ i e within.
     outline_step job.raster (get_or (get_or waterlines k d) i e)))
 
+-- these visits, which come after v, are each at another place than the one before it, or else have its step
+AreMovesAfter : Visit → List Visit → Type 0
+AreMovesAfter v [] = Unit {0}
+AreMovesAfter v (w ∷ ws) = (w.at ≡ v.at → w.step ≡ v.step) × AreMovesAfter w ws
+
+AreMoves : List Visit → Type 0
+AreMoves [] = Unit {0}
+AreMoves (v ∷ vs) = AreMovesAfter v vs
+
+-- so are visits that all have one step
+moves_of_step : (step : ℤ) (v : Visit) (vs : List Visit) → v.step ≡ step → HaveStep step vs → AreMovesAfter v vs
+unfolding AreMovesAfter
+moves_of_step step v [] is steps = tt
+moves_of_step step v (w ∷ ws) is steps =
+    let next : w.step ≡ step = All-head (λ (u : Visit). u.step ≡ step) w ws steps in
+    (λ there. next ∙ sym is, moves_of_step step w ws next (All-tail (λ (u : Visit). u.step ≡ step) w ws steps))
+
+steps_move : (step : ℤ) (visits : List Visit) → HaveStep step visits → AreMoves visits
+unfolding AreMoves
+steps_move step [] steps = tt
+steps_move step (v ∷ vs) steps = moves_of_step step v vs (All-head (λ (u : Visit). u.step ≡ step) v vs steps) (All-tail (λ (u : Visit). u.step ≡ step) v vs steps)
+
+-- and visits that are all at different places
+moves_elsewhere : (v : Visit) (vs : List Visit) → All (Elsewhere v) vs → Apart Elsewhere vs → AreMovesAfter v vs
+unfolding AreMovesAfter
+moves_elsewhere v [] away apart = tt
+moves_elsewhere v (w ∷ ws) away apart = (λ there. absurd (All-head (Elsewhere v) w ws away there), moves_elsewhere w ws apart.0 apart.1)
+
+apart_move : (visits : List Visit) → Apart Elsewhere visits → AreMoves visits
+unfolding AreMoves
+apart_move [] apart = tt
+apart_move (v ∷ vs) apart = moves_elsewhere v vs apart.0 apart.1
+
 module _ (job : Job) (part : List Tri) where
-  -- the link from a visit to another of its path has a move, where they differ
-  link_counts : (done : List Move) (v w : Visit) (link : List Move) → w.step ≡ v.step → IsLink job part done v.at w link → (if is_same_visit v w then 0 else 1) ≤ length link
+  -- the link from such a visit to the next has a move, where they differ
+  link_counts : (done : List Move) (v w : Visit) (link : List Move) → (w.at ≡ v.at → w.step ≡ v.step) → IsLink job part done v.at w link
+      → (if is_same_visit v w then 0 else 1) ≤ length link
   link_counts done v w link step (inl stay) =
-      subst (λ (t : Bool). (if t then 0 else 1) ≤ length link) (sym (same_visit v w stay.there step)) (least (length link))
+      subst (λ (t : Bool). (if t then 0 else 1) ≤ length link) (sym (same_visit v w stay.there (step stay.there))) (least (length link))
   link_counts done v w link step (inr (inl straight)) =
       at_most_one (is_same_visit v w) (length link) (subst (λ (ms : List Move). 0 < length ms) (sym straight.feed) (omega arith))
   link_counts done v w link step (inr (inr round)) =
@@ -156,42 +193,40 @@ module _ (job : Job) (part : List Tri) where
       pecks_some zero depth at z = omega arith
       pecks_some (suc n) depth at z = omega arith
 
-  -- so a tour through the visits of a path has a move for each that differs from the one before it
-  counted_after : (step : ℤ) (done : List Move) (v : Visit) (vs more : List Visit) (links : List (List Move)) → v.step ≡ step → HaveStep step vs
-      → AreLinks job part done v.at (vs ++ more) links → changes_after v vs ≤ length (joined links)
-  counted_after step done v [] more links is steps are = least (length (joined links))
-  counted_after step done v (w ∷ ws) more [] is steps are = absurd are
-  counted_after step done v (w ∷ ws) more (l ∷ ls) is steps are =
-      let next : w.step ≡ step = All-head (λ (u : Visit). u.step ≡ step) w ws steps in
-      sum (if is_same_visit v w then 0 else 1) (changes_after w ws) l (joined ls) (link_counts done v w l (next ∙ sym is) are.0)
-      (counted_after step (done ++ l) w ws more ls next (All-tail (λ (u : Visit). u.step ≡ step) w ws steps) are.1)
+  -- so a tour through such visits has a move for each that differs from the one before it
+  counted_after : (done : List Move) (v : Visit) (vs more : List Visit) (links : List (List Move)) → AreMovesAfter v vs → AreLinks job part done v.at (vs ++ more) links
+      → changes_after v vs ≤ length (joined links)
+  unfolding AreMovesAfter
+  counted_after done v [] more links apart are = least (length (joined links))
+  counted_after done v (w ∷ ws) more [] apart are = absurd are
+  counted_after done v (w ∷ ws) more (l ∷ ls) apart are =
+      sum (if is_same_visit v w then 0 else 1) (changes_after w ws) l (joined ls) (link_counts done v w l apart.0 are.0) (counted_after (done ++ l) w ws more ls apart.1 are.1)
 
   -- also where it comes through others before and after them
-  counted : (step : ℤ) (done : List Move) (from : Pt3) (before visits more : List Visit) (links : List (List Move)) → HaveStep step visits
+  counted : (done : List Move) (from : Pt3) (before visits more : List Visit) (links : List (List Move)) → AreMoves visits
       → AreLinks job part done from (before ++ (visits ++ more)) links → change_count visits ≤ length (joined links)
-  counted step done from [] [] more links steps are = least (length (joined links))
-  counted step done from [] (v ∷ vs) more [] steps are = absurd are
-  counted step done from [] (v ∷ vs) more (l ∷ ls) steps are =
-      after (changes_after v vs) l (joined ls)
-      (counted_after step (done ++ l) v vs more ls (All-head (λ (u : Visit). u.step ≡ step) v vs steps) (All-tail (λ (u : Visit). u.step ≡ step) v vs steps) are.1)
-  counted step done from (b ∷ bs) visits more [] steps are = absurd are
-  counted step done from (b ∷ bs) visits more (l ∷ ls) steps are = after (change_count visits) l (joined ls) (counted step (done ++ l) b.at bs visits more ls steps are.1)
+  unfolding AreMoves
+  counted done from [] [] more links apart are = least (length (joined links))
+  counted done from [] (v ∷ vs) more [] apart are = absurd are
+  counted done from [] (v ∷ vs) more (l ∷ ls) apart are = after (changes_after v vs) l (joined ls) (counted_after (done ++ l) v vs more ls apart are.1)
+  counted done from (b ∷ bs) visits more [] apart are = absurd are
+  counted done from (b ∷ bs) visits more (l ∷ ls) apart are = after (change_count visits) l (joined ls) (counted (done ++ l) b.at bs visits more ls apart are.1)
 
-  tour_counts : (step : ℤ) (done : List Move) (from : Pt3) (before visits more : List Visit) (moves : List Move) → HaveStep step visits
+  tour_counts : (done : List Move) (from : Pt3) (before visits more : List Visit) (moves : List Move) → AreMoves visits
       → IsTour job part done from (before ++ (visits ++ more)) moves → change_count visits ≤ length moves
-  tour_counts step done from before visits more moves steps tour =
-      subst (λ (ms : List Move). change_count visits ≤ length ms) (sym tour.joined) (counted step done from before visits more tour.links steps tour.are)
+  tour_counts done from before visits more moves apart tour =
+      subst (λ (ms : List Move). change_count visits ≤ length ms) (sym tour.joined) (counted done from before visits more tour.links apart tour.are)
 
 over : (a b c d : ℕ) → a < b → b ≤ c → c ≤ d → a < d
 over a b c d h g k = omega (h, g, k, arith)
 
 -- a plan comes through the visits of each of its parts, so that it has a move for each that differs from the one before it
-plan_counts : (job : Job) (part : List Tri) (step : ℤ) (before visits more : List Visit) (moves : List Move) (plan : IsPlan job part moves) → HaveStep step visits
+plan_counts : (job : Job) (part : List Tri) (before visits more : List Visit) (moves : List Move) (plan : IsPlan job part moves) → AreMoves visits
     → plan.visits ≡ before ++ (visits ++ more) → most_changes < change_count visits → most_changes < length moves
-plan_counts job part step before visits more moves plan steps all many =
+plan_counts job part before visits more moves plan apart all many =
     let tour : IsTour job part [] (home job) (before ++ (visits ++ more)) plan.toured = subst (λ (vs : List Visit). IsTour job part [] (home job) vs plan.toured) all plan.tour in
     over most_changes (change_count visits) (length plan.toured) (length moves) many
-    (tour_counts job part step [] (home job) before visits more plan.toured steps tour) (tour_within job part moves plan)
+    (tour_counts job part [] (home job) before visits more plan.toured apart tour) (tour_within job part moves plan)
 
 pub many_rough : ManyRoughVisitsMakeMoves
 many_rough job part moves layer many plan =
@@ -200,7 +235,7 @@ many_rough job part moves layer many plan =
     one_rough job part are.rough (rough_visits_of job many.heights) are.are_rough (record { heights = many.heights; are = λ some. many.are; visits = refl }) in
     let count : most_changes < change_count are.rough = subst (λ (vs : List Visit). most_changes < change_count vs) (sym same) many.many in
     let steps : HaveStep job.rough_raster are.rough = subst (λ (vs : List Visit). HaveStep job.rough_raster vs) (sym same) (rough_steps job many.heights) in
-    plan_counts job part job.rough_raster [] are.rough (are.level ++ are.finish) moves plan steps (are.all ∙ append_assoc are.rough are.level are.finish) count
+    plan_counts job part [] are.rough (are.level ++ are.finish) moves plan (steps_move job.rough_raster are.rough steps) (are.all ∙ append_assoc are.rough are.level are.finish) count
 
 pub many_level : ManyLevelVisitsMakeMoves
 many_level job part moves many plan =
@@ -209,14 +244,41 @@ many_level job part moves many plan =
     one_level job part are.level (level_visits_of job many.waterlines) are.are_level (record { waterlines = many.waterlines; are = many.are; visits = refl }) in
     let count : most_changes < change_count are.level = subst (λ (vs : List Visit). most_changes < change_count vs) (sym same) many.many in
     let steps : HaveStep job.raster are.level = subst (λ (vs : List Visit). HaveStep job.raster vs) (sym same) (level_steps job many.waterlines) in
-    plan_counts job part job.raster are.rough are.level are.finish moves plan steps (are.all ∙ append_assoc are.rough are.level are.finish) count
+    plan_counts job part are.rough are.level are.finish moves plan (steps_move job.raster are.level steps) (are.all ∙ append_assoc are.rough are.level are.finish) count
+
+-- many finishing visits, at the nodes or along the first rows' paths, are so of all
+record AreMany (visits : List Visit) : Type 0 where
+  apart : AreMoves visits
+  count : most_changes < change_count visits
+
+many_at_nodes : (job : Job) (part : List Tri) (list : List Visit) → HaveManyNodeVisits job part → AreNodeVisits job part list → AreMany list
+many_at_nodes job part list many are =
+    let same : list ≡ finish_visits_of job many.heights =
+    are.visits ∙ ap (λ (heights : List ℤ). finish_visits_of job heights) (one_map (tool_of job) part job.floor (finish_lattice job) are.heights many.heights are.are many.are) in
+    record {
+      apart = subst (λ (vs : List Visit). AreMoves vs) (sym same) (steps_move job.raster (finish_visits_of job many.heights) (finish_steps job many.heights));
+      count = subst (λ (vs : List Visit). most_changes < change_count vs) (sym same) many.many;
+    }
+
+many_along_rows : (job : Job) (part : List Tri) (tol : ℤ) (list : List Visit) → HaveManyRowVisits job part tol → AreRowVisits job part tol list → AreMany list
+many_along_rows job part tol list many are = record {
+  apart = subst (λ (vs : List Visit). AreMoves vs) (sym are.visits) (apart_move (row_visits_from job 0 are.paths) (all_elsewhere job part tol are.paths are.are));
+  count = subst (λ (vs : List Visit). most_changes < change_count vs) (sym are.visits)
+      (past most_changes (change_count (row_visits_from job 0 many.paths)) (change_count (row_visits_from job 0 are.paths)) many.many
+      (first_changes job part tol many.rows many.paths are.paths many.are are.are));
+}
+  where
+    past : (a b c : ℕ) → a < b → b ≤ c → a < c
+    past a b c h g = omega (h, g, arith)
 
 pub many_finish : ManyFinishVisitsMakeMoves
 many_finish job part moves many plan =
     let are = plan.are in
-    let same : are.finish ≡ finish_visits_of job many.heights =
-    one_finish job part are.finish (finish_visits_of job many.heights) are.are_finish (record { heights = many.heights; are = many.are; visits = refl }) in
-    let count : most_changes < change_count are.finish = subst (λ (vs : List Visit). most_changes < change_count vs) (sym same) many.many in
-    let steps : HaveStep job.raster are.finish = subst (λ (vs : List Visit). HaveStep job.raster vs) (sym same) (finish_steps job many.heights) in
-    plan_counts job part job.raster (are.rough ++ are.level) are.finish [] moves plan steps
-    (are.all ∙ ap (λ (vs : List Visit). are.rough ++ are.level ++ vs) (sym (append-nil are.finish))) count
+    let all : AreMany are.finish = by are.finish job.path_tol many are.are_finish in
+    plan_counts job part (are.rough ++ are.level) are.finish [] moves plan all.apart
+    (are.all ∙ ap (λ (vs : List Visit). are.rough ++ are.level ++ vs) (sym (append-nil are.finish))) all.count
+  where
+    by : (list : List Visit) (t : Option ℤ) → MatchOption t (HaveManyNodeVisits job part) (λ tol. HaveManyRowVisits job part tol)
+        → MatchOption t (AreNodeVisits job part list) (λ tol. AreRowVisits job part tol list) → AreMany list
+    by list None h g = many_at_nodes job part list h g
+    by list (Some tol) h g = many_along_rows job part tol list h g

@@ -12,14 +12,18 @@ pub mod Adding
 pub mod PathLemmas
 pub mod ZigzagLemmas
 pub mod LevelLemmas
+pub mod RowVisits
+pub mod RowPoints
 pub mod VisitLemmas
 pub mod OutlineLemmas
 pub mod FaultLemmas
 pub mod Steps
 pub mod Uniqueness
+mod Elsewhere
 pub mod Lengths
 pub mod Rounds
 mod Many
 mod Kept
 mod Gathered
 mod Along
+mod Finishing

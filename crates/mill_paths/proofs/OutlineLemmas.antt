@@ -30,7 +30,7 @@ use Rattle.mill_paths.specs.Lattices.{finish_lattice}
 use Rattle.mill_paths.specs.Visits.{AreWaterlines, IsVisit, LevelVisitsAreFree, level_visits_of, outline_visits}
 use Rattle.mill_paths.specs.declared.visit.Visit.{Visit}
 use Rattle.mill_paths.proofs.ToolLemmas.{gouges_lower}
-use Rattle.mill_paths.proofs.VisitLemmas.{IsJobLattice, area_in_range, positions_within}
+use Rattle.mill_paths.proofs.VisitLemmas.{IsJobLattice, area_in_range, positions_within, wider_step}
 
 in_contains : {X : Type 0} (x : X) (xs : List X) → Contains xs x → IsIn x xs
 in_contains x [] h = let less = h.1 in absurd (omega arith)
@@ -197,7 +197,7 @@ module _ (job : Job) (part : List Tri) (ok : IsJob job) (z : ℤ) (low : job.flo
         kept = low;
         under_top = high;
         free = crossing_free (tool_of job) part z job.unit (finish_lattice job) lattice_ok line.grid line.tells c last;
-        step_ok = ok.raster_ok;
+        step_ok = wider_step job.raster ok.raster_ok;
       }
 
   -- the visits along a chain, and along all chains of a waterline

@@ -1,11 +1,14 @@
 -- A job and a part settle the heights, the visits, the links and so the moves of their plan.
-use Rattle.std.specs.Prelude.{◌≡◌, Bool, true, false, if◌then◌else◌, ℤ, pos, ◌-ℤ◌, ◌*ℤ◌, ◌<ℤ◌, int_lt, List, [], ◌∷◌, ◌++◌, map}
+use Rattle.std.specs.Prelude.{◌≡◌, ℕ, zero, suc, ◌+◌, ◌≤◌, length, Bool, true, false, if◌then◌else◌, ℤ, pos, ◌-ℤ◌, ◌*ℤ◌, ◌<ℤ◌, int_lt, List, [], ◌∷◌, ◌++◌, map, take, drop, Option, None, Some, MatchOption}
 use Rattle.std.specs.List.{AllZip, flat_map, range_with_len}
 use Rattle.std.proofs.Common.{inl, inr, refl, sym, ap, ◌∙◌, subst, arith}
 use Rattle.std.proofs.lemmas.Int.{ints}
+use Rattle.std.proofs.lemmas.List.{take-append-drop}
+use Rattle.mill_base.specs.Lattices.{lattice_ys}
 use Rattle.mill_base.specs.declared.motion.Move.{Move}
 use Rattle.mill_base.specs.declared.points.Pt3.{Pt3}
 use Rattle.mill_base.specs.declared.points.Tri.{Tri}
+use Rattle.mill_drop.proofs.PathLemmas.{same_path}
 use Rattle.mill_drop.proofs.Uniqueness.{one_map}
 use Rattle.mill_job.specs.Columns.{home}
 use Rattle.mill_job.specs.Jobs.{tool_of}
@@ -14,11 +17,14 @@ use Rattle.mill_level.specs.Waterlines.{IsWaterline, Outline}
 use Rattle.mill_level.proofs.Apart.{joins_are_apart}
 use Rattle.mill_level.proofs.OneWaterline.{one_waterline}
 use Rattle.mill_paths.specs.Lattices.{finish_lattice, rough_lattice}
+use Rattle.mill_paths.specs.Limits.{change_count}
 use Rattle.mill_paths.specs.Links.{IsLink, way_home}
 use Rattle.mill_paths.specs.Tours.{AreLinks, ArePlanVisits, IsTour, last_place}
 use Rattle.mill_paths.specs.Unique.{OnePlan}
-use Rattle.mill_paths.specs.Visits.{AreFinishVisits, AreLevelVisits, AreRoughVisits, AreWaterlines, finish_visits_of, level_count, level_visits_of, rough_visits_of, rough_visits_on}
+use Rattle.mill_paths.specs.Visits.{AreFinishVisits, AreFirstPaths, AreLevelVisits, AreNodeVisits, AreRoughVisits, AreRowPaths, AreRowVisits, AreWaterlines, IsRowPath, finish_visits_of, level_count, level_visits_of, rough_visits_of, rough_visits_on, row_visits_from}
 use Rattle.mill_paths.specs.declared.visit.Visit.{Visit}
+use Rattle.mill_paths.proofs.Changes.{more_changes}
+use Rattle.mill_paths.proofs.RowVisits.{rows_join}
 
 -- without a layer there is no level, and no roughing visit
 none_rough : (job : Job) (heights : List ℤ) → int_lt (pos 0) job.layer ≡ false → rough_visits_of job heights ≡ []
@@ -37,12 +43,6 @@ one_rough job part a b h g = h.visits ∙ by (int_lt (pos 0) job.layer) refl ∙
         (one_map (tool_of job) part job.floor (rough_lattice job) h.heights g.heights (h.are (some job.layer e)) (g.are (some job.layer e)))
     by false e = none_rough job h.heights e ∙ sym (none_rough job g.heights e)
 
-pub one_finish : (job : Job) (part : List Tri) (a b : List Visit) → AreFinishVisits job part a → AreFinishVisits job part b → a ≡ b
-one_finish job part a b h g =
-    h.visits
-    ∙ ap (λ (heights : List ℤ). finish_visits_of job heights) (one_map (tool_of job) part job.floor (finish_lattice job) h.heights g.heights h.are g.are)
-    ∙ sym g.visits
-
 -- lists that each item of another settles place by place
 one_list : {A B : Type 0} (R : A → B → Type 0) → ((x : A) (y z : B) → R x y → R x z → y ≡ z) → (xs : List A) (ys zs : List B)
     → AllZip R xs ys → AllZip R xs zs → ys ≡ zs
@@ -52,6 +52,50 @@ one_list R one [] (y ∷ ys) zs h g = absurd h
 one_list R one (x ∷ xs) [] zs h g = absurd h
 one_list R one (x ∷ xs) (y ∷ ys) [] h g = absurd g
 one_list R one (x ∷ xs) (y ∷ ys) (z ∷ zs) h g = ap (λ w. w ∷ ys) (one x y z h.0 g.0) ∙ ap (λ ws. z ∷ ws) (one_list R one xs ys zs h.1 g.1)
+
+-- the first of another list are settled by the first items
+first_of : {A B : Type 0} (R : A → B → Type 0) (n : ℕ) (xs : List A) (ys : List B) → AllZip R xs ys → AllZip R (take n xs) (take n ys)
+first_of R zero xs ys h = tt
+first_of R (suc n) [] [] h = tt
+first_of R (suc n) [] (y ∷ ys) h = absurd h
+first_of R (suc n) (x ∷ xs) [] h = absurd h
+first_of R (suc n) (x ∷ xs) (y ∷ ys) h = (h.0, first_of R n xs ys h.1)
+
+-- the finishing visits at the nodes, and those along the rows' paths
+one_at_nodes : (job : Job) (part : List Tri) (a b : List Visit) → AreNodeVisits job part a → AreNodeVisits job part b → a ≡ b
+one_at_nodes job part a b h g =
+    h.visits
+    ∙ ap (λ (heights : List ℤ). finish_visits_of job heights) (one_map (tool_of job) part job.floor (finish_lattice job) h.heights g.heights h.are g.are)
+    ∙ sym g.visits
+
+module _ (job : Job) (part : List Tri) (tol : ℤ) where
+  one_row : (y : ℤ) (a b : List Pt3) → IsRowPath job part tol y a → IsRowPath job part tol y b → a ≡ b
+  one_row y a b h g = same_path (tool_of job) part y job.area.x0 job.area.x1 job.floor tol a b h g
+
+  one_along_rows : (a b : List Visit) → AreRowVisits job part tol a → AreRowVisits job part tol b → a ≡ b
+  one_along_rows a b h g =
+      h.visits
+      ∙ ap (λ (paths : List (List Pt3)). row_visits_from job 0 paths) (one_list (IsRowPath job part tol) one_row (lattice_ys (finish_lattice job)) h.paths g.paths h.are g.are)
+      ∙ sym g.visits
+
+  -- along the first rows no more visits differ from the one before them than along all
+  pub first_changes : (rows : ℕ) (first all : List (List Pt3)) → AreFirstPaths job part tol rows first → AreRowPaths job part tol all
+      → change_count (row_visits_from job 0 first) ≤ change_count (row_visits_from job 0 all)
+  first_changes rows first all h g =
+      let begins : take rows all ≡ first =
+      one_list (IsRowPath job part tol) one_row (take rows (lattice_ys (finish_lattice job))) (take rows all) first (first_of (IsRowPath job part tol) rows (lattice_ys (finish_lattice job)) all g) h in
+      let whole : first ++ drop rows all ≡ all = ap (λ (paths : List (List Pt3)). paths ++ drop rows all) (sym begins) ∙ take-append-drop rows all in
+      subst (λ (paths : List (List Pt3)). change_count (row_visits_from job 0 first) ≤ change_count (row_visits_from job 0 paths)) whole
+      (subst (λ (visits : List Visit). change_count (row_visits_from job 0 first) ≤ change_count visits) (sym (rows_join job 0 first (drop rows all)))
+      (more_changes (row_visits_from job 0 first) (row_visits_from job (0 + length first) (drop rows all))))
+
+pub one_finish : (job : Job) (part : List Tri) (a b : List Visit) → AreFinishVisits job part a → AreFinishVisits job part b → a ≡ b
+one_finish job part a b h g = by job.path_tol h g
+  where
+    by : (t : Option ℤ) → MatchOption t (AreNodeVisits job part a) (λ tol. AreRowVisits job part tol a) → MatchOption t (AreNodeVisits job part b) (λ tol. AreRowVisits job part tol b)
+        → a ≡ b
+    by None p q = one_at_nodes job part a b p q
+    by (Some tol) p q = one_along_rows job part tol a b p q
 
 pub one_waterlines : (job : Job) (part : List Tri) (a b : List (List Outline)) → AreWaterlines job part a → AreWaterlines job part b → a ≡ b
 one_waterlines job part a b h g =

@@ -1,27 +1,32 @@
 -- Each visit of a plan is in the unit's range, between floor and top, and free of the part.
 use Rattle.std.proofs.Common.{◌≡◌, ◌⊎◌, inl, inr, negsuc, ℕ, zero, suc, ◌+◌, ◌*◌, ◌/◌, ◌%◌, ◌<◌, Bool, true, false, List, [], ◌∷◌, length, get_or, min, refl, sym, ◌∙◌, subst, mod-lt, arith}
-use Rattle.std.specs.Prelude.{nat_abs, int_lt, int_le, ℤ, pos, ◌+ℤ◌, ◌-ℤ◌, ◌<ℤ◌, ◌≤ℤ◌, All}
+use Rattle.std.specs.Prelude.{nat_abs, int_lt, int_le, ℤ, pos, ◌+ℤ◌, ◌-ℤ◌, ◌<ℤ◌, ◌≤ℤ◌, All, Option, None, Some, MatchOption}
 use Rattle.std.specs.List.{AllZip, flat_map, range_with_len}
 use Rattle.std.specs.Int.{div_ceil}
 use Rattle.std.proofs.lemmas.Int.{ints}
-use Rattle.std.proofs.lemmas.List.Elements.{All-append, All-cons, All-nil}
+use Rattle.std.proofs.lemmas.List.{get_or_default}
+use Rattle.std.proofs.lemmas.List.Elements.{All-append, All-cons, All-head, All-nil, All-tail}
 use Rattle.std.proofs.lemmas.List.FromFn.{length-range_with_len, get_or-range_with_len}
 use Rattle.mill_base.specs.Numbers.{Within}
 use Rattle.mill_base.specs.Units.{greatest_of}
+use Rattle.mill_base.specs.declared.limits.TheConstants.{MAX_COORDINATE}
 use Rattle.mill_base.specs.Lattices.{lattice_positions, lattice_xs, lattice_ys, nodes_of, node_at}
 use Rattle.mill_base.specs.declared.lattice.Lattice.{Lattice}
+use Rattle.mill_base.specs.declared.points.Pt3.{Pt3}
 use Rattle.mill_base.specs.declared.points.Tri.{Tri}
 use Rattle.mill_base.specs.declared.unit.Unit.{Unit}
 use Rattle.mill_drop.specs.Drops.{IsDropHeight}
 use Rattle.mill_drop.specs.Maps.{AreDropHeights, IsHeightAt}
+use Rattle.mill_drop.proofs.PathLemmas.{path_keeps}
 use Rattle.mill_base.proofs.NodeLemmas.{length-rows, get_or-rows, row_within, length-positions, get_or-positions}
 use Rattle.mill_job.specs.Jobs.{IsFrom, IsJob, tool_of}
 use Rattle.mill_job.specs.Tables.{IsArea}
 use Rattle.mill_job.specs.declared.job.Job.{Job}
 use Rattle.mill_paths.specs.Lattices.{finish_lattice, rough_lattice, zigzag_of, zigzag_row}
-use Rattle.mill_paths.specs.Visits.{FinishVisitsAreFree, RoughVisitsAreFree, IsVisit, finish_visit, finish_visits_of, height_at, rough_levels, rough_visit, rough_visits_of, rough_visits_on, visit_at, visit_if}
+use Rattle.mill_paths.specs.Visits.{FinishVisitsAreFree, RoughVisitsAreFree, AreNodeVisits, AreRowVisits, IsRowPath, IsVisit, in_turn, point_visits, row_visits_from, finish_visit, finish_visits_of, height_at, rough_levels, rough_visit, rough_visits_of, rough_visits_on, visit_at, visit_if}
 use Rattle.mill_paths.specs.declared.visit.Visit.{Visit}
 use Rattle.mill_paths.proofs.Adding.{flat_map-nested}
+use Rattle.mill_paths.proofs.RowPoints.{turned_ok}
 use Rattle.mill_paths.proofs.LevelLemmas.{IsLevel, is_level, no_levels}
 use Rattle.mill_paths.proofs.ZigzagLemmas.{length-zigzag_row, number_within}
 
@@ -82,6 +87,10 @@ node_within unit lattice number ok inside =
       y_ok = positions_within (greatest_of unit) lattice.area.y0 lattice.area.y1 lattice.step (number / length xs) ok.area_ok.y0_ok ok.area_ok.y1_ok ok.area_ok.y_order ok.step_ok.low (row_within xs ys (length xs) number refl some inside);
     })
 
+-- the step of a lattice is one that a visit may have
+pub wider_step : (step : ℤ) → IsFrom (pos 1) (pos 10000) step → IsFrom (pos 1) (pos (2 * MAX_COORDINATE)) step
+wider_step step ok = let high = ok.high in record { low = ok.low; high = omega (high, arith, ints) }
+
 -- a visit of a job over a node, from its drop height on and under the top
 visit_ok : (job : Job) (part : List Tri) (lattice : Lattice) (heights : List ℤ) (number : ℕ) (z : ℤ) → IsJob job → IsJobLattice job.unit lattice
     → AreDropHeights (tool_of job) part job.floor lattice heights → number < length (nodes_of lattice) → height_at heights number ≤ℤ z → z <ℤ job.top
@@ -97,7 +106,7 @@ visit_ok job part lattice heights number z ok lattice_ok are inside free under =
       kept = kept;
       under_top = under;
       free = λ higher h. drop.free higher (upto (height_at heights number) z higher free h);
-      step_ok = lattice_ok.step_ok;
+      step_ok = wider_step lattice.step lattice_ok.step_ok;
     }
   where
     upto : (a b c : ℤ) → a ≤ℤ b → b ≤ℤ c → a ≤ℤ c
@@ -150,10 +159,10 @@ zigzag_ok P f lattice each =
     plain : (n : ℕ) → 0 + n ≡ n
     plain n = omega arith
 
--- the finishing visits, and the roughing visits
-pub finish_visits_ok : (job : Job) (part : List Tri) (heights : List ℤ) → IsJob job
+-- the finishing visits at the nodes, and the roughing visits
+pub node_visits_ok : (job : Job) (part : List Tri) (heights : List ℤ) → IsJob job
     → AreDropHeights (tool_of job) part job.floor (finish_lattice job) heights → All (IsVisit job part) (finish_visits_of job heights)
-finish_visits_ok job part heights ok are =
+node_visits_ok job part heights ok are =
     zigzag_ok (IsVisit job part) (finish_visit job heights) (finish_lattice job) (λ number inside. finish_visit_ok job part heights number ok are inside)
 
 pub rough_visits_ok : (job : Job) (part : List Tri) (heights : List ℤ) → IsJob job → (pos 0) <ℤ job.layer
@@ -163,10 +172,35 @@ rough_visits_ok job part heights ok some are =
     zigzag_ok (IsVisit job part) (rough_visit job heights (get_or (rough_levels job) k (pos 0))) (rough_lattice job) (λ number within.
     rough_visit_ok job part heights (get_or (rough_levels job) k (pos 0)) number ok (is_level job k ok some inside) are within))
 
+-- so are those along the rows' paths
+pub row_in_range : (job : Job) (row : ℕ) → IsJob job → row < length (lattice_ys (finish_lattice job)) → Within (greatest_of job.unit) (get_or (lattice_ys (finish_lattice job)) row (pos 0))
+row_in_range job row ok inside = positions_within (greatest_of job.unit) job.area.y0 job.area.y1 job.raster row ok.y0_ok ok.y1_ok ok.y_order ok.raster_ok.low inside
+
+rows_in_range : (job : Job) → IsJob job → All (Within (greatest_of job.unit)) (lattice_ys (finish_lattice job))
+rows_in_range job ok = λ k d inside.
+    subst (λ (y : ℤ). Within (greatest_of job.unit) y) (get_or_default (lattice_ys (finish_lattice job)) k (pos 0) d inside)
+    (row_in_range job k ok inside)
+
+rows_ok : (job : Job) (part : List Tri) (tol : ℤ) (row : ℕ) (ys : List ℤ) (paths : List (List Pt3)) → IsJob job → All (Within (greatest_of job.unit)) ys
+    → AllZip (IsRowPath job part tol) ys paths → All (IsVisit job part) (row_visits_from job row paths)
+rows_ok job part tol row [] [] ok within are = All-nil (IsVisit job part)
+rows_ok job part tol row [] (path ∷ paths) ok within are = absurd are
+rows_ok job part tol row (y ∷ ys) [] ok within are = absurd are
+rows_ok job part tol row (y ∷ ys) (path ∷ paths) ok within are =
+    All-append (IsVisit job part) (point_visits job (in_turn row path)) (row_visits_from job (row + 1) paths)
+    (turned_ok job part y ok (All-head (Within (greatest_of job.unit)) y ys within) tol row path
+    (path_keeps (tool_of job) part y job.area.x0 job.area.x1 job.floor tol path ok.x_order are.0))
+    (rows_ok job part tol (row + 1) ys paths ok (All-tail (Within (greatest_of job.unit)) y ys within) are.1)
+
 -- so all finishing visits of a job and a part are, and all its roughing visits, of which there are none without a layer
 pub finish_visits_are_free : FinishVisitsAreFree
-finish_visits_are_free job part list ok are =
-    subst (λ (visits : List Visit). All (IsVisit job part) visits) (sym are.visits) (finish_visits_ok job part are.heights ok are.are)
+finish_visits_are_free job part list ok are = by job.path_tol are
+  where
+    by : (t : Option ℤ) → MatchOption t (AreNodeVisits job part list) (λ tol. AreRowVisits job part tol list) → All (IsVisit job part) list
+    by None h = subst (λ (visits : List Visit). All (IsVisit job part) visits) (sym h.visits) (node_visits_ok job part h.heights ok h.are)
+    by (Some tol) h =
+        subst (λ (visits : List Visit). All (IsVisit job part) visits) (sym h.visits)
+        (rows_ok job part tol 0 (lattice_ys (finish_lattice job)) h.paths ok (rows_in_range job ok) h.are)
 
 layered : (l : ℤ) → (pos 0) ≤ℤ l → (l ≡ pos 0) ⊎ ((pos 0) <ℤ l)
 layered (pos zero) least = inl refl

@@ -1,13 +1,13 @@
 -- The numbers of the nodes of a row, in zigzag order.
-use Rattle.std.proofs.Common.{◌≡◌, ℕ, suc, ◌+◌, ◌-◌, ◌*◌, ◌%◌, ◌<◌, ◌≤◌, Bool, true, false, List, length, get_or, sym, ap, ◌∙◌, subst, mul_comm, arith}
-use Rattle.std.specs.Prelude.{◌==◌, if◌then◌else◌, reverse}
+use Rattle.std.proofs.Common.{◌≡◌, ℕ, suc, ◌+◌, ◌-◌, ◌*◌, ◌/◌, ◌%◌, ◌<◌, ◌≤◌, Bool, true, false, List, length, get_or, sym, ap, ◌∙◌, subst, mul_comm, arith}
+use Rattle.std.specs.Prelude.{◌==◌, if◌then◌else◌, reverse, ℤ, pos}
 use Rattle.std.specs.List.{flat_map, range_with_len}
-use Rattle.std.proofs.Math.Nat.{mul-le-mul_right}
+use Rattle.std.proofs.Math.Nat.{mul-div_cancel, mul-le-mul_right}
 use Rattle.std.proofs.lemmas.List.{length-reverse, get_or-reverse}
 use Rattle.std.proofs.lemmas.List.FromFn.{length-range_with_len, get_or-range_with_len}
-use Rattle.mill_base.specs.Lattices.{lattice_xs, lattice_ys, node_count, nodes_of}
+use Rattle.mill_base.specs.Lattices.{lattice_xs, lattice_ys, node_at, node_count, nodes_of}
 use Rattle.mill_base.specs.declared.lattice.Lattice.{Lattice}
-use Rattle.mill_base.proofs.NodeLemmas.{length-rows}
+use Rattle.mill_base.proofs.NodeLemmas.{get_or-rows, length-rows}
 use Rattle.mill_paths.specs.Lattices.{zigzag_of, zigzag_row}
 use Rattle.mill_paths.proofs.Adding.{flat_map-nested}
 
@@ -69,6 +69,28 @@ number_within lattice columns row k long inside place =
   where
     less : (a b c d : ℕ) → a < b → b ≤ c → d ≡ c → a < d
     less a b c d h e f = omega arith
+
+-- a row's first number is that of a node, which lies where the row does
+pub start_within : (lattice : Lattice) (columns row : ℕ) → columns ≡ length (lattice_xs lattice) → 0 < columns → row < length (lattice_ys lattice)
+    → row * columns < length (nodes_of lattice)
+start_within lattice columns row long some inside =
+    let most : row * columns + columns ≤ node_count lattice = row_within lattice columns row long inside in
+    let all : length (nodes_of lattice) ≡ node_count lattice = length-rows (lattice_xs lattice) (lattice_ys lattice) in
+    less (row * columns) columns (node_count lattice) (length (nodes_of lattice)) some most all
+  where
+    less : (a b c d : ℕ) → 0 < b → a + b ≤ c → d ≡ c → a < d
+    less a b c d h e f = omega (h, e, f, arith)
+
+pub start_on_row : (lattice : Lattice) (columns row : ℕ) → columns ≡ length (lattice_xs lattice) → 0 < columns → row < length (lattice_ys lattice)
+    → (node_at lattice (row * columns)).1 ≡ get_or (lattice_ys lattice) row (pos 0)
+start_on_row lattice columns row long some inside =
+    let xs : List ℤ = lattice_xs lattice in
+    let ys : List ℤ = lattice_ys lattice in
+    let some_xs : 0 < length xs = subst (λ n. 0 < n) long some in
+    let within : row * columns < length xs * length ys = subst (λ n. row * columns < n) (length-rows xs ys) (start_within lattice columns row long some inside) in
+    ap (λ (node : ℤ × ℤ). node.1) (get_or-rows xs ys (row * columns) (pos 0, pos 0) some_xs within)
+    ∙ ap (λ (n : ℕ). get_or ys (row * columns / n) (pos 0)) (sym long)
+    ∙ ap (λ (n : ℕ). get_or ys n (pos 0)) (mul-div_cancel row some)
 
 -- what the nodes give row by row is what they give in zigzag order
 pub by_rows : {A : Type 0} (f : ℕ → List A) (lattice : Lattice) (columns : ℕ) → columns ≡ length (lattice_xs lattice)

@@ -2,3 +2,4 @@
 pub mod Levels
 pub mod Paths
 pub mod Linking
+pub mod Rows

@@ -1,9 +1,9 @@
 //! The paths of a plan: the places that the cutter comes to, in their order, and the moves between.
 //!
-//! It stands on the job (mill_job), on the drop heights of its tool over a lattice (mill_drop) and on the
-//! tool's waterlines at heights (mill_level), and the links between the places on `mill_gouge`, which
-//! tries the tool on one move against the part, and on `mill_dexel`, whose rows are the stock that the
-//! moves so far leave. A tool is the cutter, and its holder if the job has one.
+//! It stands on the job (mill_job), on the drop heights of its tool over a lattice and its paths along
+//! rows (mill_drop) and on the tool's waterlines at heights (mill_level), and the links between the places
+//! on `mill_gouge`, which tries the tool on one move against the part, and on `mill_dexel`, whose rows are
+//! the stock that the moves so far leave. A tool is the cutter, and its holder if the job has one.
 //! `specs/Lattices` says which lattices the paths go over and in which order, `specs/Visits` which
 //! places they come to, and how high, `specs/Limits` how many they may be, `specs/Links` which moves
 //! link one place to the next, and `specs/Tours` which moves make a plan. `specs/Safety` says what
@@ -18,6 +18,7 @@ mod link_laws;
 mod links;
 mod path;
 mod plan_laws;
+mod row_paths;
 mod visit;
 mod visit_list;
 mod visits;

@@ -46,7 +46,7 @@ pub(crate) fn visit_of(job: &Job, heights: &[i32], path: Path, number: u32) -> O
 }
 
 /// How high the tip is over a node with this drop height; none where the path doesn't come there.
-fn tip_height(job: &Job, path: Path, drop: i32) -> Option<i32>
+pub(crate) fn tip_height(job: &Job, path: Path, drop: i32) -> Option<i32>
     requires { IsJob job.now }
     ensures { result ≡ path_height job.now path drop }
 {

@@ -5,6 +5,8 @@ use mill_base::Pt3;
 pub struct Visit {
     /// Where the tip is then.
     pub at: Pt3,
-    /// The step of the lattice whose path the visit is on.
+    /// How far it may lie from where a straight feed to it starts: at most twice this, in x and in y. It is
+    /// the step of the lattice whose path the visit is on; along a row's path by a tolerance the way in x
+    /// from the point before it, where that is greater.
     pub step: i32,
 }

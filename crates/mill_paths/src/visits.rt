@@ -1,15 +1,18 @@
 ghost use Rattle.std.specs.Prelude.{◌≡◌, ◌↔◌, ℕ, ◌<◌, ◌≤◌, ◌++◌, pos, ◌<ℤ◌, length, slice_index_or, All, IfErr, IfOk, IsErrOf, OnOk};
 ghost use Rattle.mill_cells.specs.Sorted.{sorted_of};
-ghost use Rattle.mill_base.specs.Lattices.{nodes_of, IsMapLattice};
+ghost use Rattle.mill_base.specs.Lattices.{node_count, nodes_of, IsMapLattice};
+ghost use Rattle.mill_base.specs.declared.limits.TheConstants.{MAX_NODES};
 ghost use Rattle.mill_drop.specs.Maps.{AreDropHeights};
 ghost use Rattle.mill_job.specs.Jobs.{IsFrom, IsJob, tool_of};
 ghost use Rattle.mill_paths.specs.Lattices.{finish_lattice, lattice_by, rough_lattice};
 ghost use Rattle.mill_paths.specs.Limits.{change_count, most_changes, HasManyNodes, IsHeightsFault, IsListFault};
-ghost use Rattle.mill_paths.specs.Visits.{AreRoughVisits, AreFinishVisits, HaveManyRoughVisits, HaveManyFinishVisits, IsVisit, rough_levels, rough_visits_of};
+ghost use Rattle.mill_paths.specs.Visits.{AreRoughVisits, AreFinishVisits, AreNodeVisits, HaveManyRoughVisits, HaveManyFinishVisits, HaveManyNodeVisits, IsVisit, rough_levels, rough_visits_of};
+ghost use Rattle.mill_paths.specs.inner.Rows.{IsFinishFault};
 ghost use Rattle.mill_paths.specs.declared.fault.PathFault.TheVariants.{TooManyNodes, TooManyVisits};
 
 use crate::fault::PathFault;
 use crate::path::Path;
+use crate::row_paths::row_visits;
 use crate::visit::Visit;
 use crate::visit_list::VisitList;
 use crate::zigzag::add_path;
@@ -60,8 +63,13 @@ pub fn rough_visits<R: Threads + Sync>(
     Ok(list.into_visits())
 }
 
-/// The visits of a plan's finishing path, in zigzag order: over each node of the finishing lattice
-/// at the drop height of the job's tool there and the lift, where that is under the top.
+/// The visits of a plan's finishing path, raised by the lift over the drop heights of the job's tool, where
+/// that is under the top: without a tolerance in the job in zigzag order, over each node of the finishing
+/// lattice.
+///
+/// Where the job has one, they are over the points of the path along each of that lattice's rows, with x
+/// ascending in the rows 0, 2, 4 and so on, and descending in the others. The step of such a visit is the
+/// way to it in x from the point before it in the row, and at least the raster.
 ///
 /// `cells` are those of the part's triangles. The visits are the same whatever the number of threads.
 ///
@@ -86,6 +94,28 @@ pub fn finish_visits<R: Threads + Sync>(
         ↔ HasManyNodes (finish_lattice job.now) nodes }
     ensures visits { IsErrOf result TooManyVisits → HaveManyFinishVisits job.now part.now }
     ensures many { OnOk result (¬ HaveManyFinishVisits job.now part.now) }
+{
+    match job.path_tol {
+        None => node_visits(rt, alloc, job, part, cells),
+        Some(tol) => row_visits(rt, alloc, job, part, cells, tol),
+    }
+}
+
+/// The finishing visits at the nodes of the finishing lattice, in zigzag order.
+fn node_visits<R: Threads + Sync>(
+    rt: &R,
+    alloc: Global,
+    job: &Job,
+    part: &Part,
+    cells: &Cells,
+) -> Result<Vec<Visit>, PathFault>
+    requires job_ok { IsJob job.now }
+    requires cells_ok { cells.now ≡ sorted_of part.now }
+    ensures list { IfOk result (λ visits. AreNodeVisits job.now part.now visits.items) }
+    ensures few { IfOk result (λ visits. change_count visits.items ≤ most_changes) }
+    ensures nodes { IfOk result (λ _. node_count (finish_lattice job.now) ≤ MAX_NODES) }
+    ensures fault { IfErr result
+        (IsFinishFault (finish_lattice job.now) (HaveManyNodeVisits job.now part.now)) }
 {
     let heights = drop_heights(rt, alloc, job, part, cells, job.raster)?;
     let mut list = VisitList::new(alloc);

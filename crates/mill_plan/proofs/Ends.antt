@@ -13,10 +13,9 @@ use Rattle.mill_job.specs.declared.job.Job.{Job}
 use Rattle.mill_paths.specs.Links.{IsLink, at_height, climb, cross, descend, feed_to, peck_count, pecks, plunge, way_home}
 use Rattle.mill_paths.specs.Safety.{IsEndOf}
 use Rattle.mill_paths.specs.Tours.{AreLinks, IsPlan, last_place}
-use Rattle.mill_paths.specs.Visits.{AreFinishVisits, IsVisit}
+use Rattle.mill_paths.specs.Visits.{IsVisit}
 use Rattle.mill_paths.specs.declared.visit.Visit.{Visit}
-use Rattle.mill_paths.proofs.VisitLemmas.{finish_visits_ok}
-use Rattle.mill_plan.specs.Plans.{HasFewNodes}
+use Rattle.mill_paths.proofs.VisitLemmas.{finish_visits_are_free}
 
 -- a move of a list ends there, also where others stand before or after the list
 ends_left : (xs ys : List Move) (p : Pt3) → IsEndOf xs p → IsEndOf (xs ++ ys) p
@@ -75,11 +74,6 @@ behind : (P : Visit → Type 0) (xs ys : List Visit) → All P (xs ++ ys) → Al
 behind P [] ys all = all
 behind P (x ∷ xs) ys all = behind P xs ys (All-tail P x (xs ++ ys) all)
 
--- the finishing visits are visits that a plan may come to
-pub finish_ok : (job : Job) (part : List Tri) (visits : List Visit) → IsJob job → HasFewNodes job → AreFinishVisits job part visits → All (IsVisit job part) visits
-finish_ok job part visits ok few are =
-    subst (λ (vs : List Visit). All (IsVisit job part) vs) (sym are.visits) (finish_visits_ok job part are.heights ok are.are)
-
 -- none of them is home, which isn't under the top
 not_home : (job : Job) (part : List Tri) (visit : Visit) → IsJob job → IsVisit job part visit → visit.at ≡ home job → ⊥
 not_home job part visit ok is there = clash visit.at.z job.top job.clear is.under_top ok.over_stock (ap (λ (p : Pt3). p.z) there)
@@ -87,16 +81,15 @@ not_home job part visit ok is there = clash visit.at.z job.top job.clear is.unde
     clash : (z top clear : ℤ) → z <ℤ top → top ≤ℤ clear → z ≡ clear → ⊥
     clash z top clear under over e = omega (under, over, e, arith, ints)
 
-pub finish_ends : (job : Job) (part : List Tri) (moves : List Move) (plan : IsPlan job part moves) → IsJob job → HasFewNodes job
-    → All (λ (v : Visit). IsEndOf moves v.at) plan.are.finish
-finish_ends job part moves plan ok few =
+pub finish_ends : (job : Job) (part : List Tri) (moves : List Move) (plan : IsPlan job part moves) → IsJob job → All (λ (v : Visit). IsEndOf moves v.at) plan.are.finish
+finish_ends job part moves plan ok =
     let are = plan.are in
     let links : List Move = flat_map (λ (link : List Move). link) plan.tour.links in
     let all : All (λ (v : Visit). IsOnTheWay (home job) links v.at) (are.rough ++ are.level ++ are.finish) =
     subst (λ (vs : List Visit). All (λ (v : Visit). IsOnTheWay (home job) links v.at) vs) are.all (links_end job part [] (home job) plan.visits plan.tour.links plan.tour.are) in
     let way : All (λ (v : Visit). IsOnTheWay (home job) links v.at) are.finish =
     behind (λ (v : Visit). IsOnTheWay (home job) links v.at) (are.rough ++ are.level) are.finish all in
-    let each : All (IsVisit job part) are.finish = finish_ok job part are.finish ok few are.are_finish in
+    let each : All (IsVisit job part) are.finish = finish_visits_are_free job part are.finish ok are.are_finish in
     λ k d inside. ends (slice_index_or are.finish k d) (each k d inside) (way k d inside)
   where
     ends : (v : Visit) → IsVisit job part v → IsOnTheWay (home job) (flat_map (λ (link : List Move). link) plan.tour.links) v.at → IsEndOf moves v.at

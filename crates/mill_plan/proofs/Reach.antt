@@ -68,7 +68,7 @@ out_of_reach job part moves row col top ok plan left visits height are highest =
     let order : (height +ℤ job.allowance +ℤ pos 1) ≤ℤ top = over_covered part job.floor job.band x y top height job.allowance highest uncut in
     let ends : All (λ (v : Visit). IsEndOf moves v.at) visits =
     subst (λ (vs : List Visit). All (λ (v : Visit). IsEndOf moves v.at) vs) (one_finish job part plan.is.are.finish visits plan.is.are.are_finish are)
-    (finish_ends job part moves plan.is ok plan.nodes) in
+    (finish_ends job part moves plan.is ok) in
     All-weaker (λ (v : Visit). IsEndOf moves v.at) (λ (v : Visit). ¬ Holds job.cutter (pos 1) v.at (pos 1) (point_at x y (height +ℤ job.allowance +ℤ pos 1)))
     (λ v end. free_under job.cutter v.at x y (height +ℤ job.allowance +ℤ pos 1) top order
     (subst (λ (z : ℤ). ¬ Holds job.cutter (pos 1) v.at (pos 1) (point_at x y z)) (sym left.shown) (free_at_end job part moves v.at x y ok left.before end)))

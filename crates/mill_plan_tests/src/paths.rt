@@ -1,6 +1,6 @@
-ghost use Rattle.std.specs.Prelude.{◌≤ℤ◌, pos};
+ghost use Rattle.std.specs.Prelude.{◌≤ℤ◌, pos, IfSome};
 ghost use Rattle.mill_base.specs.Ranges.{IsInRange};
-ghost use Rattle.mill_job.specs.Jobs.{IsJob};
+ghost use Rattle.mill_job.specs.Jobs.{IsFrom, IsJob};
 
 use mill_base::{Box2, Cutter, Pt3, Tri, Unit};
 use mill_decimal::Snap;
@@ -52,7 +52,10 @@ fn block_job(layer: i32, lift: i32) -> Job
 }
 
 /// A block from 0 to 400 over a square of 1,000, and 121 nodes.
-fn wide_job() -> Job
+fn wide_job(lift: i32, path_tol: Option<i32>) -> Job
+    requires lift_least { pos 0 ≤ℤ lift }
+    requires lift_most { lift ≤ℤ pos 300 }
+    requires path_tol_ok { IfSome path_tol (IsFrom (pos 0) (pos 10000)) }
     ensures { IsJob result }
 {
     Job {
@@ -72,7 +75,7 @@ fn wide_job() -> Job
         sample: 50,
         allowance: 50,
         band: 0,
-        lift: 0,
+        lift,
         raster: 100,
         rough_raster: 100,
         layer: 0,
@@ -81,7 +84,7 @@ fn wide_job() -> Job
         snap: Snap::Nearest,
         max_cut: 0,
         holder: None,
-        path_tol: None,
+        path_tol,
     }
 }
 
@@ -150,9 +153,13 @@ fn plate<R: AllocGlobal>(rt: &R) -> Result<Shape, Fail> {
 }
 
 fn visit(x: i32, y: i32, z: i32) -> Visit {
+    stepped(x, y, z, 100)
+}
+
+fn stepped(x: i32, y: i32, z: i32, step: i32) -> Visit {
     Visit {
         at: Pt3 { x, y, z },
-        step: 100,
+        step,
     }
 }
 
@@ -201,7 +208,7 @@ fn no_layer_and_a_lift_up_to_the_top(rt: HostRuntime) -> Result<(), Fail> {
 // The cutter stands on the point at one node, and beside it at its neighbours.
 #[test]
 fn one_point_in_a_wide_block(rt: HostRuntime) -> Result<(), Fail> {
-    let job = wide_job();
+    let job = wide_job(0, None);
     let point = at(500, 500, 300);
     let shape = two_triangles(&rt, point, point, point, point)?;
     let finish = finish_visits(&rt, rt.alloc(), &job, &shape.part, &shape.cells)?;
@@ -212,6 +219,28 @@ fn one_point_in_a_wide_block(rt: HostRuntime) -> Result<(), Fail> {
     assert_eq!(rt; finish.get(60), Some(&visit(500, 500, 300)));
     assert_eq!(rt; finish.get(61), Some(&visit(400, 500, 0)));
     assert_eq!(rt; finish.last(), Some(&visit(1000, 1000, 0)));
+    Ok(())
+}
+
+// The row over the point descends in x, and has 21 places, the others two each. A step is at least the
+// raster, also after places under which the lift comes up to the top.
+#[test]
+fn rows_by_a_tolerance(rt: HostRuntime) -> Result<(), Fail> {
+    let point = at(500, 500, 300);
+    let shape = two_triangles(&rt, point, point, point, point)?;
+    let job = wide_job(0, Some(0));
+    let finish = finish_visits(&rt, rt.alloc(), &job, &shape.part, &shape.cells)?;
+    assert_eq!(rt; finish.len(), 41);
+    assert_eq!(rt; finish.get(9), Some(&stepped(1000, 400, 0, 1000)));
+    assert_eq!(rt; finish.get(10), Some(&visit(1000, 500, 0)));
+    assert_eq!(rt; finish.get(11), Some(&stepped(750, 500, 0, 250)));
+    assert_eq!(rt; finish.get(16), Some(&visit(599, 500, 300)));
+    assert_eq!(rt; finish.get(30), Some(&stepped(0, 500, 0, 250)));
+    let lifted = wide_job(100, Some(0));
+    let finish = finish_visits(&rt, rt.alloc(), &lifted, &shape.part, &shape.cells)?;
+    assert_eq!(rt; finish.len(), 32);
+    assert_eq!(rt; finish.get(15), Some(&visit(600, 500, 100)));
+    assert_eq!(rt; finish.get(16), Some(&visit(400, 500, 100)));
     Ok(())
 }
 

@@ -4,7 +4,7 @@ ghost use Rattle.mill_base.specs.Numbers.{Within};
 ghost use Rattle.mill_base.specs.Tools.{IsHolder};
 ghost use Rattle.mill_base.specs.declared.limits.TheConstants.{MAX_TEXT_COORDINATE};
 ghost use Rattle.mill_base.specs.Points.{point_at};
-ghost use Rattle.mill_job.specs.Jobs.{AreLevels, IsJob};
+ghost use Rattle.mill_job.specs.Jobs.{AreLevels, IsFrom, IsJob};
 
 use mill_base::{Box2, Cutter, Holder, Kind, Move, Pt3, Tri, Unit, WantOfMemory};
 use mill_decimal::Snap;
@@ -133,13 +133,14 @@ fn wide_job(levels: Levels) -> Job
 
 /// A block from 0 to 300 over a square of 200, nine columns and finishing nodes in it, and a cutter that
 /// reaches the nodes next to its own, also across; a holder is wider than 150.
-fn shallow_job(layer: i32, max_cut: i32, holder: Option<Holder>) -> Job
+fn shallow_job(layer: i32, max_cut: i32, holder: Option<Holder>, path_tol: Option<i32>) -> Job
     requires layer_least { pos 0 ≤ℤ layer }
     requires layer_most { layer ≤ℤ pos 300 }
     requires max_cut_least { pos 0 ≤ℤ max_cut }
     requires max_cut_most { max_cut ≤ℤ pos 300 }
     requires holder_ok { IfSome holder IsHolder }
     requires wider { IfSome holder (λ around. pos 150 <ℤ around.radius) }
+    requires path_tol_ok { IfSome path_tol (IsFrom (pos 0) (pos 10000)) }
     ensures job { IsJob result }
     ensures top { result.top ≡ pos 300 }
 {
@@ -169,7 +170,7 @@ fn shallow_job(layer: i32, max_cut: i32, holder: Option<Holder>) -> Job
         snap: Snap::Nearest,
         max_cut,
         holder,
-        path_tol: None,
+        path_tol,
     }
 }
 
@@ -336,12 +337,27 @@ fn keeps_the_depth_of_cut(rt: HostRuntime) -> Result<(), Fail> {
         (50, 50, layers, 29),
         (50, 25, both, 68),
     ] {
-        let planned = plan(&rt, alloc, &shallow_job(layer, max_cut, None), &part, 2)?;
+        let planned = plan(&rt, alloc, &shallow_job(layer, max_cut, None, None), &part, 2)?;
         assert!(rt; planned.program.starts_with(start));
         assert_eq!(rt; planned.moves, moves);
         assert_eq!(rt; planned.columns, 9);
         assert_eq!(rt; planned.most_left, 0);
     }
+    Ok(())
+}
+
+// With a tolerance the cutter comes to both ends of each of the three rows alone.
+#[test]
+fn goes_straight_along_the_rows(rt: HostRuntime) -> Result<(), Fail> {
+    let alloc = rt.alloc();
+    let job = shallow_job(0, 0, None, Some(0));
+    let planned = plan(&rt, alloc, &job, &plate(alloc, 0, 300)?, 2)?;
+    let text: &[u8] =
+        b"%\nG17 G21 G90\nG1 X0.00 Y0.00 Z2.00\nG1 X2.00 Y0.00 Z2.00\nG1 X2.00 Y1.00 Z2.00\nG1 X0.00 Y1.00 Z2.00\nG1 X0.00 Y2.00 Z2.00\nG1 X2.00 Y2.00 Z2.00\nG0 X2.00 Y2.00 Z4.00\nG0 X1.00 Y1.00 Z4.00\nM2\n%\n";
+    assert_eq!(rt; planned.program.as_slice(), text);
+    assert_eq!(rt; planned.moves, 8);
+    assert_eq!(rt; planned.columns, 9);
+    assert_eq!(rt; planned.most_left, 0);
     Ok(())
 }
 
@@ -365,12 +381,12 @@ fn names_the_stock_that_the_holder_would_touch(rt: HostRuntime) -> Result<(), Fa
     let alloc = rt.alloc();
     let part = plate(alloc, 0, 300)?;
     for (max_cut, stickout, at) in [(0, 50, 0), (0, 99, 0), (50, 49, 2)] {
-        let job = shallow_job(0, max_cut, Some(holder(stickout)));
+        let job = shallow_job(0, max_cut, Some(holder(stickout)), None);
         let held = PlanFault::Held { at, row: 0, col: 0 };
         assert_eq!(rt; plan(&rt, alloc, &job, &part, 2).err(), Some(held));
     }
     for (max_cut, stickout, moves) in [(0, 100, 11), (50, 50, 26)] {
-        let job = shallow_job(0, max_cut, Some(holder(stickout)));
+        let job = shallow_job(0, max_cut, Some(holder(stickout)), None);
         let planned = plan(&rt, alloc, &job, &part, 2)?;
         assert_eq!(rt; planned.moves, moves);
         assert_eq!(rt; planned.most_left, 0);
