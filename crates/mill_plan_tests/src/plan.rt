@@ -337,7 +337,13 @@ fn keeps_the_depth_of_cut(rt: HostRuntime) -> Result<(), Fail> {
         (50, 50, layers, 29),
         (50, 25, both, 68),
     ] {
-        let planned = plan(&rt, alloc, &shallow_job(layer, max_cut, None, None), &part, 2)?;
+        let planned = plan(
+            &rt,
+            alloc,
+            &shallow_job(layer, max_cut, None, None),
+            &part,
+            2,
+        )?;
         assert!(rt; planned.program.starts_with(start));
         assert_eq!(rt; planned.moves, moves);
         assert_eq!(rt; planned.columns, 9);
