@@ -1,8 +1,8 @@
 -- What a line says from one of its places on, where a plain word stands there.
-use Rattle.std.proofs.Common.{◌≡◌, ℕ, ◌+◌, ◌*◌, ◌<◌, ◌≤◌, List, ◌∷◌, length, get_or, drop, arith, Bool, true, false, not, ◌&&◌, cond, Result, Ok, Err, refl, sym, ap, ◌∙◌, add-one, drop-cons}
+use Rattle.std.proofs.Common.{◌≡◌, ℕ, ◌+◌, ◌<◌, ◌≤◌, List, ◌∷◌, length, get_or, drop, arith, Bool, true, false, not, ◌&&◌, cond, Result, Ok, Err, refl, sym, ap, ◌∙◌, add-one, drop-cons}
 use Rattle.std.proofs.Math.ListN.{drop_of_length-le}
 use Rattle.std.specs.Prelude.{◌==◌}
-use Rattle.std.specs.Char.{is_ascii_digit, is_ascii_alphabetic, to_ascii_uppercase, digit_value}
+use Rattle.std.specs.Char.{is_ascii_digit, is_ascii_alphabetic, to_ascii_uppercase}
 use Rattle.std.proofs.lemmas.Bool.{false≢true}
 use Rattle.std.proofs.lemmas.Bool.Decides.{nat_tests}
 use Rattle.mill_words.specs.Words.{Line}
@@ -15,38 +15,12 @@ use Rattle.mill_words.specs.declared.open_word.OpenWord.{OpenWord}
 use Rattle.mill_words.specs.declared.stage.Stage.{Stage}
 use Rattle.mill_words.specs.declared.stage.Stage.TheVariants.{Start, Slashed, InLineNumber, Between, InWord}
 use Rattle.mill_words.specs.inner.Places.{rest_of, begins_word_in, IsApart, plain_word, with_word}
-use Rattle.mill_words.proofs.Spelled.{reading, digit-read, point-read, sign-read}
+use Rattle.mill_words.proofs.Spelled.{reading, point-read, sign-read}
 
 -- the byte at a place before those behind it
 pub at-place : (s : Stage) (l : Line) (bytes : List ℕ) (p : ℕ) → p < length bytes
     → rest_of Outside s l bytes p ≡ reading s l p (get_or bytes p 0 ∷ drop (p + 1) bytes)
 at-place s l bytes p lt = rw (add-one p, drop-cons bytes p 0 lt) refl
-
--- ---- digits
-
--- a digit behind a word's digits, before its point
-pub whole-next : (bytes : List ℕ) (from n : ℕ) (letter place : ℕ) (neg : Bool) (mant before : ℕ) (l : Line)
-    → from + n < length bytes → digit_value (get_or bytes (from + n) 0) < 10 → before + n < 18
-    → rest_of Outside (InWord (plain_word letter place neg mant 0 (before + n) false)) l bytes (from + n)
-    ≡ rest_of Outside (InWord (plain_word letter place neg (10 * mant + digit_value (get_or bytes (from + n) 0)) 0 (before + (n + 1)) false)) l bytes (from + (n + 1))
-whole-next bytes from n letter place neg mant before l lt digit few =
-    let count : before + n + 1 ≡ before + (n + 1) = omega arith in
-    let next : from + n + 1 ≡ from + (n + 1) = omega arith in
-    at-place (InWord (plain_word letter place neg mant 0 (before + n) false)) l bytes (from + n) lt
-    ∙ digit-read (plain_word letter place neg mant 0 (before + n) false) l (from + n) (get_or bytes (from + n) 0) (drop (from + n + 1) bytes) digit few
-    ∙ rw (count, next) refl
-
--- and behind its point
-pub part-next : (bytes : List ℕ) (from n : ℕ) (letter place : ℕ) (neg : Bool) (mant before : ℕ) (l : Line)
-    → from + n < length bytes → digit_value (get_or bytes (from + n) 0) < 10 → before + n < 18
-    → rest_of Outside (InWord (plain_word letter place neg mant n (before + n) true)) l bytes (from + n)
-    ≡ rest_of Outside (InWord (plain_word letter place neg (10 * mant + digit_value (get_or bytes (from + n) 0)) (n + 1) (before + (n + 1)) true)) l bytes (from + (n + 1))
-part-next bytes from n letter place neg mant before l lt digit few =
-    let count : before + n + 1 ≡ before + (n + 1) = omega arith in
-    let next : from + n + 1 ≡ from + (n + 1) = omega arith in
-    at-place (InWord (plain_word letter place neg mant n (before + n) true)) l bytes (from + n) lt
-    ∙ digit-read (plain_word letter place neg mant n (before + n) true) l (from + n) (get_or bytes (from + n) 0) (drop (from + n + 1) bytes) digit few
-    ∙ rw (count, next) refl
 
 -- ---- signs and points
 

@@ -1,13 +1,13 @@
 //! Plain words, which are read at once: a letter, a minus sign or none, digits, and a point with
 //! digits behind it or none.
-ghost use Rattle.std.specs.Prelude.{◌≡◌, ℕ, Bool, false, true, ◌<◌, ◌≤◌, ◌+◌, ◌^◌, length, slice_index, IfSome, IsTrue};
+ghost use Rattle.std.specs.Prelude.{◌≡◌, ℕ, true, ◌<◌, ◌≤◌, ◌+◌, length, slice_index, IfSome, IsTrue};
 ghost use Rattle.std.specs.Char.{is_ascii_alphabetic, to_ascii_uppercase};
 ghost use Rattle.mill_words.specs.Lines.{EndsWord, and_word, is_word_letter, line_from, opened_at};
 ghost use Rattle.mill_words.specs.Words.{Line, FitsNum};
 ghost use Rattle.mill_words.specs.declared.marks.Region.TheVariants.{Outside};
 ghost use Rattle.mill_words.specs.declared.stage.Stage.{Stage};
 ghost use Rattle.mill_words.specs.declared.stage.Stage.TheVariants.{Between, InWord};
-ghost use Rattle.mill_words.specs.inner.Places.{rest_of, plain_word, numbered_word, with_word};
+ghost use Rattle.mill_words.specs.inner.Places.{rest_of, numbered_word, with_word, DigitsTo};
 
 use crate::line_words::{LineWords, MOST_WORDS};
 use crate::marks::is_blank;
@@ -50,10 +50,7 @@ pub fn plain_number_behind(line: &[u8], place: usize) -> Option<LetterNumber>
     ensures forward { IfSome result (λ n. place < n.end) }
     ensures within { IfSome result (λ n. n.end ≤ length line.now) }
 {
-    let number = number_at(line, place + 1);
-    if number.digits == 0 {
-        return None;
-    }
+    let number = number_at(line, place + 1)?;
     Some(LetterNumber {
         num: Num {
             neg: number.num.neg,
@@ -99,10 +96,9 @@ fn take_plain_word(line: &[u8], place: usize, words: &mut LineWords) -> usize
     if letter == b'N' || words.count() == MOST_WORDS {
         return place;
     }
-    let number = number_at(line, place + 1);
-    if number.digits == 0 {
+    let Some(number) = number_at(line, place + 1) else {
         return place;
-    }
+    };
     match word_end(line, number.end) {
         Some(end) => {
             words.push(Word {
@@ -166,23 +162,26 @@ fn behind_any_blank(line: &[u8], place: usize) -> usize
     place
 }
 
-// The number at a place, which may have no digits.
-fn number_at(line: &[u8], from: usize) -> PlainNumber
+// The number at a place, if it has 1 to 18 digits.
+fn number_at(line: &[u8], from: usize) -> Option<PlainNumber>
     requires within { from ≤ length line.now }
-    ensures same { (letter place : ℕ) (l : Line) → rest_of Outside (InWord (opened_at letter place)) l line.now from
-        ≡ rest_of Outside (InWord (numbered_word letter place result)) l line.now result.end }
-    ensures few { result.digits ≤ 18 }
-    ensures fits { FitsNum result.digits result.num }
-    ensures forward { from ≤ result.end }
-    ensures within { result.end ≤ length line.now }
+    ensures same { IfSome result (λ n. (letter place : ℕ) (l : Line) → rest_of Outside (InWord (opened_at letter place)) l line.now from
+        ≡ rest_of Outside (InWord (numbered_word letter place n)) l line.now n.end) }
+    ensures some { IfSome result (λ n. 0 < n.digits) }
+    ensures few { IfSome result (λ n. n.digits ≤ 18) }
+    ensures fits { IfSome result (λ n. FitsNum n.digits n.num) }
+    ensures forward { IfSome result (λ n. from ≤ n.end) }
+    ensures within { IfSome result (λ n. n.end ≤ length line.now) }
 {
     let neg = has_byte(line, from, b'-');
     let first = from + usize::from(neg);
-    let most = (line.len() - first).min(usize::from(MOST_DIGITS));
-    let (whole, before) = digits_at(line, first, 0, 0, most);
-    let point = first + before;
-    if before == most || line[point] != b'.' {
-        return PlainNumber {
+    let (whole, point) = digits_at(line, first, 0);
+    let before = point - first;
+    if !has_byte(line, point, b'.') {
+        if before == 0 || before > usize::from(MOST_DIGITS) {
+            return None;
+        }
+        return Some(PlainNumber {
             num: Num {
                 neg,
                 mant: whole,
@@ -191,10 +190,14 @@ fn number_at(line: &[u8], from: usize) -> PlainNumber
             digits: before,
             pointed: false,
             end: point,
-        };
+        });
     }
-    let (mant, behind) = digits_at(line, point + 1, whole, before, most - before - 1);
-    PlainNumber {
+    let (mant, end) = digits_at(line, point + 1, whole);
+    let behind = end - (point + 1);
+    if before + behind == 0 || before + behind > usize::from(MOST_DIGITS) {
+        return None;
+    }
+    Some(PlainNumber {
         num: Num {
             neg,
             mant,
@@ -202,8 +205,8 @@ fn number_at(line: &[u8], from: usize) -> PlainNumber
         },
         digits: before + behind,
         pointed: true,
-        end: point + 1 + behind,
-    }
+        end,
+    })
 }
 
 fn has_byte(line: &[u8], place: usize, byte: u8) -> bool
@@ -214,26 +217,23 @@ fn has_byte(line: &[u8], place: usize, byte: u8) -> bool
     place < line.len() && line[place] == byte
 }
 
-// The number of the digits at a place, of which no more than `most` are looked at, behind `before`
-// digits that stand for `front`; and how many they are.
-fn digits_at(line: &[u8], from: usize, front: u64, before: usize, most: usize) -> (u64, usize)
-    requires within { from + most ≤ length line.now }
-    requires front { front < 10 ^ before }
-    requires few { before + most ≤ 18 }
-    ensures whole { (letter place : ℕ) (neg : Bool) (l : Line) → rest_of Outside (InWord (plain_word letter place neg front 0 before false)) l line.now from
-        ≡ rest_of Outside (InWord (plain_word letter place neg result.0 0 (before + result.1) false)) l line.now (from + result.1) }
-    ensures part { (letter place : ℕ) (neg : Bool) (l : Line) → rest_of Outside (InWord (plain_word letter place neg front 0 before true)) l line.now from
-        ≡ rest_of Outside (InWord (plain_word letter place neg result.0 result.1 (before + result.1) true)) l line.now (from + result.1) }
-    ensures bound { result.0 < 10 ^ (before + result.1) }
-    ensures few { result.1 ≤ most }
+// The number of the digits at a place, behind digits that stand for `front`, and the place behind
+// them. Where all of them are more than 18, the number may have wrapped.
+fn digits_at(line: &[u8], from: usize, front: u64) -> (u64, usize)
+    requires { from ≤ length line.now }
+    ensures digits { DigitsTo line.now from result.1 front result.0 }
+    ensures forward { from ≤ result.1 }
+    ensures within { result.1 ≤ length line.now }
 {
     let mut value = front;
-    for count in 0..most {
-        let byte = line[from + count];
+    let mut place = from;
+    while place < line.len() {
+        let byte = line[place];
         if !byte.is_ascii_digit() {
-            return (value, count);
+            return (value, place);
         }
-        value = 10 * value + u64::from(byte - b'0');
+        value = value.wrapping_mul(10).wrapping_add(u64::from(byte - b'0'));
+        place += 1;
     }
-    (value, most)
+    (value, place)
 }

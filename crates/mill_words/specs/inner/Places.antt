@@ -1,5 +1,5 @@
 -- What a line says from one of its places on.
-use Rattle.std.specs.Prelude.{ℕ, Bool, false, not, ◌&&◌, ◌==◌, List, [], ◌∷◌, ◌++◌, drop, Result}
+use Rattle.std.specs.Prelude.{◌≡◌, ℕ, ◌+◌, ◌<◌, ◌≤◌, ◌^◌, Bool, true, false, not, ◌&&◌, ◌==◌, List, [], ◌∷◌, ◌++◌, drop, Result}
 use Rattle.std.specs.Char.{is_ascii_alphabetic, to_ascii_uppercase}
 use Rattle.mill_words.specs.declared.word.WordFault.{WordFault}
 use Rattle.mill_words.specs.declared.marks.Region.{Region}
@@ -39,3 +39,13 @@ numbered_word letter place n = plain_word letter place n.num.neg n.num.mant n.nu
 -- the line with one word more
 abbrev pub with_word : OpenWord → Line → Line
 with_word w line = record line { words = line.words ++ record { letter = w.letter; num = w.num } ∷ [] }
+
+-- the bytes from a place up to another are digits: behind `before` digits of the number `front` they make this value, where all of them are at most 18
+pub record DigitsTo (bytes : List ℕ) (from end front value : ℕ) : Type 0 where
+  pub bound : (n before : ℕ) → end ≡ from + n → front < 10 ^ before → before + n ≤ 18 → value < 10 ^ (before + n)
+  pub whole : (n before letter place : ℕ) (neg : Bool) (l : Line) → end ≡ from + n → front < 10 ^ before → before + n ≤ 18
+      → rest_of Outside (InWord (plain_word letter place neg front 0 before false)) l bytes from
+      ≡ rest_of Outside (InWord (plain_word letter place neg value 0 (before + n) false)) l bytes end
+  pub part : (n before letter place : ℕ) (neg : Bool) (l : Line) → end ≡ from + n → front < 10 ^ before → before + n ≤ 18
+      → rest_of Outside (InWord (plain_word letter place neg front 0 before true)) l bytes from
+      ≡ rest_of Outside (InWord (plain_word letter place neg value n (before + n) true)) l bytes end

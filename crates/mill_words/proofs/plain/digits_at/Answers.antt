@@ -1,28 +1,20 @@
-use Rattle.std.proofs.Common.{◌≡◌, ℕ, ◌+◌, ◌∙◌, true, get_or, arith, rules}
+use Rattle.std.proofs.Common.{◌≡◌, true, get_or, refl, arith, rules}
 use Rattle.std.specs.Char.{is_ascii_digit, digit_value}
-use Rattle.mill_words.proofs.Numbers.{below, one_more_of, digit_of}
-use Rattle.mill_words.proofs.Places.{whole-next, part-next}
+use Rattle.mill_words.proofs.Digits.{no-digit, one-more-digit}
+use Rattle.mill_words.proofs.Numbers.{digit_of}
 use Rattle.mill_words.proofs.plain.digits_at.Goals as goal
 
-pub overflow_mul-value : goal.overflow_mul-value
-overflow_mul-value c = omega (arith, below (c.args.before + c.loop-count.count) 17 c.loop-count.value (omega arith) c.loop-count.invariant.bound)
+pub loop-place-init : goal.loop-place-init
+loop-place-init c = record { digits = no-digit c.args.line.now c.args.from c.args.front; forward = omega arith; within = c.requires }
 
-pub overflow_add-value : goal.overflow_add-value
-overflow_add-value c =
-    omega (arith, below (c.args.before + c.loop-count.count) 17 c.loop-count.value (omega arith) c.loop-count.invariant.bound, c.type_inv.line (c.args.from + c.loop-count.count))
-
-pub loop-count-preserved : goal.loop-count-preserved
-loop-count-preserved c =
-    let byte : ℕ = get_or c.args.line.now (c.args.from + c.loop-count.count) 0 in
-    let digit : is_ascii_digit (get_or c.args.line.now (c.args.from + c.loop-count.count) 0) ≡ true = search rules in
-    let here = digit_of (get_or c.args.line.now (c.args.from + c.loop-count.count) 0) digit in
-    let value : c.from.result ≡ digit_value (get_or c.args.line.now (c.args.from + c.loop-count.count) 0) = omega (arith, here.1, c.from.ensures) in
+pub loop-place-preserved : goal.loop-place-preserved
+loop-place-preserved c =
+    let digit : is_ascii_digit (get_or c.args.line.now c.loop-place.place 0) ≡ true = search rules in
+    let here = digit_of (get_or c.args.line.now c.loop-place.place 0) digit in
+    let value : c.from.result ≡ digit_value (get_or c.args.line.now c.loop-place.place 0) = omega (arith, here.1, c.from.ensures) in
     record {
-      whole = λ letter place neg l.
-          c.loop-count.invariant.whole letter place neg l
-          ∙ rw value (whole-next c.args.line.now c.args.from c.loop-count.count letter place neg c.loop-count.value c.args.before l (omega arith) here.0 (omega arith));
-      part = λ letter place neg l.
-          c.loop-count.invariant.part letter place neg l
-          ∙ rw value (part-next c.args.line.now c.args.from c.loop-count.count letter place neg c.loop-count.value c.args.before l (omega arith) here.0 (omega arith));
-      bound = one_more_of (c.args.before + c.loop-count.count) (c.args.before + (c.loop-count.count + 1)) c.loop-count.value c.from.result (omega arith) c.loop-count.invariant.bound (omega (arith, value, here.0));
+      digits = one-more-digit c.args.line.now c.args.from c.loop-place.place c.args.front c.loop-place.value c.from.result _
+          c.loop-place.invariant.forward c.loop-place-test.true value (omega (arith, value, here.0)) refl c.loop-place.invariant.digits;
+      forward = omega (arith, c.loop-place.invariant.forward);
+      within = omega (arith, c.loop-place-test.true);
     }

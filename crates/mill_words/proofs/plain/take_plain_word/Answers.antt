@@ -8,15 +8,15 @@ use Rattle.mill_words.proofs.Places.{word-begins}
 use Rattle.mill_words.proofs.plain.take_plain_word.Goals as goal
 
 pub push-requires-clause-fits : goal.push-requires-clause-fits
-push-requires-clause-fits c = wider c.number_at-number.result.digits c.number_at-number.result.num c.number_at-number.ensures.few c.number_at-number.ensures.fits
+push-requires-clause-fits c = wider c.in-Some.number.digits c.in-Some.number.num c.in-Some.ensures.few c.in-Some.ensures.fits
 
-pub returns-in-Some-clause-same : goal.returns-in-Some-clause-same
-returns-in-Some-clause-same c =
+pub returns-in-Some-word_end-clause-same : goal.returns-in-Some-word_end-clause-same
+returns-in-Some-word_end-clause-same c =
     let letter = to_ascii_uppercase (get_or c.args.line.now c.args.place 0) in
     let upper : c.to_ascii_uppercase-letter.result ≡ to_ascii_uppercase (get_or c.args.line.now c.args.place 0) = search rules in
     let other : (to_ascii_uppercase (get_or c.args.line.now c.args.place 0) == 78) ≡ false = rw (← upper) (grind (arith, nat_tests)) in
     let room : (length c.args.words.now.words == 32) ≡ false = grind (arith, nat_tests) in
     rw (c.push.ensures, upper) (sym (
     word-begins c.args.words.now c.args.line.now c.args.place c.requires.within c.requires.letter other room
-    ∙ c.number_at-number.ensures.same letter c.args.place c.args.words.now
-    ∙ c.in-Some.ensures.same (numbered_word letter c.args.place c.number_at-number.result) c.args.words.now (omega arith)))
+    ∙ c.in-Some.ensures.same letter c.args.place c.args.words.now
+    ∙ c.in-Some-word_end.ensures.same (numbered_word letter c.args.place c.in-Some.number) c.args.words.now c.in-Some.ensures.some))
