@@ -15,7 +15,7 @@ use Rattle.mill_job.specs.declared.job.Job.{Job}
 use Rattle.mill_job.specs.Jobs.{IsJob}
 use Rattle.mill_job.specs.Columns.{column_y}
 use Rattle.mill_dexel.specs.Tops.{tops_after_move}
-use Rattle.mill_dexel.specs.Rows.{RowState, IsRowOf, cutting, holding, HolderPassesRow, uncut_row}
+use Rattle.mill_dexel.specs.Rows.{RowState, IsRowOf, cutting, holding, HolderPassesRow}
 use Rattle.mill_dexel.specs.Cuts.{IsBeyond}
 use Rattle.mill_dexel.specs.Turns.{move_at, ClearsRow, StopsRow, tops_after, row_before, TurnsEndAt, IsRunOn, IsTurned, TurnsEndBy, IsRunUpTo, IsTurnedUpTo}
 use Rattle.mill_dexel.specs.Bands.{IsInBand, IsBand}
@@ -60,7 +60,7 @@ tops_parts job j moves d k n tops from to =
     ∙ fold-append (λ (ts : List ℤ) (m : Move). tops_after_move job j 0 m ts) tops (slice_range moves d k) (slice_range moves k n)
 
 -- a row that another one came to by its turns, as move n meets both
-row_parts : (job : Job) (moves : List Move) (old mid : RowState) (n : ℕ) → old.done ≤ mid.done → mid.done ≤ n → mid ≡ row_before job moves old mid.done
+pub row_parts : (job : Job) (moves : List Move) (old mid : RowState) (n : ℕ) → old.done ≤ mid.done → mid.done ≤ n → mid ≡ row_before job moves old mid.done
     → row_before job moves mid n ≡ row_before job moves old n
 row_parts job moves old mid n from to is =
     ap (λ (r : RowState). row_before job moves r n) is
@@ -249,24 +249,15 @@ pub over_is_up_to : (job : Job) (moves : List Move) (band : Band) (old new : Row
 over_is_up_to job moves band old new is_job range is_row unfailed there is_band over =
     run_ended job moves band.«end» old new band.«end» (omega arith) (over_runs job moves band old old new is_job range there is_band (run_start job moves old is_row unfailed) over)
 
--- a row that the moves before t have left of the uncut row, and that went over those from t on, before n
+-- a row that went over its moves from t on, its next one, before n
 pub record IsOver (job : Job) (moves : List Move) (t : ℕ) (old now : RowState) (n : ℕ) : Type 0 where
   pub onward : t ≤ n
-  pub clears : (k : ℕ) → t ≤ k → k < n → ClearsRow job (row_before job moves (uncut_row job old.row) k) (move_at moves k)
-  pub is : now ≡ row_before job moves (uncut_row job old.row) n
+  pub clears : (k : ℕ) → t ≤ k → k < n → ClearsRow job (row_before job moves old k) (move_at moves k)
+  pub is : now ≡ row_before job moves old n
 
-pub gone_over : (job : Job) (moves : List Move) (t : ℕ) (old now : RowState) (n : ℕ) → old ≡ row_before job moves (uncut_row job old.row) t → IsRunTo job moves old now n → IsOver job moves t old now n
-gone_over job moves t old now n left run = record {
-  onward = omega (arith, done, run.onward);
-  clears = λ k from to. subst (λ (r : RowState). ClearsRow job r (move_at moves k)) (same k from) (run.passed k (omega (arith, done, from)) to).clears;
-  is = run.is ∙ same n (omega (arith, done, run.onward));
+pub gone_over : (job : Job) (moves : List Move) (t : ℕ) (old now : RowState) (n : ℕ) → t ≡ old.done → IsRunTo job moves old now n → IsOver job moves t old now n
+gone_over job moves t old now n next run = record {
+  onward = omega (arith, next, run.onward);
+  clears = λ k from to. (run.passed k (omega (arith, next, from)) to).clears;
+  is = run.is;
 }
-  where
-    done : old.done ≡ t
-    done = ap (λ (r : RowState). r.done) left
-
-    left_there : old ≡ row_before job moves (uncut_row job old.row) old.done
-    left_there = subst (λ (n : ℕ). old ≡ row_before job moves (uncut_row job old.row) n) (sym done) left
-
-    same : (k : ℕ) → t ≤ k → row_before job moves old k ≡ row_before job moves (uncut_row job old.row) k
-    same k from = row_parts job moves (uncut_row job old.row) old k (omega arith) (omega (arith, done, from)) left_there

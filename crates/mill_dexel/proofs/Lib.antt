@@ -15,7 +15,7 @@ mod Trials
 mod UncutRows
 pub mod Stops
 pub mod RunLaws
-mod Blocks
+pub mod Blocks
 mod BandLists
 mod Chunks
 pub mod TopLaws
@@ -25,5 +25,6 @@ mod LastCerts
 mod Ends
 pub mod Cleared
 pub mod Limits
+pub mod SameStocks
 mod StockLaws
 pub mod Ranges

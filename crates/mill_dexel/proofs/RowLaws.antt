@@ -1,7 +1,8 @@
 -- The tops of a row after a list of moves: its entries, and one move more.
-use Rattle.std.proofs.Common.{◌≡◌, ℕ, zero, suc, ◌+◌, ◌<◌, refl, ap, ◌∙◌, length, get_or, arith}
-use Rattle.std.specs.Prelude.{ℤ, pos, ◌≤ℤ◌, List, [], ◌∷◌, ◌++◌, map, replicate, Option}
+use Rattle.std.proofs.Common.{◌≡◌, ℕ, zero, suc, ◌+◌, ◌<◌, refl, sym, ap, ◌∙◌, length, get_or, arith}
+use Rattle.std.specs.Prelude.{ℤ, pos, List, [], ◌∷◌, ◌++◌, map, replicate, Option}
 use Rattle.std.specs.List.{range_with_len}
+use Rattle.std.proofs.lemmas.List.{ext_get_or}
 use Rattle.std.proofs.lemmas.List.Sums.{fold-append}
 use Rattle.std.proofs.lemmas.List.FromFn.{length-map-range_with_len, get_or-map-range_with_len}
 use Rattle.std.proofs.lemmas.List.Elements.{All-from_get_or, All-get_or}
@@ -9,23 +10,23 @@ use Rattle.mill_base.specs.declared.motion.Move.{Move}
 use Rattle.mill_job.specs.declared.job.Job.{Job}
 use Rattle.mill_job.specs.Columns.{row_count, column_count, column_x, column_y}
 use Rattle.mill_job.specs.Jobs.{IsFrom}
-use Rattle.mill_dexel.specs.Tops.{top_after_move, top_after, row_after, tops_after_move}
+use Rattle.mill_dexel.specs.Stocks.{IsStockOf}
+use Rattle.mill_dexel.specs.Tops.{Stock, row_after, row_tops, stock_after, top_after, top_after_move, top_on, tops_after_move, uncut}
 use Rattle.mill_dexel.specs.Rows.{RowState, IsRowOf}
 use Rattle.mill_dexel.specs.declared.fail.RowFail.{RowFail}
-use Rattle.mill_dexel.proofs.TopLaws.{move_stays, top_after_stays}
-
--- the top of column i of row j after the moves
-abbrev column_top : Job → ℕ → List Move → ℕ → ℤ
-column_top job j moves i = top_after job (column_x job i) (column_y job j) moves
+use Rattle.mill_dexel.proofs.TopLaws.{move_stays}
 
 -- a row has a top for each column
-pub length-row_after : (job : Job) (j : ℕ) (moves : List Move) → length (row_after job j moves) ≡ column_count job
-length-row_after job j moves = length-map-range_with_len (column_top job j moves) 0 (column_count job)
+pub length-row_tops : (job : Job) (stock : Stock) (j : ℕ) → length (row_tops job stock j) ≡ column_count job
+length-row_tops job stock j = length-map-range_with_len (λ i. stock j i) 0 (column_count job)
 
 -- entry i is the top of column i
+pub row_tops-at : (job : Job) (stock : Stock) (j i : ℕ) (d : ℤ) → i < column_count job → get_or (row_tops job stock j) i d ≡ stock j i
+row_tops-at job stock j i d there = get_or-map-range_with_len (λ k. stock j k) 0 (column_count job) i i d there (omega arith)
+
 pub row_after-at : (job : Job) (j : ℕ) (moves : List Move) (i : ℕ) (d : ℤ) → i < column_count job
     → get_or (row_after job j moves) i d ≡ top_after job (column_x job i) (column_y job j) moves
-row_after-at job j moves i d there = get_or-map-range_with_len (column_top job j moves) 0 (column_count job) i i d there (omega arith)
+row_after-at job j moves i d there = row_tops-at job (stock_after job (uncut job) moves) j i d there
 
 -- with no move, each top is the uncut stock's
 same_tops : (top : ℤ) (start n : ℕ) → map (λ (i : ℕ). top) (range_with_len start n) ≡ replicate n top
@@ -36,18 +37,35 @@ pub row_after_none : (job : Job) (j : ℕ) → row_after job j [] ≡ replicate 
 row_after_none job j = same_tops job.top 0 (column_count job)
 
 -- one move more lowers each top by that move
-pub top_after_more : (job : Job) (x y : ℤ) (moves : List Move) (m : Move) → top_after job x y (moves ++ m ∷ []) ≡ top_after_move job x y (top_after job x y moves) m
-top_after_more job x y moves m = fold-append (top_after_move job x y) job.top moves (m ∷ [])
+pub top_on_more : (job : Job) (x y top : ℤ) (moves : List Move) (m : Move) → top_on job x y top (moves ++ m ∷ []) ≡ top_after_move job x y (top_on job x y top moves) m
+top_on_more job x y top moves m = fold-append (top_after_move job x y) top moves (m ∷ [])
 
-from_column : (job : Job) (j : ℕ) (moves : List Move) (m : Move) (start n : ℕ)
-    → map (column_top job j (moves ++ m ∷ [])) (range_with_len start n) ≡ tops_after_move job j start m (map (column_top job j moves) (range_with_len start n))
-from_column job j moves m start zero = refl
-from_column job j moves m start (suc n) =
-    ap (λ (t : ℤ). t ∷ map (column_top job j (moves ++ m ∷ [])) (range_with_len (start + 1) n)) (top_after_more job (column_x job start) (column_y job j) moves m)
-    ∙ ap (λ (ts : List ℤ). top_after_move job (column_x job start) (column_y job j) (column_top job j moves start) m ∷ ts) (from_column job j moves m (start + 1) n)
+module _ (job : Job) (stock : Stock) (j : ℕ) (moves : List Move) (m : Move) where
+  -- the tops of the row's columns after the moves, and after one more
+  abbrev before : ℕ → ℤ
+  before i = stock_after job stock moves j i
+
+  abbrev now : ℕ → ℤ
+  now i = stock_after job stock (moves ++ m ∷ []) j i
+
+  from_column : (start n : ℕ) → map now (range_with_len start n) ≡ tops_after_move job j start m (map before (range_with_len start n))
+  from_column start zero = refl
+  from_column start (suc n) =
+      ap (λ (t : ℤ). t ∷ map now (range_with_len (start + 1) n)) (top_on_more job (column_x job start) (column_y job j) (stock j start) moves m)
+      ∙ ap (λ (ts : List ℤ). top_after_move job (column_x job start) (column_y job j) (before start) m ∷ ts) (from_column (start + 1) n)
+
+  pub row_tops_more : row_tops job (stock_after job stock (moves ++ m ∷ [])) j ≡ tops_after_move job j 0 m (row_tops job (stock_after job stock moves) j)
+  row_tops_more = from_column 0 (column_count job)
 
 pub row_after_more : (job : Job) (j : ℕ) (moves : List Move) (m : Move) → row_after job j (moves ++ m ∷ []) ≡ tops_after_move job j 0 m (row_after job j moves)
-row_after_more job j moves m = from_column job j moves m 0 (column_count job)
+row_after_more job j moves m = row_tops_more job (uncut job) j moves m
+
+-- tops that are, column by column, those of a stock's row
+pub tops_are_row : (job : Job) (stock : Stock) (j : ℕ) (tops : List ℤ) → length tops ≡ column_count job → ((i : ℕ) → i < column_count job → get_or tops i (pos 0) ≡ stock j i)
+    → tops ≡ row_tops job stock j
+tops_are_row job stock j tops columns each =
+    ext_get_or (pos 0) tops (row_tops job stock j) (columns ∙ sym (length-row_tops job stock j))
+    (λ i within. let there : i < column_count job = omega (within, columns, arith) in each i there ∙ sym (row_tops-at job stock j i (pos 0) there))
 
 -- the tops after a move, as many as before, column by column
 pub length-tops_after_move : (job : Job) (j start : ℕ) (m : Move) (tops : List ℤ) → length (tops_after_move job j start m tops) ≡ length tops
@@ -79,16 +97,16 @@ row_stays job r m is_row = record {
 pub turned_is_row : (job : Job) (r turned : RowState) (m : Move) → turned ≡ record r { tops = tops_after_move job r.row 0 m r.tops } → IsRowOf job r → IsRowOf job turned
 turned_is_row job r turned m e is_row = rw e (row_stays job r m is_row)
 
--- the tops of a row of the job after a list of moves make a row of the job
-pub row_after_is_row : (job : Job) (j : ℕ) (moves : List Move) (done : ℕ) (failed : Option RowFail) → j < row_count job → job.floor ≤ℤ job.top
-    → IsRowOf job (record { row = j; tops = row_after job j moves; done = done; failed = failed })
-row_after_is_row job j moves done failed there order = record {
+-- the tops of a row of a stock of the job make a row of the job
+pub row_on_is_row : (job : Job) (stock : Stock) (j done : ℕ) (failed : Option RowFail) → j < row_count job → IsStockOf job stock
+    → IsRowOf job (record { row = j; tops = row_tops job stock j; done = done; failed = failed })
+row_on_is_row job stock j done failed there of_job = record {
   there = there;
-  columns = length-row_after job j moves;
-  in_stock = All-from_get_or (IsFrom job.floor job.top) (row_after job j moves) (pos 0) each;
+  columns = length-row_tops job stock j;
+  in_stock = All-from_get_or (IsFrom job.floor job.top) (row_tops job stock j) (pos 0) each;
 }
   where
-    each : (i : ℕ) → i < length (row_after job j moves) → IsFrom job.floor job.top (get_or (row_after job j moves) i (pos 0))
+    each : (i : ℕ) → i < length (row_tops job stock j) → IsFrom job.floor job.top (get_or (row_tops job stock j) i (pos 0))
     each i within =
-        let column : i < column_count job = rw (← length-row_after job j moves) within in
-        rw (row_after-at job j moves i (pos 0) column) (top_after_stays job (column_x job i) (column_y job j) moves order)
+        let column : i < column_count job = rw (← length-row_tops job stock j) within in
+        rw (row_tops-at job stock j i (pos 0) column) (of_job j i (record { row = there; column = column }))

@@ -18,8 +18,8 @@ use Rattle.mill_job.specs.Columns.{row_count, column_count}
 use Rattle.mill_job.specs.Jobs.{IsFrom}
 use Rattle.mill_dexel.specs.Cuts.{IsCutAt}
 use Rattle.mill_dexel.specs.Tops.{tops_after_move}
-use Rattle.mill_dexel.specs.Rows.{RowState, Test, cutting, holding, IsRowOf, IsFirstStop, row_point, uncut_row}
-use Rattle.mill_dexel.specs.Turns.{move_at, ClearsRow, turned, StopsAt, StopsRow, IsRowStopped, tops_after, row_before, PassesTurn, TurnsEndAt, IsRunOn, IsTurned, TurnsEndBy, IsRunUpTo, IsTurnedUpTo}
+use Rattle.mill_dexel.specs.Rows.{RowState, Test, cutting, holding, IsRowOf, IsFirstStop, row_point}
+use Rattle.mill_dexel.specs.Turns.{move_at, ClearsRow, turned, StopsAt, StopsRow, IsLeftBy, IsRowStopped, tops_after, row_before, PassesTurn, TurnsEndAt, IsRunOn, IsTurned, TurnsEndBy, IsRunUpTo, IsTurnedUpTo}
 use Rattle.mill_dexel.specs.declared.fail.RowFail.{RowFail}
 use Rattle.mill_dexel.specs.declared.fail.RowTest.{RowTest}
 use Rattle.mill_dexel.specs.declared.fail.RowTest.TheVariants as test
@@ -85,18 +85,18 @@ turn_cuts job moves now new k d there new_is =
     subst (λ (m : Move). IsCutAt job new.row m.to new.tops) (sym (move_read moves k d there))
     (subst (λ (r : RowState). IsCutAt job r.row (move_at moves k).to r.tops) (sym new_is) (cut_at_end job now.row (move_at moves k) now.tops))
 
--- what the moves before the next one leave of an uncut row
-pub left_next : (job : Job) (moves : List Move) (j k : ℕ) → k < length moves → row_before job moves (uncut_row job j) (k + 1) ≡ turned job (move_at moves k) (row_before job moves (uncut_row job j) k)
-left_next job moves j k there = ap (λ (ts : List ℤ). record (uncut_row job j) { tops = ts; done = k + 1 }) (more_tops job j moves 0 k (uncut_row job j).tops (omega arith) there)
+-- what the moves before the next one leave of a row that none before the first had cut
+pub left_next : (job : Job) (moves : List Move) (start : RowState) (k : ℕ) → start.done ≡ 0 → k < length moves → row_before job moves start (k + 1) ≡ turned job (move_at moves k) (row_before job moves start k)
+left_next job moves start k fresh there = ap (λ (ts : List ℤ). record start { tops = ts; done = k + 1 }) (more_tops job start.row moves start.done k start.tops (omega (fresh, arith)) there)
 
 -- a row that all moves before t have cut is cut at the end of the last of them
-pub left_cuts : (job : Job) (moves : List Move) (r : RowState) (t : ℕ) (last : Option Pt3) → t < length moves → r ≡ row_before job moves (uncut_row job r.row) t → (t ≡ 0 → last ≡ None)
+pub left_cuts : (job : Job) (moves : List Move) (r : RowState) (t : ℕ) (last : Option Pt3) → t < length moves → IsLeftBy job moves t r → (t ≡ 0 → last ≡ None)
     → (0 < t → last ≡ Some (move_at moves (t - 1)).to) → IsLastCut job r last
 left_cuts job moves r zero last there left first later = subst (IsLastCut job r) (sym (first refl)) tt
 left_cuts job moves r (suc k) last there left first later =
     subst (IsLastCut job r) (sym (later (omega arith)))
     (subst (λ (n : ℕ). IsCutAt job r.row (move_at moves n).to r.tops) here
-    (subst (λ (s : RowState). IsCutAt job s.row (move_at moves k).to s.tops) (sym cut) (cut_at_end job r.row (move_at moves k) (row_before job moves (uncut_row job r.row) k).tops)))
+    (subst (λ (s : RowState). IsCutAt job s.row (move_at moves k).to s.tops) (sym cut) (cut_at_end job left.start.row (move_at moves k) (row_before job moves left.start k).tops)))
   where
     here : k ≡ suc k - 1
     here = omega arith
@@ -104,8 +104,8 @@ left_cuts job moves r (suc k) last there left first later =
     next : suc k ≡ k + 1
     next = omega arith
 
-    cut : r ≡ turned job (move_at moves k) (row_before job moves (uncut_row job r.row) k)
-    cut = left ∙ ap (λ (n : ℕ). row_before job moves (uncut_row job r.row) n) next ∙ left_next job moves r.row k (omega (arith, there))
+    cut : r ≡ turned job (move_at moves k) (row_before job moves left.start k)
+    cut = left.is ∙ ap (λ (n : ℕ). row_before job moves left.start n) next ∙ left_next job moves left.start k left.fresh (omega (arith, there))
 
 -- a row that hadn't failed is turned where it ran up to a move
 runs_up_to : (job : Job) (moves : List Move) (limit : ℕ) (old new : RowState) → old.failed ≡ None → IsRunUpTo job moves limit old new → IsTurnedUpTo job moves limit old new

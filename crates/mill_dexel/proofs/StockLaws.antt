@@ -23,7 +23,7 @@ use Rattle.mill_dexel.specs.Rows.{RowState, IsRowOf, cutting, IsFirstStop, Passe
 use Rattle.mill_dexel.specs.Stocks.{IsRow, IsStock}
 use Rattle.mill_dexel.proofs.Beyond.{move_keeps}
 use Rattle.mill_dexel.proofs.Trials.{cutting_trial, far_passes_row}
-use Rattle.mill_dexel.proofs.RowLaws.{row_after-at, row_after_more, row_after_none, turned_is_row}
+use Rattle.mill_dexel.proofs.RowLaws.{row_after-at, row_after_more, turned_is_row}
 
 -- a column's point at which a move of a kind is tested, by the row that it stands in
 point_is : (job : Job) (kind : Kind) (done : List Move) (j i : ℕ) (r : RowState) → IsRow job done j r → i < column_count job → row_point job kind r i ≡ tested_point job kind done j i
@@ -215,5 +215,5 @@ uncut_more job n rows r so_far is_row is = record {
 pub stock_uncut : (job : Job) (n : ℕ) (rows : List RowState) → n ≡ row_count job → AreUncutTo job n rows → IsStock job [] rows
 stock_uncut job n rows all so_far = record {
   count = so_far.count ∙ all;
-  rows_ok = λ j other there. subst (IsRow job [] j) (sym (so_far.uncut j other (subst (λ (k : ℕ). j < k) (sym all) there))) (record { number = refl; after = sym (row_after_none job j) });
+  rows_ok = λ j other there. subst (IsRow job [] j) (sym (so_far.uncut j other (subst (λ (k : ℕ). j < k) (sym all) there))) (record { number = refl; after = refl });
 }

@@ -1,5 +1,5 @@
 -- A row of columns, and the first of its columns that the cutter, or its holder, doesn't pass on a move.
-use Rattle.std.specs.Prelude.{◌≡◌, ℕ, ◌<◌, ℤ, pos, List, length, All, Option, None, Some, IfSome, replicate, slice_index_or}
+use Rattle.std.specs.Prelude.{◌≡◌, ℕ, ◌<◌, ℤ, pos, List, length, All, Option, None, Some, IfSome, slice_index_or}
 use Rattle.mill_base.specs.Points.{point_at, point_tri}
 use Rattle.mill_base.specs.Tools.{solid_of}
 use Rattle.mill_base.specs.declared.cutter.Cutter.{Cutter}
@@ -16,7 +16,7 @@ use Rattle.mill_sweep.specs.Leaves.{span_of}
 use Rattle.mill_sweep.specs.Halving.{Blocks, PassesPoint, FailsAt}
 use Rattle.mill_sweep.specs.Holders.{lifted}
 use Rattle.mill_sweep.specs.declared.leaf.Leaf.{Leaf}
-use Rattle.mill_dexel.specs.Tops.{tested_height}
+use Rattle.mill_dexel.specs.Tops.{Stock, row_tops, tested_height, uncut}
 use Rattle.mill_dexel.specs.declared.fail.RowFail.{RowFail}
 
 -- the number of a row, the tops of its columns, how many moves have cut it, and where one was stopped
@@ -26,9 +26,17 @@ pub record RowState : Type 0 where
   pub done : ℕ
   pub failed : Option RowFail
 
+-- row j of a stock, before the first move
+abbrev pub fresh_row : Job → Stock → ℕ → RowState
+fresh_row job stock j = record { row = j; tops = row_tops job stock j; done = 0; failed = None }
+
 -- row j of the uncut stock, before the first move
 abbrev pub uncut_row : Job → ℕ → RowState
-uncut_row job j = record { row = j; tops = replicate (column_count job) job.top; done = 0; failed = None }
+uncut_row job j = fresh_row job (uncut job) j
+
+-- a row with the same tops before the first move of another list
+abbrev pub restarted : RowState → RowState
+restarted r = record r { done = 0; failed = None }
 
 -- the top of column i
 abbrev pub top_at : List ℤ → ℕ → ℤ

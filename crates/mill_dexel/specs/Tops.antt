@@ -1,4 +1,4 @@
--- The top of a column after a list of moves.
+-- The top of a column after a list of moves, and the tops of a whole stock.
 use Rattle.std.specs.Prelude.{ℕ, ◌+◌, ℤ, pos, ◌-ℤ◌, ◌<ℤ◌, List, [], ◌∷◌, fold, map, Option, Some, None, IfSome}
 use Rattle.std.specs.List.{range_with_len}
 use Rattle.mill_base.specs.Numbers.{lesser, greater}
@@ -29,13 +29,33 @@ top_after_sample floor x y top (Some s) = lowered_to floor top (cut_height_of s.
 abbrev pub top_after_move : Job → ℤ → ℤ → ℤ → Move → ℤ
 top_after_move job x y top m = fold (top_after_sample job.floor x y) top (samples job.cutter job.sample m)
 
--- a column's top after a list of moves, from the job's top on
-abbrev pub top_after : Job → ℤ → ℤ → List Move → ℤ
-top_after job x y moves = fold (top_after_move job x y) job.top moves
+-- a column's top after a list of moves, from this top on
+abbrev pub top_on : Job → ℤ → ℤ → ℤ → List Move → ℤ
+top_on job x y top moves = fold (top_after_move job x y) top moves
 
--- all tops of row j after a list of moves
+-- the same from the job's top on
+abbrev pub top_after : Job → ℤ → ℤ → List Move → ℤ
+top_after job x y moves = top_on job x y job.top moves
+
+-- a stock: the top of each column, by the numbers of its row and of its column in that
+abbrev pub Stock : Type 0
+Stock = ℕ → ℕ → ℤ
+
+-- the uncut stock
+abbrev pub uncut : Job → Stock
+uncut job = λ j i. job.top
+
+-- a stock after a list of moves
+abbrev pub stock_after : Job → Stock → List Move → Stock
+stock_after job stock moves = λ j i. top_on job (column_x job i) (column_y job j) (stock j i) moves
+
+-- all tops of row j of a stock
+abbrev pub row_tops : Job → Stock → ℕ → List ℤ
+row_tops job stock j = map (λ i. stock j i) (range_with_len 0 (column_count job))
+
+-- all tops of row j after a list of moves, from the uncut stock on
 abbrev pub row_after : Job → ℕ → List Move → List ℤ
-row_after job j moves = map (λ i. top_after job (column_x job i) (column_y job j) moves) (range_with_len 0 (column_count job))
+row_after job j moves = row_tops job (stock_after job (uncut job) moves) j
 
 -- the tops of columns i, i + 1 and so on of row j, each after one move
 abbrev pub tops_after_move : Job → ℕ → ℕ → Move → List ℤ → List ℤ
@@ -58,18 +78,36 @@ abbrev pub IsTested : Job → Kind → Type 0
 IsTested job Rapid = Unit {0}
 IsTested job Feed = (pos 0) <ℤ job.max_cut
 
--- the point of column i of row j at which a move of this kind is tested, after a list of moves
+-- the point of column i of row j of a stock at which a move of this kind is tested
+abbrev pub tested_point_on : Job → Kind → Stock → ℕ → ℕ → Pt3
+tested_point_on job kind stock j i = point_at (column_x job i) (column_y job j) (tested_height job kind (stock j i))
+
+-- a move passes each column of a stock, if it is tested
+abbrev pub ClearsColumnsOn : Job → Stock → Move → Type 0
+ClearsColumnsOn job stock m = IsTested job m.kind → (j i : ℕ) → IsColumn job j i → PassesPoint job.cutter m (tested_point_on job m.kind stock j i)
+
+-- the point at the top of column i of row j of a stock
+abbrev pub top_point_on : Job → Stock → ℕ → ℕ → Pt3
+top_point_on job stock j i = point_at (column_x job i) (column_y job j) (stock j i)
+
+-- the holder, if the job has one, passes each column of a stock on a move, up to its top
+abbrev pub HolderClearsColumnsOn : Job → Stock → Move → Type 0
+HolderClearsColumnsOn job stock m = IfSome job.holder (λ holder. (j i : ℕ) → IsColumn job j i → HolderPassesPoint holder m (top_point_on job stock j i))
+
+-- ---- a further move after a list of moves, from the uncut stock on
+
+-- the point of column i of row j at which a move of this kind is tested
 abbrev pub tested_point : Job → Kind → List Move → ℕ → ℕ → Pt3
-tested_point job kind moves j i = point_at (column_x job i) (column_y job j) (tested_height job kind (top_after job (column_x job i) (column_y job j) moves))
+tested_point job kind moves j i = tested_point_on job kind (stock_after job (uncut job) moves) j i
 
--- after a list of moves a further one passes each column, if it is tested
+-- a further move passes each column, if it is tested
 abbrev pub ClearsColumns : Job → List Move → Move → Type 0
-ClearsColumns job moves m = IsTested job m.kind → (j i : ℕ) → IsColumn job j i → PassesPoint job.cutter m (tested_point job m.kind moves j i)
+ClearsColumns job moves m = ClearsColumnsOn job (stock_after job (uncut job) moves) m
 
--- the point at the top of column i of row j after a list of moves
+-- the point at the top of column i of row j
 abbrev pub top_point : Job → List Move → ℕ → ℕ → Pt3
-top_point job moves j i = point_at (column_x job i) (column_y job j) (top_after job (column_x job i) (column_y job j) moves)
+top_point job moves j i = top_point_on job (stock_after job (uncut job) moves) j i
 
--- after a list of moves the holder, if the job has one, passes each column on a further one, up to its top
+-- the holder, if the job has one, passes each column on a further move, up to its top
 abbrev pub HolderClearsColumns : Job → List Move → Move → Type 0
-HolderClearsColumns job moves m = IfSome job.holder (λ holder. (j i : ℕ) → IsColumn job j i → HolderPassesPoint holder m (top_point job moves j i))
+HolderClearsColumns job moves m = HolderClearsColumnsOn job (stock_after job (uncut job) moves) m

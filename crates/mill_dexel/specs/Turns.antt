@@ -63,6 +63,12 @@ tops_after job j moves tops = fold (λ ts m. tops_after_move job j 0 m ts) tops 
 abbrev pub row_before : Job → List Move → RowState → ℕ → RowState
 row_before job moves r k = record r { tops = tops_after job r.row (slice_range moves r.done k) r.tops; done = k }
 
+-- the row is what all moves before move t have left of some row, which none before the first had cut
+pub record IsLeftBy (job : Job) (moves : List Move) (t : ℕ) (r : RowState) : Type 0 where
+  pub start : RowState
+  pub fresh : start.done ≡ 0
+  pub is : r ≡ row_before job moves start t
+
 -- there is a move k, and the row lets it pass
 pub record PassesTurn (job : Job) (moves : List Move) (r : RowState) (k : ℕ) : Type 0 where
   pub there : k < length moves

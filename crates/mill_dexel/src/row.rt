@@ -10,8 +10,8 @@ ghost use Rattle.mill_dexel.specs.inner.Passing.{PassesBeside, PassesOver, tryin
 ghost use Rattle.mill_dexel.specs.inner.Readiness.{IsNext};
 ghost use Rattle.mill_dexel.specs.Cuts.{IsCutAt};
 ghost use Rattle.mill_dexel.specs.Tops.{IsTested, tested_height as tested_height_of, tops_after_move};
-ghost use Rattle.mill_dexel.specs.Rows.{IsRowOf, cutting, holding, PassesRow, HolderPassesRow, HolderClearsRow, IsFirstStop, IsColumnBlocked, IsFirstHolderStop, row_point, top_at, uncut_row, uncut_tri};
-ghost use Rattle.mill_dexel.specs.Turns.{ClearsRow, CutClearsRow, CutStopsAt, IsRowStopped, StopsRow, move_at, row_before, turned};
+ghost use Rattle.mill_dexel.specs.Rows.{IsRowOf, cutting, holding, PassesRow, HolderPassesRow, HolderClearsRow, IsFirstStop, IsColumnBlocked, IsFirstHolderStop, restarted, row_point, top_at, uncut_row, uncut_tri};
+ghost use Rattle.mill_dexel.specs.Turns.{ClearsRow, CutClearsRow, CutStopsAt, IsLeftBy, IsRowStopped, StopsRow, move_at, row_before, turned};
 
 use crate::band::Band;
 use crate::bands::Bands;
@@ -54,6 +54,20 @@ impl Row {
         let tops = vec![in alloc; job.top; job.columns() as usize]?;
         Ok(Row {
             number: number as u32,
+            tops,
+            done: 0,
+            failed: None,
+        })
+    }
+
+    /// The row with the same tops before the first move of another list of moves: no move is done, and none
+    /// has failed. The only error is want of memory, for the tops.
+    pub fn again(&self, alloc: Global) -> Result<Row, WantOfMemory>
+        ensures { IfOk result (λ r. r ≡ restarted self.now) }
+    {
+        let tops = Vec::from_slice(alloc, &self.tops)?;
+        Ok(Row {
+            number: self.number,
             tops,
             done: 0,
             failed: None,
@@ -168,7 +182,7 @@ impl Row {
         requires unfailed { self.old.failed ≡ None }
         requires next { t ≡ self.old.done }
         requires there { t < length moves.now }
-        requires from_uncut { self.old ≡ row_before job.now moves.now (uncut_row job.now self.old.row) t }
+        requires left { IsLeftBy job.now moves.now t self.old }
         ensures clears { IsTrue result → ClearsRow job.now self.old (move_at moves.now t) }
         ensures cut { IsTrue result → self.new ≡ turned job.now (move_at moves.now t) self.old }
         ensures stopped { result ≡ false → IsRowStopped job.now (move_at moves.now t) self.old self.new }
@@ -185,12 +199,12 @@ impl Row {
         requires moves_ok { MovesInRange bands.now.moves }
         requires row { IsRowOf job.now self.old }
         requires unfailed { self.old.failed ≡ None }
+        requires next { t ≡ self.old.done }
         requires there { t < bands.now.count }
-        requires from_uncut { self.old ≡ row_before job.now bands.now.moves (uncut_row job.now self.old.row) t }
         ensures onward { t ≤ result }
         ensures within { result ≤ bands.now.count }
-        ensures clears { (k : ℕ) → t ≤ k → k < result → ClearsRow job.now (row_before job.now bands.now.moves (uncut_row job.now self.old.row) k) (move_at bands.now.moves k) }
-        ensures is { self.new ≡ row_before job.now bands.now.moves (uncut_row job.now self.old.row) result }
+        ensures clears { (k : ℕ) → t ≤ k → k < result → ClearsRow job.now (row_before job.now bands.now.moves self.old k) (move_at bands.now.moves k) }
+        ensures is { self.new ≡ row_before job.now bands.now.moves self.old result }
         ensures row { IsRowOf job.now self.new }
     {
         let count = bands.count();

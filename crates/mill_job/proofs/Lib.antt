@@ -1,5 +1,5 @@
 mod Falling
-mod Faults
+pub mod Faults
 mod Groups
 mod Holding
 mod InOrder

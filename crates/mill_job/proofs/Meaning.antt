@@ -2,9 +2,10 @@
 use Rattle.std.proofs.Common.{◌≡◌, ◌∙◌, ℕ, List, ◌++◌, Some, None, Result, Ok, Err, IsUtf8, refl, sym, ap, inl}
 use Rattle.toml.specs.Data.{Members}
 use Rattle.toml.specs.Parse.{parse_document}
-use Rattle.mill_job.specs.Keys.{unknown_in}
+use Rattle.mill_job.specs.Keys.{every_key, unknown_but}
 use Rattle.mill_job.specs.Tables.{first, checked}
-use Rattle.mill_job.specs.Documents.{GivesJob, IsJobOf, job_from, job_in, job_of, key_faults, relation_faults, document_fault, cutter_faults}
+use Rattle.mill_job.specs.Cutters.{cutter_faults}
+use Rattle.mill_job.specs.Documents.{GivesJob, IsJobOf, job_from, job_in, job_of, key_faults, relation_faults, document_fault}
 use Rattle.mill_job.specs.declared.job.Job.{Job}
 use Rattle.mill_job.specs.declared.fault.JobFault.{JobFault}
 use Rattle.mill_job.specs.declared.fault.JobFault.TheVariants.{Syntax, Unknown, Missing, WrongKind, Range, Relation, WantOfMemory}
@@ -21,7 +22,7 @@ gives text (Err (Relation a b)) h = h
 gives text (Err WantOfMemory) h = tt
 
 -- where no key is unknown, the answer is decided by the keys' values
-pub by_values : (text : List ℕ) (ms : Members) (answer : Result Job JobFault) → IsUtf8 text → parse_document text ≡ Some ms → None ≡ unknown_in ms
+pub by_values : (text : List ℕ) (ms : Members) (answer : Result Job JobFault) → IsUtf8 text → parse_document text ≡ Some ms → None ≡ unknown_but every_key ms
     → answer ≡ checked (first (key_faults ms ++ cutter_faults ms ++ relation_faults (job_from ms))) (job_from ms) → GivesJob text answer
 by_values text ms answer utf8 parsed known value =
     let document : job_of text ≡ checked (document_fault ms) (job_from ms) = ap job_in parsed in

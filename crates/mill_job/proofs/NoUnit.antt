@@ -7,10 +7,11 @@ use Rattle.std.specs.Ordering.{match_ordering}
 use Rattle.toml.specs.Data.{Data, Members, no_members, member, get_member}
 use Rattle.toml.specs.Parse.{parse_document}
 use Rattle.mill_base.specs.declared.unit.Unit.TheVariants.{Hundredth}
-use Rattle.mill_job.specs.Keys.{name_of, is_known, unknown_in}
+use Rattle.mill_job.specs.Keys.{name_of, every_key, other_keys, is_name_of, unknown_but}
 use Rattle.mill_job.specs.Tables.{first, checked, text_fault_if_there}
-use Rattle.mill_job.specs.Documents.{unit_of, unit_texts, key_faults_in, cutter_faults, relation_faults, job_with, document_fault, job_in}
-use Rattle.mill_job.specs.NoUnit.{NamesNoUnit, is_other, no_other_in, hundredths_fault, in_hundredths, MeansWithout, IsInHundredths}
+use Rattle.mill_job.specs.Cutters.{cutter_faults}
+use Rattle.mill_job.specs.Documents.{unit_of, unit_texts, key_faults_in, relation_faults, job_with, document_fault, job_in}
+use Rattle.mill_job.specs.NoUnit.{NamesNoUnit, hundredths_fault, in_hundredths, MeansWithout, IsInHundredths}
 use Rattle.mill_job.specs.declared.job.Job.{Job}
 use Rattle.mill_job.specs.declared.key.Key.TheVariants as key
 use Rattle.mill_job.specs.declared.fault.JobFault.{JobFault}
@@ -43,13 +44,13 @@ not_unit : (text : List ℕ) → is_eq (slice_cmp nat_cmp (name_of key.Unit) tex
 not_unit text h =
     turned (name_of key.Unit) text (bytes_eq text (name_of key.Unit)) (sym (is_eq-slice_cmp (name_of key.Unit) text) ∙ h) refl
 
-known_is_other : (text : List ℕ) → bytes_eq text (name_of key.Unit) ≡ false → is_known text ≡ is_other text
-unfolding is_known is_other
+known_is_other : (text : List ℕ) → bytes_eq text (name_of key.Unit) ≡ false → is_name_of every_key text ≡ is_name_of other_keys text
+unfolding is_name_of
 known_is_other text h = rw h refl
 
 -- ---- the document
 
-same_unknown : (ms : Members) → NamesNoUnit ms → unknown_in ms ≡ no_other_in ms
+same_unknown : (ms : Members) → NamesNoUnit ms → unknown_but every_key ms ≡ unknown_but other_keys ms
 same_unknown no_members h = refl
 same_unknown (member text value ms) h =
     let other = is_other_member text value ms h in
@@ -70,7 +71,7 @@ none_between (Some text) faults = refl
 same_fault : (ms : Members) → NamesNoUnit ms → document_fault ms ≡ hundredths_fault ms
 same_fault ms h =
     rw (unit_is_fine ms h, unit_is ms h, same_unknown ms h)
-    (none_between (no_other_in ms) (key_faults_in Hundredth ms ++ cutter_faults ms ++ relation_faults (job_with Hundredth ms)))
+    (none_between (unknown_but other_keys ms) (key_faults_in Hundredth ms ++ cutter_faults ms ++ relation_faults (job_with Hundredth ms)))
 
 by_document : (document : Option Members) → IfSome document NamesNoUnit → job_in document ≡ in_hundredths document
 by_document None h = refl

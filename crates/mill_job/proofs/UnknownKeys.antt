@@ -4,30 +4,31 @@ use Rattle.std.specs.String.{string_bytes}
 use Rattle.std.specs.Map.{keys_of}
 use Rattle.toml.specs.declared.value.Value.{Value}
 use Rattle.toml.specs.View.{members_view}
-use Rattle.mill_job.specs.Keys.{is_known, unknown_in}
+use Rattle.mill_job.specs.Keys.{is_name_of, unknown_but}
+use Rattle.mill_job.specs.declared.key.Key.{Key}
 
--- the first text that is no key of a job
-abbrev pub first_in : List (String Global) → Option (List ℕ)
-first_in [] = None
-first_in (name ∷ names) = if is_known (string_bytes name) then first_in names else Some (string_bytes name)
+-- the first text that is none of these keys'
+abbrev pub first_but : List Key → List (String Global) → Option (List ℕ)
+first_but keys [] = None
+first_but keys (name ∷ names) = if is_name_of keys (string_bytes name) then first_but keys names else Some (string_bytes name)
 
-pub first_in-keys : (es : List (String Global × Value)) → first_in (keys_of es) ≡ unknown_in (members_view es)
-first_in-keys [] = refl
-first_in-keys (e ∷ es) = rw (first_in-keys es) refl
+pub first_but-keys : (keys : List Key) (es : List (String Global × Value)) → first_but keys (keys_of es) ≡ unknown_but keys (members_view es)
+first_but-keys keys [] = refl
+first_but-keys keys (e ∷ es) = rw (first_but-keys keys es) refl
 
-pub goes_on : (names rest : List (String Global)) (name : String Global) (answer : Option (List ℕ)) → names ≡ name ∷ rest → is_known (string_bytes name) ≡ true
-    → first_in names ≡ answer → first_in rest ≡ answer
-goes_on names rest name answer e known so_far =
-    let one : first_in names ≡ first_in rest = rw (e, known) refl in
+pub goes_on : (keys : List Key) (names rest : List (String Global)) (name : String Global) (answer : Option (List ℕ)) → names ≡ name ∷ rest → is_name_of keys (string_bytes name) ≡ true
+    → first_but keys names ≡ answer → first_but keys rest ≡ answer
+goes_on keys names rest name answer e known so_far =
+    let one : first_but keys names ≡ first_but keys rest = rw (e, known) refl in
     sym one ∙ so_far
 
-pub stops : (names rest : List (String Global)) (name : String Global) (answer : Option (List ℕ)) → names ≡ name ∷ rest → is_known (string_bytes name) ≡ false
-    → first_in names ≡ answer → Some (string_bytes name) ≡ answer
-stops names rest name answer e unknown so_far =
-    let one : first_in names ≡ Some (string_bytes name) = rw (e, unknown) refl in
+pub stops : (keys : List Key) (names rest : List (String Global)) (name : String Global) (answer : Option (List ℕ)) → names ≡ name ∷ rest → is_name_of keys (string_bytes name) ≡ false
+    → first_but keys names ≡ answer → Some (string_bytes name) ≡ answer
+stops keys names rest name answer e unknown so_far =
+    let one : first_but keys names ≡ Some (string_bytes name) = rw (e, unknown) refl in
     sym one ∙ so_far
 
-pub is_done : (names : List (String Global)) (answer : Option (List ℕ)) → names ≡ [] → first_in names ≡ answer → None ≡ answer
-is_done names answer e so_far =
-    let one : first_in names ≡ None = rw e refl in
+pub is_done : (keys : List Key) (names : List (String Global)) (answer : Option (List ℕ)) → names ≡ [] → first_but keys names ≡ answer → None ≡ answer
+is_done keys names answer e so_far =
+    let one : first_but keys names ≡ None = rw e refl in
     sym one ∙ so_far

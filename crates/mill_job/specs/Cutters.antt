@@ -2,9 +2,10 @@
 use Rattle.std.specs.Prelude.{ℕ, codes, bytes_eq, Bool, true, false, not, ◌&&◌, if◌then◌else◌, ℤ, pos, ◌*ℤ◌, int_lt, List, [], ◌∷◌, Option, Some, None, is_some, option_and_then, unwrap_or}
 use Rattle.mill_base.specs.declared.cutter.Cutter.{Cutter}
 use Rattle.mill_base.specs.declared.cutter.Cutter.TheVariants as cutter
+use Rattle.mill_base.specs.declared.limits.TheConstants.{MAX_RADIUS}
 use Rattle.toml.specs.Data.{Members, get_member, as_integer, as_str}
 use Rattle.mill_job.specs.Keys.{name_of}
-use Rattle.mill_job.specs.Tables.{fault_if, is_from, must_be_if, text_fault}
+use Rattle.mill_job.specs.Tables.{fault_if, is_from, must_be_if, number_at, number_fault, number_given, text_fault}
 use Rattle.mill_job.specs.declared.cutter.Shape.{Shape}
 use Rattle.mill_job.specs.declared.cutter.Shape.TheVariants as shape
 use Rattle.mill_job.specs.declared.fault.JobFault.{JobFault}
@@ -54,3 +55,17 @@ abbrev pub cutter_with : Shape → ℤ → Option ℤ → Option ℤ → Cutter
 cutter_with shape.Flat radius rise run = cutter.Flat radius
 cutter_with shape.Ball radius rise run = cutter.Ball radius
 cutter_with shape.Cone radius rise run = cutter.Cone radius (or_zero rise) (or_zero run)
+
+-- ---- by a document's four keys
+
+-- what is wrong with each of them, in the format's order
+abbrev pub cutter_key_faults : Members → List (Option JobFault)
+cutter_key_faults ms = shape_fault ms ∷ number_fault key.Radius (pos 1) MAX_RADIUS ms ∷ slope_fault key.Rise ms ∷ slope_fault key.Run ms ∷ []
+
+-- what is wrong between them, in order
+abbrev pub cutter_faults : Members → List (Option JobFault)
+cutter_faults ms = slope_faults (shape_of ms) (number_given key.Rise ms) (number_given key.Run ms)
+
+-- the cutter of a document with which nothing of this is wrong
+abbrev pub cutter_of : Members → Cutter
+cutter_of ms = cutter_with (shape_of ms) (number_at key.Radius ms) (number_given key.Rise ms) (number_given key.Run ms)

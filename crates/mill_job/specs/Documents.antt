@@ -3,6 +3,7 @@ use Rattle.std.specs.Prelude.{◌≡◌, ◌⊎◌, ⊤, IsUtf8, ℕ, ◌*◌, n
 use Rattle.std.specs.List.{list_all}
 use Rattle.toml.specs.Data.{Members, get_member, as_str}
 use Rattle.toml.specs.Parse.{parse_document}
+use Rattle.mill_base.specs.declared.cutter.Cutter.{Cutter}
 use Rattle.mill_base.specs.declared.limits.TheConstants.{MAX_COLUMNS, MAX_RADIUS}
 use Rattle.mill_base.specs.Sizes.{radius_of}
 use Rattle.mill_base.specs.Units.{greatest_of}
@@ -11,9 +12,9 @@ use Rattle.mill_base.specs.declared.unit.Unit.TheVariants.{Hundredth, Thousandth
 use Rattle.mill_decimal.specs.declared.snap.Snap.{Snap}
 use Rattle.mill_decimal.specs.declared.snap.Snap.TheVariants.{Nearest, Exact}
 use Rattle.mill_job.specs.Columns.{row_count, column_count}
-use Rattle.mill_job.specs.Cutters.{shape_of, shape_fault, slope_fault, slope_faults, cutter_with}
+use Rattle.mill_job.specs.Cutters.{cutter_faults, cutter_of, shape_fault, slope_fault}
 use Rattle.mill_job.specs.Holders.{holder_fault, holder_of, is_narrow}
-use Rattle.mill_job.specs.Keys.{name_of, unknown_in}
+use Rattle.mill_job.specs.Keys.{name_of, every_key, unknown_but}
 use Rattle.mill_job.specs.Tables.{text_fault_if_there, number_fault, number_fault_if_there, coordinate_fault, array_fault, array_fault_if_there, is_area, is_place, are_levels, number_given, number_at, number_or, numbers_at, area_of, place_of, levels_of, fault_if, first, checked}
 use Rattle.mill_job.specs.declared.job.Job.{Job}
 use Rattle.mill_job.specs.declared.limits.TheConstants.{MAX_DISTANCE, MAX_LAYERS}
@@ -86,7 +87,7 @@ rough_raster_of ms = number_or key.RoughRaster (raster_of ms) ms
 abbrev pub job_with : Unit → Members → Job
 job_with unit ms = record {
   unit = unit;
-  cutter = cutter_with (shape_of ms) (number_at key.Radius ms) (number_given key.Rise ms) (number_given key.Run ms);
+  cutter = cutter_of ms;
   floor = number_at key.Floor ms;
   top = number_at key.Top ms;
   clear = number_at key.Clear ms;
@@ -112,10 +113,6 @@ job_with unit ms = record {
 abbrev pub job_from : Members → Job
 job_from ms = job_with (unit_of ms) ms
 
--- what is wrong between the cutter's keys, in order
-abbrev pub cutter_faults : Members → List (Option JobFault)
-cutter_faults ms = slope_faults (shape_of ms) (number_given key.Rise ms) (number_given key.Run ms)
-
 -- roughing takes off layers, and more than 1,000 of them
 abbrev pub has_many_layers : Job → Bool
 has_many_layers job = int_lt (pos 0) job.layer && int_lt (MAX_LAYERS *ℤ job.layer) (job.top -ℤ job.floor)
@@ -136,9 +133,16 @@ relation_faults job =
     ∷ fault_if (is_narrow (radius_of job.cutter) job.holder) (Relation key.Radius key.HolderRadius)
     ∷ []
 
+-- what is wrong between another cutter and a job's numbers, in order
+abbrev pub fit_faults : Job → Cutter → List (Option JobFault)
+fit_faults job cutter =
+    fault_if (int_lt (radius_of cutter) job.band) (Relation key.Band key.Radius)
+    ∷ fault_if (is_narrow (radius_of cutter) job.holder) (Relation key.Radius key.HolderRadius)
+    ∷ []
+
 -- the document's first fault: an unknown key, a key's own fault, one between the cutter's keys, one between the others
 abbrev pub document_fault : Members → Option JobFault
-document_fault ms = first (option_map Unknown (unknown_in ms) ∷ key_faults ms ++ cutter_faults ms ++ relation_faults (job_from ms))
+document_fault ms = first (option_map Unknown (unknown_but every_key ms) ∷ key_faults ms ++ cutter_faults ms ++ relation_faults (job_from ms))
 
 abbrev pub job_in : Option Members → Result Job JobFault
 job_in None = Err Syntax
@@ -147,6 +151,10 @@ job_in (Some ms) = checked (document_fault ms) (job_from ms)
 -- what a text of UTF-8 means as a job, or its first fault
 abbrev pub job_of : List ℕ → Result Job JobFault
 job_of text = job_in (parse_document text)
+
+-- the text is no TOML document, or not UTF-8
+abbrev pub IsNoDocument : List ℕ → Type 0
+IsNoDocument text = (¬ IsUtf8 text) ⊎ (IsUtf8 text × (parse_document text ≡ None))
 
 -- what a text means as a job; the definition of a document allows any bytes in a comment, so a text that isn't UTF-8 is refused here
 abbrev pub IsJobOf : List ℕ → Result Job JobFault → Type 0

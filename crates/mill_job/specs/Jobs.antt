@@ -5,6 +5,7 @@ use Rattle.mill_base.specs.declared.limits.TheConstants.{MAX_COLUMNS}
 use Rattle.mill_base.specs.Sizes.{IsCutter, radius_of}
 use Rattle.mill_base.specs.Tools.{IsHolder}
 use Rattle.mill_base.specs.Units.{greatest_of}
+use Rattle.mill_base.specs.declared.cutter.Cutter.{Cutter}
 use Rattle.mill_base.specs.declared.tool.Tool.{Tool}
 use Rattle.mill_job.specs.Columns.{row_count, column_count}
 use Rattle.mill_job.specs.Tables.{IsPlace}
@@ -63,6 +64,12 @@ pub record IsJob (job : Job) : Type 0 where
   pub holder_ok : IfSome job.holder IsHolder
   pub wider : IfSome job.holder (λ holder. radius_of job.cutter <ℤ holder.radius)
   pub path_tol_ok : IfSome job.path_tol (IsFrom (pos 0) MAX_DISTANCE)
+
+-- the job's relations hold with this cutter in the place of its own
+pub record FitsJob (job : Job) (cutter : Cutter) : Type 0 where
+  pub cutter_ok : IsCutter cutter
+  pub narrow : job.band ≤ℤ radius_of cutter
+  pub wider : IfSome job.holder (λ holder. radius_of cutter <ℤ holder.radius)
 
 -- a job's cutter, with its holder if it has one
 abbrev pub tool_of : Job → Tool

@@ -1,5 +1,5 @@
--- The keys of a job's document.
-use Rattle.std.specs.Prelude.{ℕ, codes, bytes_eq, Bool, if◌then◌else◌, List, [], ◌∷◌, map, Option, Some, None}
+-- The keys of a job's document, and of a list of steps.
+use Rattle.std.specs.Prelude.{ℕ, codes, bytes_eq, Bool, if◌then◌else◌, List, [], ◌∷◌, Option, Some, None}
 use Rattle.std.specs.List.{list_any}
 use Rattle.toml.specs.Data.{Members, no_members, member}
 use Rattle.mill_job.specs.declared.key.Key.{Key}
@@ -32,12 +32,14 @@ name_of key.MaxCut = codes "max_cut"
 name_of key.HolderRadius = codes "holder_radius"
 name_of key.Stickout = codes "stickout"
 name_of key.PathTol = codes "path_tol"
+name_of key.Steps = codes "steps"
+name_of key.Program = codes "program"
 
--- every key but that of the unit, in the format's order
+-- every key of a job but that of the unit, in the format's order
 abbrev pub other_keys : List Key
 other_keys = key.Cutter ∷ key.Radius ∷ key.Rise ∷ key.Run ∷ key.Floor ∷ key.Top ∷ key.Clear ∷ key.Area ∷ key.Home ∷ key.Pitch ∷ key.Sample ∷ key.Allowance ∷ key.Band ∷ key.Lift ∷ key.Raster ∷ key.RoughRaster ∷ key.Layer ∷ key.RoughStock ∷ key.Levels ∷ key.Snap ∷ key.MaxCut ∷ key.HolderRadius ∷ key.Stickout ∷ key.PathTol ∷ []
 
--- every key, in the format's order
+-- every key of a job, in the format's order
 abbrev pub every_key : List Key
 every_key = key.Unit ∷ other_keys
 
@@ -45,11 +47,11 @@ every_key = key.Unit ∷ other_keys
 abbrev pub is_one_of : List (List ℕ) → List ℕ → Bool
 is_one_of texts text = list_any (bytes_eq text) texts
 
--- the text is that of a key
-unfoldable pub is_known : List ℕ → Bool
-is_known text = is_one_of (map name_of every_key) text
+-- the text is that of one of these keys
+unfoldable pub is_name_of : List Key → List ℕ → Bool
+is_name_of keys text = list_any (λ key. bytes_eq text (name_of key)) keys
 
--- the first member whose key is no key of a job; the members stand in the order of their keys' bytes
-abbrev pub unknown_in : Members → Option (List ℕ)
-unknown_in no_members = None
-unknown_in (member text value ms) = if is_known text then unknown_in ms else Some text
+-- the first member whose key is none of these; the members stand in the order of their keys' bytes
+abbrev pub unknown_but : List Key → Members → Option (List ℕ)
+unknown_but keys no_members = None
+unknown_but keys (member text value ms) = if is_name_of keys text then unknown_but keys ms else Some text

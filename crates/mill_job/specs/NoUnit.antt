@@ -1,11 +1,12 @@
 -- What a text means whose document names no unit: what the format would say of it without the key `unit`.
-use Rattle.std.specs.Prelude.{◌≡◌, ℕ, Bool, if◌then◌else◌, List, ◌∷◌, ◌++◌, map, Option, Some, None, option_map, IfSome, Result, Ok, Err}
-use Rattle.toml.specs.Data.{Members, no_members, member, get_member}
+use Rattle.std.specs.Prelude.{◌≡◌, ℕ, List, ◌∷◌, ◌++◌, Option, Some, None, option_map, IfSome, Result, Ok, Err}
+use Rattle.toml.specs.Data.{Members, get_member}
 use Rattle.toml.specs.Parse.{parse_document}
 use Rattle.mill_base.specs.declared.unit.Unit.TheVariants.{Hundredth}
-use Rattle.mill_job.specs.Keys.{name_of, other_keys, is_one_of}
+use Rattle.mill_job.specs.Keys.{name_of, other_keys, unknown_but}
 use Rattle.mill_job.specs.Tables.{first, checked}
-use Rattle.mill_job.specs.Documents.{key_faults_in, cutter_faults, relation_faults, job_with, job_of, IsJobOf}
+use Rattle.mill_job.specs.Cutters.{cutter_faults}
+use Rattle.mill_job.specs.Documents.{key_faults_in, relation_faults, job_with, job_of, IsJobOf}
 use Rattle.mill_job.specs.declared.job.Job.{Job}
 use Rattle.mill_job.specs.declared.key.Key.TheVariants as key
 use Rattle.mill_job.specs.declared.fault.JobFault.{JobFault}
@@ -21,18 +22,9 @@ LacksUnit text = IfSome (parse_document text) NamesNoUnit
 
 -- ---- the format without that key
 
--- the text is that of a key other than the unit's
-unfoldable pub is_other : List ℕ → Bool
-is_other text = is_one_of (map name_of other_keys) text
-
--- the first member whose key is no such key
-abbrev pub no_other_in : Members → Option (List ℕ)
-no_other_in no_members = None
-no_other_in (member text value ms) = if is_other text then no_other_in ms else Some text
-
--- the document's first fault: each coordinate is one in hundredths
+-- the document's first fault: `unit` is unknown, and each coordinate is one in hundredths
 abbrev pub hundredths_fault : Members → Option JobFault
-hundredths_fault ms = first (option_map Unknown (no_other_in ms) ∷ key_faults_in Hundredth ms ++ cutter_faults ms ++ relation_faults (job_with Hundredth ms))
+hundredths_fault ms = first (option_map Unknown (unknown_but other_keys ms) ∷ key_faults_in Hundredth ms ++ cutter_faults ms ++ relation_faults (job_with Hundredth ms))
 
 -- the job in hundredths of a document, or its first fault
 abbrev pub in_hundredths : Option Members → Result Job JobFault

@@ -1,15 +1,15 @@
-ghost use Rattle.std.specs.Prelude.{◌≡◌, pos, IfOk, IfErr, IfSome, IsSome, None, Some};
+ghost use Rattle.std.specs.Prelude.{◌≡◌, ◌++◌, pos, IfOk, IfErr, IfSome, IsSome, None, Some};
 ghost use Rattle.mill_base.specs.Sizes.{IsCutter};
 ghost use Rattle.mill_base.specs.declared.limits.TheConstants.{MAX_RADIUS};
 ghost use Rattle.toml.specs.View.{table_view};
-ghost use Rattle.mill_job.specs.Cutters.{cutter_with, shape_fault, shape_of, slope_fault, slope_faults};
+ghost use Rattle.mill_job.specs.Cutters.{cutter_faults, cutter_key_faults, cutter_of, cutter_with, shape_fault, shape_of, slope_fault, slope_faults};
 ghost use Rattle.mill_job.specs.Jobs.{IsFrom};
-ghost use Rattle.mill_job.specs.Tables.{first, number_given};
+ghost use Rattle.mill_job.specs.Tables.{checked, first, number_given};
 
 use crate::fault::JobFault;
 use crate::key::Key;
-use crate::values::{find, in_range};
-use mill_base::Cutter;
+use crate::values::{find, in_range, number};
+use mill_base::{Cutter, MAX_RADIUS};
 use toml::Table;
 
 /// How many times its run a cone may rise.
@@ -88,4 +88,24 @@ pub fn cutter(
         (Shape::Flat, None, None) => Ok(Cutter::Flat { radius }),
         (Shape::Ball, None, None) => Ok(Cutter::Ball { radius }),
     }
+}
+
+/// Reads a cutter from four keys of a table: `cutter`, `radius`, `rise` and `run`, as [`read_job`] reads
+/// them, whatever else the table has.
+///
+/// # Errors
+///
+/// The first in this order: for each of the keys, that it is missing, of a wrong kind or out of range;
+/// only a cone has a rise, only a cone has a run, and rise is at most 16 times run.
+///
+/// [`read_job`]: crate::read_job
+pub fn read_cutter(table: &Table) -> Result<Cutter, JobFault>
+    ensures value { result ≡ checked (first (cutter_key_faults (table_view table.now) ++ cutter_faults (table_view table.now))) (cutter_of (table_view table.now)) }
+    ensures in_range { IfOk result IsCutter }
+{
+    let shape = named_shape(table)?;
+    let radius = number(table, Key::Radius, 1, MAX_RADIUS)?;
+    let rise = slope(table, Key::Rise, shape)?;
+    let run = slope(table, Key::Run, shape)?;
+    cutter(shape, radius, rise, run)
 }

@@ -1,14 +1,18 @@
+ghost use Rattle.std.specs.Prelude.{◌≡◌};
+ghost use Rattle.mill_job.specs.declared.fault.JobFault.TheVariants as job_fault;
+
 use crate::key::Key;
 use crate::name::Name;
+use std::alloc::AllocError;
 use thiserror::Error;
 
-/// Why a text is no job.
+/// Why a text is no job, or no list of steps for one.
 #[derive(Debug, Drop, Error)]
 pub enum JobFault {
     /// The text is no TOML document, or isn't UTF-8.
     #[error("syntax")]
     Syntax,
-    /// The document has this key, which no job has; of several the first by its bytes.
+    /// The document has this key, which none has, or a step of a list; of several the first by its bytes.
     #[error("unknown {0}")]
     Unknown(Name),
     /// The document lacks this key.
@@ -26,4 +30,12 @@ pub enum JobFault {
     /// There was not enough memory.
     #[error("want of memory")]
     WantOfMemory,
+}
+
+impl From<AllocError> for JobFault {
+    ghost from_gives = { λ _ fault. fault ≡ job_fault.WantOfMemory };
+
+    fn from(_: AllocError) -> Self {
+        JobFault::WantOfMemory
+    }
 }

@@ -3,7 +3,7 @@ ghost use Rattle.mill_job.specs.Keys.{name_of};
 
 use std::fmt;
 
-/// A key of a job's document.
+/// A key of a job's document, or of a list of steps.
 #[derive(Clone, Copy, Debug, PartialEq, Eq)]
 pub enum Key {
     Unit,
@@ -31,7 +31,40 @@ pub enum Key {
     HolderRadius,
     Stickout,
     PathTol,
+    /// The key of a list.
+    Steps,
+    /// A key of each of its steps, beside those of the cutter.
+    Program,
 }
+
+/// The keys of a job's document, in the format's order.
+pub const JOB_KEYS: [Key; 25] = [
+    Key::Unit,
+    Key::Cutter,
+    Key::Radius,
+    Key::Rise,
+    Key::Run,
+    Key::Floor,
+    Key::Top,
+    Key::Clear,
+    Key::Area,
+    Key::Home,
+    Key::Pitch,
+    Key::Sample,
+    Key::Allowance,
+    Key::Band,
+    Key::Lift,
+    Key::Raster,
+    Key::RoughRaster,
+    Key::Layer,
+    Key::RoughStock,
+    Key::Levels,
+    Key::Snap,
+    Key::MaxCut,
+    Key::HolderRadius,
+    Key::Stickout,
+    Key::PathTol,
+];
 
 impl Key {
     /// The key as it stands in a document.
@@ -64,6 +97,8 @@ impl Key {
             Key::HolderRadius => "holder_radius",
             Key::Stickout => "stickout",
             Key::PathTol => "path_tol",
+            Key::Steps => "steps",
+            Key::Program => "program",
         }
     }
 }

@@ -1,9 +1,10 @@
-ghost use Rattle.std.specs.Prelude.{◌≡◌, string_bytes, Some};
+ghost use Rattle.std.specs.Prelude.{◌≡◌, string_bytes, IfOk, Some};
 
+use std::alloc::{AllocError, Global};
 use std::fmt;
 use std::marker::Model;
 
-/// The text of a key that no job has, as it stands in the document.
+/// A text as it stands in a document: a key that isn't known there, or the name of a program.
 #[derive(Debug, Drop)]
 pub struct Name {
     text: String,
@@ -25,7 +26,21 @@ impl Name {
         Name { text }
     }
 
-    /// The bytes, as they are.
+    /// A copy of this text.
+    pub fn copied(alloc: Global, text: &str) -> Result<Name, AllocError>
+        ensures { IfOk result (λ name. name ≡ text.now) }
+    {
+        Ok(Name::new(String::from_str(alloc, text)?))
+    }
+
+    /// The text, as it is.
+    pub fn as_str(&self) -> &str
+        ensures { result.now ≡ self.now }
+    {
+        self.text.as_str()
+    }
+
+    /// Its bytes.
     pub fn as_bytes(&self) -> &[u8]
         ensures { result.now ≡ self.now }
     {

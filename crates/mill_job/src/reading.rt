@@ -6,19 +6,22 @@ ghost use Rattle.mill_base.specs.Units.{greatest_of};
 ghost use Rattle.mill_base.specs.Sizes.{radius_of};
 ghost use Rattle.toml.specs.View.{table_view};
 ghost use Rattle.mill_job.specs.Columns.{row_count, column_count};
-ghost use Rattle.mill_job.specs.Documents.{GivesJob, cutter_faults, has_many_layers as many_layers_in, is_level, job_from, job_with, key_faults, key_faults_in, relation_faults};
+ghost use Rattle.mill_job.specs.Cutters.{cutter_faults};
+ghost use Rattle.mill_job.specs.Documents.{GivesJob, has_many_layers as many_layers_in, is_level, job_from, job_with, key_faults, key_faults_in, relation_faults};
 ghost use Rattle.mill_job.specs.Holders.{is_narrow};
 ghost use Rattle.mill_job.specs.Jobs.{HasFewLayers, IsFrom, IsJob, IsLevel};
 ghost use Rattle.mill_job.specs.Tables.{checked, first};
 ghost use Rattle.mill_job.specs.inner.Ranged.{IsRanged};
 
 use crate::cutter::{cutter, named_shape, slope};
-use crate::document::{document, first_unknown, unknown};
+use crate::document::{first_unknown, read_document};
 use crate::fault::JobFault;
+use crate::fitting::has_narrow_holder;
 use crate::holder::holder;
 use crate::job::Job;
-use crate::key::Key;
+use crate::key::{JOB_KEYS, Key};
 use crate::limits::{MAX_DISTANCE, MAX_LAYERS};
+use crate::name::Name;
 use crate::paths::paths_in;
 use crate::positions::count;
 use crate::space::space_in;
@@ -47,17 +50,6 @@ fn has_levels_in_stock(job: &Job) -> bool
         .as_slice()
         .iter()
         .all(|level| job.floor <= *level && *level < job.top)
-}
-
-/// Whether the job has a holder that isn't wider than its cutter.
-fn has_narrow_holder(job: &Job) -> bool
-    ensures value { result ≡ is_narrow (radius_of job.now.cutter) job.now.holder }
-    ensures no { result ≡ false → IfSome job.now.holder (λ holder. radius_of job.now.cutter <ℤ holder.radius) }
-{
-    match &job.holder {
-        Some(holder) => holder.radius <= job.cutter.radius(),
-        None => false,
-    }
 }
 
 /// How many columns stand over the job's area.
@@ -100,7 +92,7 @@ fn relation_fault(job: &Job) -> Option<JobFault>
     if !has_levels_in_stock(job) {
         return Some(JobFault::Relation(Key::Levels, Key::Top));
     }
-    if has_narrow_holder(job) {
+    if has_narrow_holder(job, &job.cutter) {
         return Some(JobFault::Relation(Key::Radius, Key::HolderRadius));
     }
     None
@@ -200,9 +192,9 @@ pub fn read_job(alloc: Global, text: &[u8]) -> Result<Job, JobFault>
     ensures gives { GivesJob text.now result }
     ensures in_range { IfOk result IsJob }
 {
-    let table = document(alloc, text)?;
-    match first_unknown(&table) {
-        Some(name) => Err(unknown(alloc, name.as_str())),
+    let table = read_document(alloc, text)?;
+    match first_unknown(&table, &JOB_KEYS) {
+        Some(key) => Err(JobFault::Unknown(Name::copied(alloc, key.as_str())?)),
         None => job(&table),
     }
 }

@@ -14,7 +14,7 @@ use mill_base::Unit;
 use mill_decimal::Snap;
 use toml::{Table, Value};
 
-/// The value at a key.
+/// The value at a key of a table.
 pub fn find<'a>(table: &'a Table, key: Key) -> Option<&'a Value>
     ensures { option_map (λ v. view v.now) result ≡ get_member (name_of key) (table_view table.now) }
 {

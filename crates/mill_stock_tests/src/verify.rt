@@ -1,3 +1,4 @@
 mod block;
+mod list;
 mod program;
 mod samples;

@@ -89,7 +89,7 @@ fn answer(alloc: Global, text: &str) -> Result<String, Fail> {
 }
 
 /// A row's text, and what is said of it.
-fn text_of_row<'a>(alloc: Global, from: &str, row: &'a str) -> Result<(String, &'a str), Fail> {
+pub fn text_of_row<'a>(alloc: Global, from: &str, row: &'a str) -> Result<(String, &'a str), Fail> {
     let (old, rest) = row.split_once(" => ").ok_or("a row without =>")?;
     let (new, says) = rest.split_once(" => ").ok_or("a row with one =>")?;
     let new = new.replace(alloc, "\\n", "\n")?;

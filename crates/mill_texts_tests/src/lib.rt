@@ -15,6 +15,8 @@ mod io;
 #[cfg(test)]
 mod job;
 #[cfg(test)]
+mod list;
+#[cfg(test)]
 mod ngc;
 #[cfg(test)]
 mod post;

@@ -10,14 +10,15 @@ use Rattle.mill_part.proofs.Below.{covered_below}
 use Rattle.mill_sweep.proofs.Halves.{passing_is_clear}
 use Rattle.mill_sweep.proofs.Holding.{holder_is_clear, holder_keeps_point}
 use Rattle.mill_sweep.proofs.Lower.{passing_keeps_point}
-use Rattle.mill_verify.specs.Verdicts.{IsVerdict, Accepts}
+use Rattle.mill_verify.specs.Verdicts.{AcceptsOn, IsVerdict}
+use Rattle.mill_dexel.specs.Tops.{uncut}
 use Rattle.mill_verify.specs.Claims.{CutsSafely}
 use Rattle.mill_verify.specs.declared.verdict.Verdict.{Verdict}
 use Rattle.mill_verify.specs.declared.verdict.Verdict.TheVariants.{Accept, Reject}
 use Rattle.mill_dexel.proofs.Removal.{over_top_is_removed, passed_is_left}
 use Rattle.mill_verify.proofs.Safe.{safe}
 
-accepted : (job : Job) (part : List Tri) (moves : List Move) (count columns : ℕ) (left : ℤ) → IsJob job → MovesInRange moves → Accepts job part moves count columns left → CutsSafely job part moves
+accepted : (job : Job) (part : List Tri) (moves : List Move) (count columns : ℕ) (left : ℤ) → IsJob job → MovesInRange moves → AcceptsOn job part (uncut job) moves count columns left → CutsSafely job part moves
 accepted job part moves count columns left ok moves_ok a =
     safe job part moves ok moves_ok passing_is_clear passing_keeps_point holder_is_clear holder_keeps_point over_top_is_removed passed_is_left covered_below holds_over count columns left a
 

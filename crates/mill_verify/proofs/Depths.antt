@@ -1,5 +1,5 @@
 -- The height at which a move is tested at a column: from the floor to the top, and at most the greatest depth of cut under that.
-use Rattle.std.specs.Prelude.{◌≡◌, ℕ, ℤ, pos, ◌-ℤ◌, ◌<ℤ◌, ◌≤ℤ◌, List, take, cond, int_lt, Bool, true, false, refl}
+use Rattle.std.specs.Prelude.{◌≡◌, ℕ, ℤ, pos, ◌-ℤ◌, ◌<ℤ◌, ◌≤ℤ◌, List, cond, int_lt, Bool, true, false, refl}
 use Rattle.std.proofs.Common.{sym, subst, arith}
 use Rattle.std.proofs.lemmas.Int.{ints}
 use Rattle.mill_base.specs.Numbers.{Within, greater}
@@ -9,13 +9,12 @@ use Rattle.mill_base.specs.declared.motion.Kind.TheVariants.{Rapid, Feed}
 use Rattle.mill_base.specs.declared.motion.Move.{Move}
 use Rattle.mill_sweep.specs.Halving.{PassesPoint}
 use Rattle.mill_job.specs.declared.job.Job.{Job}
-use Rattle.mill_job.specs.Jobs.{IsJob}
+use Rattle.mill_job.specs.Jobs.{IsJob, IsFrom}
 use Rattle.mill_job.specs.Columns.{IsColumn}
-use Rattle.mill_dexel.specs.Tops.{IsTested, tested_height, tested_point, top_after}
+use Rattle.mill_dexel.specs.Tops.{IsTested, Stock, tested_height, tested_point_on}
 use Rattle.mill_dexel.specs.Turns.{move_at}
-use Rattle.mill_dexel.proofs.TopLaws.{top_after_stays}
 use Rattle.mill_verify.proofs.Ranges.{stock_within}
-use Rattle.mill_verify.specs.Tests.{ClearsStock, PassesColumn}
+use Rattle.mill_verify.specs.Tests.{ClearsStockOn, PassesColumnOn, stock_met}
 
 -- the greater of two numbers is at least each
 greater_left : (a b : ℤ) → a ≤ℤ greater a b
@@ -53,10 +52,8 @@ pub tested_deep : (job : Job) (kind : Kind) (top : ℤ) → (pos 0) <ℤ job.max
 tested_deep job Rapid top limited = omega (limited, arith, ints)
 tested_deep job Feed top limited = greater_right job.floor (top -ℤ job.max_cut)
 
-pub tested_within : {job : Job} (kind : Kind) (x y : ℤ) (moves : List Move) → IsJob job → Within MAX_COORDINATE (tested_height job kind (top_after job x y moves))
-tested_within {job} kind x y moves ok =
-    let stays = top_after_stays job x y moves ok.stock in
-    stock_within ok (record { low = tested_low job kind _ stays.low; high = at_most _ _ _ (tested_high kind _ ok stays.low) stays.high })
+pub tested_within : {job : Job} (kind : Kind) (top : ℤ) → IsJob job → IsFrom job.floor job.top top → Within MAX_COORDINATE (tested_height job kind top)
+tested_within {job} kind top ok stays = stock_within ok (record { low = tested_low job kind top stays.low; high = at_most _ _ _ (tested_high kind top ok stays.low) stays.high })
   where
     at_most : (a b c : ℤ) → a ≤ℤ b → b ≤ℤ c → a ≤ℤ c
     at_most a b c h k = omega (h, k, arith, ints)
@@ -67,9 +64,9 @@ tested_each job Rapid limited = tt
 tested_each job Feed limited = limited
 
 -- test (iii) of a move whose kind is known
-module _ (job : Job) (moves : List Move) (kind : Kind) (k : ℕ) (is : (move_at moves k).kind ≡ kind) where
-  pub passes_as : (j i : ℕ) → PassesColumn job moves k j i → PassesPoint job.cutter (move_at moves k) (tested_point job kind (take k moves) j i)
-  passes_as j i passes = subst (λ (v : Kind). PassesPoint job.cutter (move_at moves k) (tested_point job v (take k moves) j i)) is passes
+module _ (job : Job) (start : Stock) (moves : List Move) (kind : Kind) (k : ℕ) (is : (move_at moves k).kind ≡ kind) where
+  pub passes_as : (j i : ℕ) → PassesColumnOn job start moves k j i → PassesPoint job.cutter (move_at moves k) (tested_point_on job kind (stock_met job start moves k) j i)
+  passes_as j i passes = subst (λ (v : Kind). PassesPoint job.cutter (move_at moves k) (tested_point_on job v (stock_met job start moves k) j i)) is passes
 
-  pub clears_as : ClearsStock job moves k → IsTested job kind → (j i : ℕ) → IsColumn job j i → PassesPoint job.cutter (move_at moves k) (tested_point job kind (take k moves) j i)
+  pub clears_as : ClearsStockOn job start moves k → IsTested job kind → (j i : ℕ) → IsColumn job j i → PassesPoint job.cutter (move_at moves k) (tested_point_on job kind (stock_met job start moves k) j i)
   clears_as clears tested j i column = passes_as j i (clears (subst (IsTested job) (sym is) tested) j i column)

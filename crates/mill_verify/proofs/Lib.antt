@@ -14,5 +14,12 @@ mod Scanning
 mod Sharing
 mod Gathered
 mod Failed
+mod SameTests
+mod Starts
+mod Filed
+mod Counted
+mod SafeFiles
+mod Listing
+mod UniqueFiles
 mod Tested
 pub mod Named

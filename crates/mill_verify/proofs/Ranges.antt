@@ -1,5 +1,5 @@
 -- What a job's ranges say of its columns and their tops.
-use Rattle.std.specs.Prelude.{◌≡◌, ℕ, ◌+◌, ◌*◌, ◌/◌, ◌<◌, ◌≤◌, ℤ, pos, negsuc, nat_abs, ◌+ℤ◌, ◌-ℤ◌, ◌*ℤ◌, ◌≤ℤ◌, List, refl}
+use Rattle.std.specs.Prelude.{◌≡◌, ℕ, ◌+◌, ◌*◌, ◌/◌, ◌<◌, ◌≤◌, ℤ, pos, negsuc, nat_abs, ◌+ℤ◌, ◌-ℤ◌, ◌*ℤ◌, ◌≤ℤ◌, refl}
 use Rattle.std.proofs.Common.{arith}
 use Rattle.std.proofs.Math.Nat.{div-mul-le_self, mul-le-mul_right}
 use Rattle.std.proofs.lemmas.Int.{ints}
@@ -8,14 +8,11 @@ use Rattle.mill_base.specs.declared.limits.TheConstants.{MAX_COORDINATE}
 use Rattle.mill_base.specs.Points.{point_at}
 use Rattle.mill_base.specs.Ranges.{IsInRange}
 use Rattle.mill_base.specs.Units.{greatest_of}
-use Rattle.mill_base.specs.declared.motion.Move.{Move}
 use Rattle.mill_base.specs.declared.unit.Unit.{Unit}
 use Rattle.mill_base.proofs.Ranges.{within_of_unit}
 use Rattle.mill_job.specs.declared.job.Job.{Job}
 use Rattle.mill_job.specs.Jobs.{IsJob, IsFrom}
 use Rattle.mill_job.specs.Columns.{row_count, column_count, column_x, column_y, IsColumn}
-use Rattle.mill_dexel.specs.Tops.{top_after}
-use Rattle.mill_dexel.proofs.TopLaws.{top_after_stays}
 
 -- what lies between two coordinates of a unit is in range
 within_between : (unit : Unit) (lo hi v : ℤ) → Within (greatest_of unit) lo → Within (greatest_of unit) hi → IsFrom lo hi v → Within MAX_COORDINATE v
@@ -27,9 +24,6 @@ within_between unit lo hi v a b h = record { within = by lo hi v (within_of_unit
 -- a height of the stock is in range
 pub stock_within : {job : Job} {h : ℤ} → IsJob job → IsFrom job.floor job.top h → Within MAX_COORDINATE h
 stock_within {job} {h} ok stays = within_between job.unit job.floor job.top h ok.floor_ok ok.top_ok stays
-
-pub top_within : {job : Job} (x y : ℤ) (moves : List Move) → IsJob job → Within MAX_COORDINATE (top_after job x y moves)
-top_within {job} x y moves ok = stock_within ok (top_after_stays job x y moves ok.stock)
 
 -- a row has at most as many columns as the stock
 pub columns_few : {job : Job} → IsJob job → column_count job ≤ 4000000

@@ -6,14 +6,13 @@ use Rattle.std.proofs.lemmas.Bool.{cases_lt}
 use Rattle.std.proofs.lemmas.Int.{ints, clamps, by_lt_z}
 use Rattle.mill_base.specs.Covers.{Covered}
 use Rattle.mill_base.specs.declared.points.Tri.{Tri}
-use Rattle.mill_base.specs.declared.motion.Move.{Move}
 use Rattle.mill_job.specs.declared.job.Job.{Job}
 use Rattle.mill_job.specs.Columns.{column_x, column_y, row_count, column_count}
-use Rattle.mill_dexel.specs.Tops.{top_after}
+use Rattle.mill_dexel.specs.Tops.{Stock}
 use Rattle.mill_part.proofs.Below.{covered_below}
-use Rattle.mill_verify.specs.Tests.{IsCut}
-use Rattle.mill_verify.specs.Verdicts.{IsLeftOver}
-use Rattle.mill_verify.specs.inner.Firsts.{IsCutTo, IsMostWith, IsRowLeft, IsRowUncut, IsMostOf, LeftInRow, AreRowsLeft, IsFirstUncutOf, AreRowsTold, IsBoth, IsStockLeft, IsFirstUncut}
+use Rattle.mill_verify.specs.Tests.{IsCutOn}
+use Rattle.mill_verify.specs.Verdicts.{IsFirstUncut, IsLeftOverOn}
+use Rattle.mill_verify.specs.inner.Firsts.{IsCutTo, IsMostWith, IsRowLeft, IsRowUncut, IsMostOf, LeftInRow, AreRowsLeft, IsFirstUncutOf, AreRowsTold, IsBoth, IsStockLeft}
 use Rattle.mill_verify.specs.declared.left.Uncut.{Uncut}
 use Rattle.mill_verify.proofs.Most.{most_none, most_more, most_stays, most_both, below_suc}
 
@@ -50,7 +49,7 @@ not_negative top height left u d = omega (u, d, arith, ints)
 cut_to_low : {job : Job} {part : List Tri} {x y top left : ℤ} → IsCutTo job part x y top left → (pos 0) ≤ℤ left
 cut_to_low {top = top} {left = left} h = not_negative top h.height left h.highest.under h.difference
 
-left_over_low : {job : Job} {part : List Tri} {moves : List Move} {j i : ℕ} {left : ℤ} → IsLeftOver job part moves j i left → (pos 0) ≤ℤ left
+left_over_low : {job : Job} {part : List Tri} {stock : Stock} {j i : ℕ} {left : ℤ} → IsLeftOverOn job part stock j i left → (pos 0) ≤ℤ left
 left_over_low {left = left} h = not_negative _ h.height left h.highest.under h.difference
 
 -- a column is left over by at most one number, since its greatest covered height is one
@@ -110,27 +109,27 @@ is_greater {job} {part} {x} {y} {top} {most} {left} {next} low h e = record {
     no_more : (other : ℤ) → other ≤ℤ left → other ≤ℤ next
     no_more other le = omega (e, le, arith, ints, clamps)
 
-left_over_of : {job : Job} {part : List Tri} {moves : List Move} {j i : ℕ} {left : ℤ} → IsCutTo job part (column_x job i) (column_y job j) (top_after job (column_x job i) (column_y job j) moves) left
-    → IsLeftOver job part moves j i left
+left_over_of : {job : Job} {part : List Tri} {stock : Stock} {j i : ℕ} {left : ℤ} → IsCutTo job part (column_x job i) (column_y job j) (stock j i) left
+    → IsLeftOverOn job part stock j i left
 left_over_of h = record { height = h.height; highest = h.highest; difference = h.difference }
 
 -- the columns of row j before n are cut, and this is the most that any of them is left over
-pub record IsRowLeftTo (job : Job) (part : List Tri) (moves : List Move) (j n : ℕ) (left : ℤ) : Type 0 where
-  pub cut : (i : ℕ) → i < n → IsCut job part moves j i
-  pub most : IsMostOf (IsLeftOver job part moves j) 0 n left
+pub record IsRowLeftTo (job : Job) (part : List Tri) (stock : Stock) (j n : ℕ) (left : ℤ) : Type 0 where
+  pub cut : (i : ℕ) → i < n → IsCutOn job part stock j i
+  pub most : IsMostOf (IsLeftOverOn job part stock j) 0 n left
 
-pub row_left_none : {job : Job} {part : List Tri} {moves : List Move} {j : ℕ} {left : ℤ} → left ≡ pos 0 → IsRowLeftTo job part moves j 0 left
+pub row_left_none : {job : Job} {part : List Tri} {stock : Stock} {j : ℕ} {left : ℤ} → left ≡ pos 0 → IsRowLeftTo job part stock j 0 left
 row_left_none {left} e = record { cut = λ i h. absurd (omega (h, arith)); most = most_none _ 0 left e }
 
 -- what is left over a column that is cut
-cut_to_of : {job : Job} {part : List Tri} {moves : List Move} {j i : ℕ} {left : ℤ} → IsCut job part moves j i → IsLeftOver job part moves j i left
-    → IsCutTo job part (column_x job i) (column_y job j) (top_after job (column_x job i) (column_y job j) moves) left
+cut_to_of : {job : Job} {part : List Tri} {stock : Stock} {j i : ℕ} {left : ℤ} → IsCutOn job part stock j i → IsLeftOverOn job part stock j i left
+    → IsCutTo job part (column_x job i) (column_y job j) (stock j i) left
 cut_to_of cut h = record { cut = cut; height = h.height; highest = h.highest; difference = h.difference }
 
-pub row_left_more : {job : Job} {part : List Tri} {moves : List Move} {j n : ℕ} {most next : ℤ} → IsRowLeftTo job part moves j n most
-    → IsMostWith job part (column_x job n) (column_y job j) (top_after job (column_x job n) (column_y job j) moves) most next → IsRowLeftTo job part moves j (n + 1) next
-row_left_more {job} {part} {moves} {j} {n} {most} {next} so_far h = record {
-  cut = λ i less. elim (below_suc n i less) [ inl before ↦ so_far.cut i before | inr same ↦ subst (λ (v : ℕ). IsCut job part moves j v) (sym same) h.cut ];
+pub row_left_more : {job : Job} {part : List Tri} {stock : Stock} {j n : ℕ} {most next : ℤ} → IsRowLeftTo job part stock j n most
+    → IsMostWith job part (column_x job n) (column_y job j) (stock j n) most next → IsRowLeftTo job part stock j (n + 1) next
+row_left_more {job} {part} {stock} {j} {n} {most} {next} so_far h = record {
+  cut = λ i less. elim (below_suc n i less) [ inl before ↦ so_far.cut i before | inr same ↦ subst (λ (v : ℕ). IsCutOn job part stock j v) (sym same) h.cut ];
   most = elim h.there [
     | inl stays ↦ subst (IsMostOf L 0 (n + 1)) (sym stays.1) (most_stays L 0 n most (omega arith) so_far.most stays.0 (λ x k. subst (λ z. x ≤ℤ z) stays.1 (best x k)))
     | inr here ↦ most_more L 0 n most next next (omega arith) so_far.most (left_over_of here) best (cut_to_low here) (greater most next h.least)
@@ -138,7 +137,7 @@ row_left_more {job} {part} {moves} {j} {n} {most} {next} so_far h = record {
 }
   where
     L : ℕ → ℤ → Type 0
-    L = IsLeftOver job part moves j
+    L = IsLeftOverOn job part stock j
 
     best : (x : ℤ) → L n x → x ≤ℤ next
     best x k = h.bound x (cut_to_of h.cut k)
@@ -146,37 +145,37 @@ row_left_more {job} {part} {moves} {j} {n} {most} {next} so_far h = record {
     greater : (a b : ℤ) → a ≤ℤ b → b ≡ int_max a b
     greater a b le = omega (le, arith, ints, clamps)
 
-pub row_left_all : {job : Job} {part : List Tri} {moves : List Move} {j n : ℕ} {left : ℤ} → n ≡ column_count job → 0 < column_count job → IsRowLeftTo job part moves j n left → IsRowLeft job part moves j left
-row_left_all {job} {part} {moves} {j} {n} {left} e some h =
-    let m : IsMostOf (IsLeftOver job part moves j) 0 (column_count job) left = subst (λ (v : ℕ). IsMostOf (IsLeftOver job part moves j) 0 v left) e h.most in
+pub row_left_all : {job : Job} {part : List Tri} {stock : Stock} {j n : ℕ} {left : ℤ} → n ≡ column_count job → 0 < column_count job → IsRowLeftTo job part stock j n left → IsRowLeft job part stock j left
+row_left_all {job} {part} {stock} {j} {n} {left} e some h =
+    let m : IsMostOf (IsLeftOverOn job part stock j) 0 (column_count job) left = subst (λ (v : ℕ). IsMostOf (IsLeftOverOn job part stock j) 0 v left) e h.most in
     let found = m.there some in
     record { cut = λ i less. h.cut i (subst (λ (v : ℕ). i < v) (sym e) less); col = found.0; column = found.2; there = found.3; most = λ i other less k. m.bound i other (omega arith) less k }
 
-pub rows_left_none : {job : Job} {part : List Tri} {moves : List Move} {s : ℕ} {left : ℤ} → left ≡ pos 0 → AreRowsLeft job part moves s s left
+pub rows_left_none : {job : Job} {part : List Tri} {stock : Stock} {s : ℕ} {left : ℤ} → left ≡ pos 0 → AreRowsLeft job part stock s s left
 rows_left_none {s} {left} e = record { cut = λ a b h k. absurd (omega (h, k, arith)); most = most_none _ s left e }
 
 -- one more row
-pub rows_left_more : {job : Job} {part : List Tri} {moves : List Move} {s n : ℕ} {most left next : ℤ} → s ≤ n → AreRowsLeft job part moves s n most → IsRowLeft job part moves n left
-    → next ≡ int_max most left → AreRowsLeft job part moves s (n + 1) next
-rows_left_more {job} {part} {moves} {s} {n} {most} {left} {next} order so_far h e = record {
-  cut = λ a b low less c. elim (below_suc n a less) [ inl before ↦ so_far.cut a b low before c | inr same ↦ subst (λ (v : ℕ). IsCut job part moves v b) (sym same) (h.cut b c) ];
-  most = most_more (LeftInRow job part moves) s n most left next order so_far.most (h.col, h.column, h.there) (λ x k. h.most k.0 x k.1 k.2) (left_over_low h.there) e;
+pub rows_left_more : {job : Job} {part : List Tri} {stock : Stock} {s n : ℕ} {most left next : ℤ} → s ≤ n → AreRowsLeft job part stock s n most → IsRowLeft job part stock n left
+    → next ≡ int_max most left → AreRowsLeft job part stock s (n + 1) next
+rows_left_more {job} {part} {stock} {s} {n} {most} {left} {next} order so_far h e = record {
+  cut = λ a b low less c. elim (below_suc n a less) [ inl before ↦ so_far.cut a b low before c | inr same ↦ subst (λ (v : ℕ). IsCutOn job part stock v b) (sym same) (h.cut b c) ];
+  most = most_more (LeftInRow job part stock) s n most left next order so_far.most (h.col, h.column, h.there) (λ x k. h.most k.0 x k.1 k.2) (left_over_low h.there) e;
 }
 
-pub rows_left_end : {job : Job} {part : List Tri} {moves : List Move} {s n e : ℕ} {left : ℤ} → n ≡ e → AreRowsLeft job part moves s n left → AreRowsLeft job part moves s e left
-rows_left_end {job} {part} {moves} {s} {left} same h = subst (λ (v : ℕ). AreRowsLeft job part moves s v left) same h
+pub rows_left_end : {job : Job} {part : List Tri} {stock : Stock} {s n e : ℕ} {left : ℤ} → n ≡ e → AreRowsLeft job part stock s n left → AreRowsLeft job part stock s e left
+rows_left_end {job} {part} {stock} {s} {left} same h = subst (λ (v : ℕ). AreRowsLeft job part stock s v left) same h
 
 -- two ranges of rows that meet
-rows_left_both : {job : Job} {part : List Tri} {moves : List Move} (s m e : ℕ) (a b : ℤ) → s ≤ m → m ≤ e → AreRowsLeft job part moves s m a → AreRowsLeft job part moves m e b
-    → AreRowsLeft job part moves s e (int_max a b)
-rows_left_both {job} {part} {moves} s m e a b first second left right = record {
+rows_left_both : {job : Job} {part : List Tri} {stock : Stock} (s m e : ℕ) (a b : ℤ) → s ≤ m → m ≤ e → AreRowsLeft job part stock s m a → AreRowsLeft job part stock m e b
+    → AreRowsLeft job part stock s e (int_max a b)
+rows_left_both {job} {part} {stock} s m e a b first second left right = record {
   cut = λ j i low high c. elim (cases_lt j m) [ inl less ↦ left.cut j i low less c | inr rest ↦ right.cut j i rest high c ];
-  most = most_both (LeftInRow job part moves) s m e a b (int_max a b) first second left.most right.most refl;
+  most = most_both (LeftInRow job part stock) s m e a b (int_max a b) first second left.most right.most refl;
 }
 
-stock_left_all : {job : Job} {part : List Tri} {moves : List Move} {n : ℕ} {left : ℤ} → n ≡ row_count job → 0 < row_count job → AreRowsLeft job part moves 0 n left → IsStockLeft job part moves left
-stock_left_all {job} {part} {moves} {n} {left} e some h =
-    let m : IsMostOf (LeftInRow job part moves) 0 (row_count job) left = subst (λ (v : ℕ). IsMostOf (LeftInRow job part moves) 0 v left) e h.most in
+stock_left_all : {job : Job} {part : List Tri} {stock : Stock} {n : ℕ} {left : ℤ} → n ≡ row_count job → 0 < row_count job → AreRowsLeft job part stock 0 n left → IsStockLeft job part stock left
+stock_left_all {job} {part} {stock} {n} {left} e some h =
+    let m : IsMostOf (LeftInRow job part stock) 0 (row_count job) left = subst (λ (v : ℕ). IsMostOf (LeftInRow job part stock) 0 v left) e h.most in
     let found = m.there some in
     record {
       cut = λ j i c. h.cut j i (omega arith) (subst (λ (v : ℕ). j < v) (sym e) c.row) c.column;
@@ -190,30 +189,30 @@ stock_left_all {job} {part} {moves} {n} {left} e some h =
     }
 
 -- the first of a row after rows that are cut is the first of the range
-pub row_uncut_of : {job : Job} {part : List Tri} {moves : List Move} {s e j i r : ℕ} {top left : ℤ} → s ≤ j → j < e → AreRowsLeft job part moves s j left → r ≡ j → IsRowUncut job part moves j i top
-    → IsFirstUncutOf job part moves s e r i top
-row_uncut_of {job} {part} {moves} {s} {e} {i} {top} start there so_far is h =
-    subst (λ (v : ℕ). IsFirstUncutOf job part moves s e v i top) (sym is) (record { start = start; there = there; before = so_far.cut; row = h })
+pub row_uncut_of : {job : Job} {part : List Tri} {stock : Stock} {s e j i r : ℕ} {top left : ℤ} → s ≤ j → j < e → AreRowsLeft job part stock s j left → r ≡ j → IsRowUncut job part stock j i top
+    → IsFirstUncutOf job part stock s e r i top
+row_uncut_of {job} {part} {stock} {s} {e} {i} {top} start there so_far is h =
+    subst (λ (v : ℕ). IsFirstUncutOf job part stock s e v i top) (sym is) (record { start = start; there = there; before = so_far.cut; row = h })
 
 -- the first of all rows is the first of the stock
-first_uncut_all : {job : Job} {part : List Tri} {moves : List Move} {n j i : ℕ} {top : ℤ} → n ≡ row_count job → IsFirstUncutOf job part moves 0 n j i top → IsFirstUncut job part moves j i top
-first_uncut_all {job} {part} {moves} {j} e h = record {
+first_uncut_all : {job : Job} {part : List Tri} {stock : Stock} {n j i : ℕ} {top : ℤ} → n ≡ row_count job → IsFirstUncutOf job part stock 0 n j i top → IsFirstUncut job part stock j i top
+first_uncut_all {job} {part} {stock} {j} e h = record {
   column = record { row = subst (λ (v : ℕ). j < v) e h.there; column = h.row.column };
-  first = λ a b c order. elim order [ inl less ↦ h.before a b (omega arith) less c.column | inr same ↦ subst (λ (v : ℕ). IsCut job part moves v b) (sym same.0) (h.row.first b same.1) ];
+  first = λ a b c order. elim order [ inl less ↦ h.before a b (omega arith) less c.column | inr same ↦ subst (λ (v : ℕ). IsCutOn job part stock v b) (sym same.0) (h.row.first b same.1) ];
   fails = h.row.fails;
   shown = h.row.shown;
 }
 
 -- what two ranges that meet say together is what their rows say
-pub both_told : (job : Job) (part : List Tri) (moves : List Move) (s m e : ℕ) (left right told : Result ℤ Uncut) → s ≤ m → m ≤ e → AreRowsTold job part moves s m left → AreRowsTold job part moves m e right
-    → IsBoth left right told → AreRowsTold job part moves s e told
-both_told job part moves s m e (Err uncut) right told first second l r is =
-    subst (AreRowsTold job part moves s e) (sym is) (record { start = l.start; there = within l.there; before = l.before; row = l.row })
+pub both_told : (job : Job) (part : List Tri) (stock : Stock) (s m e : ℕ) (left right told : Result ℤ Uncut) → s ≤ m → m ≤ e → AreRowsTold job part stock s m left → AreRowsTold job part stock m e right
+    → IsBoth left right told → AreRowsTold job part stock s e told
+both_told job part stock s m e (Err uncut) right told first second l r is =
+    subst (AreRowsTold job part stock s e) (sym is) (record { start = l.start; there = within l.there; before = l.before; row = l.row })
   where
     within : uncut.row < m → uncut.row < e
     within h = omega (h, second, arith)
-both_told job part moves s m e (Ok most) (Err uncut) told first second l r is =
-    subst (AreRowsTold job part moves s e) (sym is) (record {
+both_told job part stock s m e (Ok most) (Err uncut) told first second l r is =
+    subst (AreRowsTold job part stock s e) (sym is) (record {
       start = after r.start;
       there = r.there;
       before = λ a b low less c. elim (cases_lt a m) [ inl in_left ↦ l.cut a b low in_left c | inr in_right ↦ r.before a b in_right less c ];
@@ -222,10 +221,10 @@ both_told job part moves s m e (Ok most) (Err uncut) told first second l r is =
   where
     after : m ≤ uncut.row → s ≤ uncut.row
     after h = omega (h, first, arith)
-both_told job part moves s m e (Ok most) (Ok other) told first second l r is = subst (AreRowsTold job part moves s e) (sym is) (rows_left_both s m e most other first second l r)
+both_told job part stock s m e (Ok most) (Ok other) told first second l r is = subst (AreRowsTold job part stock s e) (sym is) (rows_left_both s m e most other first second l r)
 
 -- what is said of all rows is said of the stock
-pub stock_told : (job : Job) (part : List Tri) (moves : List Move) (n : ℕ) (told : Result ℤ Uncut) → n ≡ row_count job → 0 < row_count job → AreRowsTold job part moves 0 n told
-    → MatchResult told (IsStockLeft job part moves) (λ uncut. IsFirstUncut job part moves uncut.row uncut.col uncut.top)
-stock_told job part moves n (Ok left) all some h = stock_left_all all some h
-stock_told job part moves n (Err uncut) all some h = first_uncut_all all h
+pub stock_told : (job : Job) (part : List Tri) (stock : Stock) (n : ℕ) (told : Result ℤ Uncut) → n ≡ row_count job → 0 < row_count job → AreRowsTold job part stock 0 n told
+    → MatchResult told (IsStockLeft job part stock) (λ uncut. IsFirstUncut job part stock uncut.row uncut.col uncut.top)
+stock_told job part stock n (Ok left) all some h = stock_left_all all some h
+stock_told job part stock n (Err uncut) all some h = first_uncut_all all h

@@ -11,11 +11,12 @@ use Rattle.mill_base.specs.declared.motion.Move.{Move}
 use Rattle.mill_base.specs.declared.motion.Kind.{Kind}
 use Rattle.mill_base.specs.declared.motion.Kind.TheVariants.{Rapid}
 use Rattle.mill_base.specs.Numbers.{square}
+use Rattle.mill_base.specs.declared.cutter.Cutter.{Cutter}
 use Rattle.mill_base.specs.Motion.{IsMoment, tip_at}
 use Rattle.mill_base.specs.Tools.{HolderGouges, IsHolder, holder_tip, solid_of}
 use Rattle.mill_base.specs.declared.tool.Holder.{Holder}
-use Rattle.mill_base.specs.Contact.{Holds, HoldsOver, Removes}
-use Rattle.mill_base.specs.Covers.{CoveredBelow}
+use Rattle.mill_base.specs.Contact.{GougesOn, Holds, HoldsOver, Removes}
+use Rattle.mill_base.specs.Covers.{CoveredBelow, HasPointOver}
 use Rattle.mill_base.specs.Ranges.{IsInRange, MoveInRange, MovesInRange}
 use Rattle.mill_sweep.specs.Halving.{Passes}
 use Rattle.mill_sweep.specs.Moments.{PassingIsClear, PassingKeepsPoint}
@@ -24,19 +25,20 @@ use Rattle.mill_job.specs.declared.job.Job.{Job}
 use Rattle.mill_job.specs.Jobs.{IsJob}
 use Rattle.mill_job.specs.Columns.{IsColumn, column_x, column_y}
 use Rattle.mill_gouge.specs.Gouges.{HolderPassesPart}
-use Rattle.mill_dexel.specs.Tops.{tested_height, tested_point, top_after, top_after_move, top_point}
+use Rattle.mill_dexel.specs.Stocks.{IsStockOf}
+use Rattle.mill_dexel.specs.Tops.{Stock, stock_after, tested_height, tested_point_on, top_after_move, top_on, top_point_on, uncut}
 use Rattle.mill_dexel.specs.Laws.{OverTopIsRemoved, PassedIsLeft}
-use Rattle.mill_dexel.proofs.RowLaws.{top_after_more}
-use Rattle.mill_dexel.proofs.TopLaws.{top_after_stays}
+use Rattle.mill_dexel.proofs.RowLaws.{top_on_more}
+use Rattle.mill_dexel.proofs.TopLaws.{stock_stays, uncut_stays}
 use Rattle.mill_base.proofs.Ranges.{within_of_unit}
 use Rattle.mill_verify.proofs.Mounted.{if_some, of_some}
-use Rattle.mill_verify.proofs.Ranges.{column_within, top_within}
+use Rattle.mill_verify.proofs.Ranges.{column_within, stock_within}
 use Rattle.mill_verify.proofs.Depths.{clears_as, tested_deep, tested_each, tested_high, tested_within}
-use Rattle.mill_verify.specs.Tests.{GoodBefore, PassesColumn, PassesTri}
+use Rattle.mill_verify.specs.Tests.{GoodBeforeOn, IsCutOn, PassesColumnOn, PassesTri, stock_met}
 use Rattle.mill_dexel.specs.Turns.{move_at}
 use Rattle.mill_base.specs.Points.{point_at, tri_at}
-use Rattle.mill_verify.specs.Verdicts.{Accepts}
-use Rattle.mill_verify.specs.Claims.{NeverGouges, RapidsMissStock, LeftIsCovered, PartIsLeft, CutsSafely, HolderKeepsClear, HolderStaysClear, KeepsDepth, LeavesPoint, IsColumnPoint, top_before}
+use Rattle.mill_verify.specs.Verdicts.{AcceptsOn}
+use Rattle.mill_verify.specs.Claims.{AreCovered, CutsSafely, HolderKeepsClearOf, HolderStaysClear, IsColumnPoint, KeepsDepthOn, LeavesPoint, NeverGouges, PartIsLeft, Points, PointsMet, RapidsMiss, left_before}
 
 not_over : (a b : ℤ) → ¬ (a <ℤ b) → b ≤ℤ a
 not_over a b h = by (int_lt a b) refl
@@ -76,102 +78,106 @@ no_distance a b n h = no_less (square a) (square b) (square (n *ℤ pos 0)) (sq 
     no_less : (a b c : ℤ) → (pos 0) ≤ℤ a → (pos 0) ≤ℤ b → c ≤ℤ pos 0 → (a +ℤ b) <ℤ c → ⊥
     no_less a b c p q r h = omega (p, q, r, h, arith, ints)
 
-module _ (job : Job) (part : List Tri) (moves : List Move) (ok : IsJob job) (all_ok : MovesInRange moves) where
-  moves_ok : (k : ℕ) → MovesInRange (take k moves)
-  moves_ok k m member = all_ok m (subst (λ (v : List Move). Contains v m) (take-append-drop k moves) (Contains-append_left (take k moves) (drop k moves) m member))
+-- the points that are left as a move meets them lie at or under the stock's top then
+abbrev pub AreUnderTop : Job → Stock → List Move → PointsMet → Type 0
+AreUnderTop job start moves Met = (k j i : ℕ) (h : ℤ) → IsColumnPoint job j i h → Met k j i h → h ≤ℤ stock_met job start moves k j i
 
+-- where a part point is strictly inside no cutter, each column point under the part is left
+pub keeps_part : HoldsOver → (job : Job) (part : List Tri) (j i : ℕ) (h : ℤ) (cutter : Cutter) (move : Move) → HasPointOver part (pos 0) (column_x job i) (column_y job j) h
+    → ¬ GougesOn cutter move part → ¬ Removes cutter move (pos 1) (point_at (column_x job i) (column_y job j) h)
+keeps_part over job part j i h cutter move stands never removes =
+    never (record { k = removes.k; m = removes.m; moment = removes.moment; gouges = record { tri = stands.tri; member = stands.member; touches = record { n = stands.n; p = stands.p; point = stands.point; inside = held } } })
+  where
+    at_column : (stands.p.x ≡ stands.n *ℤ column_x job i) × (stands.p.y ≡ stands.n *ℤ column_y job j)
+    at_column = elim stands.beside [ inl h ↦ h | inr h ↦ absurd (no_distance _ _ stands.n h) ]
+
+    held : Holds cutter removes.m (tip_at move removes.k removes.m) stands.n stands.p
+    held = over cutter removes.m (tip_at move removes.k removes.m) stands.n stands.p (column_x job i) (column_y job j) h removes.moment.some stands.point.some removes.inside at_column.0 at_column.1 stands.high
+
+-- where the points that are left of a stock lie at or under its tops, they are covered
+pub are_covered : CoveredBelow → (job : Job) (part : List Tri) (stock : Stock) (Left : Points) → ((j i : ℕ) (h : ℤ) → IsColumnPoint job j i h → Left j i h → h ≤ℤ stock j i)
+    → ((j i : ℕ) → IsColumn job j i → IsCutOn job part stock j i) → AreCovered job part Left
+are_covered below job part stock Left under cut j i h point left =
+    below part job.floor job.band (column_x job i) (column_y job j) (stock j i -ℤ job.allowance) (h -ℤ job.allowance) (less_both h (stock j i) job.allowance (under j i h point left)) (cut j i point.column)
+  where
+    less_both : (a b c : ℤ) → a ≤ℤ b → (a -ℤ c) ≤ℤ (b -ℤ c)
+    less_both a b c h = omega (h, arith, ints)
+
+module _ (job : Job) (part : List Tri) (start : Stock) (moves : List Move) (ok : IsJob job) (start_ok : IsStockOf job start) (all_ok : MovesInRange moves) where
   in_range : (k : ℕ) → k < length moves → MoveInRange (move_at moves k)
   in_range k hk = all_ok (move_at moves k) (k, hk, any_default moves k _ _ hk)
 
+  -- the tops stay the job's
+  met_ok : (k : ℕ) → IsStockOf job (stock_met job start moves k)
+  met_ok k = stock_stays job start (take k moves) start_ok
+
   -- the point at a column's top is in range
-  top_ok : (ms : List Move) (j i : ℕ) → IsColumn job j i → IsInRange (point_at (column_x job i) (column_y job j) (top_after job (column_x job i) (column_y job j) ms))
-  top_ok ms j i c = column_within ok c (top_within _ _ ms ok)
+  top_ok : (k j i : ℕ) → IsColumn job j i → IsInRange (top_point_on job (stock_met job start moves k) j i)
+  top_ok k j i c = column_within ok c (stock_within ok (met_ok k j i c))
 
   -- and so is the one at which a move is tested
-  tested_ok : (kind : Kind) (ms : List Move) (j i : ℕ) → IsColumn job j i → IsInRange (tested_point job kind ms j i)
-  tested_ok kind ms j i c = column_within ok c (tested_within kind _ _ ms ok)
+  tested_ok : (kind : Kind) (k j i : ℕ) → IsColumn job j i → IsInRange (tested_point_on job kind (stock_met job start moves k) j i)
+  tested_ok kind k j i c = column_within ok c (tested_within kind (stock_met job start moves k j i) ok (met_ok k j i c))
 
-  passes : (k t : ℕ) (m : Move) (tri : Tri) → GoodBefore job part moves (length moves) → k < length moves → slice_index_or moves k m ≡ m → t < length part → slice_index_or part t tri ≡ tri → Passes job.cutter m tri
+  passes : (k t : ℕ) (m : Move) (tri : Tri) → GoodBeforeOn job part start moves (length moves) → k < length moves → slice_index_or moves k m ≡ m → t < length part → slice_index_or part t tri ≡ tri → Passes job.cutter m tri
   passes k t m tri good hk ek ht et =
-      let p : PassesTri job part moves k t = (good k hk).clears t ht in
-      let q : Passes job.cutter m (tri_at part t) = subst (λ (v : Move). Passes job.cutter v (tri_at part t)) (sym (move_is moves k m hk ek)) p in
-      subst (λ (v : Tri). Passes job.cutter m v) (sym (tri_is part t tri ht et)) q
+      let q : PassesTri job part moves k t = (good k hk).clears t ht in
+      let q2 : Passes job.cutter m (tri_at part t) = subst (λ (v : Move). Passes job.cutter v (tri_at part t)) (sym (move_is moves k m hk ek)) q in
+      subst (λ (v : Tri). Passes job.cutter m v) (sym (tri_is part t tri ht et)) q2
 
-  never_gouges : PassingIsClear → GoodBefore job part moves (length moves) → NeverGouges job part moves
+  pub never_gouges : PassingIsClear → GoodBeforeOn job part start moves (length moves) → NeverGouges job part moves
   never_gouges clear good m member g =
       clear job.cutter m g.gouges.tri g.k g.m ok.cutter_ok (all_ok m member)
       (passes member.0 g.gouges.member.0 m g.gouges.tri good member.1 member.2 g.gouges.member.1 g.gouges.member.2) g.moment g.gouges.touches
 
-  under_top : OverTopIsRemoved → (ms : List Move) → MovesInRange ms → (j i : ℕ) (h : ℤ) → IsColumnPoint job j i h → LeavesPoint job ms j i h → h ≤ℤ top_after job (column_x job i) (column_y job j) ms
-  under_top removed ms ms_ok j i h point leaves = not_over _ h (λ over. leaves (removed job ms (column_x job i) (column_y job j) h ok.cutter_ok ms_ok (column_within ok point.column (within_of_unit job.unit job.top ok.top_ok)) ok.sample_ok.low over point.top))
-
-  rapids_miss : PassingKeepsPoint → OverTopIsRemoved → GoodBefore job part moves (length moves) → RapidsMissStock job moves
-  rapids_miss keeps removed good k j i h hk rapid point leaves removes =
-      keeps job.cutter (move_at moves k) (column_x job i) (column_y job j) (top_after job (column_x job i) (column_y job j) (take k moves)) h ok.cutter_ok
-      (in_range k hk) (top_ok (take k moves) j i point.column) (clears_as job moves Rapid k rapid (good k hk).stock tt j i point.column) (under_top removed (take k moves) (moves_ok k) j i h point leaves) removes
-
-  left_is_covered : OverTopIsRemoved → CoveredBelow → (count columns : ℕ) (left : ℤ) → Accepts job part moves count columns left → LeftIsCovered job part moves
-  left_is_covered removed below count columns left a j i h point leaves =
-      below part job.floor job.band (column_x job i) (column_y job j) (top_after job (column_x job i) (column_y job j) moves -ℤ job.allowance) (h -ℤ job.allowance)
-      (less_both h _ job.allowance (under_top removed moves all_ok j i h point leaves)) (a.cut j i point.column)
-    where
-      less_both : (a b c : ℤ) → a ≤ℤ b → (a -ℤ c) ≤ℤ (b -ℤ c)
-      less_both a b c h = omega (h, arith, ints)
-
-  part_is_left : NeverGouges job part moves → HoldsOver → PartIsLeft job part moves
-  part_is_left never over j i h point stands r =
-      never r.move r.member (record { k = r.removes.k; m = r.removes.m; moment = r.removes.moment; gouges = record { tri = stands.tri; member = stands.member; touches = record { n = stands.n; p = stands.p; point = stands.point; inside = held } } })
-    where
-      at_column : (stands.p.x ≡ stands.n *ℤ column_x job i) × (stands.p.y ≡ stands.n *ℤ column_y job j)
-      at_column = elim stands.beside [ inl h ↦ h | inr h ↦ absurd (no_distance _ _ stands.n h) ]
-
-      held : Holds job.cutter r.removes.m (tip_at r.move r.removes.k r.removes.m) stands.n stands.p
-      held = over job.cutter r.removes.m (tip_at r.move r.removes.k r.removes.m) stands.n stands.p (column_x job i) (column_y job j) h r.removes.moment.some stands.point.some r.removes.inside at_column.0 at_column.1 stands.high
+  pub rapids_miss : PassingKeepsPoint → (Met : PointsMet) → AreUnderTop job start moves Met → GoodBeforeOn job part start moves (length moves) → RapidsMiss job moves Met
+  rapids_miss keeps Met under good k j i h hk rapid point met removes =
+      keeps job.cutter (move_at moves k) (column_x job i) (column_y job j) (stock_met job start moves k j i) h ok.cutter_ok
+      (in_range k hk) (top_ok k j i point.column) (clears_as job start moves Rapid k rapid (good k hk).stock tt j i point.column) (under k j i h point met) removes
 
   -- where the depth of cut is limited
-  module _ (good : GoodBefore job part moves (length moves)) (limited : (pos 0) <ℤ job.max_cut) where
+  module _ (good : GoodBeforeOn job part start moves (length moves)) (limited : (pos 0) <ℤ job.max_cut) where
     -- each move passes each column
-    passes_each : (k j i : ℕ) → k < length moves → IsColumn job j i → PassesColumn job moves k j i
+    passes_each : (k j i : ℕ) → k < length moves → IsColumn job j i → PassesColumnOn job start moves k j i
     passes_each k j i hk column = (good k hk).stock (tested_each job (move_at moves k).kind limited) j i column
 
     at_most : (a b c : ℤ) → a ≤ℤ b → b ≤ℤ c → a ≤ℤ c
     at_most a b c h g = omega (h, g, arith, ints)
 
     -- so it removes no point as low as that
-    cuts_shallow : PassingKeepsPoint → (k j i : ℕ) (h : ℤ) → k < length moves → IsColumnPoint job j i h → h ≤ℤ (top_before job moves k j i -ℤ job.max_cut)
+    cuts_shallow : PassingKeepsPoint → (k j i : ℕ) (h : ℤ) → k < length moves → IsColumnPoint job j i h → h ≤ℤ (stock_met job start moves k j i -ℤ job.max_cut)
         → ¬ Removes job.cutter (move_at moves k) (pos 1) (point_at (column_x job i) (column_y job j) h)
     cuts_shallow keeps k j i h hk point deep =
         let kind = (move_at moves k).kind in
-        let top = top_before job moves k j i in
+        let top = stock_met job start moves k j i in
         keeps job.cutter (move_at moves k) (column_x job i) (column_y job j) (tested_height job kind top) h ok.cutter_ok (in_range k hk)
-        (tested_ok kind (take k moves) j i point.column) (passes_each k j i hk point.column) (at_most _ _ _ deep (tested_deep job kind top limited))
+        (tested_ok kind k j i point.column) (passes_each k j i hk point.column) (at_most _ _ _ deep (tested_deep job kind top limited))
 
     -- one move more lowers a top by that move
     top_lowered : (k j i : ℕ) → k < length moves
-        → top_before job moves (k + 1) j i ≡ top_after_move job (column_x job i) (column_y job j) (top_before job moves k j i) (move_at moves k)
+        → stock_met job start moves (k + 1) j i ≡ top_after_move job (column_x job i) (column_y job j) (stock_met job start moves k j i) (move_at moves k)
     top_lowered k j i hk =
-        ap (top_after job (column_x job i) (column_y job j)) (take_more moves k _ hk) ∙ top_after_more job (column_x job i) (column_y job j) (take k moves) (move_at moves k)
+        ap (top_on job (column_x job i) (column_y job j) (start j i)) (take_more moves k _ hk) ∙ top_on_more job (column_x job i) (column_y job j) (start j i) (take k moves) (move_at moves k)
 
     -- and not under the point that it passes
-    tops_shallow : PassedIsLeft → (k j i : ℕ) → k < length moves → IsColumn job j i → (top_before job moves k j i -ℤ job.max_cut) ≤ℤ top_before job moves (k + 1) j i
+    tops_shallow : PassedIsLeft → (k j i : ℕ) → k < length moves → IsColumn job j i → (stock_met job start moves k j i -ℤ job.max_cut) ≤ℤ stock_met job start moves (k + 1) j i
     tops_shallow left k j i hk column =
         let kind = (move_at moves k).kind in
-        let top = top_before job moves k j i in
-        let stays = top_after_stays job (column_x job i) (column_y job j) (take k moves) ok.stock in
-        let high = tested_high kind top ok stays.low in
+        let top = stock_met job start moves k j i in
+        let high = tested_high kind top ok (met_ok k j i column).low in
         subst (λ (z : ℤ). (top -ℤ job.max_cut) ≤ℤ z) (sym (top_lowered k j i hk))
         (at_most _ _ _ (tested_deep job kind top limited)
         (left job (move_at moves k) (column_x job i) (column_y job j) top (tested_height job kind top) ok.cutter_ok (in_range k hk)
-        (top_ok (take k moves) j i column) (tested_ok kind (take k moves) j i column) ok.sample_ok.low high (passes_each k j i hk column)))
+        (top_ok k j i column) (tested_ok kind k j i column) ok.sample_ok.low high (passes_each k j i hk column)))
 
-  keeps_depth : PassingKeepsPoint → PassedIsLeft → GoodBefore job part moves (length moves) → KeepsDepth job moves
+  pub keeps_depth : PassingKeepsPoint → PassedIsLeft → GoodBeforeOn job part start moves (length moves) → KeepsDepthOn job start moves
   keeps_depth keeps left good limited = record {
     feeds = λ k j i h hk feed point deep. cuts_shallow good limited keeps k j i h hk point deep;
     tops = tops_shallow good limited left;
   }
 
   -- where there is a holder
-  module _ (good : GoodBefore job part moves (length moves)) (removed : OverTopIsRemoved) (holder : Holder) (mounted : job.holder ≡ Some holder) where
+  module _ (good : GoodBeforeOn job part start moves (length moves)) (Met : PointsMet) (under : AreUnderTop job start moves Met) (holder : Holder) (mounted : job.holder ≡ Some holder) where
     holder_ok : IsHolder holder
     holder_ok = of_some IsHolder job.holder holder mounted ok.holder_ok
 
@@ -187,26 +193,43 @@ module _ (job : Job) (part : List Tri) (moves : List Move) (ok : IsJob job) (all
         clear holder m g.tri a n holder_ok (all_ok m member) (holder_passes member.0 g.member.0 m g.tri member.1 member.2 g.member.1 g.member.2) moment g.touches
 
     -- and each column's top
-    misses_stock : HolderKeepsPoint → (k j i : ℕ) (h a n : ℤ) → k < length moves → IsColumnPoint job j i h → LeavesPoint job (take k moves) j i h → IsMoment a n
+    misses_stock : HolderKeepsPoint → (k j i : ℕ) (h a n : ℤ) → k < length moves → IsColumnPoint job j i h → Met k j i h → IsMoment a n
         → ¬ Holds (solid_of holder) n (holder_tip holder n (tip_at (move_at moves k) a n)) (pos 1) (point_at (column_x job i) (column_y job j) h)
-    misses_stock keeps k j i h a n hk point leaves moment =
-        let each = of_some (λ (v : Holder). (b c : ℕ) → IsColumn job b c → HolderPassesPoint v (move_at moves k) (top_point job (take k moves) b c)) job.holder holder mounted (good k hk).holder_stock in
-        keeps holder (move_at moves k) (column_x job i) (column_y job j) (top_after job (column_x job i) (column_y job j) (take k moves)) h a n holder_ok
-        (in_range k hk) (top_ok (take k moves) j i point.column) (each j i point.column) (under_top removed (take k moves) (moves_ok k) j i h point leaves) moment
+    misses_stock keeps k j i h a n hk point met moment =
+        let each = of_some (λ (v : Holder). (b c : ℕ) → IsColumn job b c → HolderPassesPoint v (move_at moves k) (top_point_on job (stock_met job start moves k) b c)) job.holder holder mounted (good k hk).holder_stock in
+        keeps holder (move_at moves k) (column_x job i) (column_y job j) (stock_met job start moves k j i) h a n holder_ok
+        (in_range k hk) (top_ok k j i point.column) (each j i point.column) (under k j i h point met) moment
 
-    stays_clear : HolderIsClear → HolderKeepsPoint → HolderStaysClear holder job part moves
+    stays_clear : HolderIsClear → HolderKeepsPoint → HolderStaysClear holder job part moves Met
     stays_clear clear keeps = record { misses_part = misses_part clear; misses_stock = misses_stock keeps }
 
-  keeps_clear : HolderIsClear → HolderKeepsPoint → OverTopIsRemoved → GoodBefore job part moves (length moves) → HolderKeepsClear job part moves
-  keeps_clear clear keeps removed good = if_some (λ (holder : Holder). HolderStaysClear holder job part moves) job.holder (λ holder mounted. stays_clear good removed holder mounted clear keeps)
+  pub keeps_clear : HolderIsClear → HolderKeepsPoint → (Met : PointsMet) → AreUnderTop job start moves Met → GoodBeforeOn job part start moves (length moves) → HolderKeepsClearOf job part moves Met
+  keeps_clear clear keeps Met under good = if_some (λ (holder : Holder). HolderStaysClear holder job part moves Met) job.holder (λ holder mounted. stays_clear good Met under holder mounted clear keeps)
+
+-- one program, from the uncut stock on
+module _ (job : Job) (part : List Tri) (moves : List Move) (ok : IsJob job) (all_ok : MovesInRange moves) where
+  first_ok : (k : ℕ) → MovesInRange (take k moves)
+  first_ok k m member = all_ok m (subst (λ (v : List Move). Contains v m) (take-append-drop k moves) (Contains-append_left (take k moves) (drop k moves) m member))
+
+  under_top : OverTopIsRemoved → (ms : List Move) → MovesInRange ms → (j i : ℕ) (h : ℤ) → IsColumnPoint job j i h → LeavesPoint job ms j i h → h ≤ℤ stock_after job (uncut job) ms j i
+  under_top removed ms ms_ok j i h point leaves = not_over _ h (λ over. leaves (removed job ms (column_x job i) (column_y job j) h ok.cutter_ok ms_ok (column_within ok point.column (within_of_unit job.unit job.top ok.top_ok)) ok.sample_ok.low over point.top))
+
+  uncut_ok : IsStockOf job (uncut job)
+  uncut_ok = uncut_stays job ok.stock
+
+  met_under : OverTopIsRemoved → AreUnderTop job (uncut job) moves (left_before job moves)
+  met_under removed k j i h point leaves = under_top removed (take k moves) (first_ok k) j i h point leaves
+
+  part_is_left : NeverGouges job part moves → HoldsOver → PartIsLeft job part moves
+  part_is_left never over j i h point stands r = keeps_part over job part j i h job.cutter r.move stands (never r.move r.member) r.removes
 
   -- what an accepted program does, from the laws
-  pub safe : PassingIsClear → PassingKeepsPoint → HolderIsClear → HolderKeepsPoint → OverTopIsRemoved → PassedIsLeft → CoveredBelow → HoldsOver → (count columns : ℕ) (most : ℤ) → Accepts job part moves count columns most → CutsSafely job part moves
+  pub safe : PassingIsClear → PassingKeepsPoint → HolderIsClear → HolderKeepsPoint → OverTopIsRemoved → PassedIsLeft → CoveredBelow → HoldsOver → (count columns : ℕ) (most : ℤ) → AcceptsOn job part (uncut job) moves count columns most → CutsSafely job part moves
   safe clear keeps holder_clear holder_keeps removed left below over count columns most a = record {
-    gouges = never_gouges clear a.good;
-    rapids = rapids_miss keeps removed a.good;
-    covered = left_is_covered removed below count columns most a;
-    kept = part_is_left (never_gouges clear a.good) over;
-    depth = keeps_depth keeps left a.good;
-    holder = keeps_clear holder_clear holder_keeps removed a.good;
+    gouges = never_gouges job part (uncut job) moves ok uncut_ok all_ok clear a.good;
+    rapids = rapids_miss job part (uncut job) moves ok uncut_ok all_ok keeps (left_before job moves) (met_under removed) a.good;
+    covered = are_covered below job part (stock_after job (uncut job) moves) (LeavesPoint job moves) (under_top removed moves all_ok) a.cut;
+    kept = part_is_left (never_gouges job part (uncut job) moves ok uncut_ok all_ok clear a.good) over;
+    depth = keeps_depth job part (uncut job) moves ok uncut_ok all_ok keeps left a.good;
+    holder = keeps_clear job part (uncut job) moves ok uncut_ok all_ok holder_clear holder_keeps (left_before job moves) (met_under removed) a.good;
   }

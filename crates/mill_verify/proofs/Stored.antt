@@ -9,31 +9,30 @@ use Rattle.mill_base.specs.declared.limits.TheConstants.{MAX_COORDINATE}
 use Rattle.mill_base.specs.Units.{greatest_of}
 use Rattle.mill_base.specs.Covers.{Covered}
 use Rattle.mill_base.specs.declared.points.Tri.{Tri}
-use Rattle.mill_base.specs.declared.motion.Move.{Move}
 use Rattle.mill_base.specs.declared.unit.Unit.{Unit}
 use Rattle.mill_base.proofs.Machine.{Read, Diff, stored, kept, exact, diff_fits}
 use Rattle.mill_base.proofs.Ranges.{coordinate, within_of_unit}
 use Rattle.mill_job.specs.declared.job.Job.{Job}
 use Rattle.mill_job.specs.Jobs.{IsJob, IsFrom}
-use Rattle.mill_job.specs.Columns.{column_x, column_y, column_count}
-use Rattle.mill_dexel.specs.Tops.{top_after}
+use Rattle.mill_job.specs.Columns.{IsColumn, column_x, column_y, column_count}
+use Rattle.mill_dexel.specs.Tops.{Stock}
 use Rattle.mill_dexel.specs.Rows.{RowState}
-use Rattle.mill_dexel.specs.Stocks.{IsRow}
-use Rattle.mill_verify.specs.Tests.{IsCut}
+use Rattle.mill_dexel.specs.Stocks.{IsStockOf, ShowsRow}
+use Rattle.mill_verify.specs.Tests.{IsCutOn}
 use Rattle.mill_verify.specs.inner.Firsts.{IsMostWith, IsRowUncut}
-use Rattle.mill_verify.proofs.Ranges.{top_within}
+use Rattle.mill_verify.proofs.Ranges.{stock_within}
 use Rattle.mill_verify.proofs.Remaining.{IsCover}
-use Rattle.mill_dexel.proofs.RowLaws.{row_after-at, length-row_after}
+use Rattle.mill_dexel.proofs.RowLaws.{length-row_tops, row_tops-at}
 
--- the tops of row j of the stock
-pub record AreTops (job : Job) (moves : List Move) (j : ℕ) (tops : List ℤ) : Type 0 where
+-- the tops of row j of a stock
+pub record AreTops (job : Job) (stock : Stock) (j : ℕ) (tops : List ℤ) : Type 0 where
   pub count : length tops ≡ column_count job
-  pub top : (i : ℕ) (other : ℤ) → i < column_count job → slice_index_or tops i other ≡ top_after job (column_x job i) (column_y job j) moves
+  pub top : (i : ℕ) (other : ℤ) → i < column_count job → slice_index_or tops i other ≡ stock j i
 
-pub tops_read : {job : Job} {moves : List Move} {j : ℕ} {row : RowState} {tops : List ℤ} → IsRow job moves j row → tops ≡ row.tops → AreTops job moves j tops
-tops_read {job} {moves} {j} row same =
+pub tops_read : {job : Job} {stock : Stock} {j : ℕ} {row : RowState} {tops : List ℤ} → ShowsRow job stock j row → tops ≡ row.tops → AreTops job stock j tops
+tops_read {job} {stock} {j} row same =
     let is = same ∙ row.after in
-    record { count = ap length is ∙ length-row_after job j moves; top = λ i other h. ap (λ (v : List ℤ). slice_index_or v i other) is ∙ row_after-at job j moves i other h }
+    record { count = ap length is ∙ length-row_tops job stock j; top = λ i other h. ap (λ (v : List ℤ). slice_index_or v i other) is ∙ row_tops-at job stock j i other h }
 
 kept_to : (unit : Unit) (v z : ℤ) → v ≡ z → Within (greatest_of unit) v → stored w32 v ≡ z
 kept_to unit v z e h = coordinate v (within_of_unit unit v h) ∙ e
@@ -91,29 +90,29 @@ enough_stored {job} {part} {x} {y} {top} {most} {low} ok x_ok y_ok t_ok least e 
     subst (λ (z : ℤ). Covered part job.floor job.band x y (top -ℤ z)) (rw (band_in job.allowance ok.allowance_ok) at e) covered
 
 -- where and how high column i of row j stands, as the code has it
-pub record IsAt (job : Job) (moves : List Move) (j i : ℕ) (x y top : ℤ) : Type 0 where
+pub record IsAt (job : Job) (stock : Stock) (j i : ℕ) (x y top : ℤ) : Type 0 where
   pub x_is : stored w32 x ≡ column_x job i
   pub y_is : stored w32 y ≡ column_y job j
-  pub top_is : stored w32 top ≡ top_after job (column_x job i) (column_y job j) moves
+  pub top_is : stored w32 top ≡ stock j i
 
-pub is_at : {job : Job} {moves : List Move} {j i : ℕ} {x y : ℤ} {tops : List ℤ} → IsJob job → AreTops job moves j tops → i < column_count job → x ≡ column_x job i → Within (greatest_of job.unit) x → y ≡ column_y job j
-    → Within (greatest_of job.unit) y → IsAt job moves j i x y (slice_index_or tops i (pos 0))
-is_at {job} {moves} {j} {i} {x} {y} ok tops h ex x_ok ey y_ok = record {
+pub is_at : {job : Job} {stock : Stock} {j i : ℕ} {x y : ℤ} {tops : List ℤ} → IsJob job → IsStockOf job stock → AreTops job stock j tops → IsColumn job j i → x ≡ column_x job i → Within (greatest_of job.unit) x
+    → y ≡ column_y job j → Within (greatest_of job.unit) y → IsAt job stock j i x y (slice_index_or tops i (pos 0))
+is_at {job} {stock} {j} {i} {x} {y} ok of_job tops column ex x_ok ey y_ok = record {
   x_is = kept_to job.unit x _ ex x_ok;
   y_is = kept_to job.unit y _ ey y_ok;
-  top_is = ap (stored w32) (tops.top i (pos 0) h) ∙ coordinate (top_after job (column_x job i) (column_y job j) moves) (top_within _ _ moves ok);
+  top_is = ap (stored w32) (tops.top i (pos 0) column.column) ∙ coordinate (stock j i) (stock_within ok (of_job j i column));
 }
 
-pub top_stored : {job : Job} {moves : List Move} {j i : ℕ} {x y top : ℤ} → IsJob job → IsAt job moves j i x y top → Within MAX_COORDINATE (stored w32 top)
-top_stored {moves} ok at = subst (Within MAX_COORDINATE) (sym at.top_is) (top_within _ _ moves ok)
+pub top_stored : {job : Job} {stock : Stock} {j i : ℕ} {x y top : ℤ} → IsJob job → IsStockOf job stock → IsColumn job j i → IsAt job stock j i x y top → Within MAX_COORDINATE (stored w32 top)
+top_stored {job} {stock} {j} {i} ok of_job column at = subst (Within MAX_COORDINATE) (sym at.top_is) (stock_within ok (of_job j i column))
 
-pub most_stored : {job : Job} {part : List Tri} {moves : List Move} {j i : ℕ} {x y top most next : ℤ} → IsAt job moves j i x y top
+pub most_stored : {job : Job} {part : List Tri} {stock : Stock} {j i : ℕ} {x y top most next : ℤ} → IsAt job stock j i x y top
     → IsMostWith job part (stored w32 x) (stored w32 y) (stored w32 top) most next
-    → IsMostWith job part (column_x job i) (column_y job j) (top_after job (column_x job i) (column_y job j) moves) most next
+    → IsMostWith job part (column_x job i) (column_y job j) (stock j i) most next
 most_stored {job} {part} {most = most} {next = next} at h = at_stored (λ (a b c : ℤ). IsMostWith job part a b c most next) _ _ _ _ _ _ at.x_is at.y_is at.top_is h
 
-pub uncut_stored : {job : Job} {part : List Tri} {moves : List Move} {j i : ℕ} {x y top : ℤ} → i < column_count job → ((e : ℕ) → e < i → IsCut job part moves j e) → IsAt job moves j i x y top
-    → ¬ Covered part job.floor job.band (stored w32 x) (stored w32 y) (stored w32 top -ℤ job.allowance) → IsRowUncut job part moves j i (stored w32 top)
+pub uncut_stored : {job : Job} {part : List Tri} {stock : Stock} {j i : ℕ} {x y top : ℤ} → i < column_count job → ((e : ℕ) → e < i → IsCutOn job part stock j e) → IsAt job stock j i x y top
+    → ¬ Covered part job.floor job.band (stored w32 x) (stored w32 y) (stored w32 top -ℤ job.allowance) → IsRowUncut job part stock j i (stored w32 top)
 uncut_stored {job} {part} there first at h = record {
   column = there;
   first = first;

@@ -1,5 +1,5 @@
 -- The verdict, from what the tests that threads share have come to.
-use Rattle.std.specs.Prelude.{◌≡◌, ◌⊎◌, ℕ, zero, suc, Bool, true, false, ◌+◌, ◌/◌, ◌<◌, ◌≤◌, List, [], ◌∷◌, length, take, slice_get, slice_index_or, Option, Some, unwrap_or, refl}
+use Rattle.std.specs.Prelude.{◌≡◌, ◌⊎◌, ℕ, zero, suc, Bool, true, false, ◌+◌, ◌/◌, ◌<◌, ◌≤◌, List, [], ◌∷◌, length, slice_get, slice_index_or, Option, Some, unwrap_or, refl}
 use Rattle.std.specs.List.{flat_map}
 use Rattle.std.proofs.Common.{sym, ◌∙◌, ap, subst, inl, inr, ⊎_elim, arith}
 use Rattle.mill_base.specs.declared.points.Tri.{Tri}
@@ -13,13 +13,13 @@ use Rattle.mill_board.proofs.Outcomes.{fails_least, passes_all, passes_to, passe
 use Rattle.mill_base.specs.declared.tool.Holder.{Holder as OneHolder}
 use Rattle.mill_base.specs.Points.{tri_at}
 use Rattle.mill_sweep.specs.Holders.{HolderIsBlocked, HolderPassesPoint}
-use Rattle.mill_dexel.specs.Tops.{top_point}
+use Rattle.mill_dexel.specs.Tops.{Stock as OneStock, top_point_on}
 use Rattle.mill_sweep.specs.declared.leaf.Leaf.{Leaf}
 use Rattle.mill_gouge.specs.Gouges.{ToolPassesPart}
 use Rattle.mill_job.specs.declared.job.Job.{Job}
 use Rattle.mill_job.specs.Columns.{row_count}
 use Rattle.mill_job.specs.Jobs.{IsJob, tool_of}
-use Rattle.mill_dexel.specs.Rows.{RowState, uncut_row}
+use Rattle.mill_dexel.specs.Rows.{RowState, fresh_row}
 use Rattle.mill_dexel.specs.Turns.{CutClearsRow, CutStopsAt, HolderStopsAt, StopsAt as StopsBy, StopsRow, move_at, row_before}
 use Rattle.mill_dexel.specs.declared.fail.RowFail.{RowFail}
 use Rattle.mill_dexel.specs.declared.fail.RowTest.{RowTest}
@@ -27,17 +27,16 @@ use Rattle.mill_dexel.specs.declared.fail.RowTest.TheVariants as test
 use Rattle.mill_verify.specs.Blocks.{BlockState, IsPartFail}
 use Rattle.mill_verify.specs.declared.block.PartFail.{PartFail}
 use Rattle.mill_verify.specs.declared.block.PartFail.TheVariants as fail
-use Rattle.mill_verify.specs.Tests.{GoodBefore, PassesColumn}
-use Rattle.mill_verify.specs.Verdicts.{FailsStock, IsVerdict}
-use Rattle.mill_verify.specs.declared.verdict.Verdict.TheVariants.{Reject}
+use Rattle.mill_verify.specs.Tests.{GoodBeforeOn, PassesColumnOn, stock_met}
+use Rattle.mill_verify.specs.Verdicts.{FailsStockOn}
 use Rattle.mill_verify.specs.declared.verdict.Reason.{Reason}
 use Rattle.mill_verify.specs.declared.verdict.Reason.TheVariants.{Floor, HolderStock}
 use Rattle.mill_verify.specs.declared.piece.Piece.{Piece}
 use Rattle.mill_verify.specs.declared.piece.Piece.TheVariants.{Block, Stock}
 use Rattle.mill_verify.specs.inner.Failures.{HasFailed, HasFailedBy, IsFirstFailed, IsReasonOf, NoneFailed, NoneFailedBy, cut_reason, is_held_row, is_holder_test, is_of_holder, part_reason, stock_reason}
-use Rattle.mill_verify.specs.inner.Firsts.{IsFloorEnd, ShowsBlocks, StopsAt}
+use Rattle.mill_verify.specs.inner.Firsts.{ArePassed, IsFloorEnd, IsStopped, StopsAt}
 use Rattle.mill_verify.specs.inner.Pieces.{AreTested, IsPieceAt, IsPieceFailed, PassesTest, TestsShown, blocks_of, first_turn, piece_count, row_in, tests, turn_limit}
-use Rattle.mill_dexel.specs.Stocks.{IsStock}
+use Rattle.mill_verify.specs.inner.Readiness.{start_stock}
 use Rattle.mill_verify.proofs.Failed.{failed_or_not, in_one_way}
 use Rattle.mill_verify.proofs.Gathered.{gathered}
 use Rattle.mill_verify.proofs.Mounted.{for_some, of_some}
@@ -65,9 +64,12 @@ read_there [] n x y e f = absurd (cc)
 read_there (z ∷ zs) zero x y e f = one_of (sym e) ∙ sym f
 read_there (z ∷ zs) (suc n) x y e f = read_there zs n x y e f
 
-module _ (job : Job) (part : List Tri) (moves : List Move) (turns least : ℕ) (hs : List (Held Piece)) (within : turns ≤ length moves) (floor : IsFloorEnd job moves turns) (closed : AreTested job part moves turns least hs) where
+module _ (job : Job) (part : List Tri) (start : Option (List RowState)) (moves : List Move) (turns least : ℕ) (hs : List (Held Piece)) (within : turns ≤ length moves) (floor : IsFloorEnd job moves turns) (closed : AreTested job part start moves turns least hs) where
+  abbrev stock : OneStock
+  stock = start_stock job start
+
   abbrev w : TestsShown
-  w = record { job = job; part = part; moves = moves; turns = turns }
+  w = record { job = job; part = part; start = start; moves = moves; turns = turns }
 
   done : (n : ℕ) → n < piece_count w → (h : Held Piece) × (slice_get hs n ≡ Some h) × IsDone tests w least n h
   done n under = let t = there_in hs n (let c = closed.count in omega (under, c, arith)) in (t.0, t.1, closed.each n t.0 t.1)
@@ -99,17 +101,17 @@ module _ (job : Job) (part : List Tri) (moves : List Move) (turns least : ℕ) (
   part_cleared : (u : ℕ) → u < turns → PassesTest w (u / 64) u → ToolPassesPart (tool_of job) (move_at moves u) part
   part_cleared u lt p = p.part (block_under u lt)
 
-  row_cleared : (u j : ℕ) → PassesTest w (blocks_of w + j) u → RowClears job moves u j
-  row_cleared u j p = row_clears job moves u j (p.stock j refl)
+  row_cleared : (u j : ℕ) → PassesTest w (blocks_of w + j) u → RowClears job stock moves u j
+  row_cleared u j p = row_clears job stock moves u j (p.stock j refl)
 
-  row_held : (u j : ℕ) → PassesTest w (blocks_of w + j) u → RowHolderClears job moves u j
-  row_held u j p = row_holder_clears job moves u j (p.stock j refl)
+  row_held : (u j : ℕ) → PassesTest w (blocks_of w + j) u → RowHolderClears job stock moves u j
+  row_held u j p = row_holder_clears job stock moves u j (p.stock j refl)
 
   -- before the least turn all tests pass
   before_least : (n u : ℕ) → n < piece_count w → first_turn w n ≤ u → u < turn_limit w n → u < least → PassesTest w n u
   before_least n u under from to less = let t = done n under in passes_under tests w least n t.0 t.2 (λ k. closed.under n k under) u from to less
 
-  pub good_to : (k : ℕ) → k ≤ least → GoodBefore job part moves k
+  pub good_to : (k : ℕ) → k ≤ least → GoodBeforeOn job part stock moves k
   good_to k to e less =
       let most = least_most in
       let lt : e < turns = omega (less, to, most, arith) in
@@ -121,12 +123,12 @@ module _ (job : Job) (part : List Tri) (moves : List Move) (turns least : ℕ) (
         clears = tool.cutter;
         holder = tool.holder;
         stock = λ tested j i column. row_cleared e j (row j column.row) tested i column.column;
-        holder_stock = holder_clears_all job moves e (λ j r. row_held e j (row j r));
+        holder_stock = holder_clears_all job stock moves e (λ j r. row_held e j (row j r));
       }
 
   -- a row that fails at the least turn by the holder's test passes the cutter's
   abbrev FailsHeld : ℕ → Type 0
-  FailsHeld m = (j : ℕ) × (m ≡ blocks_of w + j) × CutClearsRow job (row_before job moves (uncut_row job j) least) (move_at moves least)
+  FailsHeld m = (j : ℕ) × (m ≡ blocks_of w + j) × CutClearsRow job (row_before job moves (fresh_row job stock j) least) (move_at moves least)
 
   cut_of : (r : RowState) (m : Move) (i : ℕ) (leaf : Leaf) (t : RowTest) → is_holder_test t ≡ true → StopsBy t job r m i leaf → CutClearsRow job r m
   cut_of r m i leaf test.Cut e stops = absurd (cc)
@@ -138,7 +140,7 @@ module _ (job : Job) (part : List Tri) (moves : List Move) (turns least : ℕ) (
       let found = f.2.fail in (
         r.row,
         f.1,
-        cut_of (row_before job moves (uncut_row job r.row) least) (move_at moves least) found.col found.leaf found.test
+        cut_of (row_before job moves (fresh_row job stock r.row) least) (move_at moves least) found.col found.leaf found.test
             (sym (ap is_of_holder (ap (λ (x : RowState). x.failed) f.2.noted)) ∙ e) f.2.stops.stops,
       )
 
@@ -209,22 +211,24 @@ module _ (job : Job) (part : List Tri) (moves : List Move) (turns least : ℕ) (
 
     -- which is the program's
     abbrev Rejects : Reason → Type 0
-    Rejects reason = IsVerdict job part moves (Reject reason) × ShowsBlocks job part moves (Reject reason)
+    Rejects reason = IsStopped job part stock moves reason
 
     part_rejects : (found : PartFail) → IsPartFail job part (move_at moves least) found → Rejects (part_reason least found)
-    part_rejects (fail.Cutter g) f = (
-      record {
+    part_rejects (fail.Cutter g) f = record {
+      of_move = tt;
+      rejects = record {
         there = move_there;
         before = good_to least (omega arith);
         floor = floor.over least turn_there;
         tri = f.tri;
         first = f.first;
         fails = f.fails;
-      },
-      f.blocked,
-    )
-    part_rejects (fail.Holder g) f = (
-      record {
+      };
+      shown = f.blocked;
+    }
+    part_rejects (fail.Holder g) f = record {
+      of_move = tt;
+      rejects = record {
         there = move_there;
         before = good_to least (omega arith);
         floor = floor.over least turn_there;
@@ -234,13 +238,13 @@ module _ (job : Job) (part : List Tri) (moves : List Move) (turns least : ℕ) (
         tri = f.first.tri;
         first = f.first.first;
         fails = f.first.fails;
-      },
-      for_some (λ (holder : OneHolder). HolderIsBlocked holder (move_at moves least) (tri_at part g.tri) g.leaf) job.holder f.holder f.mounted f.first.blocked,
-    )
+      };
+      shown = for_some (λ (holder : OneHolder). HolderIsBlocked holder (move_at moves least) (tri_at part g.tri) g.leaf) job.holder f.holder f.mounted f.first.blocked;
+    }
 
-    kind_rejects : (v : Kind) (j i : ℕ) (leaf : Leaf) → FailsStock job part moves v least j i leaf → StopsAt job moves v least j i leaf → Rejects (cut_reason v least j i leaf)
-    kind_rejects Rapid j i leaf fails stops = (fails, stops)
-    kind_rejects Feed j i leaf fails stops = (fails, stops)
+    kind_rejects : (v : Kind) (j i : ℕ) (leaf : Leaf) → FailsStockOn job part stock moves v least j i leaf → StopsAt job stock moves v least j i leaf → Rejects (cut_reason v least j i leaf)
+    kind_rejects Rapid j i leaf fails stops = record { of_move = tt; rejects = fails; shown = stops }
+    kind_rejects Feed j i leaf fails stops = record { of_move = tt; rejects = fails; shown = stops }
 
     -- the pieces of these numbers have failed in no way but by the holder's test of a row
     abbrev NoCut : ℕ → Type 0
@@ -255,16 +259,16 @@ module _ (job : Job) (part : List Tri) (moves : List Move) (turns least : ℕ) (
           | inr t ↦ absurd (let e = t.1 in omega (e, b, arith))
         ]
 
-    row_cut : (bound j : ℕ) → NoCut bound → blocks_of w + j < bound → j < row_count job → RowClears job moves least j
+    row_cut : (bound j : ℕ) → NoCut bound → blocks_of w + j < bound → j < row_count job → RowClears job stock moves least j
     row_cut bound j none under_bound there =
         elim (not_cut (blocks_of w + j) (omega (there, arith)) (row_first least j) (row_last least j turn_there) (λ h at. none (blocks_of w + j) h under_bound at)) [
           | inl p ↦ row_cleared least j p
-          | inr t ↦ row_cut_clears job moves least j (subst (λ (i : ℕ). CutClearsRow job (row_before job moves (uncut_row job i) least) (move_at moves least)) (let e = t.1 in let same : t.0 ≡ j = omega (e, arith) in same) t.2)
+          | inr t ↦ row_cut_clears job stock moves least j (subst (λ (i : ℕ). CutClearsRow job (row_before job moves (fresh_row job stock i) least) (move_at moves least)) (let e = t.1 in let same : t.0 ≡ j = omega (e, arith) in same) t.2)
         ]
 
-    cut_rejects : (j i : ℕ) (leaf : Leaf) → n ≡ blocks_of w + j → NoCut n → CutStopsAt job (row_before job moves (uncut_row job j) least) (move_at moves least) i leaf → Rejects (cut_reason kind least j i leaf)
+    cut_rejects : (j i : ℕ) (leaf : Leaf) → n ≡ blocks_of w + j → NoCut n → CutStopsAt job (row_before job moves (fresh_row job stock j) least) (move_at moves least) i leaf → Rejects (cut_reason kind least j i leaf)
     cut_rejects j i leaf number none stop =
-        let s = row_stops job moves least j i leaf stop in
+        let s = row_stops job stock moves least j i leaf stop in
         let u = under in
         let tool = block_passed n none (omega (number, arith)) in
         kind_rejects kind j i leaf
@@ -279,25 +283,26 @@ module _ (job : Job) (part : List Tri) (moves : List Move) (turns least : ℕ) (
           column = record { row = omega (number, u, arith); column = s.column };
           first = λ a b column order. elim order [
             | inl less ↦ row_cut n a none (omega (less, number, arith)) column.row s.tested b column.column
-            | inr same ↦ subst (λ (v : ℕ). PassesColumn job moves least v b) (sym same.0) (s.before b same.1)
+            | inr same ↦ subst (λ (v : ℕ). PassesColumnOn job stock moves least v b) (sym same.0) (s.before b same.1)
           ];
           fails = s.fails;
         })
         s.blocked
 
     -- a row before it that failed in neither way passes the holder's test
-    row_passed : (a : ℕ) → NoCut (length hs) → NoneFailedBy true least hs n → blocks_of w + a < n → RowHolderClears job moves least a
+    row_passed : (a : ℕ) → NoCut (length hs) → NoneFailedBy true least hs n → blocks_of w + a < n → RowHolderClears job stock moves least a
     row_passed a none held before =
         let u = under in let count = closed.count in
         row_held least a (not_failed (blocks_of w + a) (omega (before, u, arith)) (row_first least a) (row_last least a turn_there)
         (λ h at. in_one_way least h (none (blocks_of w + a) h (omega (before, u, count, arith)) at) (held (blocks_of w + a) h before at)))
 
-    held_rejects : (j i : ℕ) (leaf : Leaf) → n ≡ blocks_of w + j → NoCut (length hs) → NoneFailedBy true least hs n → HolderStopsAt job (row_before job moves (uncut_row job j) least) (move_at moves least) i leaf → Rejects (HolderStock least j i leaf)
+    held_rejects : (j i : ℕ) (leaf : Leaf) → n ≡ blocks_of w + j → NoCut (length hs) → NoneFailedBy true least hs n → HolderStopsAt job (row_before job moves (fresh_row job stock j) least) (move_at moves least) i leaf → Rejects (HolderStock least j i leaf)
     held_rejects j i leaf number none held stop =
-        let s = row_holder_stops job moves least j i leaf stop.holder in
+        let s = row_holder_stops job stock moves least j i leaf stop.holder in
         let u = under in let count = closed.count in
-        let tool = block_passed (length hs) none (omega (u, number, count, arith)) in (
-          record {
+        let tool = block_passed (length hs) none (omega (u, number, count, arith)) in record {
+          of_move = tt;
+          rejects = record {
             there = move_there;
             before = good_to least (omega arith);
             floor = floor.over least turn_there;
@@ -308,16 +313,16 @@ module _ (job : Job) (part : List Tri) (moves : List Move) (turns least : ℕ) (
             mounted = s.mounted;
             column = record { row = omega (number, u, arith); column = s.column };
             first = λ a b column order. elim order [
-              | inl less ↦ of_some (λ (h : OneHolder). HolderPassesTops h job moves least a) job.holder s.holder s.mounted (row_passed a none held (omega (less, number, arith))) b column.column
-              | inr same ↦ subst (λ (v : ℕ). HolderPassesPoint s.holder (move_at moves least) (top_point job (take least moves) v b)) (sym same.0) (s.before b same.1)
+              | inl less ↦ of_some (λ (h : OneHolder). HolderPassesTops h job stock moves least a) job.holder s.holder s.mounted (row_passed a none held (omega (less, number, arith))) b column.column
+              | inr same ↦ subst (λ (v : ℕ). HolderPassesPoint s.holder (move_at moves least) (top_point_on job (stock_met job stock moves least) v b)) (sym same.0) (s.before b same.1)
             ];
             fails = s.fails;
-          },
-          s.blocked,
-        )
+          };
+          shown = s.blocked;
+        }
 
     stock_rejects : (j i : ℕ) (leaf : Leaf) (t : RowTest) → n ≡ blocks_of w + j → (is_holder_test t ≡ true → NoCut (length hs)) → NoneFailedBy (is_holder_test t) least hs n
-        → StopsBy t job (row_before job moves (uncut_row job j) least) (move_at moves least) i leaf → Rejects (stock_reason t kind least j i leaf)
+        → StopsBy t job (row_before job moves (fresh_row job stock j) least) (move_at moves least) i leaf → Rejects (stock_reason t kind least j i leaf)
     stock_rejects j i leaf test.Cut number none before stop = cut_rejects j i leaf number before stop
     stock_rejects j i leaf test.Holder number none before stop = held_rejects j i leaf number (none refl) before stop
 
@@ -328,7 +333,7 @@ module _ (job : Job) (part : List Tri) (moves : List Move) (turns least : ℕ) (
     rejects (Stock m row) reason none before f r =
         let same : f.2.fail ≡ r.0 = one_of (sym (ap (λ (x : RowState). x.failed) f.2.noted) ∙ r.1) in
         let way : is_held_row (Stock m row) ≡ is_holder_test r.0.test = ap is_of_holder r.1 in
-        let stop = subst (λ (x : RowFail). StopsRow job (row_before job moves (uncut_row job row.row) least) (move_at moves least) x) same f.2.stops in
+        let stop = subst (λ (x : RowFail). StopsRow job (row_before job moves (fresh_row job stock row.row) least) (move_at moves least) x) same f.2.stops in
         subst Rejects (sym r.4) (stock_rejects row.row r.0.col r.0.leaf r.0.test f.1 (λ e. none (way ∙ e)) (subst (λ (b : Bool). NoneFailedBy b least hs n) way before) stop.stops)
 
     pub rejected : (d : Move) (blocks : ℕ) → blocks ≡ blocks_of w → (h : Held Piece) (reason : Reason) → h ≡ slice_index_or hs n h
@@ -348,18 +353,22 @@ module _ (job : Job) (part : List Tri) (moves : List Move) (turns least : ℕ) (
         let d = done t.0 t.1 in let f = fails_least tests w least t.0 d.0 d.2 t.2 in absurd (none t.0 d.0 (in_list hs t.0 d.0 d.1) d.1 (f.failed, f.next))) closed.failure
 
     -- the first move that fails test (i) is then the program's failure
-    pub floor_rejects : turns < length moves → IsVerdict job part moves (Reject (Floor turns))
-    floor_rejects there = record { there = there; before = good_to turns (let e = all_turns in omega (e, arith)); fails = floor.fails there }
+    pub floor_rejects : turns < length moves → IsStopped job part stock moves (Floor turns)
+    floor_rejects there = record {
+      of_move = tt;
+      rejects = record { there = there; before = good_to turns (let e = all_turns in omega (e, arith)); fails = floor.fails there };
+      shown = tt;
+    }
 
     module _ (whole : length moves ≤ turns) where
       count_is : turns ≡ length moves
       count_is = omega (whole, within, arith)
 
-      pub all_good : GoodBefore job part moves (length moves)
-      all_good = good_to (length moves) (let e = all_turns in let c = count_is in omega (e, c, arith))
-
-      pub stock_is : IsStock job moves (flat_map row_in hs)
-      stock_is = gathered w count_is hs closed.count (λ n h at.
-          let d = closed.each n h at in
-          let p = passes_all tests w turns least n h (spans w) all_turns closed.under d in
-          subst (λ (t : ℕ). IsPieceAt w n t h.piece) p.next p.piece)
+      pub all_passed : ArePassed job part stock moves (flat_map row_in hs)
+      all_passed = record {
+        good = good_to (length moves) (let e = all_turns in let c = count_is in omega (e, c, arith));
+        shows = gathered w count_is hs closed.count (λ n h at.
+            let d = closed.each n h at in
+            let p = passes_all tests w turns least n h (spans w) all_turns closed.under d in
+            subst (λ (t : ℕ). IsPieceAt w n t h.piece) p.next p.piece);
+      }

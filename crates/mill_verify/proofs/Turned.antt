@@ -1,5 +1,5 @@
 -- A row through its turns, in the terms of the tests.
-use Rattle.std.specs.Prelude.{◌≡◌, ℕ, ◌-◌, ◌<◌, ℤ, List, [], ◌∷◌, ◌++◌, take, replicate, None, Some, IfSome, slice_range}
+use Rattle.std.specs.Prelude.{◌≡◌, ℕ, ◌-◌, ◌<◌, ℤ, List, [], ◌∷◌, ◌++◌, take, None, Some, IfSome, slice_range}
 use Rattle.std.proofs.Common.{sym, ◌∙◌, ap, subst, arith}
 use Rattle.std.proofs.lemmas.List.{append-nil, append_assoc}
 use Rattle.mill_base.specs.Points.{point_at, point_tri}
@@ -14,117 +14,121 @@ use Rattle.mill_sweep.specs.Holders.{HolderFailsAt, HolderIsBlocked, HolderPasse
 use Rattle.mill_sweep.specs.declared.leaf.Leaf.{Leaf}
 use Rattle.mill_job.specs.declared.job.Job.{Job}
 use Rattle.mill_job.specs.Columns.{IsColumn, column_count, column_x, column_y, row_count}
-use Rattle.mill_dexel.specs.Tops.{IsTested, row_after, tested_height, tested_point, top_point}
-use Rattle.mill_dexel.specs.Rows.{HolderPassesRow, IsFirstHolderStop, RowState, row_point, uncut_row}
+use Rattle.mill_dexel.specs.Tops.{IsTested, Stock, row_tops, stock_after, tested_height, tested_point_on, top_point_on}
+use Rattle.mill_dexel.specs.Rows.{HolderPassesRow, IsFirstHolderStop, RowState, fresh_row, row_point}
 use Rattle.mill_dexel.specs.Turns.{ClearsRow, CutClearsRow, CutStopsAt, move_at, tops_after, row_before}
-use Rattle.mill_dexel.proofs.RowLaws.{row_after-at, row_after_none, row_after_more}
-use Rattle.mill_verify.specs.Tests.{HolderClearsStock, PassesColumn}
+use Rattle.mill_dexel.proofs.RowLaws.{row_tops-at, row_tops_more}
+use Rattle.mill_verify.specs.Tests.{HolderClearsStockOn, PassesColumnOn, stock_met}
 use Rattle.mill_verify.specs.inner.Firsts.{BlocksHeld, StopsAt}
 use Rattle.mill_verify.proofs.Mounted.{each_some, for_some, if_some, of_some}
 
--- move by move, the tops after some moves become those after more
-tops_from : (job : Job) (j : ℕ) (before ms : List Move) → tops_after job j ms (row_after job j before) ≡ row_after job j (before ++ ms)
-tops_from job j before [] = ap (row_after job j) (sym (append-nil before))
-tops_from job j before (m ∷ ms) =
-    ap (λ (ts : List ℤ). tops_after job j ms ts) (sym (row_after_more job j before m)) ∙ tops_from job j (before ++ m ∷ []) ms ∙ ap (row_after job j) (append_assoc before (m ∷ []) ms)
+module _ (job : Job) (start : Stock) (j : ℕ) where
+  -- move by move, the tops after some moves become those after more
+  tops_from : (before ms : List Move) → tops_after job j ms (row_tops job (stock_after job start before) j) ≡ row_tops job (stock_after job start (before ++ ms)) j
+  tops_from before [] = ap (λ (ms : List Move). row_tops job (stock_after job start ms) j) (sym (append-nil before))
+  tops_from before (m ∷ ms) =
+      ap (λ (ts : List ℤ). tops_after job j ms ts) (sym (row_tops_more job start j before m))
+      ∙ tops_from (before ++ m ∷ []) ms
+      ∙ ap (λ (all : List Move). row_tops job (stock_after job start all) j) (append_assoc before (m ∷ []) ms)
 
--- the tops of an uncut row after the moves before k
-tops_are : (job : Job) (j k : ℕ) (moves : List Move) → tops_after job j (slice_range moves 0 k) (replicate (column_count job) job.top) ≡ row_after job j (take k moves)
-tops_are job j k moves = ap (λ (ts : List ℤ). tops_after job j (slice_range moves 0 k) ts) (sym (row_after_none job j)) ∙ tops_from job j [] (slice_range moves 0 k) ∙ ap (λ (n : ℕ). row_after job j (take n moves)) same
-  where
-    same : k - 0 ≡ k
-    same = omega arith
+  -- the tops of the stock's row after the moves before k
+  tops_are : (k : ℕ) (moves : List Move) → tops_after job j (slice_range moves 0 k) (row_tops job start j) ≡ row_tops job (stock_met job start moves k) j
+  tops_are k moves = tops_from [] (slice_range moves 0 k) ∙ ap (λ (n : ℕ). row_tops job (stock_after job start (take n moves)) j) same
+    where
+      same : k - 0 ≡ k
+      same = omega arith
 
-pub before_is : (job : Job) (moves : List Move) (j k : ℕ) → row_before job moves (uncut_row job j) k ≡ record { row = j; tops = row_after job j (take k moves); done = k; failed = None }
-before_is job moves j k = ap (λ (ts : List ℤ). record { row = j; tops = ts; done = k; failed = None }) (tops_are job j k moves)
+pub before_is : (job : Job) (start : Stock) (moves : List Move) (j k : ℕ)
+    → row_before job moves (fresh_row job start j) k ≡ record { row = j; tops = row_tops job (stock_met job start moves k) j; done = k; failed = None }
+before_is job start moves j k = ap (λ (ts : List ℤ). record { row = j; tops = ts; done = k; failed = None }) (tops_are job start j k moves)
 
 -- the point of a column at which a move of this kind is tested, as move k meets the row
-point_is : (job : Job) (kind : Kind) (moves : List Move) (j k i : ℕ) → i < column_count job
-    → row_point job kind (row_before job moves (uncut_row job j) k) i ≡ tested_point job kind (take k moves) j i
-point_is job kind moves j k i h =
-    ap (λ (r : RowState). row_point job kind r i) (before_is job moves j k)
-    ∙ ap (λ (t : ℤ). point_at (column_x job i) (column_y job j) (tested_height job kind t)) (row_after-at job j (take k moves) i _ h)
+point_is : (job : Job) (start : Stock) (kind : Kind) (moves : List Move) (j k i : ℕ) → i < column_count job
+    → row_point job kind (row_before job moves (fresh_row job start j) k) i ≡ tested_point_on job kind (stock_met job start moves k) j i
+point_is job start kind moves j k i h =
+    ap (λ (r : RowState). row_point job kind r i) (before_is job start moves j k)
+    ∙ ap (λ (t : ℤ). point_at (column_x job i) (column_y job j) (tested_height job kind t)) (row_tops-at job (stock_met job start moves k) j i _ h)
 
 -- test (iii) of move k by row j
-abbrev pub RowClears : Job → List Move → ℕ → ℕ → Type 0
-RowClears job moves k j = IsTested job (move_at moves k).kind → (i : ℕ) → i < column_count job → PassesColumn job moves k j i
+abbrev pub RowClears : Job → Stock → List Move → ℕ → ℕ → Type 0
+RowClears job start moves k j = IsTested job (move_at moves k).kind → (i : ℕ) → i < column_count job → PassesColumnOn job start moves k j i
 
 -- test (iii h) of move k by row j
-abbrev pub HolderPassesTops : Holder → Job → List Move → ℕ → ℕ → Type 0
-HolderPassesTops holder job moves k j = (i : ℕ) → i < column_count job → HolderPassesPoint holder (move_at moves k) (top_point job (take k moves) j i)
+abbrev pub HolderPassesTops : Holder → Job → Stock → List Move → ℕ → ℕ → Type 0
+HolderPassesTops holder job start moves k j = (i : ℕ) → i < column_count job → HolderPassesPoint holder (move_at moves k) (top_point_on job (stock_met job start moves k) j i)
 
-abbrev pub RowHolderClears : Job → List Move → ℕ → ℕ → Type 0
-RowHolderClears job moves k j = IfSome job.holder (λ holder. HolderPassesTops holder job moves k j)
+abbrev pub RowHolderClears : Job → Stock → List Move → ℕ → ℕ → Type 0
+RowHolderClears job start moves k j = IfSome job.holder (λ holder. HolderPassesTops holder job start moves k j)
 
 -- move k is tested, and fails test (iii) in row j at column i first, where the leaf is blocked
-pub record IsRowStop (job : Job) (moves : List Move) (k j i : ℕ) (leaf : Leaf) : Type 0 where
+pub record IsRowStop (job : Job) (start : Stock) (moves : List Move) (k j i : ℕ) (leaf : Leaf) : Type 0 where
   pub tested : IsTested job (move_at moves k).kind
   pub column : i < column_count job
-  pub before : (e : ℕ) → e < i → PassesColumn job moves k j e
-  pub fails : FailsAt job.cutter (move_at moves k) (point_tri (tested_point job (move_at moves k).kind (take k moves) j i)) leaf
-  pub blocked : StopsAt job moves (move_at moves k).kind k j i leaf
+  pub before : (e : ℕ) → e < i → PassesColumnOn job start moves k j e
+  pub fails : FailsAt job.cutter (move_at moves k) (point_tri (tested_point_on job (move_at moves k).kind (stock_met job start moves k) j i)) leaf
+  pub blocked : StopsAt job start moves (move_at moves k).kind k j i leaf
 
 -- the job has a holder, and move k fails test (iii h) in row j at column i first, where the leaf is blocked
-pub record IsRowHolderStop (job : Job) (moves : List Move) (k j i : ℕ) (leaf : Leaf) : Type 0 where
+pub record IsRowHolderStop (job : Job) (start : Stock) (moves : List Move) (k j i : ℕ) (leaf : Leaf) : Type 0 where
   pub holder : Holder
   pub mounted : job.holder ≡ Some holder
   pub column : i < column_count job
-  pub before : (e : ℕ) → e < i → HolderPassesPoint holder (move_at moves k) (top_point job (take k moves) j e)
-  pub fails : HolderFailsAt holder (move_at moves k) (point_tri (top_point job (take k moves) j i)) leaf
-  pub blocked : BlocksHeld job moves k leaf (point_tri (top_point job (take k moves) j i))
+  pub before : (e : ℕ) → e < i → HolderPassesPoint holder (move_at moves k) (top_point_on job (stock_met job start moves k) j e)
+  pub fails : HolderFailsAt holder (move_at moves k) (point_tri (top_point_on job (stock_met job start moves k) j i)) leaf
+  pub blocked : BlocksHeld job moves k leaf (point_tri (top_point_on job (stock_met job start moves k) j i))
 
 less : (a b c : ℕ) → a < b → b < c → a < c
 less a b c h g = omega (h, g, arith)
 
-module _ (job : Job) (moves : List Move) (k j : ℕ) where
+module _ (job : Job) (start : Stock) (moves : List Move) (k j : ℕ) where
   abbrev met : RowState
-  met = row_before job moves (uncut_row job j) k
+  met = row_before job moves (fresh_row job start j) k
 
   abbrev step : Move
   step = move_at moves k
 
   -- a move of which a row passes the tests, as that move meets it, passes test (iii) there
-  pub row_cut_clears : CutClearsRow job met step → RowClears job moves k j
-  row_cut_clears clears tested i there = subst (λ (p : Pt3). PassesPoint job.cutter step p) (point_is job step.kind moves j k i there) (clears tested i there)
+  pub row_cut_clears : CutClearsRow job met step → RowClears job start moves k j
+  row_cut_clears clears tested i there = subst (λ (p : Pt3). PassesPoint job.cutter step p) (point_is job start step.kind moves j k i there) (clears tested i there)
 
-  pub row_clears : ClearsRow job met step → RowClears job moves k j
+  pub row_clears : ClearsRow job met step → RowClears job start moves k j
   row_clears clears = row_cut_clears clears.cut
 
   -- and test (iii h)
-  held_clears : (holder : Holder) → HolderPassesRow holder job met step → HolderPassesTops holder job moves k j
-  held_clears holder clears i there = subst (λ (p : Pt3). HolderPassesPoint holder step p) (point_is job Rapid moves j k i there) (clears i there)
+  held_clears : (holder : Holder) → HolderPassesRow holder job met step → HolderPassesTops holder job start moves k j
+  held_clears holder clears i there = subst (λ (p : Pt3). HolderPassesPoint holder step p) (point_is job start Rapid moves j k i there) (clears i there)
 
-  pub row_holder_clears : ClearsRow job met step → RowHolderClears job moves k j
-  row_holder_clears clears = each_some (λ (holder : Holder). HolderPassesRow holder job met step) (λ (holder : Holder). HolderPassesTops holder job moves k j) job.holder held_clears clears.holder
+  pub row_holder_clears : ClearsRow job met step → RowHolderClears job start moves k j
+  row_holder_clears clears = each_some (λ (holder : Holder). HolderPassesRow holder job met step) (λ (holder : Holder). HolderPassesTops holder job start moves k j) job.holder held_clears clears.holder
 
   -- one that the cutter stops fails test (iii)
-  pub row_stops : (i : ℕ) (leaf : Leaf) → CutStopsAt job met step i leaf → IsRowStop job moves k j i leaf
+  pub row_stops : (i : ℕ) (leaf : Leaf) → CutStopsAt job met step i leaf → IsRowStop job start moves k j i leaf
   row_stops i leaf stop =
-      let here = point_is job step.kind moves j k i stop.column.column in
+      let here = point_is job start step.kind moves j k i stop.column.column in
       record {
         tested = stop.tested;
         column = stop.column.column;
-        before = λ e h. subst (λ (p : Pt3). PassesPoint job.cutter step p) (point_is job step.kind moves j k e (less e i (column_count job) h stop.column.column)) (stop.column.before e h);
+        before = λ e h. subst (λ (p : Pt3). PassesPoint job.cutter step p) (point_is job start step.kind moves j k e (less e i (column_count job) h stop.column.column)) (stop.column.before e h);
         fails = subst (λ (p : Pt3). FailsAt job.cutter step (point_tri p) leaf) here stop.column.fails;
         blocked = subst (λ (p : Pt3). Blocks job.cutter (span_of step leaf.d leaf.k) (point_tri p)) here stop.blocked;
       }
 
   -- and one that the holder stops test (iii h)
-  pub row_holder_stops : (i : ℕ) (leaf : Leaf) → IsFirstHolderStop job met step i leaf → IsRowHolderStop job moves k j i leaf
+  pub row_holder_stops : (i : ℕ) (leaf : Leaf) → IsFirstHolderStop job met step i leaf → IsRowHolderStop job start moves k j i leaf
   row_holder_stops i leaf stop =
-      let here = point_is job Rapid moves j k i stop.column.column in
+      let here = point_is job start Rapid moves j k i stop.column.column in
       record {
         holder = stop.holder;
         mounted = stop.there;
         column = stop.column.column;
-        before = λ e h. subst (λ (p : Pt3). HolderPassesPoint stop.holder step p) (point_is job Rapid moves j k e (less e i (column_count job) h stop.column.column)) (stop.column.before e h);
+        before = λ e h. subst (λ (p : Pt3). HolderPassesPoint stop.holder step p) (point_is job start Rapid moves j k e (less e i (column_count job) h stop.column.column)) (stop.column.before e h);
         fails = subst (λ (p : Pt3). HolderFailsAt stop.holder step (point_tri p) leaf) here stop.column.fails;
-        blocked = for_some (λ (holder : Holder). HolderIsBlocked holder step (point_tri (top_point job (take k moves) j i)) leaf) job.holder stop.holder stop.there
+        blocked = for_some (λ (holder : Holder). HolderIsBlocked holder step (point_tri (top_point_on job (stock_met job start moves k) j i)) leaf) job.holder stop.holder stop.there
             (subst (λ (p : Pt3). HolderIsBlocked stop.holder step (point_tri p) leaf) here stop.blocked);
       }
 
 -- a move that passes test (iii h) in each row passes it
-pub holder_clears_all : (job : Job) (moves : List Move) (k : ℕ) → ((j : ℕ) → j < row_count job → RowHolderClears job moves k j) → HolderClearsStock job moves k
-holder_clears_all job moves k each =
-    if_some (λ (holder : Holder). (j i : ℕ) → IsColumn job j i → HolderPassesPoint holder (move_at moves k) (top_point job (take k moves) j i)) job.holder
-    (λ holder there j i column. of_some (λ (h : Holder). HolderPassesTops h job moves k j) job.holder holder there (each j column.row) i column.column)
+pub holder_clears_all : (job : Job) (start : Stock) (moves : List Move) (k : ℕ) → ((j : ℕ) → j < row_count job → RowHolderClears job start moves k j) → HolderClearsStockOn job start moves k
+holder_clears_all job start moves k each =
+    if_some (λ (holder : Holder). (j i : ℕ) → IsColumn job j i → HolderPassesPoint holder (move_at moves k) (top_point_on job (stock_met job start moves k) j i)) job.holder
+    (λ holder there j i column. of_some (λ (h : Holder). HolderPassesTops h job start moves k j) job.holder holder there (each j column.row) i column.column)

@@ -1,5 +1,5 @@
 -- There is at most one verdict.
-use Rattle.std.specs.Prelude.{◌≡◌, ℕ, ◌<◌, ℤ, ◌≤ℤ◌, List, length, take}
+use Rattle.std.specs.Prelude.{◌≡◌, ℕ, ◌<◌, ℤ, ◌≤ℤ◌, List, length}
 use Rattle.std.proofs.Common.{sym, ◌∙◌, ap, subst, inl, inr, arith}
 use Rattle.std.proofs.lemmas.Int.{ints}
 use Rattle.mill_base.specs.declared.points.Tri.{Tri}
@@ -14,160 +14,167 @@ use Rattle.mill_sweep.specs.Holders.{HolderFailsAt, HolderPasses, HolderPassesPo
 use Rattle.mill_sweep.specs.declared.leaf.Leaf.{Leaf}
 use Rattle.mill_job.specs.declared.job.Job.{Job}
 use Rattle.mill_job.specs.Columns.{IsBefore, IsColumn}
-use Rattle.mill_dexel.specs.Tops.{tested_point, top_point}
-use Rattle.mill_verify.specs.Tests.{IsOverFloor, ClearsPart, HolderClearsPart, ClearsStock, HolderClearsStock, IsGood, GoodBefore}
+use Rattle.mill_dexel.specs.Tops.{Stock, stock_after, tested_point_on, top_point_on}
+use Rattle.mill_verify.specs.Tests.{ClearsPart, ClearsStockOn, GoodBeforeOn, HolderClearsPart, HolderClearsStockOn, IsGoodOn, IsOverFloor, stock_met}
 use Rattle.mill_dexel.specs.Turns.{move_at}
 use Rattle.mill_dexel.proofs.RunLaws.{same_number, leaf_is_one}
 use Rattle.mill_verify.proofs.Depths.{clears_as, passes_as}
 use Rattle.mill_verify.proofs.Mounted.{of_some, one_some}
-use Rattle.mill_verify.specs.Verdicts.{FailsFloor, FailsPart, FailsHolder, FailsStock, FailsHolderStock, FailsCut, Accepts, IsRejection, IsVerdict}
+use Rattle.mill_verify.specs.Verdicts.{AcceptsOn, FailsCutOn, FailsFloorOn, FailsHolderOn, FailsHolderStockOn, FailsPartOn, FailsStockOn, IsMostLeftOn, IsOfMove, IsRejectionOn, IsVerdictOn}
 use Rattle.mill_verify.specs.declared.verdict.Verdict.{Verdict}
 use Rattle.mill_verify.specs.declared.verdict.Verdict.TheVariants.{Accept, Reject}
 use Rattle.mill_verify.specs.declared.verdict.Reason.{Reason}
 use Rattle.mill_verify.specs.declared.verdict.Reason.TheVariants.{Floor, Gouge, Holder, Rapid as RapidCut, Cut, HolderStock, Left}
 use Rattle.mill_verify.specs.inner.Failures.{cut_reason}
 
-not_before : (j i a b : ℕ) → ¬ IsBefore j i a b → ¬ IsBefore a b j i → (j ≡ a) × (i ≡ b)
+pub not_before : (j i a b : ℕ) → ¬ IsBefore j i a b → ¬ IsBefore a b j i → (j ≡ a) × (i ≡ b)
 not_before j i a b h g =
     let row : j ≡ a = same_number j a (λ x. h (inl x)) (λ x. g (inl x)) in
     (row, same_number i b (λ x. h (inr (row, x))) (λ x. g (inr (sym row, x))))
 
+-- what is left at most is one number
+pub most_is_one : (job : Job) (part : List Tri) (stock : Stock) (x y : ℤ) → IsMostLeftOn job part stock x → IsMostLeftOn job part stock y → x ≡ y
+most_is_one job part stock x y h g = same x y (g.most h.row h.col x h.column h.there) (h.most g.row g.col y g.column g.there)
+  where
+    same : (x y : ℤ) → x ≤ℤ y → y ≤ℤ x → x ≡ y
+    same x y h k = omega (h, k, arith, ints)
+
 not_alike : Rapid ≡ Feed → ⊥
 not_alike e = cc
 
-module _ (job : Job) (part : List Tri) (moves : List Move) where
+module _ (job : Job) (part : List Tri) (start : Stock) (moves : List Move) where
   -- the first bad move
   record Stops (k : ℕ) : Type 0 where
     there : k < length moves
-    before : GoodBefore job part moves k
-    bad : ¬ IsGood job part moves k
+    before : GoodBeforeOn job part start moves k
+    bad : ¬ IsGoodOn job part start moves k
 
-  stops_floor : (k : ℕ) → FailsFloor job part moves k → Stops k
+  stops_floor : (k : ℕ) → FailsFloorOn job part start moves k → Stops k
   stops_floor k h = record { there = h.there; before = h.before; bad = λ g. h.fails g.floor }
 
-  stops_part : (k t : ℕ) (leaf : Leaf) → FailsPart job part moves k t leaf → Stops k
+  stops_part : (k t : ℕ) (leaf : Leaf) → FailsPartOn job part start moves k t leaf → Stops k
   stops_part k t leaf h = record { there = h.there; before = h.before; bad = λ g. h.fails.fails (g.clears t h.tri) }
 
-  stops_stock : (kind : Kind) (k j i : ℕ) (leaf : Leaf) → FailsStock job part moves kind k j i leaf → Stops k
-  stops_stock kind k j i leaf h = record { there = h.there; before = h.before; bad = λ g. h.fails.fails (clears_as job moves kind k h.is g.stock h.tested j i h.column) }
+  stops_stock : (kind : Kind) (k j i : ℕ) (leaf : Leaf) → FailsStockOn job part start moves kind k j i leaf → Stops k
+  stops_stock kind k j i leaf h = record { there = h.there; before = h.before; bad = λ g. h.fails.fails (clears_as job start moves kind k h.is g.stock h.tested j i h.column) }
 
   -- a holder that fails a test doesn't pass it
-  held_fails : (k t : ℕ) (leaf : Leaf) → FailsHolder job part moves k t leaf → ¬ HolderClearsPart job part moves k
+  held_fails : (k t : ℕ) (leaf : Leaf) → FailsHolderOn job part start moves k t leaf → ¬ HolderClearsPart job part moves k
   held_fails k t leaf h clears = h.fails.fails (of_some (λ (v : OneHolder). HolderPassesPart v (move_at moves k) part) job.holder h.holder h.mounted clears t h.tri)
 
-  held_stock_fails : (k j i : ℕ) (leaf : Leaf) → FailsHolderStock job part moves k j i leaf → ¬ HolderClearsStock job moves k
+  held_stock_fails : (k j i : ℕ) (leaf : Leaf) → FailsHolderStockOn job part start moves k j i leaf → ¬ HolderClearsStockOn job start moves k
   held_stock_fails k j i leaf h clears =
-      h.fails.fails (of_some (λ (v : OneHolder). (a b : ℕ) → IsColumn job a b → HolderPassesPoint v (move_at moves k) (top_point job (take k moves) a b)) job.holder h.holder h.mounted clears j i h.column)
+      h.fails.fails (of_some (λ (v : OneHolder). (a b : ℕ) → IsColumn job a b → HolderPassesPoint v (move_at moves k) (top_point_on job (stock_met job start moves k) a b)) job.holder h.holder h.mounted clears j i h.column)
 
-  stops_held : (k t : ℕ) (leaf : Leaf) → FailsHolder job part moves k t leaf → Stops k
+  stops_held : (k t : ℕ) (leaf : Leaf) → FailsHolderOn job part start moves k t leaf → Stops k
   stops_held k t leaf h = record { there = h.there; before = h.before; bad = λ g. held_fails k t leaf h g.holder }
 
-  stops_held_stock : (k j i : ℕ) (leaf : Leaf) → FailsHolderStock job part moves k j i leaf → Stops k
+  stops_held_stock : (k j i : ℕ) (leaf : Leaf) → FailsHolderStockOn job part start moves k j i leaf → Stops k
   stops_held_stock k j i leaf h = record { there = h.there; before = h.before; bad = λ g. held_stock_fails k j i leaf h g.holder_stock }
 
   one_stop : (a b : ℕ) → Stops a → Stops b → a ≡ b
   one_stop a b h g = same_number a b (λ x. h.bad (g.before a x)) (λ x. g.bad (h.before b x))
 
-  no_stop : (k : ℕ) → Stops k → GoodBefore job part moves (length moves) → ⊥
+  no_stop : (k : ℕ) → Stops k → GoodBeforeOn job part start moves (length moves) → ⊥
   no_stop k h g = h.bad (g k h.there)
 
-  one_gouge : (k t u : ℕ) (a b : Leaf) → FailsPart job part moves k t a → FailsPart job part moves k u b → t ≡ u
+  one_gouge : (k t u : ℕ) (a b : Leaf) → FailsPartOn job part start moves k t a → FailsPartOn job part start moves k u b → t ≡ u
   one_gouge k t u a b h g = same_number t u (λ x. h.fails.fails (g.first t x)) (λ x. g.fails.fails (h.first u x))
 
-  one_column : (kind : Kind) (k j i c d : ℕ) (a b : Leaf) → FailsStock job part moves kind k j i a → FailsStock job part moves kind k c d b → (j ≡ c) × (i ≡ d)
+  one_column : (kind : Kind) (k j i c d : ℕ) (a b : Leaf) → FailsStockOn job part start moves kind k j i a → FailsStockOn job part start moves kind k c d b → (j ≡ c) × (i ≡ d)
   one_column kind k j i c d a b h g =
-      let at = passes_as job moves kind k h.is in
+      let at = passes_as job start moves kind k h.is in
       not_before j i c d (λ x. h.fails.fails (at j i (g.first j i h.column x))) (λ x. g.fails.fails (at c d (h.first c d g.column x)))
 
   -- the triangle and the leaf at which the holder fails, whichever it is called
-  one_held : (k t u : ℕ) (a b : Leaf) → FailsHolder job part moves k t a → FailsHolder job part moves k u b → t ≡ u
+  one_held : (k t u : ℕ) (a b : Leaf) → FailsHolderOn job part start moves k t a → FailsHolderOn job part start moves k u b → t ≡ u
   one_held k t u a b h g =
       let same : h.holder ≡ g.holder = one_some job.holder h.holder g.holder h.mounted g.mounted in
       same_number t u
       (λ x. h.fails.fails (subst (λ (v : OneHolder). HolderPasses v (move_at moves k) (tri_at part t)) (sym same) (g.first t x)))
       (λ x. g.fails.fails (subst (λ (v : OneHolder). HolderPasses v (move_at moves k) (tri_at part u)) same (h.first u x)))
 
-  one_held_column : (k j i c d : ℕ) (a b : Leaf) → FailsHolderStock job part moves k j i a → FailsHolderStock job part moves k c d b → (j ≡ c) × (i ≡ d)
+  one_held_column : (k j i c d : ℕ) (a b : Leaf) → FailsHolderStockOn job part start moves k j i a → FailsHolderStockOn job part start moves k c d b → (j ≡ c) × (i ≡ d)
   one_held_column k j i c d a b h g =
       let same : h.holder ≡ g.holder = one_some job.holder h.holder g.holder h.mounted g.mounted in
       not_before j i c d
-      (λ x. h.fails.fails (subst (λ (v : OneHolder). HolderPassesPoint v (move_at moves k) (top_point job (take k moves) j i)) (sym same) (g.first j i h.column x)))
-      (λ x. g.fails.fails (subst (λ (v : OneHolder). HolderPassesPoint v (move_at moves k) (top_point job (take k moves) c d)) same (h.first c d g.column x)))
+      (λ x. h.fails.fails (subst (λ (v : OneHolder). HolderPassesPoint v (move_at moves k) (top_point_on job (stock_met job start moves k) j i)) (sym same) (g.first j i h.column x)))
+      (λ x. g.fails.fails (subst (λ (v : OneHolder). HolderPassesPoint v (move_at moves k) (top_point_on job (stock_met job start moves k) c d)) same (h.first c d g.column x)))
 
-  one_uncut : (j i c d : ℕ) (s t : ℤ) → FailsCut job part moves j i s → FailsCut job part moves c d t → (j ≡ c) × (i ≡ d)
+  one_uncut : (j i c d : ℕ) (s t : ℤ) → FailsCutOn job part start moves j i s → FailsCutOn job part start moves c d t → (j ≡ c) × (i ≡ d)
   one_uncut j i c d s t h g = not_before j i c d (λ x. h.fails (g.first j i h.column x)) (λ x. g.fails (h.first c d g.column x))
 
-  same_gouge : (k l t u : ℕ) (a b : Leaf) → k ≡ l → FailsPart job part moves k t a → FailsPart job part moves l u b → Gouge k t a ≡ Gouge l u b
+  same_gouge : (k l t u : ℕ) (a b : Leaf) → k ≡ l → FailsPartOn job part start moves k t a → FailsPartOn job part start moves l u b → Gouge k t a ≡ Gouge l u b
   same_gouge k l t u a b e h g =
-      let g2 : FailsPart job part moves k u b = subst (λ (n : ℕ). FailsPart job part moves n u b) (sym e) g in
+      let g2 : FailsPartOn job part start moves k u b = subst (λ (n : ℕ). FailsPartOn job part start moves n u b) (sym e) g in
       let f : t ≡ u = one_gouge k t u a b h g2 in
-      let g3 : FailsPart job part moves k t b = subst (λ (n : ℕ). FailsPart job part moves k n b) (sym f) g2 in
+      let g3 : FailsPartOn job part start moves k t b = subst (λ (n : ℕ). FailsPartOn job part start moves k n b) (sym f) g2 in
       let q : a ≡ b = leaf_is_one job.cutter (move_at moves k) (tri_at part t) a b h.fails g3.fails in
       ap (λ (n : ℕ). Gouge n t a) e ∙ ap (λ (n : ℕ). Gouge l n a) f ∙ ap (λ (x : Leaf). Gouge l u x) q
 
-  same_stock : (kind : Kind) (k l j i c d : ℕ) (a b : Leaf) → k ≡ l → FailsStock job part moves kind k j i a → FailsStock job part moves kind l c d b
+  same_stock : (kind : Kind) (k l j i c d : ℕ) (a b : Leaf) → k ≡ l → FailsStockOn job part start moves kind k j i a → FailsStockOn job part start moves kind l c d b
       → cut_reason kind k j i a ≡ cut_reason kind l c d b
   same_stock kind k l j i c d a b e h g =
-      let g2 : FailsStock job part moves kind k c d b = subst (λ (n : ℕ). FailsStock job part moves kind n c d b) (sym e) g in
+      let g2 : FailsStockOn job part start moves kind k c d b = subst (λ (n : ℕ). FailsStockOn job part start moves kind n c d b) (sym e) g in
       let f = one_column kind k j i c d a b h g2 in
-      let g3 : FailsStock job part moves kind k j d b = subst (λ (n : ℕ). FailsStock job part moves kind k n d b) (sym f.0) g2 in
-      let g4 : FailsStock job part moves kind k j i b = subst (λ (n : ℕ). FailsStock job part moves kind k j n b) (sym f.1) g3 in
-      let q : a ≡ b = leaf_is_one job.cutter (move_at moves k) (point_tri (tested_point job kind (take k moves) j i)) a b h.fails g4.fails in
+      let g3 : FailsStockOn job part start moves kind k j d b = subst (λ (n : ℕ). FailsStockOn job part start moves kind k n d b) (sym f.0) g2 in
+      let g4 : FailsStockOn job part start moves kind k j i b = subst (λ (n : ℕ). FailsStockOn job part start moves kind k j n b) (sym f.1) g3 in
+      let q : a ≡ b = leaf_is_one job.cutter (move_at moves k) (point_tri (tested_point_on job kind (stock_met job start moves k) j i)) a b h.fails g4.fails in
       let r = cut_reason kind in
       ap (λ (n : ℕ). r n j i a) e ∙ ap (λ (n : ℕ). r l n i a) f.0 ∙ ap (λ (n : ℕ). r l c n a) f.1 ∙ ap (λ (x : Leaf). r l c d x) q
 
-  same_held : (k l t u : ℕ) (a b : Leaf) → k ≡ l → FailsHolder job part moves k t a → FailsHolder job part moves l u b → Holder k t a ≡ Holder l u b
+  same_held : (k l t u : ℕ) (a b : Leaf) → k ≡ l → FailsHolderOn job part start moves k t a → FailsHolderOn job part start moves l u b → Holder k t a ≡ Holder l u b
   same_held k l t u a b e h g =
-      let g2 : FailsHolder job part moves k u b = subst (λ (n : ℕ). FailsHolder job part moves n u b) (sym e) g in
+      let g2 : FailsHolderOn job part start moves k u b = subst (λ (n : ℕ). FailsHolderOn job part start moves n u b) (sym e) g in
       let f : t ≡ u = one_held k t u a b h g2 in
-      let g3 : FailsHolder job part moves k t b = subst (λ (n : ℕ). FailsHolder job part moves k n b) (sym f) g2 in
+      let g3 : FailsHolderOn job part start moves k t b = subst (λ (n : ℕ). FailsHolderOn job part start moves k n b) (sym f) g2 in
       let same : g3.holder ≡ h.holder = one_some job.holder g3.holder h.holder g3.mounted h.mounted in
       let q : a ≡ b = leaf_is_one (solid_of h.holder) (lifted h.holder (move_at moves k)) (tri_at part t) a b h.fails (subst (λ (v : OneHolder). HolderFailsAt v (move_at moves k) (tri_at part t) b) same g3.fails) in
       ap (λ (n : ℕ). Holder n t a) e ∙ ap (λ (n : ℕ). Holder l n a) f ∙ ap (λ (x : Leaf). Holder l u x) q
 
-  same_held_stock : (k l j i c d : ℕ) (a b : Leaf) → k ≡ l → FailsHolderStock job part moves k j i a → FailsHolderStock job part moves l c d b → HolderStock k j i a ≡ HolderStock l c d b
+  same_held_stock : (k l j i c d : ℕ) (a b : Leaf) → k ≡ l → FailsHolderStockOn job part start moves k j i a → FailsHolderStockOn job part start moves l c d b → HolderStock k j i a ≡ HolderStock l c d b
   same_held_stock k l j i c d a b e h g =
-      let g2 : FailsHolderStock job part moves k c d b = subst (λ (n : ℕ). FailsHolderStock job part moves n c d b) (sym e) g in
+      let g2 : FailsHolderStockOn job part start moves k c d b = subst (λ (n : ℕ). FailsHolderStockOn job part start moves n c d b) (sym e) g in
       let f = one_held_column k j i c d a b h g2 in
-      let g3 : FailsHolderStock job part moves k j d b = subst (λ (n : ℕ). FailsHolderStock job part moves k n d b) (sym f.0) g2 in
-      let g4 : FailsHolderStock job part moves k j i b = subst (λ (n : ℕ). FailsHolderStock job part moves k j n b) (sym f.1) g3 in
+      let g3 : FailsHolderStockOn job part start moves k j d b = subst (λ (n : ℕ). FailsHolderStockOn job part start moves k n d b) (sym f.0) g2 in
+      let g4 : FailsHolderStockOn job part start moves k j i b = subst (λ (n : ℕ). FailsHolderStockOn job part start moves k j n b) (sym f.1) g3 in
       let same : g4.holder ≡ h.holder = one_some job.holder g4.holder h.holder g4.mounted h.mounted in
-      let tri = point_tri (top_point job (take k moves) j i) in
+      let tri = point_tri (top_point_on job (stock_met job start moves k) j i) in
       let q : a ≡ b = leaf_is_one (solid_of h.holder) (lifted h.holder (move_at moves k)) tri a b h.fails (subst (λ (v : OneHolder). HolderFailsAt v (move_at moves k) tri b) same g4.fails) in
       ap (λ (n : ℕ). HolderStock n j i a) e ∙ ap (λ (n : ℕ). HolderStock l n i a) f.0 ∙ ap (λ (n : ℕ). HolderStock l c n a) f.1 ∙ ap (λ (x : Leaf). HolderStock l c d x) q
 
   -- no move is both a Rapid and a Feed
-  two_kinds : (k l j i c d : ℕ) (a b : Leaf) → FailsStock job part moves Rapid k j i a → FailsStock job part moves Feed l c d b → ⊥
+  two_kinds : (k l j i c d : ℕ) (a b : Leaf) → FailsStockOn job part start moves Rapid k j i a → FailsStockOn job part start moves Feed l c d b → ⊥
   two_kinds k l j i c d a b h g =
       let same : k ≡ l = one_stop k l (stops_stock Rapid k j i a h) (stops_stock Feed l c d b g) in
       not_alike (sym h.is ∙ ap (λ (n : ℕ). (move_at moves n).kind) same ∙ g.is)
 
-  same_left : (j i c d : ℕ) (s t : ℤ) → FailsCut job part moves j i s → FailsCut job part moves c d t → Left j i s ≡ Left c d t
+  same_left : (j i c d : ℕ) (s t : ℤ) → FailsCutOn job part start moves j i s → FailsCutOn job part start moves c d t → Left j i s ≡ Left c d t
   same_left j i c d s t h g =
       let f = one_uncut j i c d s t h g in
-      let g3 : FailsCut job part moves j d t = subst (λ (n : ℕ). FailsCut job part moves n d t) (sym f.0) g in
-      let g4 : FailsCut job part moves j i t = subst (λ (n : ℕ). FailsCut job part moves j n t) (sym f.1) g3 in
+      let g3 : FailsCutOn job part start moves j d t = subst (λ (n : ℕ). FailsCutOn job part start moves n d t) (sym f.0) g in
+      let g4 : FailsCutOn job part start moves j i t = subst (λ (n : ℕ). FailsCutOn job part start moves j n t) (sym f.1) g3 in
       ap (λ (n : ℕ). Left n i s) f.0 ∙ ap (λ (n : ℕ). Left c n s) f.1 ∙ ap (λ (x : ℤ). Left c d x) (h.shown ∙ sym g4.shown)
 
   -- a move that fails one test first doesn't fail a later one first
-  no_floor : (k l : ℕ) → FailsFloor job part moves k → Stops l → IsOverFloor job moves l → ⊥
+  no_floor : (k l : ℕ) → FailsFloorOn job part start moves k → Stops l → IsOverFloor job moves l → ⊥
   no_floor k l h stop over = h.fails (subst (λ (n : ℕ). IsOverFloor job moves n) (one_stop l k stop (stops_floor k h)) over)
 
-  no_part : (k l t : ℕ) (a : Leaf) → FailsPart job part moves k t a → Stops l → ClearsPart job part moves l → ⊥
+  no_part : (k l t : ℕ) (a : Leaf) → FailsPartOn job part start moves k t a → Stops l → ClearsPart job part moves l → ⊥
   no_part k l t a h stop clears = h.fails.fails (subst (λ (n : ℕ). ClearsPart job part moves n) (one_stop l k stop (stops_part k t a h)) clears t h.tri)
 
-  no_held : (k l t : ℕ) (a : Leaf) → FailsHolder job part moves k t a → Stops l → HolderClearsPart job part moves l → ⊥
+  no_held : (k l t : ℕ) (a : Leaf) → FailsHolderOn job part start moves k t a → Stops l → HolderClearsPart job part moves l → ⊥
   no_held k l t a h stop clears = held_fails k t a h (subst (λ (n : ℕ). HolderClearsPart job part moves n) (one_stop l k stop (stops_held k t a h)) clears)
 
-  no_stock : (kind : Kind) (k l j i : ℕ) (a : Leaf) → FailsStock job part moves kind k j i a → Stops l → ClearsStock job moves l → ⊥
+  no_stock : (kind : Kind) (k l j i : ℕ) (a : Leaf) → FailsStockOn job part start moves kind k j i a → Stops l → ClearsStockOn job start moves l → ⊥
   no_stock kind k l j i a h stop clears =
-      h.fails.fails (clears_as job moves kind k h.is (subst (λ (n : ℕ). ClearsStock job moves n) (one_stop l k stop (stops_stock kind k j i a h)) clears) h.tested j i h.column)
+      h.fails.fails (clears_as job start moves kind k h.is (subst (λ (n : ℕ). ClearsStockOn job start moves n) (one_stop l k stop (stops_stock kind k j i a h)) clears) h.tested j i h.column)
 
-  same_at : (kind : Kind) (k l j i c d : ℕ) (a b : Leaf) → FailsStock job part moves kind k j i a → FailsStock job part moves kind l c d b
+  same_at : (kind : Kind) (k l j i c d : ℕ) (a b : Leaf) → FailsStockOn job part start moves kind k j i a → FailsStockOn job part start moves kind l c d b
       → cut_reason kind k j i a ≡ cut_reason kind l c d b
   same_at kind k l j i c d a b h g = same_stock kind k l j i c d a b (one_stop k l (stops_stock kind k j i a h) (stops_stock kind l c d b g)) h g
 
-  one_reason : (r s : Reason) → IsRejection job part moves r → IsRejection job part moves s → r ≡ s
+  pub one_reason : (r s : Reason) → IsRejectionOn job part start moves r → IsRejectionOn job part start moves s → r ≡ s
   one_reason (Floor k) (Floor l) h g = ap (λ (n : ℕ). Floor n) (one_stop k l (stops_floor k h) (stops_floor l g))
   one_reason (Floor k) (Gouge l u b) h g = absurd (no_floor k l h (stops_part l u b g) g.floor)
   one_reason (Floor k) (Holder l u b) h g = absurd (no_floor k l h (stops_held l u b g) g.floor)
@@ -218,25 +225,32 @@ module _ (job : Job) (part : List Tri) (moves : List Move) where
   one_reason (Left j i s) (HolderStock l c d b) h g = absurd (no_stop l (stops_held_stock l c d b g) h.before)
   one_reason (Left j i s) (Left c d z) h g = same_left j i c d s z h g
 
-  not_both : (count columns : ℕ) (left : ℤ) (r : Reason) → Accepts job part moves count columns left → IsRejection job part moves r → ⊥
-  not_both count columns left (Floor l) h g = no_stop l (stops_floor l g) h.good
-  not_both count columns left (Gouge l u b) h g = no_stop l (stops_part l u b g) h.good
-  not_both count columns left (Holder l u b) h g = no_stop l (stops_held l u b g) h.good
-  not_both count columns left (RapidCut l c d b) h g = no_stop l (stops_stock Rapid l c d b g) h.good
-  not_both count columns left (Cut l c d b) h g = no_stop l (stops_stock Feed l c d b g) h.good
-  not_both count columns left (HolderStock l c d b) h g = no_stop l (stops_held_stock l c d b g) h.good
+  -- where a move is rejected not all are good
+  pub moves_fail : (r : Reason) → IsOfMove r → IsRejectionOn job part start moves r → GoodBeforeOn job part start moves (length moves) → ⊥
+  moves_fail (Floor l) of_move h good = no_stop l (stops_floor l h) good
+  moves_fail (Gouge l u b) of_move h good = no_stop l (stops_part l u b h) good
+  moves_fail (Holder l u b) of_move h good = no_stop l (stops_held l u b h) good
+  moves_fail (RapidCut l c d b) of_move h good = no_stop l (stops_stock Rapid l c d b h) good
+  moves_fail (Cut l c d b) of_move h good = no_stop l (stops_stock Feed l c d b h) good
+  moves_fail (HolderStock l c d b) of_move h good = no_stop l (stops_held_stock l c d b h) good
+  moves_fail (Left c d z) of_move h good = of_move
+
+  not_both : (count columns : ℕ) (left : ℤ) (r : Reason) → AcceptsOn job part start moves count columns left → IsRejectionOn job part start moves r → ⊥
+  not_both count columns left (Floor l) h g = moves_fail (Floor l) tt g h.good
+  not_both count columns left (Gouge l u b) h g = moves_fail (Gouge l u b) tt g h.good
+  not_both count columns left (Holder l u b) h g = moves_fail (Holder l u b) tt g h.good
+  not_both count columns left (RapidCut l c d b) h g = moves_fail (RapidCut l c d b) tt g h.good
+  not_both count columns left (Cut l c d b) h g = moves_fail (Cut l c d b) tt g h.good
+  not_both count columns left (HolderStock l c d b) h g = moves_fail (HolderStock l c d b) tt g h.good
   not_both count columns left (Left c d z) h g = g.fails (h.cut c d g.column)
 
-  same_most : (x y : ℤ) → x ≤ℤ y → y ≤ℤ x → x ≡ y
-  same_most x y h k = omega (h, k, arith, ints)
-
-  one_accept : (n m c d : ℕ) (x y : ℤ) → Accepts job part moves n c x → Accepts job part moves m d y → Accept n c x ≡ Accept m d y
+  one_accept : (n m c d : ℕ) (x y : ℤ) → AcceptsOn job part start moves n c x → AcceptsOn job part start moves m d y → Accept n c x ≡ Accept m d y
   one_accept n m c d x y h g =
-      let e : x ≡ y = same_most x y (g.most.most h.most.row h.most.col x h.most.column h.most.there) (h.most.most g.most.row g.most.col y g.most.column g.most.there) in
+      let e : x ≡ y = most_is_one job part (stock_after job start moves) x y h.most g.most in
       ap (λ (z : ℕ). Accept z c x) (h.all_moves ∙ sym g.all_moves) ∙ ap (λ (z : ℕ). Accept m z x) (h.all_columns ∙ sym g.all_columns) ∙ ap (λ (z : ℤ). Accept m d z) e
 
   -- two verdicts on the same moves are equal
-  pub one_verdict : (v w : Verdict) → IsVerdict job part moves v → IsVerdict job part moves w → v ≡ w
+  pub one_verdict : (v w : Verdict) → IsVerdictOn job part start moves v → IsVerdictOn job part start moves w → v ≡ w
   one_verdict (Accept n c x) (Accept m d y) h g = one_accept n m c d x y h g
   one_verdict (Accept n c x) (Reject r) h g = absurd (not_both n c x r h g)
   one_verdict (Reject r) (Accept n c x) h g = absurd (not_both n c x r g h)

@@ -1,4 +1,4 @@
--- The written tests of a program against a job and a part.
+-- The written tests of a program against a job and a part, from a stock on.
 use Rattle.std.specs.Prelude.{ℕ, ◌<◌, ◌-ℤ◌, ◌≤ℤ◌, List, take, IfSome}
 use Rattle.mill_base.specs.declared.points.Tri.{Tri}
 use Rattle.mill_base.specs.declared.motion.Move.{Move}
@@ -6,7 +6,7 @@ use Rattle.mill_sweep.specs.Halving.{Passes, PassesPoint}
 use Rattle.mill_base.specs.Covers.{Covered}
 use Rattle.mill_job.specs.declared.job.Job.{Job}
 use Rattle.mill_job.specs.Columns.{column_x, column_y}
-use Rattle.mill_dexel.specs.Tops.{ClearsColumns, HolderClearsColumns, tested_point, top_after}
+use Rattle.mill_dexel.specs.Tops.{ClearsColumnsOn, HolderClearsColumnsOn, Stock, stock_after, tested_point_on, uncut}
 use Rattle.mill_dexel.specs.Turns.{move_at}
 use Rattle.mill_base.specs.Points.{tri_at}
 use Rattle.mill_gouge.specs.Gouges.{HolderPassesPart, PassesPart}
@@ -28,31 +28,61 @@ ClearsPart job part moves k = PassesPart job.cutter (move_at moves k) part
 abbrev pub HolderClearsPart : Job → List Tri → List Move → ℕ → Type 0
 HolderClearsPart job part moves k = IfSome job.holder (λ holder. HolderPassesPart holder (move_at moves k) part)
 
--- test (iii) of one column: move k passes, by halving, the point of the column at which it is tested after the moves before it: a Rapid the one at the top,
--- and a Feed the one as low as it may cut
-abbrev pub PassesColumn : Job → List Move → ℕ → ℕ → ℕ → Type 0
-PassesColumn job moves k j i = PassesPoint job.cutter (move_at moves k) (tested_point job (move_at moves k).kind (take k moves) j i)
+-- the stock as move k meets it: after the moves before, from this stock on
+abbrev pub stock_met : Job → Stock → List Move → ℕ → Stock
+stock_met job start moves k = stock_after job start (take k moves)
+
+-- test (iii) of one column, from this stock on: move k passes, by halving, the point of the column at which it is tested after the moves before it: a Rapid the
+-- one at the top, and a Feed the one as low as it may cut
+abbrev pub PassesColumnOn : Job → Stock → List Move → ℕ → ℕ → ℕ → Type 0
+PassesColumnOn job start moves k j i = PassesPoint job.cutter (move_at moves k) (tested_point_on job (move_at moves k).kind (stock_met job start moves k) j i)
 
 -- test (iii): where move k is a Rapid, or a Feed and the job limits the depth of cut, it passes each column
-abbrev pub ClearsStock : Job → List Move → ℕ → Type 0
-ClearsStock job moves k = ClearsColumns job (take k moves) (move_at moves k)
+abbrev pub ClearsStockOn : Job → Stock → List Move → ℕ → Type 0
+ClearsStockOn job start moves k = ClearsColumnsOn job (stock_met job start moves k) (move_at moves k)
 
 -- test (iii h): where the job has a holder, it passes each column on move k, whatever its kind, up to the top that the moves before it left
-abbrev pub HolderClearsStock : Job → List Move → ℕ → Type 0
-HolderClearsStock job moves k = HolderClearsColumns job (take k moves) (move_at moves k)
+abbrev pub HolderClearsStockOn : Job → Stock → List Move → ℕ → Type 0
+HolderClearsStockOn job start moves k = HolderClearsColumnsOn job (stock_met job start moves k) (move_at moves k)
 
 -- move k passes all of these
-pub record IsGood (job : Job) (part : List Tri) (moves : List Move) (k : ℕ) : Type 0 where
+pub record IsGoodOn (job : Job) (part : List Tri) (start : Stock) (moves : List Move) (k : ℕ) : Type 0 where
   pub floor : IsOverFloor job moves k
   pub clears : ClearsPart job part moves k
   pub holder : HolderClearsPart job part moves k
-  pub stock : ClearsStock job moves k
-  pub holder_stock : HolderClearsStock job moves k
+  pub stock : ClearsStockOn job start moves k
+  pub holder_stock : HolderClearsStockOn job start moves k
 
--- test (iv) of one column: its top less the allowance is covered
-abbrev pub IsCut : Job → List Tri → List Move → ℕ → ℕ → Type 0
-IsCut job part moves j i = Covered part job.floor job.band (column_x job i) (column_y job j) (top_after job (column_x job i) (column_y job j) moves -ℤ job.allowance)
+-- every move before k is good
+abbrev pub GoodBeforeOn : Job → List Tri → Stock → List Move → ℕ → Type 0
+GoodBeforeOn job part start moves k = (e : ℕ) → e < k → IsGoodOn job part start moves e
+
+-- test (iv) of one column of a stock: its top less the allowance is covered
+abbrev pub IsCutOn : Job → List Tri → Stock → ℕ → ℕ → Type 0
+IsCutOn job part stock j i = Covered part job.floor job.band (column_x job i) (column_y job j) (stock j i -ℤ job.allowance)
+
+-- ---- from the uncut stock on
+
+-- test (iii) of one column
+abbrev pub PassesColumn : Job → List Move → ℕ → ℕ → ℕ → Type 0
+PassesColumn job moves k j i = PassesColumnOn job (uncut job) moves k j i
+
+-- test (iii) of each column
+abbrev pub ClearsStock : Job → List Move → ℕ → Type 0
+ClearsStock job moves k = ClearsStockOn job (uncut job) moves k
+
+-- test (iii h)
+abbrev pub HolderClearsStock : Job → List Move → ℕ → Type 0
+HolderClearsStock job moves k = HolderClearsStockOn job (uncut job) moves k
+
+-- move k passes all tests of a move
+abbrev pub IsGood : Job → List Tri → List Move → ℕ → Type 0
+IsGood job part moves k = IsGoodOn job part (uncut job) moves k
 
 -- every move before k is good
 abbrev pub GoodBefore : Job → List Tri → List Move → ℕ → Type 0
-GoodBefore job part moves k = (e : ℕ) → e < k → IsGood job part moves e
+GoodBefore job part moves k = GoodBeforeOn job part (uncut job) moves k
+
+-- test (iv) of one column of the stock that the moves leave
+abbrev pub IsCut : Job → List Tri → List Move → ℕ → ℕ → Type 0
+IsCut job part moves j i = IsCutOn job part (stock_after job (uncut job) moves) j i

@@ -1,5 +1,5 @@
--- The verdict: the first failing test, or that there is none.
-use Rattle.std.specs.Prelude.{◌≡◌, ℕ, ◌<◌, ◌≤◌, ◌*◌, ℤ, ◌-ℤ◌, ◌≤ℤ◌, List, length, take, Some}
+-- The verdict, from a stock on: the first failing test, or that there is none.
+use Rattle.std.specs.Prelude.{◌≡◌, ℕ, ◌<◌, ◌≤◌, ◌*◌, ℤ, ◌-ℤ◌, ◌≤ℤ◌, List, length, Some}
 use Rattle.mill_base.specs.declared.points.Tri.{Tri}
 use Rattle.mill_base.specs.declared.motion.Move.{Move}
 use Rattle.mill_base.specs.declared.motion.Kind.{Kind}
@@ -16,8 +16,8 @@ use Rattle.mill_base.specs.Points.{point_tri, tri_at}
 use Rattle.mill_base.specs.Covers.{IsHighestCovered}
 use Rattle.mill_job.specs.declared.job.Job.{Job}
 use Rattle.mill_job.specs.Columns.{IsColumn, IsBefore, column_x, column_y, row_count, column_count}
-use Rattle.mill_dexel.specs.Tops.{IsTested, tested_point, top_after, top_point}
-use Rattle.mill_verify.specs.Tests.{IsOverFloor, PassesTri, ClearsPart, HolderClearsPart, PassesColumn, ClearsStock, IsCut, GoodBefore}
+use Rattle.mill_dexel.specs.Tops.{IsTested, Stock, stock_after, tested_point_on, top_point_on, uncut}
+use Rattle.mill_verify.specs.Tests.{ClearsPart, ClearsStockOn, GoodBeforeOn, HolderClearsPart, IsCutOn, IsOverFloor, PassesColumnOn, PassesTri, stock_met}
 use Rattle.mill_dexel.specs.Turns.{move_at}
 use Rattle.mill_verify.specs.declared.verdict.Verdict.{Verdict}
 use Rattle.mill_verify.specs.declared.verdict.Verdict.TheVariants.{Accept, Reject}
@@ -25,24 +25,24 @@ use Rattle.mill_verify.specs.declared.verdict.Reason.{Reason}
 use Rattle.mill_verify.specs.declared.verdict.Reason.TheVariants.{Floor, Gouge, Holder, Rapid as RapidCut, Cut, HolderStock, Left}
 
 -- move k, all before it being good, fails test (i)
-pub record FailsFloor (job : Job) (part : List Tri) (moves : List Move) (k : ℕ) : Type 0 where
+pub record FailsFloorOn (job : Job) (part : List Tri) (start : Stock) (moves : List Move) (k : ℕ) : Type 0 where
   pub there : k < length moves
-  pub before : GoodBefore job part moves k
+  pub before : GoodBeforeOn job part start moves k
   pub fails : ¬ IsOverFloor job moves k
 
 -- move k, all before it being good, passes test (i), and fails test (ii) first at triangle t, at this leaf
-pub record FailsPart (job : Job) (part : List Tri) (moves : List Move) (k t : ℕ) (leaf : Leaf) : Type 0 where
+pub record FailsPartOn (job : Job) (part : List Tri) (start : Stock) (moves : List Move) (k t : ℕ) (leaf : Leaf) : Type 0 where
   pub there : k < length moves
-  pub before : GoodBefore job part moves k
+  pub before : GoodBeforeOn job part start moves k
   pub floor : IsOverFloor job moves k
   pub tri : t < length part
   pub first : (e : ℕ) → e < t → PassesTri job part moves k e
   pub fails : FailsAt job.cutter (move_at moves k) (tri_at part t) leaf
 
 -- move k, all before it being good, passes tests (i) and (ii), and the job has a holder, which fails test (ii h) first at triangle t, at this leaf
-pub record FailsHolder (job : Job) (part : List Tri) (moves : List Move) (k t : ℕ) (leaf : Leaf) : Type 0 where
+pub record FailsHolderOn (job : Job) (part : List Tri) (start : Stock) (moves : List Move) (k t : ℕ) (leaf : Leaf) : Type 0 where
   pub there : k < length moves
-  pub before : GoodBefore job part moves k
+  pub before : GoodBeforeOn job part start moves k
   pub floor : IsOverFloor job moves k
   pub clears : ClearsPart job part moves k
   pub holder : OneHolder
@@ -52,75 +52,93 @@ pub record FailsHolder (job : Job) (part : List Tri) (moves : List Move) (k t : 
   pub fails : HolderFailsAt holder (move_at moves k) (tri_at part t) leaf
 
 -- move k, all before it being good, passes tests (i) to (ii h), is of this kind and tested, and fails test (iii) first at column (j, i), at this leaf
-pub record FailsStock (job : Job) (part : List Tri) (moves : List Move) (kind : Kind) (k j i : ℕ) (leaf : Leaf) : Type 0 where
+pub record FailsStockOn (job : Job) (part : List Tri) (start : Stock) (moves : List Move) (kind : Kind) (k j i : ℕ) (leaf : Leaf) : Type 0 where
   pub there : k < length moves
-  pub before : GoodBefore job part moves k
+  pub before : GoodBeforeOn job part start moves k
   pub floor : IsOverFloor job moves k
   pub clears : ClearsPart job part moves k
   pub holder : HolderClearsPart job part moves k
   pub is : (move_at moves k).kind ≡ kind
   pub tested : IsTested job kind
   pub column : IsColumn job j i
-  pub first : (a b : ℕ) → IsColumn job a b → IsBefore a b j i → PassesColumn job moves k a b
-  pub fails : FailsAt job.cutter (move_at moves k) (point_tri (tested_point job kind (take k moves) j i)) leaf
+  pub first : (a b : ℕ) → IsColumn job a b → IsBefore a b j i → PassesColumnOn job start moves k a b
+  pub fails : FailsAt job.cutter (move_at moves k) (point_tri (tested_point_on job kind (stock_met job start moves k) j i)) leaf
 
 -- move k, all before it being good, passes tests (i) to (iii), and the job has a holder, which fails test (iii h) first at column (j, i), at this leaf
-pub record FailsHolderStock (job : Job) (part : List Tri) (moves : List Move) (k j i : ℕ) (leaf : Leaf) : Type 0 where
+pub record FailsHolderStockOn (job : Job) (part : List Tri) (start : Stock) (moves : List Move) (k j i : ℕ) (leaf : Leaf) : Type 0 where
   pub there : k < length moves
-  pub before : GoodBefore job part moves k
+  pub before : GoodBeforeOn job part start moves k
   pub floor : IsOverFloor job moves k
   pub clears : ClearsPart job part moves k
   pub holder_clears : HolderClearsPart job part moves k
-  pub stock : ClearsStock job moves k
+  pub stock : ClearsStockOn job start moves k
   pub holder : OneHolder
   pub mounted : job.holder ≡ Some holder
   pub column : IsColumn job j i
-  pub first : (a b : ℕ) → IsColumn job a b → IsBefore a b j i → HolderPassesPoint holder (move_at moves k) (top_point job (take k moves) a b)
-  pub fails : HolderFailsAt holder (move_at moves k) (point_tri (top_point job (take k moves) j i)) leaf
+  pub first : (a b : ℕ) → IsColumn job a b → IsBefore a b j i → HolderPassesPoint holder (move_at moves k) (top_point_on job (stock_met job start moves k) a b)
+  pub fails : HolderFailsAt holder (move_at moves k) (point_tri (top_point_on job (stock_met job start moves k) j i)) leaf
 
 -- every move is good, and test (iv) fails first at column (j, i), with this top
-pub record FailsCut (job : Job) (part : List Tri) (moves : List Move) (j i : ℕ) (top : ℤ) : Type 0 where
-  pub before : GoodBefore job part moves (length moves)
+pub record FailsCutOn (job : Job) (part : List Tri) (start : Stock) (moves : List Move) (j i : ℕ) (top : ℤ) : Type 0 where
+  pub before : GoodBeforeOn job part start moves (length moves)
   pub column : IsColumn job j i
-  pub first : (a b : ℕ) → IsColumn job a b → IsBefore a b j i → IsCut job part moves a b
-  pub fails : ¬ IsCut job part moves j i
-  pub shown : top ≡ top_after job (column_x job i) (column_y job j) moves
+  pub first : (a b : ℕ) → IsColumn job a b → IsBefore a b j i → IsCutOn job part (stock_after job start moves) a b
+  pub fails : ¬ IsCutOn job part (stock_after job start moves) j i
+  pub shown : top ≡ stock_after job start moves j i
 
--- the column (j, i) is left this much over its greatest covered whole height
-pub record IsLeftOver (job : Job) (part : List Tri) (moves : List Move) (j i : ℕ) (left : ℤ) : Type 0 where
+-- column (j, i) is the first of a stock that isn't cut, and has this top
+pub record IsFirstUncut (job : Job) (part : List Tri) (stock : Stock) (j i : ℕ) (top : ℤ) : Type 0 where
+  pub column : IsColumn job j i
+  pub first : (a b : ℕ) → IsColumn job a b → IsBefore a b j i → IsCutOn job part stock a b
+  pub fails : ¬ IsCutOn job part stock j i
+  pub shown : top ≡ stock j i
+
+-- the column (j, i) of a stock is left this much over its greatest covered whole height
+pub record IsLeftOverOn (job : Job) (part : List Tri) (stock : Stock) (j i : ℕ) (left : ℤ) : Type 0 where
   pub height : ℤ
-  pub highest : IsHighestCovered part job.floor job.band (column_x job i) (column_y job j) (top_after job (column_x job i) (column_y job j) moves) height
-  pub difference : left ≡ top_after job (column_x job i) (column_y job j) moves -ℤ height
+  pub highest : IsHighestCovered part job.floor job.band (column_x job i) (column_y job j) (stock j i) height
+  pub difference : left ≡ stock j i -ℤ height
 
 -- the greatest of these over all columns
-pub record IsMostLeft (job : Job) (part : List Tri) (moves : List Move) (left : ℤ) : Type 0 where
+pub record IsMostLeftOn (job : Job) (part : List Tri) (stock : Stock) (left : ℤ) : Type 0 where
   pub row : ℕ
   pub col : ℕ
   pub column : IsColumn job row col
-  pub there : IsLeftOver job part moves row col left
-  pub most : (j i : ℕ) (other : ℤ) → IsColumn job j i → IsLeftOver job part moves j i other → other ≤ℤ left
+  pub there : IsLeftOverOn job part stock row col left
+  pub most : (j i : ℕ) (other : ℤ) → IsColumn job j i → IsLeftOverOn job part stock j i other → other ≤ℤ left
 
 -- every move is good, every column is cut, and these are the numbers of moves and columns and what is left at most
-pub record Accepts (job : Job) (part : List Tri) (moves : List Move) (count columns : ℕ) (left : ℤ) : Type 0 where
-  pub good : GoodBefore job part moves (length moves)
-  pub cut : (j i : ℕ) → IsColumn job j i → IsCut job part moves j i
+pub record AcceptsOn (job : Job) (part : List Tri) (start : Stock) (moves : List Move) (count columns : ℕ) (left : ℤ) : Type 0 where
+  pub good : GoodBeforeOn job part start moves (length moves)
+  pub cut : (j i : ℕ) → IsColumn job j i → IsCutOn job part (stock_after job start moves) j i
   pub all_moves : count ≡ length moves
   pub all_columns : columns ≡ row_count job * column_count job
-  pub most : IsMostLeft job part moves left
+  pub most : IsMostLeftOn job part (stock_after job start moves) left
 
-abbrev pub IsRejection : Job → List Tri → List Move → Reason → Type 0
-IsRejection job part moves (Floor k) = FailsFloor job part moves k
-IsRejection job part moves (Gouge k t leaf) = FailsPart job part moves k t leaf
-IsRejection job part moves (Holder k t leaf) = FailsHolder job part moves k t leaf
-IsRejection job part moves (RapidCut k j i leaf) = FailsStock job part moves Rapid k j i leaf
-IsRejection job part moves (Cut k j i leaf) = FailsStock job part moves Feed k j i leaf
-IsRejection job part moves (HolderStock k j i leaf) = FailsHolderStock job part moves k j i leaf
-IsRejection job part moves (Left j i top) = FailsCut job part moves j i top
+-- the first failing test, by its reason
+abbrev pub IsRejectionOn : Job → List Tri → Stock → List Move → Reason → Type 0
+IsRejectionOn job part start moves (Floor k) = FailsFloorOn job part start moves k
+IsRejectionOn job part start moves (Gouge k t leaf) = FailsPartOn job part start moves k t leaf
+IsRejectionOn job part start moves (Holder k t leaf) = FailsHolderOn job part start moves k t leaf
+IsRejectionOn job part start moves (RapidCut k j i leaf) = FailsStockOn job part start moves Rapid k j i leaf
+IsRejectionOn job part start moves (Cut k j i leaf) = FailsStockOn job part start moves Feed k j i leaf
+IsRejectionOn job part start moves (HolderStock k j i leaf) = FailsHolderStockOn job part start moves k j i leaf
+IsRejectionOn job part start moves (Left j i top) = FailsCutOn job part start moves j i top
+
+-- the reason is a move's, by tests (i) to (iii h)
+abbrev pub IsOfMove : Reason → Type 0
+IsOfMove (Floor k) = Unit {0}
+IsOfMove (Gouge k t leaf) = Unit {0}
+IsOfMove (Holder k t leaf) = Unit {0}
+IsOfMove (RapidCut k j i leaf) = Unit {0}
+IsOfMove (Cut k j i leaf) = Unit {0}
+IsOfMove (HolderStock k j i leaf) = Unit {0}
+IsOfMove (Left j i top) = ⊥
 
 -- the verdict on the moves: their first failing test, or their acceptance
-abbrev pub IsVerdict : Job → List Tri → List Move → Verdict → Type 0
-IsVerdict job part moves (Accept count columns left) = Accepts job part moves count columns left
-IsVerdict job part moves (Reject reason) = IsRejection job part moves reason
+abbrev pub IsVerdictOn : Job → List Tri → Stock → List Move → Verdict → Type 0
+IsVerdictOn job part start moves (Accept count columns left) = AcceptsOn job part start moves count columns left
+IsVerdictOn job part start moves (Reject reason) = IsRejectionOn job part start moves reason
 
 -- a leaf of a move is one of the last, with a reach of at most 2, and a triangle blocks it: it comes over the leaf's lower end, and some point of it is
 -- strictly inside the leaf's outer cutter
@@ -133,8 +151,8 @@ abbrev pub BlocksMove : Job → List Tri → List Move → ℕ → ℕ → Leaf 
 BlocksMove job part moves k t leaf = BlocksLeaf job.cutter (move_at moves k) leaf (tri_at part t)
 
 -- the point of column (j, i) at which a move of this kind is tested after the moves before move k blocks this leaf of that move
-abbrev pub StopsMove : Job → List Move → Kind → ℕ → ℕ → ℕ → Leaf → Type 0
-StopsMove job moves kind k j i leaf = BlocksLeaf job.cutter (move_at moves k) leaf (point_tri (tested_point job kind (take k moves) j i))
+abbrev pub StopsMoveOn : Job → Stock → List Move → Kind → ℕ → ℕ → ℕ → Leaf → Type 0
+StopsMoveOn job start moves kind k j i leaf = BlocksLeaf job.cutter (move_at moves k) leaf (point_tri (tested_point_on job kind (stock_met job start moves k) j i))
 
 -- the job has a holder, and on this leaf of move k, as its own tip makes it, this triangle blocks it
 pub record BlocksHolder (job : Job) (moves : List Move) (k : ℕ) (leaf : Leaf) (tri : Tri) : Type 0 where
@@ -147,8 +165,48 @@ abbrev pub BlocksHolderMove : Job → List Tri → List Move → ℕ → ℕ →
 BlocksHolderMove job part moves k t leaf = BlocksHolder job moves k leaf (tri_at part t)
 
 -- the point at the top of column (j, i) after the moves before move k blocks the holder on this leaf of that move
+abbrev pub StopsHolderMoveOn : Job → Stock → List Move → ℕ → ℕ → ℕ → Leaf → Type 0
+StopsHolderMoveOn job start moves k j i leaf = BlocksHolder job moves k leaf (point_tri (top_point_on job (stock_met job start moves k) j i))
+
+-- a rejection by tests (ii) to (iii h) names a leaf of its move that is one of the last, and blocked
+abbrev pub NamesLeaf : Job → List Tri → Stock → List Move → Reason → Type 0
+NamesLeaf job part start moves (Floor k) = Unit {0}
+NamesLeaf job part start moves (Gouge k t leaf) = BlocksMove job part moves k t leaf
+NamesLeaf job part start moves (Holder k t leaf) = BlocksHolderMove job part moves k t leaf
+NamesLeaf job part start moves (RapidCut k j i leaf) = StopsMoveOn job start moves Rapid k j i leaf
+NamesLeaf job part start moves (Cut k j i leaf) = StopsMoveOn job start moves Feed k j i leaf
+NamesLeaf job part start moves (HolderStock k j i leaf) = StopsHolderMoveOn job start moves k j i leaf
+NamesLeaf job part start moves (Left j i top) = Unit {0}
+
+-- ---- from the uncut stock on
+
+-- move k is the first that fails, by test (ii h), first at triangle t
+abbrev pub FailsHolder : Job → List Tri → List Move → ℕ → ℕ → Leaf → Type 0
+FailsHolder job part moves k t leaf = FailsHolderOn job part (uncut job) moves k t leaf
+
+-- move k is the first that fails, by test (iii) of its kind, first at column (j, i)
+abbrev pub FailsStock : Job → List Tri → List Move → Kind → ℕ → ℕ → ℕ → Leaf → Type 0
+FailsStock job part moves kind k j i leaf = FailsStockOn job part (uncut job) moves kind k j i leaf
+
+-- every move is good, and test (iv) fails first at column (j, i)
+abbrev pub FailsCut : Job → List Tri → List Move → ℕ → ℕ → ℤ → Type 0
+FailsCut job part moves j i top = FailsCutOn job part (uncut job) moves j i top
+
+-- the first failing test
+abbrev pub IsRejection : Job → List Tri → List Move → Reason → Type 0
+IsRejection job part moves reason = IsRejectionOn job part (uncut job) moves reason
+
+-- the first failing test, or acceptance
+abbrev pub IsVerdict : Job → List Tri → List Move → Verdict → Type 0
+IsVerdict job part moves verdict = IsVerdictOn job part (uncut job) moves verdict
+
+-- the tested point of column (j, i) blocks this leaf of move k
+abbrev pub StopsMove : Job → List Move → Kind → ℕ → ℕ → ℕ → Leaf → Type 0
+StopsMove job moves kind k j i leaf = StopsMoveOn job (uncut job) moves kind k j i leaf
+
+-- the point at the top of column (j, i) blocks the holder on this leaf of move k
 abbrev pub StopsHolderMove : Job → List Move → ℕ → ℕ → ℕ → Leaf → Type 0
-StopsHolderMove job moves k j i leaf = BlocksHolder job moves k leaf (point_tri (top_point job (take k moves) j i))
+StopsHolderMove job moves k j i leaf = StopsHolderMoveOn job (uncut job) moves k j i leaf
 
 -- a job, a part and a list of moves have at most one verdict
 abbrev pub OneVerdict : Type 0

@@ -3,3 +3,4 @@ pub mod Firsts
 pub mod Readiness
 pub mod Pieces
 pub mod Failures
+pub mod Listed

@@ -1,3 +1,4 @@
+ghost use Rattle.mill_verify.specs.Lists.{AloneIsVerdict, OneListVerdict};
 ghost use Rattle.mill_verify.specs.Verdicts.{OneVerdict};
 
 /// A job, a part and a list of moves have at most one verdict.
@@ -6,4 +7,18 @@ ghost use Rattle.mill_verify.specs.Verdicts.{OneVerdict};
 /// given verdict exactly where that verdict's conditions hold.
 pub fn one_verdict()
     ensures { OneVerdict }
+{}
+
+/// A job, a part and a list of files have at most one verdict.
+///
+/// It has no code, as [`one_verdict`].
+pub fn one_list_verdict()
+    ensures { OneListVerdict }
+{}
+
+/// For one file the verdict of `verify_list` is that of `verify` on its moves, for the job with its cutter.
+///
+/// It has no code, as [`one_verdict`].
+pub fn alone_is_verdict()
+    ensures { AloneIsVerdict }
 {}

@@ -5,12 +5,13 @@ ghost use Rattle.mill_base.specs.Covers.{Covered};
 ghost use Rattle.mill_cells.specs.Sorted.{sorted_of};
 ghost use Rattle.mill_job.specs.Jobs.{IsJob, IsFrom};
 ghost use Rattle.mill_job.specs.Columns.{row_count};
-ghost use Rattle.mill_dexel.specs.Stocks.{IsRow, IsStock};
-ghost use Rattle.mill_verify.specs.inner.Firsts.{AreRowsTold, IsBoth, IsCutTo, IsFirstUncut, IsMostWith, IsRowLeft, IsRowUncut, IsStockLeft};
-ghost use Rattle.mill_verify.specs.inner.Readiness.{AreRowsReady};
+ghost use Rattle.mill_dexel.specs.Stocks.{ShowsStock, shown_by};
+ghost use Rattle.mill_dexel.specs.Tops.{Stock};
+ghost use Rattle.mill_verify.specs.inner.Firsts.{AreRowsTold, IsBoth, IsCutTo, IsMostWith, IsRowLeft, IsRowUncut, IsStockLeft};
+ghost use Rattle.mill_verify.specs.inner.Readiness.{AreJobRows, AreRowsReady};
+ghost use Rattle.mill_verify.specs.Verdicts.{IsFirstUncut};
 ghost use denote.Param.Send.{IsSync};
 
-use mill_base::Move;
 use mill_cells::Cells;
 use mill_dexel::{Row, share};
 use mill_job::Job;
@@ -26,27 +27,26 @@ pub struct Uncut {
 }
 
 /// Test (iv): how much is left over the part at most, or the first column that isn't cut, by row
-/// first, by `workers` threads. `moves` are those that made the rows.
+/// first, by `workers` threads.
 pub fn stock_left<R: Threads + Sync>(
     rt: &R,
     job: &Job,
     part: &Part,
     cells: &Cells,
-    moves: &[Move],
     rows: &[Row],
     workers: u32,
 ) -> Result<i32, Uncut>
     requires job_ok { IsJob job.now }
     requires cells_ok { cells.now ≡ sorted_of part.now }
-    requires rows_ok { IsStock job.now moves.now rows.now }
+    requires rows_ok { AreJobRows job.now rows.now }
     requires few_workers { workers ≤ MAX_WORKERS }
-    ensures { MatchResult
+    ensures { (stock : Stock) → ShowsStock job.now stock rows.now → MatchResult
         result
-        (IsStockLeft job.now part.now moves.now)
-        (λ uncut. IsFirstUncut job.now part.now moves.now uncut.row uncut.col uncut.top) }
+        (IsStockLeft job.now part.now stock)
+        (λ uncut. IsFirstUncut job.now part.now stock uncut.row uncut.col uncut.top) }
 {
     let end = rows.len();
-    rows_left(rt, job, part, cells, moves, rows, 0, end, workers)
+    rows_left(rt, job, part, cells, rows, 0, end, workers)
 }
 
 /// Test (iv) on the rows from number `start` to before `end`; 0 is left where there is none.
@@ -58,17 +58,16 @@ fn rows_left<R: Threads + Sync>(
     job: &Job,
     part: &Part,
     cells: &Cells,
-    moves: &[Move],
     rows: &[Row],
     start: usize,
     end: usize,
     workers: u32,
 ) -> Result<i32, Uncut>
-    requires ready { AreRowsReady job.now part.now cells.now moves.now rows.now start end workers }
-    ensures { AreRowsTold job.now part.now moves.now start end result }
+    requires ready { AreRowsReady job.now part.now cells.now rows.now start end workers }
+    ensures { AreRowsTold job.now part.now (shown_by rows.now) start end result }
 {
     if workers <= 1 || end - start <= 1 {
-        return scan_rows(job, part, cells, moves, rows, start, end);
+        return scan_rows(job, part, cells, rows, start, end);
     }
     let left_workers = workers / 2;
     let right_workers = workers - left_workers;
@@ -77,38 +76,14 @@ fn rows_left<R: Threads + Sync>(
         rt,
         || -> Result<i32, Uncut>
             requires sync { IsSync R.row }
-            requires ready { AreRowsReady job.now part.now cells.now moves.now rows.now start middle left_workers }
-            ensures { AreRowsTold job.entry.now part.entry.now moves.entry.now start middle result }
-        {
-            rows_left(
-                rt,
-                job,
-                part,
-                cells,
-                moves,
-                rows,
-                start,
-                middle,
-                left_workers,
-            )
-        },
+            requires ready { AreRowsReady job.now part.now cells.now rows.now start middle left_workers }
+            ensures { AreRowsTold job.entry.now part.entry.now (shown_by rows.entry.now) start middle result }
+        { rows_left(rt, job, part, cells, rows, start, middle, left_workers) },
         || -> Result<i32, Uncut>
             requires sync { IsSync R.row }
-            requires ready { AreRowsReady job.now part.now cells.now moves.now rows.now middle end right_workers }
-            ensures { AreRowsTold job.entry.now part.entry.now moves.entry.now middle end result }
-        {
-            rows_left(
-                rt,
-                job,
-                part,
-                cells,
-                moves,
-                rows,
-                middle,
-                end,
-                right_workers,
-            )
-        },
+            requires ready { AreRowsReady job.now part.now cells.now rows.now middle end right_workers }
+            ensures { AreRowsTold job.entry.now part.entry.now (shown_by rows.entry.now) middle end result }
+        { rows_left(rt, job, part, cells, rows, middle, end, right_workers) },
     );
     both(left, right)
 }
@@ -127,21 +102,20 @@ fn scan_rows(
     job: &Job,
     part: &Part,
     cells: &Cells,
-    moves: &[Move],
     rows: &[Row],
     start: usize,
     end: usize,
 ) -> Result<i32, Uncut>
     requires job_ok { IsJob job.now }
     requires cells_ok { cells.now ≡ sorted_of part.now }
-    requires rows_ok { IsStock job.now moves.now rows.now }
+    requires rows_ok { AreJobRows job.now rows.now }
     requires order { start ≤ end }
     requires there { end ≤ length rows.now }
-    ensures { AreRowsTold job.now part.now moves.now start end result }
+    ensures { AreRowsTold job.now part.now (shown_by rows.now) start end result }
 {
     let mut most = 0;
     for index in start..end {
-        match row_left(job, part, cells, moves, index as u32, &rows[index]) {
+        match row_left(job, part, cells, rows, index as u32) {
             Ok(left) => most = most.max(left),
             Err(uncut) => return Err(uncut),
         }
@@ -150,25 +124,18 @@ fn scan_rows(
 }
 
 /// Test (iv) on the columns of row `number`.
-fn row_left(
-    job: &Job,
-    part: &Part,
-    cells: &Cells,
-    moves: &[Move],
-    number: u32,
-    row: &Row,
-) -> Result<i32, Uncut>
+fn row_left(job: &Job, part: &Part, cells: &Cells, rows: &[Row], number: u32) -> Result<i32, Uncut>
     requires job_ok { IsJob job.now }
     requires cells_ok { cells.now ≡ sorted_of part.now }
+    requires rows_ok { AreJobRows job.now rows.now }
     requires there { number < row_count job.now }
-    requires row_ok { IsRow job.now moves.now number row.now }
     ensures { MatchResult
         result
-        (IsRowLeft job.now part.now moves.now number)
-        (λ uncut. (uncut.row ≡ number) × IsRowUncut job.now part.now moves.now number uncut.col uncut.top) }
+        (IsRowLeft job.now part.now (shown_by rows.now) number)
+        (λ uncut. (uncut.row ≡ number) × IsRowUncut job.now part.now (shown_by rows.now) number uncut.col uncut.top) }
 {
     let y = job.row_y(number);
-    let tops = row.tops();
+    let tops = rows[number as usize].tops();
     let mut most = 0;
     for (index, top) in tops.iter().enumerate() {
         let col = index as u32;

@@ -16,17 +16,23 @@
 
 mod block;
 mod failure;
+mod file;
 mod floor;
 mod laws;
 mod left;
+mod list;
+mod moves;
 mod piece;
 mod program;
+mod start;
 mod stock;
 mod verdict;
 mod work;
 
 pub use block::{Block, PartFail};
-pub use laws::one_verdict;
+pub use file::CutFile;
+pub use laws::{alone_is_verdict, one_list_verdict, one_verdict};
+pub use list::{ListVerdict, MAX_FILES, verify_list};
 pub use mill_board::{Gate, NoGate};
 pub use program::{verdict_on_stock, verify, verify_with, verify_with_cells};
 pub use verdict::{Reason, Verdict};

@@ -9,22 +9,18 @@ ghost use Rattle.mill_job.specs.Columns.{home};
 ghost use Rattle.mill_job.specs.Jobs.{IsJob};
 ghost use Rattle.mill_sweep.specs.declared.leaf.Leaf.{Leaf};
 ghost use Rattle.mill_verify.specs.Claims.{CutsSafely};
-ghost use Rattle.mill_verify.specs.inner.Firsts.{IsFloorEnd, ShowsBlocks};
-ghost use Rattle.mill_verify.specs.inner.Pieces.{AreReady, AreTested};
+ghost use Rattle.mill_verify.specs.inner.Firsts.{ShowsBlocks};
 ghost use Rattle.mill_dexel.specs.Stocks.{IsStock};
+ghost use Rattle.mill_dexel.specs.Tops.{uncut};
 ghost use Rattle.mill_verify.specs.Tests.{GoodBefore};
 ghost use Rattle.mill_verify.specs.Verdicts.{BlocksHolderMove, BlocksMove, StopsHolderMove, StopsMove, IsVerdict};
 
-use crate::block::Block;
-use crate::failure::{first_failed, reason_of};
-use crate::floor::floor_end;
 use crate::left::stock_left;
-use crate::piece::Piece;
-use crate::stock::rows_of;
+use crate::moves::rows_after;
+use crate::start::Start;
 use crate::verdict::{Reason, Verdict};
-use crate::work::Tests;
 use mill_base::{Move, WantOfMemory};
-use mill_board::{Closed, Gate, NoGate, run_all};
+use mill_board::{Gate, NoGate};
 use mill_cells::Cells;
 use mill_dexel::Row;
 use mill_job::Job;
@@ -217,9 +213,6 @@ pub fn verdict_on_stock<R: Threads + Sync>(
 
 /// The verdict, where each test of a move passes this gate first, by cells that the part's triangles are
 /// sorted into.
-///
-/// Threads share the tests against the part and the stock of the moves before the first that fails test
-/// (i). What these come to has the first that fails.
 fn tested<R: Threads + Sync, G: Gate>(
     rt: &R,
     alloc: Global,
@@ -261,46 +254,43 @@ fn tested<R: Threads + Sync, G: Gate>(
     // Laws without code: a leaf that fails, of the cutter or of the holder, is one of the last of its move.
     failing_is_blocked();
     holder_failing_is_blocked();
-    let turns = floor_end(job, moves) as u64;
-    let work = Tests::new(alloc, job, part, cells, moves, turns, gate)?;
-    let pieces = work.pieces();
-    let closed = run_all(rt, alloc, work, pieces, turns, workers)?;
-    verdict_of(rt, alloc, job, part, cells, moves, turns, closed, workers)
+    verdict_of(rt, alloc, gate, job, part, cells, moves, workers)
 }
 
-/// The verdict, from what the tests of the first `turns` moves came to, which all pass test (i).
-///
-/// Of the pieces that failed at the least turn a block comes before the rows, and a row before those
-/// after it; but a row that failed the holder's test alone comes after the others.
-fn verdict_of<R: Threads + Sync>(
+/// The verdict, with what is shown of a leaf that it names.
+fn verdict_of<R: Threads + Sync, G: Gate>(
     rt: &R,
     alloc: Global,
+    gate: G,
     job: &Job,
     part: &Part,
     cells: &Cells,
     moves: &[Move],
-    turns: u64,
-    closed: Closed<Piece>,
     workers: u32,
 ) -> Result<Verdict, WantOfMemory>
-    requires ready { AreReady job.now part.now cells.now moves.now turns }
-    requires floor { IsFloorEnd job.now moves.now turns }
-    requires tested { AreTested job.now part.now moves.now turns closed.least closed.pieces.items }
+    requires job_ok { IsJob job.now }
+    requires cells_ok { cells.now ≡ sorted_of part.now }
+    requires moves_ok { MovesInRange moves.now }
+    requires few { length moves.now ≤ MAX_MOVES }
+    requires some_workers { 1 ≤ workers }
     requires few_workers { workers ≤ MAX_WORKERS }
     ensures verdict { IfOk result (IsVerdict job.now part.now moves.now) }
-    ensures shown { IfOk result (ShowsBlocks job.now part.now moves.now) }
+    ensures shown { IfOk result (ShowsBlocks job.now part.now (uncut job.now) moves.now) }
 {
-    let Closed { least, pieces } = closed;
-    if let Some(number) = first_failed(&pieces, least) {
-        let kind = moves[least as usize].kind;
-        let reason = reason_of(&pieces[number], kind, Block::count(turns));
-        return Ok(Verdict::Reject(reason));
+    match rows_after(
+        rt,
+        alloc,
+        gate,
+        job,
+        part,
+        cells,
+        &Start::Uncut,
+        moves,
+        workers,
+    )? {
+        Ok(rows) => Ok(last_verdict(rt, job, part, cells, moves, &rows, workers)),
+        Err(reason) => Ok(Verdict::Reject(reason)),
     }
-    if turns < moves.len() as u64 {
-        return Ok(Verdict::Reject(Reason::Floor { at: turns }));
-    }
-    let rows = rows_of(alloc, pieces)?;
-    Ok(last_verdict(rt, job, part, cells, moves, &rows, workers))
 }
 
 /// The verdict after the last move, all moves being good.
@@ -319,9 +309,9 @@ fn last_verdict<R: Threads + Sync>(
     requires rows_ok { IsStock job.now moves.now rows.now }
     requires few_workers { workers ≤ MAX_WORKERS }
     ensures verdict { IsVerdict job.now part.now moves.now result }
-    ensures shown { ShowsBlocks job.now part.now moves.now result }
+    ensures shown { ShowsBlocks job.now part.now (uncut job.now) moves.now result }
 {
-    match stock_left(rt, job, part, cells, moves, rows, workers) {
+    match stock_left(rt, job, part, cells, rows, workers) {
         Ok(most_left) => Verdict::Accept {
             moves: moves.len() as u64,
             columns: job.column_total(),

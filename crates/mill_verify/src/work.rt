@@ -1,12 +1,14 @@
 ghost use Rattle.std.specs.Prelude.{◌≡◌, ◌^◌, ◌<◌, IfOk};
 ghost use Rattle.mill_verify.specs.inner.Pieces.{AreReady, piece_count};
+ghost use Rattle.mill_verify.specs.inner.Readiness.{IsStart, rows_at, stock_of};
 
 use crate::block::Block;
 use crate::piece::Piece;
+use crate::start::{Start, fresh_row};
 use mill_base::{Move, WantOfMemory};
 use mill_board::{Gate, Work};
 use mill_cells::Cells;
-use mill_dexel::{Bands, Row};
+use mill_dexel::Bands;
 use mill_job::Job;
 use mill_part::Part;
 use std::alloc::Global;
@@ -20,40 +22,45 @@ pub struct Tests<'a, G> {
     job: &'a Job,
     part: &'a Part,
     cells: &'a Cells,
+    start: &'a Start,
     bands: Bands<'a>,
     gate: G,
 }
 
 impl<'a, G> Model for Tests<'a, G> {
     ghost use Rattle.mill_verify.specs.inner.Pieces.{AreReady, TestsShown};
+    ghost use Rattle.mill_verify.specs.inner.Readiness.{IsStart, rows_at, stock_of};
 
     ghost Value = { TestsShown };
 
-    ghost view = { λ w. record { job = w.job.now; part = w.part.now; moves = w.bands.moves; turns = w.bands.count } };
+    ghost view = { λ w. record { job = w.job.now; part = w.part.now; start = rows_at w.start.now; moves = w.bands.moves; turns = w.bands.count } };
 
-    ghost invariant = { λ w. AreReady w.job.now w.part.now w.cells.now w.bands.moves w.bands.count };
+    ghost invariant = { λ w. AreReady w.job.now w.part.now w.cells.now (stock_of w.job.now w.start.now) w.bands.moves w.bands.count × IsStart w.job.now w.start.now };
 }
 
 impl<'a, G: Gate> Tests<'a, G> {
-    /// The tests of the first `turns` moves, each of which passes this gate. The only error is want of
-    /// memory, for the bands of the moves.
+    /// The tests of the first `turns` moves on this stock, each of which passes this gate. The only error
+    /// is want of memory, for the bands of the moves.
     pub fn new(
         alloc: Global,
         job: &'a Job,
         part: &'a Part,
         cells: &'a Cells,
+        start: &'a Start,
         moves: &'a [Move],
         turns: u64,
         gate: G,
     ) -> Result<Tests<'a, G>, WantOfMemory>
-        requires { AreReady job.now part.now cells.now moves.now turns }
-        ensures { IfOk result (λ tests. tests ≡ record { job = job.now; part = part.now; moves = moves.now; turns = turns }) }
+        requires ready { AreReady job.now part.now cells.now (stock_of job.now start.now) moves.now turns }
+        requires start_ok { IsStart job.now start.now }
+        ensures { IfOk result (λ tests. tests ≡ record { job = job.now; part = part.now; start = rows_at start.now; moves = moves.now; turns = turns }) }
     {
         let bands = Bands::new(alloc, moves, turns)?;
         Ok(Tests {
             job,
             part,
             cells,
+            start,
             bands,
             gate,
         })
@@ -91,7 +98,7 @@ impl<'a, G: Gate> Work for Tests<'a, G> {
             let block = Block::new(number, turns);
             return Ok(Piece::Block { number, block });
         }
-        let row = Row::new(alloc, self.job, number - blocks)?;
+        let row = fresh_row(alloc, self.job, self.start, number - blocks)?;
         Ok(Piece::Stock { number, row })
     }
 

@@ -19,7 +19,7 @@ use std::alloc::Global;
 mod gated;
 
 /// Down in the middle to this height, and up again as a rapid.
-fn down_and_up(kind: Kind, height: i32) -> [Move; 2]
+pub(crate) fn down_and_up(kind: Kind, height: i32) -> [Move; 2]
     requires { Within MAX_COORDINATE height }
     ensures range { MovesInRange result }
     ensures follow { Follow (point_at (pos 100) (pos 100) (pos 400)) result }

@@ -1,5 +1,5 @@
 //! A job and a part, for the tests.
-ghost use Rattle.std.specs.Prelude.{◌≡◌, ◌<◌, ◌≤◌, ◌<ℤ◌, ◌≤ℤ◌, pos, IfOk, IfSome};
+ghost use Rattle.std.specs.Prelude.{◌≡◌, ◌<◌, ◌≤◌, ◌<ℤ◌, ◌≤ℤ◌, pos, None, IfOk, IfSome};
 ghost use Rattle.mill_base.specs.Numbers.{Within};
 ghost use Rattle.mill_base.specs.declared.limits.TheConstants.{MAX_COORDINATE};
 ghost use Rattle.mill_base.specs.Points.{point_at};
@@ -26,6 +26,7 @@ pub(crate) fn block_job(cutter: Cutter, band: i32, allowance: u8) -> Job
     ensures top { result.top ≡ pos 300 }
     ensures start { home result ≡ point_at (pos 100) (pos 100) (pos 400) }
     ensures band { result.band ≡ band }
+    ensures bare { result.holder ≡ None }
 {
     job_of(cutter, band, allowance, 0, None)
 }
@@ -70,6 +71,7 @@ fn job_of(cutter: Cutter, band: i32, allowance: u8, max_cut: u8, holder: Option<
     ensures top { result.top ≡ pos 300 }
     ensures start { home result ≡ point_at (pos 100) (pos 100) (pos 400) }
     ensures band { result.band ≡ band }
+    ensures holder { result.holder ≡ holder }
 {
     Job {
         unit: Unit::Hundredth,

@@ -1,5 +1,5 @@
 -- Where each test fails first, apart from the tests before it.
-use Rattle.std.specs.Prelude.{◌≡◌, ◌⊎◌, ℕ, ◌<◌, ◌≤◌, ℤ, pos, ◌-ℤ◌, ◌<ℤ◌, ◌≤ℤ◌, List, length, take, IfSome, Result, Ok, Err, MatchResult}
+use Rattle.std.specs.Prelude.{◌≡◌, ◌⊎◌, ℕ, ◌<◌, ◌≤◌, ℤ, pos, ◌-ℤ◌, ◌<ℤ◌, ◌≤ℤ◌, List, length, IfSome, Result, Ok, Err, MatchResult}
 use Rattle.std.specs.Int.{int_max}
 use Rattle.mill_base.specs.declared.points.Tri.{Tri}
 use Rattle.mill_base.specs.declared.motion.Move.{Move}
@@ -12,12 +12,14 @@ use Rattle.mill_sweep.specs.Holders.{HolderIsBlocked}
 use Rattle.mill_sweep.specs.Leaves.{span_of}
 use Rattle.mill_sweep.specs.declared.leaf.Leaf.{Leaf}
 use Rattle.mill_job.specs.declared.job.Job.{Job}
-use Rattle.mill_job.specs.Columns.{IsColumn, IsBefore, column_x, column_y, column_count}
-use Rattle.mill_dexel.specs.Tops.{tested_point, top_after, top_point}
+use Rattle.mill_job.specs.Columns.{IsColumn, column_count}
+use Rattle.mill_dexel.specs.Tops.{Stock, stock_after, tested_point_on, top_point_on}
+use Rattle.mill_dexel.specs.Rows.{RowState}
+use Rattle.mill_dexel.specs.Stocks.{ShowsStock}
 use Rattle.mill_verify.specs.Blocks.{BlockState}
-use Rattle.mill_verify.specs.Tests.{IsOverFloor, IsCut}
+use Rattle.mill_verify.specs.Tests.{GoodBeforeOn, IsCutOn, IsOverFloor, stock_met}
 use Rattle.mill_dexel.specs.Turns.{move_at}
-use Rattle.mill_verify.specs.Verdicts.{IsLeftOver, IsMostLeft}
+use Rattle.mill_verify.specs.Verdicts.{IsLeftOverOn, IsMostLeftOn, IsOfMove, IsRejectionOn}
 use Rattle.mill_verify.specs.declared.verdict.Verdict.{Verdict}
 use Rattle.mill_verify.specs.declared.verdict.Verdict.TheVariants.{Accept, Reject}
 use Rattle.mill_verify.specs.declared.verdict.Reason.{Reason}
@@ -25,26 +27,37 @@ use Rattle.mill_verify.specs.declared.verdict.Reason.TheVariants.{Floor, Gouge, 
 use Rattle.mill_verify.specs.declared.left.Uncut.{Uncut}
 
 -- the point of column (j, i) at which a move of this kind is tested after the moves before move k blocks this leaf of that move
-abbrev pub StopsAt : Job → List Move → Kind → ℕ → ℕ → ℕ → Leaf → Type 0
-StopsAt job moves kind k j i leaf = Blocks job.cutter (span_of (move_at moves k) leaf.d leaf.k) (point_tri (tested_point job kind (take k moves) j i))
+abbrev pub StopsAt : Job → Stock → List Move → Kind → ℕ → ℕ → ℕ → Leaf → Type 0
+StopsAt job start moves kind k j i leaf = Blocks job.cutter (span_of (move_at moves k) leaf.d leaf.k) (point_tri (tested_point_on job kind (stock_met job start moves k) j i))
 
 -- this triangle blocks the job's holder on this leaf of move k
 abbrev pub BlocksHeld : Job → List Move → ℕ → Leaf → Tri → Type 0
 BlocksHeld job moves k leaf tri = IfSome job.holder (λ holder. HolderIsBlocked holder (move_at moves k) tri leaf)
 
 -- a rejection by tests (ii) to (iii h) names a leaf that is blocked
-abbrev pub ShowsBlock : Job → List Tri → List Move → Reason → Type 0
-ShowsBlock job part moves (Floor k) = Unit {0}
-ShowsBlock job part moves (Gouge k t leaf) = Blocks job.cutter (span_of (move_at moves k) leaf.d leaf.k) (tri_at part t)
-ShowsBlock job part moves (Holder k t leaf) = BlocksHeld job moves k leaf (tri_at part t)
-ShowsBlock job part moves (RapidCut k j i leaf) = StopsAt job moves Rapid k j i leaf
-ShowsBlock job part moves (Cut k j i leaf) = StopsAt job moves Feed k j i leaf
-ShowsBlock job part moves (HolderStock k j i leaf) = BlocksHeld job moves k leaf (point_tri (top_point job (take k moves) j i))
-ShowsBlock job part moves (Left j i top) = Unit {0}
+abbrev pub ShowsBlock : Job → List Tri → Stock → List Move → Reason → Type 0
+ShowsBlock job part start moves (Floor k) = Unit {0}
+ShowsBlock job part start moves (Gouge k t leaf) = Blocks job.cutter (span_of (move_at moves k) leaf.d leaf.k) (tri_at part t)
+ShowsBlock job part start moves (Holder k t leaf) = BlocksHeld job moves k leaf (tri_at part t)
+ShowsBlock job part start moves (RapidCut k j i leaf) = StopsAt job start moves Rapid k j i leaf
+ShowsBlock job part start moves (Cut k j i leaf) = StopsAt job start moves Feed k j i leaf
+ShowsBlock job part start moves (HolderStock k j i leaf) = BlocksHeld job moves k leaf (point_tri (top_point_on job (stock_met job start moves k) j i))
+ShowsBlock job part start moves (Left j i top) = Unit {0}
 
-abbrev pub ShowsBlocks : Job → List Tri → List Move → Verdict → Type 0
-ShowsBlocks job part moves (Accept count columns left) = Unit {0}
-ShowsBlocks job part moves (Reject reason) = ShowsBlock job part moves reason
+abbrev pub ShowsBlocks : Job → List Tri → Stock → List Move → Verdict → Type 0
+ShowsBlocks job part start moves (Accept count columns left) = Unit {0}
+ShowsBlocks job part start moves (Reject reason) = ShowsBlock job part start moves reason
+
+-- every move is good, and the rows are the stock that all of them leave
+pub record ArePassed (job : Job) (part : List Tri) (start : Stock) (moves : List Move) (rows : List RowState) : Type 0 where
+  pub good : GoodBeforeOn job part start moves (length moves)
+  pub shows : ShowsStock job (stock_after job start moves) rows
+
+-- a move fails a test, this is the first, and it shows the leaf that it names
+pub record IsStopped (job : Job) (part : List Tri) (start : Stock) (moves : List Move) (reason : Reason) : Type 0 where
+  pub of_move : IsOfMove reason
+  pub rejects : IsRejectionOn job part start moves reason
+  pub shown : ShowsBlock job part start moves reason
 
 -- a block as move k meets it: all its moves before that have had their turn, and cleared the part
 abbrev pub block_before : BlockState → ℕ → BlockState
@@ -71,19 +84,19 @@ pub record IsMostWith (job : Job) (part : List Tri) (x y top most next : ℤ) : 
   pub bound : (left : ℤ) → IsCutTo job part x y top left → left ≤ℤ next
 
 -- every column of row j is cut, and this is the most that any of them is left over
-pub record IsRowLeft (job : Job) (part : List Tri) (moves : List Move) (j : ℕ) (left : ℤ) : Type 0 where
-  pub cut : (i : ℕ) → i < column_count job → IsCut job part moves j i
+pub record IsRowLeft (job : Job) (part : List Tri) (stock : Stock) (j : ℕ) (left : ℤ) : Type 0 where
+  pub cut : (i : ℕ) → i < column_count job → IsCutOn job part stock j i
   pub col : ℕ
   pub column : col < column_count job
-  pub there : IsLeftOver job part moves j col left
-  pub most : (i : ℕ) (other : ℤ) → i < column_count job → IsLeftOver job part moves j i other → other ≤ℤ left
+  pub there : IsLeftOverOn job part stock j col left
+  pub most : (i : ℕ) (other : ℤ) → i < column_count job → IsLeftOverOn job part stock j i other → other ≤ℤ left
 
 -- column i is the first of row j that isn't cut, and has this top
-pub record IsRowUncut (job : Job) (part : List Tri) (moves : List Move) (j i : ℕ) (top : ℤ) : Type 0 where
+pub record IsRowUncut (job : Job) (part : List Tri) (stock : Stock) (j i : ℕ) (top : ℤ) : Type 0 where
   pub column : i < column_count job
-  pub first : (e : ℕ) → e < i → IsCut job part moves j e
-  pub fails : ¬ IsCut job part moves j i
-  pub shown : top ≡ top_after job (column_x job i) (column_y job j) moves
+  pub first : (e : ℕ) → e < i → IsCutOn job part stock j e
+  pub fails : ¬ IsCutOn job part stock j i
+  pub shown : top ≡ stock j i
 
 -- most is the greatest number that L holds of an index from s to before e; 0 where there is none
 pub record IsMostOf (L : ℕ → ℤ → Type 0) (s e : ℕ) (most : ℤ) : Type 0 where
@@ -93,24 +106,24 @@ pub record IsMostOf (L : ℕ → ℤ → Type 0) (s e : ℕ) (most : ℤ) : Type
   pub bound : (i : ℕ) (x : ℤ) → s ≤ i → i < e → L i x → x ≤ℤ most
 
 -- some column of row j is left over by this much
-abbrev pub LeftInRow : Job → List Tri → List Move → ℕ → ℤ → Type 0
-LeftInRow job part moves j left = (i : ℕ) × (i < column_count job) × IsLeftOver job part moves j i left
+abbrev pub LeftInRow : Job → List Tri → Stock → ℕ → ℤ → Type 0
+LeftInRow job part stock j left = (i : ℕ) × (i < column_count job) × IsLeftOverOn job part stock j i left
 
 -- every column of the rows from s to before e is cut, and this is the most that any of them is left over; 0 where there is no row
-pub record AreRowsLeft (job : Job) (part : List Tri) (moves : List Move) (s e : ℕ) (left : ℤ) : Type 0 where
-  pub cut : (j i : ℕ) → s ≤ j → j < e → i < column_count job → IsCut job part moves j i
-  pub most : IsMostOf (LeftInRow job part moves) s e left
+pub record AreRowsLeft (job : Job) (part : List Tri) (stock : Stock) (s e : ℕ) (left : ℤ) : Type 0 where
+  pub cut : (j i : ℕ) → s ≤ j → j < e → i < column_count job → IsCutOn job part stock j i
+  pub most : IsMostOf (LeftInRow job part stock) s e left
 
 -- of the rows from s to before e, column (j, i) is the first that isn't cut, and has this top
-pub record IsFirstUncutOf (job : Job) (part : List Tri) (moves : List Move) (s e j i : ℕ) (top : ℤ) : Type 0 where
+pub record IsFirstUncutOf (job : Job) (part : List Tri) (stock : Stock) (s e j i : ℕ) (top : ℤ) : Type 0 where
   pub start : s ≤ j
   pub there : j < e
-  pub before : (a b : ℕ) → s ≤ a → a < j → b < column_count job → IsCut job part moves a b
-  pub row : IsRowUncut job part moves j i top
+  pub before : (a b : ℕ) → s ≤ a → a < j → b < column_count job → IsCutOn job part stock a b
+  pub row : IsRowUncut job part stock j i top
 
 -- what the test of a range of rows says
-abbrev pub AreRowsTold : Job → List Tri → List Move → ℕ → ℕ → Result ℤ Uncut → Type 0
-AreRowsTold job part moves s e told = MatchResult told (AreRowsLeft job part moves s e) (λ uncut. IsFirstUncutOf job part moves s e uncut.row uncut.col uncut.top)
+abbrev pub AreRowsTold : Job → List Tri → Stock → ℕ → ℕ → Result ℤ Uncut → Type 0
+AreRowsTold job part stock s e told = MatchResult told (AreRowsLeft job part stock s e) (λ uncut. IsFirstUncutOf job part stock s e uncut.row uncut.col uncut.top)
 
 -- what two ranges of rows say together: the first column that isn't cut, of the left one first, else the greater of what is left
 abbrev pub IsBoth : Result ℤ Uncut → Result ℤ Uncut → Result ℤ Uncut → Type 0
@@ -119,13 +132,6 @@ IsBoth (Ok most) (Err uncut) told = told ≡ Err uncut
 IsBoth (Ok most) (Ok other) told = told ≡ Ok (int_max most other)
 
 -- every column is cut, and this is the most that any is left over
-pub record IsStockLeft (job : Job) (part : List Tri) (moves : List Move) (left : ℤ) : Type 0 where
-  pub cut : (j i : ℕ) → IsColumn job j i → IsCut job part moves j i
-  pub most : IsMostLeft job part moves left
-
--- column (j, i) is the first that isn't cut, and has this top
-pub record IsFirstUncut (job : Job) (part : List Tri) (moves : List Move) (j i : ℕ) (top : ℤ) : Type 0 where
-  pub column : IsColumn job j i
-  pub first : (a b : ℕ) → IsColumn job a b → IsBefore a b j i → IsCut job part moves a b
-  pub fails : ¬ IsCut job part moves j i
-  pub shown : top ≡ top_after job (column_x job i) (column_y job j) moves
+pub record IsStockLeft (job : Job) (part : List Tri) (stock : Stock) (left : ℤ) : Type 0 where
+  pub cut : (j i : ℕ) → IsColumn job j i → IsCutOn job part stock j i
+  pub most : IsMostLeftOn job part stock left

@@ -1,19 +1,43 @@
--- What a thread needs for its share of a test.
-use Rattle.std.specs.Prelude.{◌≡◌, ℕ, ◌≤◌, List, length}
+-- What a thread needs for its share of a test, and the stock from which a program starts.
+use Rattle.std.specs.Prelude.{◌≡◌, ℕ, ◌≤◌, List, length, Option, None, Some, IfSome}
 use Rattle.mill_base.specs.declared.limits.TheConstants.{MAX_WORKERS}
 use Rattle.mill_base.specs.declared.points.Tri.{Tri}
-use Rattle.mill_base.specs.declared.motion.Move.{Move}
 use Rattle.mill_cells.specs.Sorted.{Sorted, sorted_of}
 use Rattle.mill_job.specs.declared.job.Job.{Job}
 use Rattle.mill_job.specs.Jobs.{IsJob}
 use Rattle.mill_dexel.specs.Rows.{RowState}
-use Rattle.mill_dexel.specs.Stocks.{IsStock}
+use Rattle.mill_dexel.specs.Stocks.{IsStockOf, ShowsStock, shown_by}
+use Rattle.mill_dexel.specs.Tops.{Stock, uncut}
+use Rattle.mill_verify.specs.declared.start.Start.{Start}
+use Rattle.mill_verify.specs.declared.start.Start.TheVariants.{Uncut, Rows}
 
--- the cells are the part's, the rows are the stock after the moves, s and e bound some of them, and the workers are no more than there may be
-pub record AreRowsReady (job : Job) (part : List Tri) (cells : Sorted) (moves : List Move) (rows : List RowState) (s e workers : ℕ) : Type 0 where
+-- the rows are all of the job's, in order, with their tops in the stock
+pub record AreJobRows (job : Job) (rows : List RowState) : Type 0 where
+  pub shows : ShowsStock job (shown_by rows) rows
+  pub tops_ok : IsStockOf job (shown_by rows)
+
+-- the stock before a program's first move: the one that these rows show, or where there are none the uncut one
+abbrev pub start_stock : Job → Option (List RowState) → Stock
+start_stock job None = uncut job
+start_stock job (Some rows) = shown_by rows
+
+-- the rows that a program starts from, if it doesn't from the uncut stock
+abbrev pub rows_at : Start → Option (List RowState)
+rows_at Uncut = None
+rows_at (Rows rows) = Some rows.items
+
+abbrev pub stock_of : Job → Start → Stock
+stock_of job start = start_stock job (rows_at start)
+
+-- where rows are left, they are the job's
+abbrev pub IsStart : Job → Start → Type 0
+IsStart job start = IfSome (rows_at start) (AreJobRows job)
+
+-- the cells are the part's, the rows are the stock's, s and e bound some of them, and the workers are no more than there may be
+pub record AreRowsReady (job : Job) (part : List Tri) (cells : Sorted) (rows : List RowState) (s e workers : ℕ) : Type 0 where
   pub job_ok : IsJob job
   pub cells_ok : cells ≡ sorted_of part
-  pub rows_ok : IsStock job moves rows
+  pub rows_ok : AreJobRows job rows
   pub order : s ≤ e
   pub there : e ≤ length rows
   pub few_workers : workers ≤ MAX_WORKERS

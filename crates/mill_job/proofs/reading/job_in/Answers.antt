@@ -9,8 +9,8 @@ use Rattle.mill_base.proofs.Ranges.{greatest_of-le}
 use Rattle.mill_job.specs.Jobs.{IsJob}
 use Rattle.mill_job.specs.declared.fault.JobFault.{JobFault}
 use Rattle.mill_job.specs.declared.key.Key.TheVariants as key
-use Rattle.mill_job.specs.Documents.{job_with, key_faults_in, cutter_faults, relation_faults, snap_of, raster_of, rough_raster_of}
-use Rattle.mill_job.specs.Cutters.{shape_of, cutter_with}
+use Rattle.mill_job.specs.Documents.{job_with, key_faults_in, relation_faults, snap_of, raster_of, rough_raster_of}
+use Rattle.mill_job.specs.Cutters.{shape_of, cutter_faults, cutter_with}
 use Rattle.mill_job.specs.Holders.{holder_of}
 use Rattle.mill_job.specs.Tables.{first, checked, number_given, number_at, number_or, numbers_at, area_of, place_of, levels_of}
 use Rattle.mill_job.proofs.Faults.{first-append, first-found, if_ok}

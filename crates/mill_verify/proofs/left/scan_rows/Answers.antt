@@ -2,7 +2,7 @@ use Rattle.std.proofs.Common.{◌∙◌, to_z, of_z, w32, refl, arith}
 use Rattle.std.proofs.lemmas.Int.{ints, clamps}
 use Rattle.mill_verify.proofs.Ranges.{rows_few}
 use Rattle.mill_verify.proofs.Most.{max_is}
-use Rattle.mill_verify.proofs.StockLemmas.{row_there, row_read}
+use Rattle.mill_verify.proofs.StockLemmas.{row_there}
 use Rattle.mill_verify.proofs.Remaining.{rows_left_none, rows_left_more, rows_left_end, row_uncut_of}
 use Rattle.mill_verify.proofs.left.scan_rows.Goals as goal
 
@@ -10,13 +10,10 @@ pub loop-index-init : goal.loop-index-init
 loop-index-init c = rows_left_none refl
 
 pub overflow_cast-index : goal.overflow_cast-index
-overflow_cast-index c = omega (arith, rows_few c.requires.job_ok, c.requires.rows_ok.count)
+overflow_cast-index c = omega (arith, rows_few c.requires.job_ok, c.requires.rows_ok.shows.count)
 
 pub row_left-requires-clause-there : goal.row_left-requires-clause-there
-row_left-requires-clause-there c = row_there c.requires.rows_ok (omega (arith, c.loop-index-test.true, c.requires.there))
-
-pub row_left-requires-clause-row_ok : goal.row_left-requires-clause-row_ok
-row_left-requires-clause-row_ok c = row_read c.requires.rows_ok (omega (arith, c.loop-index-test.true, c.requires.there)) c.index-rows-index.is
+row_left-requires-clause-there c = row_there c.requires.rows_ok.shows (omega (arith, c.loop-index-test.true, c.requires.there))
 
 pub returns-in-Err : goal.returns-in-Err
 returns-in-Err c = row_uncut_of c.loop-index.auto.index c.loop-index-test.true c.loop-index.invariant c.in-Err.ensures.0 c.in-Err.ensures.1

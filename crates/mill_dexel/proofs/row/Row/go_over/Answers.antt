@@ -6,7 +6,7 @@ use Rattle.mill_dexel.proofs.row.Row.go_over.Goals as goal
 
 pub loop-next-init : goal.loop-next-init
 loop-next-init c =
-    let done : c.args.self.now.done ≡ c.args.t = ap (λ (r : RowState). r.done) c.requires.from_uncut in (
+    let done : c.args.self.now.done ≡ c.args.t = sym c.requires.next in (
       subst (λ (n : ℕ). IsRunTo c.args.job.now c.args.bands.now.moves c.args.self.now c.args.self.now n) done (run_start c.args.job.now c.args.bands.now.moves c.args.self.now c.requires.row c.requires.unfailed),
       done,
       omega (arith, c.requires.there),
@@ -24,15 +24,15 @@ loop-next-preserved c =
     )
 
 pub returns-then-not-pass_over-clause-clears : goal.returns-then-not-pass_over-clause-clears
-returns-then-not-pass_over-clause-clears c = (gone_over c.args.job.now c.args.bands.now.moves c.args.t c.args.self.now c.loop-next.self c.loop-next.next c.requires.from_uncut c.loop-next.invariant.0).clears
+returns-then-not-pass_over-clause-clears c = (gone_over c.args.job.now c.args.bands.now.moves c.args.t c.args.self.now c.loop-next.self c.loop-next.next c.requires.next c.loop-next.invariant.0).clears
 
 pub returns-then-not-pass_over-clause-is : goal.returns-then-not-pass_over-clause-is
 returns-then-not-pass_over-clause-is c =
     c.pass_over.ensures.kept (search rules)
-    ∙ (gone_over c.args.job.now c.args.bands.now.moves c.args.t c.args.self.now c.loop-next.self c.loop-next.next c.requires.from_uncut c.loop-next.invariant.0).is
+    ∙ (gone_over c.args.job.now c.args.bands.now.moves c.args.t c.args.self.now c.loop-next.self c.loop-next.next c.requires.next c.loop-next.invariant.0).is
 
 pub returns-clause-clears : goal.returns-clause-clears
-returns-clause-clears c = (gone_over c.args.job.now c.args.bands.now.moves c.args.t c.args.self.now c.loop-next.self c.loop-next.next c.requires.from_uncut c.loop-next.invariant.0).clears
+returns-clause-clears c = (gone_over c.args.job.now c.args.bands.now.moves c.args.t c.args.self.now c.loop-next.self c.loop-next.next c.requires.next c.loop-next.invariant.0).clears
 
 pub returns-clause-is : goal.returns-clause-is
-returns-clause-is c = (gone_over c.args.job.now c.args.bands.now.moves c.args.t c.args.self.now c.loop-next.self c.loop-next.next c.requires.from_uncut c.loop-next.invariant.0).is
+returns-clause-is c = (gone_over c.args.job.now c.args.bands.now.moves c.args.t c.args.self.now c.loop-next.self c.loop-next.next c.requires.next c.loop-next.invariant.0).is

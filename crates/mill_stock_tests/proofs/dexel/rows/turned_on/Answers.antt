@@ -1,19 +1,29 @@
-use Rattle.std.proofs.Common.{◌≡◌, ◌∙◌, ℕ, ◌+◌, ◌<◌, length, sym, ap, rules, arith}
+use Rattle.std.proofs.Common.{◌≡◌, ◌∙◌, ℕ, ◌+◌, ◌-◌, ◌<◌, length, take, drop, sym, ap, rules, arith}
 use Rattle.std.specs.Prelude.{List}
 use Rattle.mill_base.specs.declared.motion.Move.{Move}
 use Rattle.mill_job.specs.declared.job.Job.{Job}
-use Rattle.mill_dexel.specs.Rows.{RowState, uncut_row}
-use Rattle.mill_dexel.specs.Turns.{move_at, row_before, turned}
+use Rattle.mill_dexel.specs.Rows.{RowState}
+use Rattle.mill_dexel.specs.Turns.{IsLeftBy, move_at, tops_after, turned}
 use Rattle.mill_dexel.proofs.RunLaws.{left_next}
 use Rattle.mill_stock_tests.proofs.dexel.rows.turned_on.Goals as goal
 
-left_more : (job : Job) (moves : List Move) (r new : RowState) (t : ℕ) → t < length moves → r ≡ row_before job moves (uncut_row job r.row) t → new ≡ turned job (move_at moves t) r
-    → new ≡ row_before job moves (uncut_row job new.row) (t + 1)
-left_more job moves r new t there left is =
-    is
-    ∙ ap (turned job (move_at moves t)) left
-    ∙ sym (left_next job moves r.row t there)
-    ∙ ap (λ (j : ℕ). row_before job moves (uncut_row job j) (t + 1)) (sym (ap (λ (s : RowState). s.row) is))
+-- a row of which no move is done is what no move has left of it
+left_none : (job : Job) (moves : List Move) (r : RowState) → r.done ≡ 0 → IsLeftBy job moves 0 r
+left_none job moves r fresh = record {
+  start = r;
+  fresh = fresh;
+  is = sym (ap (λ (n : ℕ). record r { tops = tops_after job r.row (take (0 - n) (drop n moves)) r.tops; done = 0 }) fresh ∙ ap (λ (n : ℕ). record r { done = n }) (sym fresh));
+}
+
+left_more : (job : Job) (moves : List Move) (r new : RowState) (t : ℕ) → t < length moves → IsLeftBy job moves t r → new ≡ turned job (move_at moves t) r → IsLeftBy job moves (t + 1) new
+left_more job moves r new t there left is = record {
+  start = left.start;
+  fresh = left.fresh;
+  is = is ∙ ap (turned job (move_at moves t)) left.is ∙ sym (left_next job moves left.start t left.fresh there);
+}
+
+pub loop-t-init : goal.loop-t-init
+loop-t-init c = (c.requires.row, c.requires.unfailed, left_none c.args.job.now c.args.moves.now c.args.row.now c.requires.fresh)
 
 pub loop-t-preserved : goal.loop-t-preserved
 loop-t-preserved c =

@@ -1,0 +1,127 @@
+-- The tables of an array, which are read one by one, each with nothing wrong before the next.
+use Rattle.std.proofs.Common.{◌≡◌, ◌∙◌, ap, sym, refl, ℕ, suc, ◌+◌, ◌<◌, ◌≤◌, drop, get_or, Bool, true, false, ◌&&◌, List, [], ◌∷◌, ◌++◌, length, map, Option, Some, None, is_some, arith}
+use Rattle.std.proofs.lemmas.Bool.{le-leb, lt-leb}
+use Rattle.std.proofs.lemmas.List.{append_assoc, append-nil, at_drop_more, at_drop_all}
+use Rattle.std.specs.Prelude.{nat_le}
+use Rattle.toml.specs.declared.value.Value.{Value}
+use Rattle.toml.specs.Data.{Members, as_table}
+use Rattle.toml.specs.View.{view, items_view}
+use Rattle.mill_job.specs.Tables.{first, kind_fault}
+use Rattle.mill_job.specs.declared.fault.JobFault.{JobFault}
+use Rattle.mill_job.specs.declared.fault.JobFault.TheVariants.{Range, WrongKind}
+use Rattle.mill_job.specs.declared.job.Job.{Job}
+use Rattle.mill_job.specs.declared.key.Key.TheVariants.{Steps}
+use Rattle.mill_list.specs.Lists.{all_of, each_fault, is_count, tables, with_rest}
+use Rattle.mill_list.specs.Steps.{step_fault, step_of}
+use Rattle.mill_list.specs.declared.step.Step.{Step}
+
+-- the tables from a value on are its own and those after it
+pub next_table : (vs : List Value) (i : ℕ) (v : Value) → i < length vs → v ≡ get_or vs i v → tables (items_view (drop i vs)) ≡ with_rest (as_table (view v)) (tables (items_view (drop (i + 1) vs)))
+next_table vs i v there here =
+    at_drop_more (λ (ws : List Value). tables (items_view ws)) vs i v there ∙ ap (λ (w : Value). with_rest (as_table (view w)) (tables (items_view (drop (i + 1) vs)))) (sym here)
+
+pub no_more_tables : (vs : List Value) (i : ℕ) → length vs ≤ i → tables (items_view (drop i vs)) ≡ Some []
+no_more_tables vs i there = at_drop_all (λ (ws : List Value). tables (items_view ws)) vs i there
+
+-- of all tables these steps were read, nothing is wrong with them, and the rest is left
+pub record IsRead (job : Job) (all rest : Option (List Members)) (steps : List Step) : Type 0 where
+  pub whole : is_some rest ≡ true
+  pub fault : each_fault job (all_of rest) ≡ each_fault job (all_of all)
+  pub read : steps ++ map step_of (all_of rest) ≡ map step_of (all_of all)
+
+pub none_read : (job : Job) (all : Option (List Members)) → is_some all ≡ true → IsRead job all all []
+none_read job all whole = record { whole = whole; fault = refl; read = refl }
+
+pub at_next : (job : Job) (all : Option (List Members)) (vs : List Value) (i : ℕ) (v : Value) (table : Option Members) (steps : List Step) → i < length vs → v ≡ get_or vs i v → table ≡ as_table (view v)
+    → IsRead job all (tables (items_view (drop i vs))) steps → IsRead job all (with_rest table (tables (items_view (drop (i + 1) vs)))) steps
+at_next job all vs i v table steps there here is read =
+    let next : tables (items_view (drop i vs)) ≡ with_rest table (tables (items_view (drop (i + 1) vs))) = next_table vs i v there here ∙ ap (λ (t : Option Members). with_rest t (tables (items_view (drop (i + 1) vs)))) (sym is) in
+    rw (← next) read
+
+first-none : (found : Option JobFault) (rest : List (Option JobFault)) → found ≡ None → first (found ∷ rest) ≡ first rest
+first-none None rest e = refl
+first-none (Some fault) rest e = absurd (cc)
+
+first-some : (found : Option JobFault) (rest : List (Option JobFault)) (fault : JobFault) → found ≡ Some fault → first (found ∷ rest) ≡ Some fault
+first-some None rest fault e = absurd (cc)
+first-some (Some other) rest fault e = e
+
+-- a table with which nothing is wrong is read
+pub one_read : (job : Job) (all rest : Option (List Members)) (steps : List Step) (ms : Members) (step : Step) → IsRead job all (with_rest (Some ms) rest) steps → step_fault job ms ≡ None → step ≡ step_of ms
+    → IsRead job all rest (steps ++ step ∷ [])
+one_read job all None steps ms step h fine is = let none : false ≡ true = h.whole in absurd (cc)
+one_read job all (Some ts) steps ms step h fine is =
+    let next : each_fault job (ms ∷ ts) ≡ each_fault job ts = first-none (step_fault job ms) (map (step_fault job) ts) fine in
+    record {
+      whole = refl;
+      fault = sym next ∙ h.fault;
+      read = append_assoc steps (step ∷ []) (map step_of ts) ∙ ap (λ (s : Step). steps ++ s ∷ map step_of ts) is ∙ h.read;
+    }
+
+-- a fault of the next table is the first of all
+pub one_fails : (job : Job) (all rest : Option (List Members)) (steps : List Step) (ms : Members) (fault : JobFault) → IsRead job all (with_rest (Some ms) rest) steps → step_fault job ms ≡ Some fault
+    → each_fault job (all_of all) ≡ Some fault
+one_fails job all None steps ms fault h fails = let none : false ≡ true = h.whole in absurd (cc)
+one_fails job all (Some ts) steps ms fault h fails = sym h.fault ∙ first-some (step_fault job ms) (map (step_fault job) ts) fault fails
+
+-- each value is a table
+pub is_table : (job : Job) (all rest : Option (List Members)) (steps : List Step) → ¬ IsRead job all (with_rest None rest) steps
+is_table job all rest steps h = let none : false ≡ true = h.whole in absurd (cc)
+
+pub all_read : (job : Job) (all : Option (List Members)) (steps : List Step) → IsRead job all (Some []) steps → (each_fault job (all_of all) ≡ None) × (steps ≡ map step_of (all_of all))
+all_read job all steps h = (sym h.fault, sym (append-nil steps) ∙ h.read)
+
+-- ---- their number
+
+length-with_rest : (table : Option Members) (rest : Option (List Members)) (n : ℕ) → (is_some rest ≡ true → length (all_of rest) ≡ n) → is_some (with_rest table rest) ≡ true → length (all_of (with_rest table rest)) ≡ suc n
+length-with_rest None rest n h whole = absurd (cc)
+length-with_rest (Some ms) None n h whole = absurd (cc)
+length-with_rest (Some ms) (Some ts) n h whole = ap suc (h refl)
+
+-- an array of tables has as many tables as members
+pub length-tables : (vs : List Value) → is_some (tables (items_view vs)) ≡ true → length (all_of (tables (items_view vs))) ≡ length vs
+length-tables [] whole = refl
+length-tables (v ∷ vs) whole = length-with_rest (as_table (view v)) (tables (items_view vs)) (length vs) (length-tables vs) whole
+
+-- an array with another member is of a wrong kind
+pub no_tables : (all : Option (List Members)) → is_some all ≡ false → kind_fault Steps is_count all ≡ Some (WrongKind Steps)
+no_tables None other = refl
+no_tables (Some ts) other = absurd (cc)
+
+neither : (a b : Bool) → b ≡ false → (a && b) ≡ false
+neither true b e = e
+neither false b e = refl
+
+not_first : (a b : Bool) → a ≡ false → (a && b) ≡ false
+not_first false b e = refl
+not_first true b e = absurd (cc)
+
+both : (a b : Bool) → a ≡ true → b ≡ true → (a && b) ≡ true
+both true b p e = e
+both false b p e = absurd (cc)
+
+-- one of another length is out of range
+pub too_many : (all : Option (List Members)) (n : ℕ) → is_some all ≡ true → length (all_of all) ≡ n → 16 < n → kind_fault Steps is_count all ≡ Some (Range Steps)
+too_many None n whole long many = absurd (cc)
+too_many (Some ts) n whole long many =
+    let size : length ts ≡ n = long in
+    let over : nat_le (length ts) 16 ≡ false = lt-leb _ _ (omega arith) in
+    let no : is_count ts ≡ false = neither (nat_le 1 (length ts)) (nat_le (length ts) 16) over in
+    rw no refl
+
+pub too_few : (all : Option (List Members)) → is_some all ≡ true → length (all_of all) ≡ 0 → kind_fault Steps is_count all ≡ Some (Range Steps)
+too_few None whole empty = absurd (cc)
+too_few (Some ts) whole empty =
+    let size : length ts ≡ 0 = empty in
+    let under : nat_le 1 (length ts) ≡ false = lt-leb _ _ (omega arith) in
+    let no : is_count ts ≡ false = not_first (nat_le 1 (length ts)) (nat_le (length ts) 16) under in
+    rw no refl
+
+pub fitting : (all : Option (List Members)) (n : ℕ) → is_some all ≡ true → length (all_of all) ≡ n → 0 < n → n ≤ 16 → kind_fault Steps is_count all ≡ None
+fitting None n whole long some few = absurd (cc)
+fitting (Some ts) n whole long some few =
+    let size : length ts ≡ n = long in
+    let over : nat_le 1 (length ts) ≡ true = le-leb _ _ (omega arith) in
+    let under : nat_le (length ts) 16 ≡ true = le-leb _ _ (omega arith) in
+    let yes : is_count ts ≡ true = both (nat_le 1 (length ts)) (nat_le (length ts) 16) over under in
+    rw yes refl

@@ -1,0 +1,4 @@
+mod Faults
+mod InTurn
+mod Meaning
+pub mod OneList

@@ -1,0 +1,135 @@
+// Lists of steps that are read, and the faults for which others are refused.
+//
+// Each table is one text, as in job.rt: a row is `OLD => NEW => SAYS`, and is tried on EXAMPLE.
+use crate::job::text_of_row;
+use mill_base::Cutter;
+use mill_job::{Job, Key, read_job};
+use mill_list::{MAX_STEPS, read_list};
+use std::alloc::Global;
+use std::process::Abort;
+use std::test::Fail;
+
+const JOB: &str = "cutter = \"flat\"
+radius = 150
+floor = 0
+top = 300
+clear = 400
+area = [0, 0, 200, 200]
+home = [100, 90]
+pitch = 100
+sample = 50
+allowance = 0
+band = 100
+holder_radius = 160
+stickout = 50
+";
+
+const EXAMPLE: &str = r#"steps = [{ program = "rough.ngc", cutter = "ball", radius = 150 }, { program = "b/2.ngc", cutter = "cone", radius = 100, rise = 16, run = 1 }]"#;
+
+/// What is said of a list: each step's program and cutter, or the fault.
+fn answer(alloc: Global, text: &[u8], job: &Job) -> Result<String, Fail> {
+    let steps = match read_list(alloc, text, job) {
+        Ok(steps) => steps,
+        Err(fault) => return Ok(format!(in alloc; "{fault}")?),
+    };
+    let mut told = String::new(alloc);
+    for step in &steps {
+        told.push_str(format!(in alloc; "{} by {:?};", step.program, step.cutter)?.as_str())?;
+    }
+    Ok(told)
+}
+
+fn each_is_answered<R: Abort>(rt: &R, alloc: Global, table: &str) -> Result<(), Fail> {
+    let job = read_job(alloc, JOB.as_bytes())?;
+    for row in table.lines() {
+        let (text, says) = text_of_row(alloc, EXAMPLE, row)?;
+        assert_eq!(rt; answer(alloc, text.as_bytes(), &job)?.as_str(), says, "{row}");
+    }
+    Ok(())
+}
+
+const ROWS: &str = r#"steps => steps => rough.ngc by Ball { radius: 150 };b/2.ngc by Cone { radius: 100, rise: 16, run: 1 };
+"rough.ngc" => "" =>  by Ball { radius: 150 };b/2.ngc by Cone { radius: 100, rise: 16, run: 1 };
+"ball", radius = 150 => "flat", radius = 159 => rough.ngc by Flat { radius: 159 };b/2.ngc by Cone { radius: 100, rise: 16, run: 1 };
+steps = [{ => [[steps]]\nprogram = "1"\ncutter = "flat"\nradius = 100\n#  => 1 by Flat { radius: 100 };
+}] => } => syntax
+steps = => steps = 1\nsteps = => syntax
+steps = => step = => unknown step
+steps = => depth = 1\nangle = 1\nsteps = => unknown angle
+steps = => # => missing steps
+steps = [ => steps = { step = 1 } # => wrong kind of steps
+steps = [ => steps = "" # => wrong kind of steps
+steps = [{ => steps = [{ depth = 1 }, { depth = 1 }, 1, { => wrong kind of steps
+run = 1 }] => run = 1 }, []] => wrong kind of steps
+steps = [ => steps = [] # => steps out of range
+rough.ngc", => rough.ngc", floor = 0, => unknown floor
+rough.ngc", => rough.ngc", steps = [], band = 0, => unknown band
+program = "rough.ngc", =>  => missing program
+program = "rough.ngc" => program = 1, depth = 1 => unknown depth
+"rough.ngc" => ["rough.ngc"] => wrong kind of program
+"rough.ngc", cutter = "ball" => 1, cutter = 1 => wrong kind of program
+cutter = "ball", =>  => missing cutter
+"ball" => 1 => wrong kind of cutter
+"ball", radius = 150 => "disc", radius = 0 => cutter out of range
+, radius = 150 =>  => missing radius
+150 => 150.0 => wrong kind of radius
+150 => 10001 => radius out of range
+150 => 0, rise = 0 => radius out of range
+ rise = 16, =>  => missing rise
+rise = 16 => rise = "16" => wrong kind of rise
+rise = 16, run = 1 => rise = 0, run = 0 => rise out of range
+, run = 1 =>  => missing run
+run = 1 => run = [] => wrong kind of run
+run = 1 => run = 101 => run out of range
+radius = 150 => radius = 99, run = 101 => run out of range
+radius = 150 => radius = 99, rise = 1, run = 1 => cutter doesn't fit rise
+radius = 150 => radius = 99, run = 1 => cutter doesn't fit run
+radius = 100, rise = 16 => radius = 99, rise = 17 => rise doesn't fit run
+radius = 150 => radius = 99 => band doesn't fit radius
+radius = 150 => radius = 160 => radius doesn't fit holder_radius
+radius = 100 => radius = 99 => band doesn't fit radius
+radius = 150 }, { => radius = 160 }, { depth = 1, => radius doesn't fit holder_radius
+radius = 150 }, { => radius = 150 }, { depth = 1, => unknown depth"#;
+
+#[test]
+fn answers_lists(rt: HostRuntime) -> Result<(), Fail> {
+    each_is_answered(&rt, rt.alloc(), ROWS)
+}
+
+/// A list of so many steps.
+fn list_of(alloc: Global, count: usize) -> Result<String, Fail> {
+    let mut text = String::new(alloc);
+    for _ in 0..count {
+        text.push_str("[[steps]]\nprogram = \"a\"\ncutter = \"ball\"\nradius = 150\n")?;
+    }
+    Ok(text)
+}
+
+#[test]
+fn takes_16_steps(rt: HostRuntime) -> Result<(), Fail> {
+    let alloc = rt.alloc();
+    let job = read_job(alloc, JOB.as_bytes())?;
+    let steps = read_list(alloc, list_of(alloc, MAX_STEPS)?.as_bytes(), &job)?;
+    assert_eq!(rt; steps.len(), 16);
+    let more = list_of(alloc, MAX_STEPS + 1)?;
+    assert_eq!(rt;
+        answer(alloc, more.as_bytes(), &job)?.as_str(),
+        "steps out of range"
+    );
+    assert_eq!(rt; answer(alloc, &[b'#', 0xFF], &job)?.as_str(), "syntax");
+    assert_eq!(rt; (Key::Steps.name(), Key::Program.name()), ("steps", "program"));
+    Ok(())
+}
+
+#[test]
+fn a_job_takes_a_steps_cutter(rt: HostRuntime) -> Result<(), Fail> {
+    let alloc = rt.alloc();
+    let job = read_job(alloc, JOB.as_bytes())?;
+    let narrow = Cutter::Ball { radius: 99 };
+    assert!(rt; job.cutter_fault(&narrow).is_some());
+    let ball = Cutter::Ball { radius: 120 };
+    assert!(rt; job.cutter_fault(&ball).is_none());
+    let other = JOB.replace(alloc, "\"flat\"\nradius = 150", "\"ball\"\nradius = 120")?;
+    assert_eq!(rt; job.with_cutter(ball), read_job(alloc, other.as_bytes())?);
+    Ok(())
+}

@@ -1,0 +1,30 @@
+use Rattle.std.proofs.Common.{refl, arith}
+use Rattle.mill_verify.proofs.Filed.{all_passed, none_passed, passed_so, starts_so, stopped_so}
+use Rattle.mill_verify.proofs.list.rows_after_files.Goals as goal
+
+pub loop-number-init : goal.loop-number-init
+loop-number-init g c = none_passed c.args.job.now c.args.part.now c.args.files.now _ refl
+
+pub rows_after-requires-clause-start_ok : goal.rows_after-requires-clause-start_ok
+rows_after-requires-clause-start_ok g c _ _ =
+    starts_so c.args.job.now c.args.part.now c.args.files.now c.loop-number.number c.requires.job_ok c.loop-number-test.true c.loop-number.start c.loop-number.invariant
+    c.index-files-number.result c.job_with-job.result c.moves.result.now c.index-files-number.is c.job_with-job.ensures.is c.moves.ensures
+
+pub loop-number-preserved : goal.loop-number-preserved
+loop-number-preserved g c =
+    let passed = rw c.in-Ok.is at c.in_ok-rows.ensures in
+    passed_so c.args.job.now c.args.part.now c.args.files.now c.loop-number.number c.requires.job_ok c.loop-number-test.true c.loop-number.start c.loop-number.invariant
+    c.index-files-number.result c.job_with-job.result c.moves.result.now c.index-files-number.is c.job_with-job.ensures.is c.moves.ensures c.in-Ok.rows.items _ refl passed
+
+pub returns-in-Err : goal.returns-in-Err
+returns-in-Err g c =
+    let stopped = rw c.in-Err.is at c.in_ok-rows.ensures in
+    stopped_so c.args.job.now c.args.part.now c.args.files.now c.loop-number.number c.requires.job_ok c.loop-number-test.true c.loop-number.start c.loop-number.invariant
+    c.index-files-number.result c.job_with-job.result c.moves.result.now c.index-files-number.is c.job_with-job.ensures.is c.moves.ensures c.in-Err.reason stopped
+
+pub returns : goal.returns
+returns g c =
+    let over = c.loop-number-test.false in
+    let within = c.loop-number.auto.number-end in
+    all_passed c.args.job.now c.args.part.now c.args.files.now c.loop-number.number c.loop-number.start c.in_ok-rows_of_start.field-0.items (omega (over, within, arith)) c.loop-number.invariant
+    c.in_ok-rows_of_start.ensures

@@ -1,0 +1,93 @@
+ghost use Rattle.std.specs.Prelude.{◌≡◌, ◌≤◌, length, IfOk, MatchResult};
+ghost use Rattle.mill_base.specs.declared.limits.TheConstants.{MAX_MOVES, MAX_WORKERS};
+ghost use Rattle.mill_base.specs.Ranges.{MovesInRange};
+ghost use Rattle.mill_cells.specs.Sorted.{sorted_of};
+ghost use Rattle.mill_job.specs.Jobs.{IsJob};
+ghost use Rattle.mill_verify.specs.inner.Firsts.{ArePassed, IsFloorEnd, IsStopped};
+ghost use Rattle.mill_verify.specs.inner.Pieces.{AreReady, AreTested};
+ghost use Rattle.mill_verify.specs.inner.Readiness.{IsStart, rows_at, stock_of};
+
+use crate::block::Block;
+use crate::failure::{first_failed, reason_of};
+use crate::floor::floor_end;
+use crate::piece::Piece;
+use crate::start::Start;
+use crate::stock::rows_of;
+use crate::verdict::Reason;
+use crate::work::Tests;
+use mill_base::{Move, WantOfMemory};
+use mill_board::{Closed, Gate, run_all};
+use mill_cells::Cells;
+use mill_dexel::Row;
+use mill_job::Job;
+use mill_part::Part;
+use std::alloc::Global;
+use std::thread::Threads;
+
+/// Tests (i) to (iii h) of a program from this stock on, where each test of a move passes this gate first:
+/// the rows of the stock that all moves leave, or the first test that a move fails.
+///
+/// Threads share the tests against the part and the stock of the moves before the first that fails test
+/// (i). What these come to has the first that fails.
+pub fn rows_after<R: Threads + Sync, G: Gate>(
+    rt: &R,
+    alloc: Global,
+    gate: G,
+    job: &Job,
+    part: &Part,
+    cells: &Cells,
+    start: &Start,
+    moves: &[Move],
+    workers: u32,
+) -> Result<Result<Vec<Row>, Reason>, WantOfMemory>
+    requires job_ok { IsJob job.now }
+    requires cells_ok { cells.now ≡ sorted_of part.now }
+    requires start_ok { IsStart job.now start.now }
+    requires moves_ok { MovesInRange moves.now }
+    requires few { length moves.now ≤ MAX_MOVES }
+    requires some_workers { 1 ≤ workers }
+    requires few_workers { workers ≤ MAX_WORKERS }
+    ensures { IfOk result (λ told. MatchResult
+        told
+        (λ rows. ArePassed job.now part.now (stock_of job.now start.now) moves.now rows.items)
+        (IsStopped job.now part.now (stock_of job.now start.now) moves.now)) }
+{
+    let turns = floor_end(job, moves) as u64;
+    let work = Tests::new(alloc, job, part, cells, start, moves, turns, gate)?;
+    let pieces = work.pieces();
+    let closed = run_all(rt, alloc, work, pieces, turns, workers)?;
+    told_by(alloc, job, part, cells, start, moves, turns, closed)
+}
+
+/// What the tests of the first `turns` moves, which all pass test (i), came to.
+///
+/// Of the pieces that failed at the least turn a block comes before the rows, and a row before those
+/// after it; but a row that failed the holder's test alone comes after the others.
+fn told_by(
+    alloc: Global,
+    job: &Job,
+    part: &Part,
+    cells: &Cells,
+    start: &Start,
+    moves: &[Move],
+    turns: u64,
+    closed: Closed<Piece>,
+) -> Result<Result<Vec<Row>, Reason>, WantOfMemory>
+    requires ready { AreReady job.now part.now cells.now (stock_of job.now start.now) moves.now turns }
+    requires floor { IsFloorEnd job.now moves.now turns }
+    requires tested { AreTested job.now part.now (rows_at start.now) moves.now turns closed.least closed.pieces.items }
+    ensures { IfOk result (λ told. MatchResult
+        told
+        (λ rows. ArePassed job.now part.now (stock_of job.now start.now) moves.now rows.items)
+        (IsStopped job.now part.now (stock_of job.now start.now) moves.now)) }
+{
+    let Closed { least, pieces } = closed;
+    if let Some(number) = first_failed(&pieces, least) {
+        let kind = moves[least as usize].kind;
+        return Ok(Err(reason_of(&pieces[number], kind, Block::count(turns))));
+    }
+    if turns < moves.len() as u64 {
+        return Ok(Err(Reason::Floor { at: turns }));
+    }
+    Ok(Ok(rows_of(alloc, pieces)?))
+}
