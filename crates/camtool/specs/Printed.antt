@@ -13,10 +13,6 @@ line (w ∷ v ∷ ws) = w ++ 32 ∷ line (v ∷ ws)
 abbrev pub column_words : Unit → ℕ → ℕ → ℤ → List (List ℕ)
 column_words unit row column top = codes "row" ∷ decimal row ∷ codes "column" ∷ decimal column ∷ codes "top" ∷ canonical unit top ∷ []
 
--- a line's end with them, from the space before them on
-abbrev pub column_end : Unit → ℕ → ℕ → ℤ → List ℕ
-column_end unit row column top = 32 ∷ line (column_words unit row column top)
-
 -- the line of a lattice that has so many nodes, which are too many
 abbrev pub nodes_line : ℕ → List ℕ
 nodes_line nodes = line (codes "over" ∷ codes "nodes" ∷ decimal nodes ∷ [])
