@@ -2,10 +2,11 @@
 use Rattle.std.proofs.Common.{◌≡◌, ◌≢◌, ◌⊎◌, ℕ, List, Option, Some, None, refl, sym, subst, ◌∙◌, inl, inr, arith}
 use Rattle.std.specs.Prelude.{◌<◌}
 use Rattle.mill_io.specs.Views.{ReadsOnly}
-use Rattle.mill_command.specs.Requests.{Request, verify, plan, drop, level, stock, sample, request}
+use Rattle.mill_command.specs.Requests.{Request, verify, plan, drop, level, stock, rest, sample, request}
 use Rattle.mill_plan.specs.Plans.{done, too_many_nodes, too_many_moves, uncut, held}
+use Rattle.mill_verify.specs.declared.list.ListVerdict.TheVariants as list
 use Rattle.mill_verify.specs.declared.verdict.Verdict.TheVariants.{Accept, Reject}
-use Rattle.camtool.specs.Answers.{Answer, refused_word, unfit, judged, planned, dropped, leveled, stocked, sampled, answer_status, answer_file, IsAnswer}
+use Rattle.camtool.specs.Answers.{Answer, refused_word, unfit, judged, planned, dropped, leveled, stocked, judged_files, sampled, answer_status, answer_file, IsAnswer}
 use Rattle.camtool.specs.Calls.{Call, NamedText, NoFault, Stores, BlamesWrites, BlamesReads}
 use Rattle.camtool.specs.Level.{outlines, too_many_nodes as too_fine}
 use Rattle.camtool.specs.Outcomes.{Outcome, help, bad_words, no_memory, read_fault, answered, outcome_status, outcome_file, IsOutcomeOf, ShowsWhole, FailsToStore, FailsToPrint, CountsReads, Shows, HasOutcome}
@@ -36,6 +37,9 @@ status_not n n0 n3 n4 n8 n9 (leveled unit (outlines found)) e = n0 e
 status_not n n0 n3 n4 n8 n9 (leveled unit (too_fine nodes)) e = n9 e
 status_not n n0 n3 n4 n8 n9 (stocked name (drawn text count)) e = n0 e
 status_not n n0 n3 n4 n8 n9 (stocked name (too_many_triangles count)) e = n9 e
+status_not n n0 n3 n4 n8 n9 (judged_files job part files (list.Accept count moves columns left)) e = n0 e
+status_not n n0 n3 n4 n8 n9 (judged_files job part files (list.Reject file reason)) e = n3 e
+status_not n n0 n3 n4 n8 n9 (judged_files job part files (list.Left row column top)) e = n3 e
 status_not n n0 n3 n4 n8 n9 (sampled size (done text moves columns left)) e = n0 e
 status_not n n0 n3 n4 n8 n9 (sampled size (uncut row column top)) e = n8 e
 status_not n n0 n3 n4 n8 n9 (sampled size (held number row column)) e = n8 e
@@ -158,6 +162,7 @@ answer_stores contents words (plan job part out workers) (planned unit name answ
 answer_stores contents words (drop job part x y) (planned unit name answer) taken nothing h = absurd h
 answer_stores contents words (level job part z) (planned unit name answer) taken nothing h = absurd h
 answer_stores contents words (stock job program out) (planned unit name answer) taken nothing h = absurd h
+answer_stores contents words (rest job part list workers) (planned unit name answer) taken nothing h = absurd h
 answer_stores contents words (sample n workers) (planned unit name answer) taken nothing h = absurd h
 answer_stores contents words asked (dropped unit height) taken nothing h = refl
 answer_stores contents words asked (leveled unit answer) taken nothing h = refl
@@ -166,7 +171,9 @@ answer_stores contents words (plan job part out workers) (stocked name answer) t
 answer_stores contents words (drop job part x y) (stocked name answer) taken nothing h = absurd h
 answer_stores contents words (level job part z) (stocked name answer) taken nothing h = absurd h
 answer_stores contents words (stock job program out) (stocked name answer) taken nothing h = absurd (nothing.no_stock (record { job = job; program = program; out = out }) taken)
+answer_stores contents words (rest job part list workers) (stocked name answer) taken nothing h = absurd h
 answer_stores contents words (sample n workers) (stocked name answer) taken nothing h = absurd h
+answer_stores contents words asked (judged_files job part files verdict) taken nothing h = refl
 answer_stores contents words asked (sampled n answer) taken nothing h = refl
 
 outcome_stores : (contents : List ℕ → Option (List ℕ)) (words : List (List ℕ)) (o : Outcome) → AsksNoFileStored words → IsOutcomeOf words contents o → outcome_file o ≡ None

@@ -2,21 +2,24 @@
 use Rattle.std.proofs.Common.{◌≡◌, ◌≢◌, ℕ, List, Option, sym, ap, subst, ◌∙◌, arith}
 use Rattle.std.specs.Prelude.{ℤ}
 use Rattle.mill_base.specs.declared.unit.Unit.{Unit as LengthUnit}
-use Rattle.mill_command.specs.Requests.{verify, plan, stock}
+use Rattle.mill_command.specs.Requests.{verify, plan, stock, rest}
 use Rattle.mill_io.specs.Views.{IsStored, IsWritten}
 use Rattle.mill_plan.specs.Plans.{done, too_many_nodes, too_many_moves, uncut, held}
+use Rattle.mill_verify.specs.Lists.{OneListVerdict}
 use Rattle.mill_verify.specs.Verdicts.{IsVerdict, OneVerdict}
+use Rattle.mill_verify.specs.declared.list.ListVerdict.TheVariants as list
 use Rattle.mill_verify.specs.declared.verdict.Verdict.TheVariants.{Accept, Reject}
-use Rattle.camtool.specs.Answers.{Answer, refused_word, unfit, judged, planned, dropped, leveled, stocked, sampled, answer_status, answer_line, answer_file, IsAnswer}
+use Rattle.camtool.specs.Answers.{Answer, refused_word, unfit, judged, planned, dropped, leveled, stocked, judged_files, sampled, answer_status, answer_line, answer_file, IsAnswer}
 use Rattle.camtool.specs.Calls.{Call, Stores}
-use Rattle.camtool.specs.Headline.{AcceptsSafely, RejectsFirst, Headline, StoresSafely, PlanHeadline, StoresStock, StockHeadline}
+use Rattle.camtool.specs.Headline.{AcceptsSafely, RejectsFirst, Headline, StoresSafely, PlanHeadline, StoresStock, StockHeadline, AcceptsFilesSafely, RejectsFilesFirst, RestHeadline}
 use Rattle.camtool.specs.Outcomes.{HasOutcome}
 use Rattle.camtool.specs.Plan.{Plans, plan_line}
+use Rattle.camtool.specs.Rest.{rest_texts, list_status}
 use Rattle.camtool.specs.Setup.{setup_texts}
 use Rattle.camtool.specs.Stock.{stock_texts, stock_line, drawn, too_many_triangles, DrawsStock}
 use Rattle.camtool.specs.Verify.{texts_of, verdict_status}
-use Rattle.camtool.specs.Words.{Files, PlanFiles, StockFiles}
-use Rattle.camtool.proofs.Answering.{is_judged}
+use Rattle.camtool.specs.Words.{Files, PlanFiles, StockFiles, RestFiles}
+use Rattle.camtool.proofs.Answering.{is_judged, is_judged_in_turn}
 use Rattle.camtool.proofs.Blaming.{no, on}
 use Rattle.camtool.proofs.Lengths.{plan_fits}
 use Rattle.camtool.proofs.Outcomes.{answered_by, answers_of}
@@ -38,6 +41,7 @@ accepts_by contents files workers (planned unit name answer) is e = absurd is
 accepts_by contents files workers (dropped unit height) is e = absurd is
 accepts_by contents files workers (leveled unit answer) is e = absurd is
 accepts_by contents files workers (stocked name answer) is e = absurd is
+accepts_by contents files workers (judged_files j p fs v) is e = absurd is
 accepts_by contents files workers (sampled n answer) is e = absurd is
 
 rejects_by : (call : Call) (files : Files) (workers : ℕ) (a : Answer) → IsAnswer call.store.contents (verify files.job files.part files.program workers) a
@@ -51,6 +55,7 @@ rejects_by call files workers (planned unit name answer) is e printed = absurd i
 rejects_by call files workers (dropped unit height) is e printed = absurd is
 rejects_by call files workers (leveled unit answer) is e printed = absurd is
 rejects_by call files workers (stocked name answer) is e printed = absurd is
+rejects_by call files workers (judged_files j p fs v) is e printed = absurd is
 rejects_by call files workers (sampled n answer) is e printed = absurd is
 
 pub headline_of : OneVerdict → (words : List (List ℕ)) (call : Call) → HasOutcome words call → Headline words call
@@ -109,6 +114,7 @@ plans_by call files workers (planned unit name too_many_moves) is e printed stor
 plans_by call files workers (dropped unit height) is e printed stored = absurd is
 plans_by call files workers (leveled unit answer) is e printed stored = absurd is
 plans_by call files workers (stocked name answer) is e printed stored = absurd is
+plans_by call files workers (judged_files j p fs v) is e printed stored = absurd is
 plans_by call files workers (sampled n answer) is e printed stored = absurd is
 
 pub plan_headline_of : (words : List (List ℕ)) (call : Call) → HasOutcome words call → PlanHeadline words call
@@ -143,6 +149,7 @@ stocks_by call files (leveled unit answer) is e printed stored = absurd is
 stocks_by call files (stocked name (drawn text count)) is e printed stored =
     drawn_stored call files text count is.1 (subst (λ (n : List ℕ). IsStored n text call.store call.store_after) is.0 stored) printed
 stocks_by call files (stocked name (too_many_triangles count)) is e printed stored = absurd (on 9 0 (omega arith) e)
+stocks_by call files (judged_files j p fs v) is e printed stored = absurd is
 stocks_by call files (sampled n answer) is e printed stored = absurd is
 
 pub stock_headline_of : (words : List (List ℕ)) (call : Call) → HasOutcome words call → StockHeadline words call
@@ -150,3 +157,49 @@ stock_headline_of words call has = λ files asks e.
     let a = answered_by words call (stock files.job files.program files.out) has asks
     (apart _ 0 5 e (no 0 5 (omega arith))) (apart _ 0 6 e (no 0 6 (omega arith))) (apart _ 0 7 e (no 0 7 (omega arith))) in
     stocks_by call files a.answer a.is (sym a.status ∙ e) a.printed a.stored
+
+-- ---- `rest`
+
+accepts_in_turn : (contents : List ℕ → Option (List ℕ)) (names : RestFiles) (workers : ℕ) (a : Answer) → IsAnswer contents (rest names.job names.part names.list workers) a
+    → answer_status a ≡ 0 → AcceptsFilesSafely (rest_texts contents names)
+accepts_in_turn contents names workers (refused_word coordinate fault) is e = absurd is
+accepts_in_turn contents names workers (unfit fault) is e = absurd (on 4 0 (omega arith) e)
+accepts_in_turn contents names workers (judged job part moves verdict) is e = absurd is
+accepts_in_turn contents names workers (planned unit name answer) is e = absurd is
+accepts_in_turn contents names workers (dropped unit height) is e = absurd is
+accepts_in_turn contents names workers (leveled unit answer) is e = absurd is
+accepts_in_turn contents names workers (stocked name answer) is e = absurd is
+accepts_in_turn contents names workers (judged_files job part files (list.Accept count moves columns left)) is e =
+    record { job = job; part = part; steps = is.steps; files = files; all_read = is.all_read; safe = is.safe }
+accepts_in_turn contents names workers (judged_files job part files (list.Reject file reason)) is e = absurd (on 3 0 (omega arith) e)
+accepts_in_turn contents names workers (judged_files job part files (list.Left row column top)) is e = absurd (on 3 0 (omega arith) e)
+accepts_in_turn contents names workers (sampled n answer) is e = absurd is
+
+rejects_in_turn : (call : Call) (names : RestFiles) (workers : ℕ) (a : Answer) → IsAnswer call.store.contents (rest names.job names.part names.list workers) a
+    → answer_status a ≡ 3 → IsWritten (answer_line a) call.sink call.sink_after → RejectsFilesFirst call (rest_texts call.store.contents names)
+rejects_in_turn call names workers (refused_word coordinate fault) is e printed = absurd is
+rejects_in_turn call names workers (unfit fault) is e printed = absurd (on 4 3 (omega arith) e)
+rejects_in_turn call names workers (judged job part moves verdict) is e printed = absurd is
+rejects_in_turn call names workers (planned unit name answer) is e printed = absurd is
+rejects_in_turn call names workers (dropped unit height) is e printed = absurd is
+rejects_in_turn call names workers (leveled unit answer) is e printed = absurd is
+rejects_in_turn call names workers (stocked name answer) is e printed = absurd is
+rejects_in_turn call names workers (judged_files job part files verdict) is e printed =
+    record { job = job; part = part; steps = is.steps; files = files; verdict = verdict; all_read = is.all_read; first = is.is; rejects = e; named = is.named; printed = printed }
+rejects_in_turn call names workers (sampled n answer) is e printed = absurd is
+
+pub rest_headline_of : OneListVerdict → (words : List (List ℕ)) (call : Call) → HasOutcome words call → RestHeadline words call
+rest_headline_of one words call has = record {
+  accepts = λ names asks e.
+      let a = answered_by words call (rest names.job names.part names.list asks.0) has asks.1
+      (apart _ 0 5 e (no 0 5 (omega arith))) (apart _ 0 6 e (no 0 6 (omega arith))) (apart _ 0 7 e (no 0 7 (omega arith))) in
+      accepts_in_turn call.store.contents names asks.0 a.answer a.is (sym a.status ∙ e);
+  rejects = λ names asks e.
+      let a = answered_by words call (rest names.job names.part names.list asks.0) has asks.1
+      (apart _ 3 5 e (no 3 5 (omega arith))) (apart _ 3 6 e (no 3 6 (omega arith))) (apart _ 3 7 e (no 3 7 (omega arith))) in
+      rejects_in_turn call names asks.0 a.answer a.is (sym a.status ∙ e) a.printed;
+  exactly = λ names job part steps files verdict asks told read is rejected fine n5.
+      let a = answers_of words call has (rest names.job names.part names.list asks.0) asks.1 fine n5 in
+      let v = is_judged_in_turn call.store.contents names asks.0 job part steps files a.answer told read a.is in
+      a.status ∙ v.same ∙ ap list_status (one job part files v.verdict verdict v.is is) ∙ rejected;
+}

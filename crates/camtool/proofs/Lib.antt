@@ -8,6 +8,7 @@ pub mod Serving
 pub mod Storing
 pub mod Planning
 pub mod Stocks
+pub mod Rests
 pub mod Samples
 pub mod Lengths
 pub mod Outcomes

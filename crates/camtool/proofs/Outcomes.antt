@@ -1,14 +1,17 @@
 -- What a call came to, where its words are taken and nothing of the outside is blamed.
 use Rattle.std.proofs.Common.{◌≡◌, ◌≢◌, ◌⊎◌, ℕ, List, Some, false, sym, ◌∙◌, inl, inr, arith}
-use Rattle.mill_command.specs.Requests.{Request, is_taken, request, verify, plan, drop, level, stock, sample}
+use Rattle.mill_command.specs.Requests.{Request, is_taken, request, verify, plan, drop, level, stock, rest, sample}
+use Rattle.mill_verify.specs.declared.list.ListVerdict.{ListVerdict}
+use Rattle.mill_verify.specs.declared.list.ListVerdict.TheVariants as list
 use Rattle.mill_verify.specs.declared.verdict.Verdict.{Verdict}
 use Rattle.mill_verify.specs.declared.verdict.Verdict.TheVariants.{Accept, Reject}
 use Rattle.camtool.specs.Answers.{answer_status}
 use Rattle.camtool.specs.Calls.{Call, NoFault}
 use Rattle.camtool.specs.Headline.{Answered, Answers, Completes, Untaken}
 use Rattle.camtool.specs.Outcomes.{Outcome, help, bad_words, no_memory, read_fault, answered, outcome_status, IsOutcomeOf, ShowsHelp, RefusesWords, ShowsWhole, HasOutcome}
+use Rattle.camtool.specs.Rest.{list_status}
 use Rattle.camtool.specs.Verify.{verdict_status}
-use Rattle.camtool.proofs.Answering.{is_judged, is_planned, is_dropped, is_leveled, is_stocked, is_sampled}
+use Rattle.camtool.proofs.Answering.{is_judged, is_planned, is_dropped, is_leveled, is_stocked, is_judged_in_turn, is_sampled}
 use Rattle.camtool.proofs.Blaming.{no, on, answer_not_2, not_6, not_7, shown_whole}
 use Rattle.camtool.proofs.Taken.{not_taken, asked_outcome}
 
@@ -53,6 +56,11 @@ zero_three : (n : ℕ) (v : Verdict) → n ≡ verdict_status v → (n ≡ 0) �
 zero_three n (Accept count columns left) e = inl e
 zero_three n (Reject reason) e = inr (inl e)
 
+list_statuses : (n : ℕ) (v : ListVerdict) → n ≡ list_status v → (n ≡ 0) ⊎ ((n ≡ 3) ⊎ (n ≡ 5))
+list_statuses n (list.Accept count moves columns left) e = inl e
+list_statuses n (list.Reject file reason) e = inr (inl e)
+list_statuses n (list.Left row column top) e = inr (inl e)
+
 plan_statuses : (n m : ℕ) → n ≡ m → (m ≡ 0) ⊎ ((m ≡ 8) ⊎ (m ≡ 9)) → (n ≡ 0) ⊎ ((n ≡ 8) ⊎ ((n ≡ 9) ⊎ (n ≡ 5)))
 plan_statuses n m e (inl f) = inl (e ∙ f)
 plan_statuses n m e (inr (inl f)) = inr (inl (e ∙ f))
@@ -87,6 +95,11 @@ completes_of words call has = record {
   stocks = λ files job moves asks told read fine.
       elim (served_fine words call (stock files.job files.program files.out) has asks fine) [
         | inl a ↦ level_statuses call.status (answer_status a.answer) a.status (is_stocked call.store.contents files job moves a.answer told read a.is)
+        | inr e ↦ inr (inr e)
+      ];
+  rests = λ names job part steps files asks told read fine.
+      elim (served_fine words call (rest names.job names.part names.list asks.0) has asks.1 fine) [
+        | inl a ↦ (let v = is_judged_in_turn call.store.contents names asks.0 job part steps files a.answer told read a.is in list_statuses call.status v.verdict (a.status ∙ v.same))
         | inr e ↦ inr (inr e)
       ];
   samples = λ n asks fine.

@@ -16,10 +16,10 @@ use Rattle.mill_ngc.proofs.JoinLemmas.{pieces_join}
 use Rattle.mill_ngc.proofs.WholeText.{last_moves, last_fault}
 use Rattle.mill_job.specs.declared.job.Job.{Job}
 use Rattle.mill_job.specs.Columns.{home}
-use Rattle.camtool.specs.declared.file.File.TheVariants.{Job as JobFile, Part as PartFile, Program as ProgramFile}
+use Rattle.camtool.specs.declared.file.File.{File}
 use Rattle.camtool.specs.declared.load.LoadFault.{LoadFault}
 use Rattle.camtool.specs.declared.load.LoadFault.TheVariants.{Memory, ReadFault, Unfit}
-use Rattle.camtool.specs.declared.load.Unfit.TheVariants.{TooLong, JobRefused, PartRefused, ProgramRefused, PartTop}
+use Rattle.camtool.specs.declared.load.Unfit.TheVariants.{TooLong, JobRefused, PartRefused, ListRefused, ProgramRefused, PartTop}
 use Rattle.camtool.specs.Setup.{IsTooLong}
 use Rattle.camtool.specs.Verify.{IsProgramText, IsRefusedProgram}
 use Rattle.camtool.specs.inner.Loads.{HasTaken, TakesFile, TakesFront, LoadsNone, LoadsProgram, AreMoves}
@@ -76,26 +76,23 @@ front_whole start unit told now given buf reader moves same f gives room fits =
 -- ---- how the reading of a file ends
 
 -- it is too long
-pub too_long : (told now : Option (List ℕ)) (limit : ℕ) → now ≡ told → limit ≡ MAX_FILE_BYTES → IfSome now (λ bytes. limit < length bytes) → LoadsNone told (Unfit (TooLong ProgramFile))
-too_long None now limit same is h = (refl, tt)
-too_long (Some bytes) now limit same is h_now =
+pub too_long : (told now : Option (List ℕ)) (file : File) (limit : ℕ) → now ≡ told → limit ≡ MAX_FILE_BYTES → IfSome now (λ bytes. limit < length bytes) → LoadsNone told file (Unfit (TooLong file))
+too_long None now file limit same is h = (refl, tt)
+too_long (Some bytes) now file limit same is h_now =
     let h : limit < length bytes = rw same at h_now in
     let long : IsTooLong bytes = omega (arith, is, h) in
     (refl, long)
 
 -- it gives no text
-pub no_text : (job : Job) (told : Option (List ℕ)) (f : LoadFault) → LoadsNone told f → LoadsProgram job told (Err f)
-no_text job told Memory h = tt
-no_text job told (ReadFault JobFile) h = absurd cc
-no_text job told (ReadFault PartFile) h = absurd cc
-no_text job told (ReadFault ProgramFile) h = tt
-no_text job told (Unfit (TooLong JobFile)) h = absurd cc
-no_text job told (Unfit (TooLong PartFile)) h = absurd cc
-no_text job told (Unfit (TooLong ProgramFile)) h = h.1
-no_text job told (Unfit (JobRefused fault)) h = absurd h
-no_text job told (Unfit (PartRefused fault)) h = absurd h
-no_text job told (Unfit (ProgramRefused fault)) h = absurd h
-no_text job told (Unfit (PartTop height top unit)) h = absurd h
+pub no_text : (job : Job) (told : Option (List ℕ)) (file : File) (f : LoadFault) → LoadsNone told file f → LoadsProgram job told file (Err f)
+no_text job told file Memory h = tt
+no_text job told file (ReadFault f) h = h
+no_text job told file (Unfit (TooLong f)) h = h
+no_text job told file (Unfit (JobRefused fault)) h = absurd h
+no_text job told file (Unfit (PartRefused fault)) h = absurd h
+no_text job told file (Unfit (ListRefused fault)) h = absurd h
+no_text job told file (Unfit (ProgramRefused f fault)) h = absurd h
+no_text job told file (Unfit (PartTop height top unit)) h = absurd h
 
 -- the moves of a whole file
 pub file_moves : (job : Job) (start : Pt3) (unit : LengthUnit) (told : Option (List ℕ)) (reader : Reading) (moves all : List Move) (u : Unit {0}) → start ≡ home job → unit ≡ job.unit → TakesFile start unit told reader moves

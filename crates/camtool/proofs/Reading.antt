@@ -6,17 +6,18 @@ use Rattle.mill_base.specs.Covers.{IsUnder}
 use Rattle.mill_io.specs.Causes.{Rose}
 use Rattle.mill_job.specs.declared.job.Job.{Job}
 use Rattle.mill_part.specs.declared.part.Part.{Part}
-use Rattle.camtool.specs.declared.file.File.TheVariants.{Job as JobFile, Part as PartFile, Program as ProgramFile}
+use Rattle.camtool.specs.declared.file.File.{File}
+use Rattle.camtool.specs.declared.file.File.TheVariants.{Job as JobFile, Part as PartFile, Program as ProgramFile, List as ListFile, StepProgram}
 use Rattle.camtool.specs.declared.load.LoadFault.{LoadFault}
 use Rattle.camtool.specs.declared.load.LoadFault.TheVariants.{Memory, ReadFault, Unfit}
-use Rattle.camtool.specs.declared.load.Unfit.TheVariants.{TooLong, JobRefused, PartRefused, ProgramRefused, PartTop}
+use Rattle.camtool.specs.declared.load.Unfit.TheVariants.{TooLong, JobRefused, PartRefused, ListRefused, ProgramRefused, PartTop}
 use Rattle.mill_io.specs.Views.{StoreView}
 use Rattle.mill_io.proofs.Read.{reads_on}
 use Rattle.camtool.specs.declared.load.Unfit.{Unfit as UnfitFault}
 use Rattle.camtool.specs.declared.load.Setup.{Setup}
 use Rattle.camtool.specs.inner.Loads.{LoadsJob, LoadsPart, LoadsProgram, LoadsUnder, LoadsSetup, Loads, HasHighPart, CountsFault, OnlyLoads, IsLow}
 use Rattle.camtool.specs.Setup.{SetupTexts, ReadsSetup, ReadsJob, IsPartText, IsUnfitWith, IsReadBeforeWith}
-use Rattle.camtool.specs.Verify.{Texts}
+use Rattle.camtool.specs.Verify.{Texts, IsReadBeforeProgram, IsUnfitProgram}
 
 -- ---- nothing is said of a file that isn't told, but which faults may come
 
@@ -26,12 +27,17 @@ untold_job items (Err Memory) h = tt
 untold_job items (Err (ReadFault JobFile)) h = tt
 untold_job items (Err (ReadFault PartFile)) h = h
 untold_job items (Err (ReadFault ProgramFile)) h = h
+untold_job items (Err (ReadFault ListFile)) h = h
+untold_job items (Err (ReadFault (StepProgram k))) h = h
 untold_job items (Err (Unfit (TooLong JobFile))) h = tt
 untold_job items (Err (Unfit (TooLong PartFile))) h = h
 untold_job items (Err (Unfit (TooLong ProgramFile))) h = h
+untold_job items (Err (Unfit (TooLong ListFile))) h = h
+untold_job items (Err (Unfit (TooLong (StepProgram k)))) h = h
 untold_job items (Err (Unfit (JobRefused fault))) h = tt
 untold_job items (Err (Unfit (PartRefused fault))) h = h
-untold_job items (Err (Unfit (ProgramRefused fault))) h = h
+untold_job items (Err (Unfit (ListRefused fault))) h = h
+untold_job items (Err (Unfit (ProgramRefused file fault))) h = h
 untold_job items (Err (Unfit (PartTop height top unit))) h = h
 
 untold_part : (job : Job) (items : List ℕ) (r : Result Part LoadFault) → LoadsPart job (Some items) r → LoadsPart job None r
@@ -40,12 +46,17 @@ untold_part job items (Err Memory) h = tt
 untold_part job items (Err (ReadFault JobFile)) h = h
 untold_part job items (Err (ReadFault PartFile)) h = tt
 untold_part job items (Err (ReadFault ProgramFile)) h = h
+untold_part job items (Err (ReadFault ListFile)) h = h
+untold_part job items (Err (ReadFault (StepProgram k))) h = h
 untold_part job items (Err (Unfit (TooLong JobFile))) h = h
 untold_part job items (Err (Unfit (TooLong PartFile))) h = tt
 untold_part job items (Err (Unfit (TooLong ProgramFile))) h = h
+untold_part job items (Err (Unfit (TooLong ListFile))) h = h
+untold_part job items (Err (Unfit (TooLong (StepProgram k)))) h = h
 untold_part job items (Err (Unfit (JobRefused fault))) h = h
 untold_part job items (Err (Unfit (PartRefused fault))) h = tt
-untold_part job items (Err (Unfit (ProgramRefused fault))) h = h
+untold_part job items (Err (Unfit (ListRefused fault))) h = h
+untold_part job items (Err (Unfit (ProgramRefused file fault))) h = h
 untold_part job items (Err (Unfit (PartTop height top unit))) h = h
 
 -- ---- the bytes that were read are what is told
@@ -67,12 +78,17 @@ job_fault texts Memory h = tt
 job_fault texts (ReadFault JobFile) h = tt
 job_fault texts (ReadFault PartFile) h = absurd h
 job_fault texts (ReadFault ProgramFile) h = absurd h
+job_fault texts (ReadFault ListFile) h = absurd h
+job_fault texts (ReadFault (StepProgram k)) h = absurd h
 job_fault texts (Unfit (TooLong JobFile)) h = h
 job_fault texts (Unfit (TooLong PartFile)) h = absurd h
 job_fault texts (Unfit (TooLong ProgramFile)) h = absurd h
+job_fault texts (Unfit (TooLong ListFile)) h = absurd h
+job_fault texts (Unfit (TooLong (StepProgram k))) h = absurd h
 job_fault texts (Unfit (JobRefused fault)) h = h
 job_fault texts (Unfit (PartRefused fault)) h = absurd h
-job_fault texts (Unfit (ProgramRefused fault)) h = absurd h
+job_fault texts (Unfit (ListRefused fault)) h = absurd h
+job_fault texts (Unfit (ProgramRefused file fault)) h = absurd h
 job_fault texts (Unfit (PartTop height top unit)) h = absurd h
 
 -- the job was read, and this is what the part's file came to
@@ -86,12 +102,17 @@ under_loads texts job (Err Memory) read h = tt
 under_loads texts job (Err (ReadFault JobFile)) read h = absurd h
 under_loads texts job (Err (ReadFault PartFile)) read h = (job, read)
 under_loads texts job (Err (ReadFault ProgramFile)) read h = absurd h
+under_loads texts job (Err (ReadFault ListFile)) read h = absurd h
+under_loads texts job (Err (ReadFault (StepProgram k))) read h = absurd h
 under_loads texts job (Err (Unfit (TooLong JobFile))) read h = absurd h
 under_loads texts job (Err (Unfit (TooLong PartFile))) read h = record { job = job; job_is = read; long = h }
 under_loads texts job (Err (Unfit (TooLong ProgramFile))) read h = absurd h
+under_loads texts job (Err (Unfit (TooLong ListFile))) read h = absurd h
+under_loads texts job (Err (Unfit (TooLong (StepProgram k)))) read h = absurd h
 under_loads texts job (Err (Unfit (JobRefused fault))) read h = absurd h
 under_loads texts job (Err (Unfit (PartRefused fault))) read h = record { job = job; job_is = read; refused = h }
-under_loads texts job (Err (Unfit (ProgramRefused fault))) read h = absurd h
+under_loads texts job (Err (Unfit (ListRefused fault))) read h = absurd h
+under_loads texts job (Err (Unfit (ProgramRefused file fault))) read h = absurd h
 under_loads texts job (Err (Unfit (PartTop height top unit))) read h =
     record { job = job; part = h.part; job_is = read; part_is = h.part_is; greatest = h.greatest; limit = h.limit; unit_is = h.unit_is; over = h.over }
 
@@ -107,12 +128,17 @@ job_fault_with W texts Memory h = tt
 job_fault_with W texts (ReadFault JobFile) h = tt
 job_fault_with W texts (ReadFault PartFile) h = absurd h
 job_fault_with W texts (ReadFault ProgramFile) h = absurd h
+job_fault_with W texts (ReadFault ListFile) h = absurd h
+job_fault_with W texts (ReadFault (StepProgram k)) h = absurd h
 job_fault_with W texts (Unfit (TooLong JobFile)) h = h
 job_fault_with W texts (Unfit (TooLong PartFile)) h = absurd h
 job_fault_with W texts (Unfit (TooLong ProgramFile)) h = absurd h
+job_fault_with W texts (Unfit (TooLong ListFile)) h = absurd h
+job_fault_with W texts (Unfit (TooLong (StepProgram k))) h = absurd h
 job_fault_with W texts (Unfit (JobRefused fault)) h = h
 job_fault_with W texts (Unfit (PartRefused fault)) h = absurd h
-job_fault_with W texts (Unfit (ProgramRefused fault)) h = absurd h
+job_fault_with W texts (Unfit (ListRefused fault)) h = absurd h
+job_fault_with W texts (Unfit (ProgramRefused file fault)) h = absurd h
 job_fault_with W texts (Unfit (PartTop height top unit)) h = absurd h
 
 -- job and words were read, and there was no part
@@ -121,12 +147,17 @@ part_fault_with W texts job Memory w read h = tt
 part_fault_with W texts job (ReadFault JobFile) w read h = absurd h
 part_fault_with W texts job (ReadFault PartFile) w read h = w
 part_fault_with W texts job (ReadFault ProgramFile) w read h = absurd h
+part_fault_with W texts job (ReadFault ListFile) w read h = absurd h
+part_fault_with W texts job (ReadFault (StepProgram k)) w read h = absurd h
 part_fault_with W texts job (Unfit (TooLong JobFile)) w read h = absurd h
 part_fault_with W texts job (Unfit (TooLong PartFile)) w read h = (w, under_loads texts job (Err (Unfit (TooLong PartFile))) read h)
 part_fault_with W texts job (Unfit (TooLong ProgramFile)) w read h = absurd h
+part_fault_with W texts job (Unfit (TooLong ListFile)) w read h = absurd h
+part_fault_with W texts job (Unfit (TooLong (StepProgram k))) w read h = absurd h
 part_fault_with W texts job (Unfit (JobRefused fault)) w read h = absurd h
 part_fault_with W texts job (Unfit (PartRefused fault)) w read h = (w, under_loads texts job (Err (Unfit (PartRefused fault))) read h)
-part_fault_with W texts job (Unfit (ProgramRefused fault)) w read h = absurd h
+part_fault_with W texts job (Unfit (ListRefused fault)) w read h = absurd h
+part_fault_with W texts job (Unfit (ProgramRefused file fault)) w read h = absurd h
 part_fault_with W texts job (Unfit (PartTop height top unit)) w read h = (w, under_loads texts job (Err (Unfit (PartTop height top unit))) read h)
 
 -- there was no job or no part, and so nothing for the verifier
@@ -135,26 +166,28 @@ setup_fault texts Memory h = tt
 setup_fault texts (ReadFault JobFile) h = h
 setup_fault texts (ReadFault PartFile) h = h
 setup_fault texts (ReadFault ProgramFile) h = absurd h
+setup_fault texts (ReadFault ListFile) h = absurd h
+setup_fault texts (ReadFault (StepProgram k)) h = absurd h
 setup_fault texts (Unfit (TooLong JobFile)) h = h
 setup_fault texts (Unfit (TooLong PartFile)) h = h
 setup_fault texts (Unfit (TooLong ProgramFile)) h = absurd h
+setup_fault texts (Unfit (TooLong ListFile)) h = absurd h
+setup_fault texts (Unfit (TooLong (StepProgram k))) h = absurd h
 setup_fault texts (Unfit (JobRefused fault)) h = h
 setup_fault texts (Unfit (PartRefused fault)) h = h
-setup_fault texts (Unfit (ProgramRefused fault)) h = absurd h
+setup_fault texts (Unfit (ListRefused fault)) h = absurd h
+setup_fault texts (Unfit (ProgramRefused file fault)) h = absurd h
 setup_fault texts (Unfit (PartTop height top unit)) h = h
 
 -- there was no program
-pub program_fault : (texts : Texts) (job : Job) (part : List Tri) (f : LoadFault) → ReadsSetup texts.setup job part → LoadsProgram job texts.program (Err f) → Loads texts (Err f)
+pub program_fault : (texts : Texts) (job : Job) (part : List Tri) (f : LoadFault) → ReadsSetup texts.setup job part → LoadsProgram job texts.program ProgramFile (Err f) → Loads texts (Err f)
 program_fault texts job part Memory r h = tt
-program_fault texts job part (ReadFault JobFile) r h = absurd h
-program_fault texts job part (ReadFault PartFile) r h = absurd h
-program_fault texts job part (ReadFault ProgramFile) r h = (job, part, r)
-program_fault texts job part (Unfit (TooLong JobFile)) r h = absurd h
-program_fault texts job part (Unfit (TooLong PartFile)) r h = absurd h
-program_fault texts job part (Unfit (TooLong ProgramFile)) r h = record { job = job; part = part; setup_is = r; long = h }
+program_fault texts job part (ReadFault file) r h = subst (λ (x : File). IsReadBeforeProgram texts x) (sym h) (job, part, r)
+program_fault texts job part (Unfit (TooLong file)) r h = subst (λ (x : File). IsUnfitProgram texts (TooLong x)) (sym h.0) (record { job = job; part = part; setup_is = r; long = h.1 })
 program_fault texts job part (Unfit (JobRefused fault)) r h = absurd h
 program_fault texts job part (Unfit (PartRefused fault)) r h = absurd h
-program_fault texts job part (Unfit (ProgramRefused fault)) r h = record { job = job; part = part; setup_is = r; refused = h }
+program_fault texts job part (Unfit (ListRefused fault)) r h = absurd h
+program_fault texts job part (Unfit (ProgramRefused file fault)) r h = subst (λ (x : File). IsUnfitProgram texts (ProgramRefused x fault)) (sym h.0) (record { job = job; part = part; setup_is = r; refused = h.1 })
 program_fault texts job part (Unfit (PartTop height top unit)) r h = absurd h
 
 -- the part is read, and is too high

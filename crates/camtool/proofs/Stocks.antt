@@ -1,21 +1,22 @@
 -- The work on `stock`: what was read, stored and printed, put together.
-use Rattle.std.proofs.Common.{◌≡◌, ℕ, List, ◌++◌, length, take, drop, Option, Result, Ok, Err, refl, subst, inl, inr, arith}
+use Rattle.std.proofs.Common.{◌≡◌, ℕ, List, ◌++◌, length, take, drop, Option, Result, Ok, Err, refl, sym, subst, inl, inr, arith}
 use Rattle.std.proofs.lemmas.List.{append-nil, drop_all, take_all}
 use Rattle.std.specs.Prelude.{IfSome}
 use Rattle.mill_command.specs.Requests.{stock}
 use Rattle.mill_io.specs.Views.{StoreView}
 use Rattle.mill_job.specs.declared.job.Job.{Job}
-use Rattle.camtool.specs.declared.file.File.TheVariants.{Job as JobFile, Part as PartFile, Program as ProgramFile}
+use Rattle.camtool.specs.declared.file.File.{File}
+use Rattle.camtool.specs.declared.file.File.TheVariants.{Job as JobFile, Part as PartFile, Program as ProgramFile, List as ListFile, StepProgram}
 use Rattle.camtool.specs.declared.load.LoadFault.{LoadFault}
 use Rattle.camtool.specs.declared.load.LoadFault.TheVariants.{Memory, ReadFault, Unfit}
-use Rattle.camtool.specs.declared.load.Unfit.TheVariants.{TooLong, JobRefused, PartRefused, ProgramRefused, PartTop}
+use Rattle.camtool.specs.declared.load.Unfit.TheVariants.{TooLong, JobRefused, PartRefused, ListRefused, ProgramRefused, PartTop}
 use Rattle.camtool.specs.declared.stock.Cutting.{Cutting}
 use Rattle.camtool.specs.Answers.{stocked}
 use Rattle.camtool.specs.Calls.{Call}
 use Rattle.camtool.specs.inner.Loads.{LoadsCutting, LoadsJob, LoadsProgram, OnlyLoads}
 use Rattle.camtool.specs.Outcomes.{no_memory, answered, IsOutcome, ShowsOr, Serves}
 use Rattle.camtool.specs.inner.Prints.{ShowsStockOr, fault_outcome}
-use Rattle.camtool.specs.Stock.{StockAnswer, StockTexts, stock_texts, IsStockAnswer, ReadsStockJob}
+use Rattle.camtool.specs.Stock.{StockAnswer, StockTexts, stock_texts, IsStockAnswer, IsReadBeforeStock, IsUnfitStock, ReadsStockJob}
 use Rattle.camtool.proofs.Storing.{from, same_view}
 
 -- ---- what kept it from its files
@@ -26,26 +27,28 @@ no_job texts Memory h = tt
 no_job texts (ReadFault JobFile) h = tt
 no_job texts (ReadFault PartFile) h = absurd h
 no_job texts (ReadFault ProgramFile) h = absurd h
+no_job texts (ReadFault ListFile) h = absurd h
+no_job texts (ReadFault (StepProgram k)) h = absurd h
 no_job texts (Unfit (TooLong JobFile)) h = h
 no_job texts (Unfit (TooLong PartFile)) h = absurd h
 no_job texts (Unfit (TooLong ProgramFile)) h = absurd h
+no_job texts (Unfit (TooLong ListFile)) h = absurd h
+no_job texts (Unfit (TooLong (StepProgram k))) h = absurd h
 no_job texts (Unfit (JobRefused fault)) h = h
 no_job texts (Unfit (PartRefused fault)) h = absurd h
-no_job texts (Unfit (ProgramRefused fault)) h = absurd h
+no_job texts (Unfit (ListRefused fault)) h = absurd h
+no_job texts (Unfit (ProgramRefused file fault)) h = absurd h
 no_job texts (Unfit (PartTop height top unit)) h = absurd h
 
 -- the job was read, and there was no program
-pub no_program : (texts : StockTexts) (job : Job) (f : LoadFault) → ReadsStockJob texts job → LoadsProgram job texts.program (Err f) → LoadsCutting texts (Err f)
+pub no_program : (texts : StockTexts) (job : Job) (f : LoadFault) → ReadsStockJob texts job → LoadsProgram job texts.program ProgramFile (Err f) → LoadsCutting texts (Err f)
 no_program texts job Memory r h = tt
-no_program texts job (ReadFault JobFile) r h = absurd h
-no_program texts job (ReadFault PartFile) r h = absurd h
-no_program texts job (ReadFault ProgramFile) r h = (job, r)
-no_program texts job (Unfit (TooLong JobFile)) r h = absurd h
-no_program texts job (Unfit (TooLong PartFile)) r h = absurd h
-no_program texts job (Unfit (TooLong ProgramFile)) r h = record { job = job; job_is = r; long = h }
+no_program texts job (ReadFault file) r h = subst (λ (x : File). IsReadBeforeStock texts x) (sym h) (job, r)
+no_program texts job (Unfit (TooLong file)) r h = subst (λ (x : File). IsUnfitStock texts (TooLong x)) (sym h.0) (record { job = job; job_is = r; long = h.1 })
 no_program texts job (Unfit (JobRefused fault)) r h = absurd h
 no_program texts job (Unfit (PartRefused fault)) r h = absurd h
-no_program texts job (Unfit (ProgramRefused fault)) r h = record { job = job; job_is = r; refused = h }
+no_program texts job (Unfit (ListRefused fault)) r h = absurd h
+no_program texts job (Unfit (ProgramRefused file fault)) r h = subst (λ (x : File). IsUnfitStock texts (ProgramRefused x fault)) (sym h.0) (record { job = job; job_is = r; refused = h.1 })
 no_program texts job (Unfit (PartTop height top unit)) r h = absurd h
 
 pub stock_load_fault : (contents : List ℕ → Option (List ℕ)) (job program name : List ℕ) (f : LoadFault) → LoadsCutting (stock_texts contents job program) (Err f)

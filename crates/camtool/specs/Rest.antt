@@ -61,21 +61,21 @@ abbrev pub step_at : List Step → ℕ → Step
 step_at steps k = slice_index_or steps k (record { program = []; cutter = Flat (pos 1) })
 
 -- the file has the step's cutter; where the step's program is told, it reads, from the job's home and in its unit, as the file's moves
-pub record ReadsStep (texts : RestTexts) (job : Job) (step : Step) (file : CutFile) : Type 0 where
+pub record ReadsStep (programs : List ℕ → Option (List ℕ)) (job : Job) (step : Step) (file : CutFile) : Type 0 where
   pub cutter_is : file.cutter ≡ step.cutter
-  pub moves_are : IfSome (texts.programs step.program) (λ text. IsProgramText job text file.moves)
+  pub moves_are : IfSome (programs step.program) (λ text. IsProgramText job text file.moves)
 
 -- so it is of each step and the file at its place
-abbrev pub ReadsSteps : RestTexts → Job → List Step → List CutFile → Type 0
-ReadsSteps texts job [] [] = Unit {0}
-ReadsSteps texts job (step ∷ steps) (file ∷ files) = ReadsStep texts job step file × ReadsSteps texts job steps files
-ReadsSteps texts job _ _ = ⊥
+abbrev pub ReadsSteps : (List ℕ → Option (List ℕ)) → Job → List Step → List CutFile → Type 0
+ReadsSteps programs job [] [] = Unit {0}
+ReadsSteps programs job (step ∷ steps) (file ∷ files) = ReadsStep programs job step file × ReadsSteps programs job steps files
+ReadsSteps programs job _ _ = ⊥
 
 -- job, part and list, where they are told, read as this job, this part and these steps, the part isn't over the job's top, and the steps read as these files
 pub record ReadsRest (texts : RestTexts) (job : Job) (part : List Tri) (steps : List Step) (files : List CutFile) : Type 0 where
   pub setup_is : ReadsSetup texts.setup job part
   pub list_is : ReadsList texts job steps
-  pub files_are : ReadsSteps texts job steps files
+  pub files_are : ReadsSteps texts.programs job steps files
 
 -- ---- what keeps it from a verdict
 
@@ -102,7 +102,7 @@ pub record ReadsToStep (texts : RestTexts) (job : Job) (step : Step) (k : ℕ) :
   pub list_is : ReadsList texts job steps
   pub there : k < length steps
   pub step_is : step ≡ step_at steps k
-  pub before : ReadsSteps texts job (take k steps) files
+  pub before : ReadsSteps texts.programs job (take k steps) files
 
 -- so it is; where the program of step k is told, it is too long
 pub record LongStep (texts : RestTexts) (k : ℕ) : Type 0 where
@@ -160,9 +160,9 @@ list_status (Accept count moves columns left) = 0
 list_status (Reject f reason) = 3
 list_status (Left j i top) = 3
 
--- the move that a verdict's line shows the height of is there
+-- the file that a verdict's line names is there, and so is the move of it that the line shows the height of
 abbrev pub NamesFileMove : List CutFile → ListVerdict → Type 0
-NamesFileMove files (Reject f reason) = NamesMove (file_at files f).moves reason
+NamesFileMove files (Reject f reason) = (f < length files) × NamesMove (file_at files f).moves reason
 NamesFileMove files _ = Unit {0}
 
 -- the line of a verdict, with lengths in the job's unit; a reason counts the moves of its file

@@ -145,8 +145,8 @@ fn load_part<S: Shelf>(
     }
 }
 
-/// All the bytes of one of the files.
-fn read_file<S: Shelf>(
+/// All the bytes of one of the files. A fault is told as that of `file`.
+pub fn read_file<S: Shelf>(
     alloc: Global,
     shelf: &mut S,
     name: &str,

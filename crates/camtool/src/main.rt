@@ -3,7 +3,8 @@
 //! accepts, and stores it. `camtool drop JOB PART --x=X --y=Y` tells how low the tool comes at one
 //! place. `camtool level JOB PART --z=Z` prints the lines along which the tool goes round the part
 //! at one height. `camtool stock JOB FILE OUT` stores what a program leaves of the stock, as a surface.
-//! `camtool sample N [--workers=W]` plans and verifies a sample part.
+//! `camtool rest JOB PART LIST [--workers=W]` verifies the programs that a list names, in turn on one
+//! stock, each with its own cutter. `camtool sample N [--workers=W]` plans and verifies a sample part.
 //!
 //! `run` is all that the program does, over any store of files and any sink. Its contract goes
 //! from bytes to bytes: `specs/Answers` says which answer a command has on its files,
@@ -20,6 +21,7 @@ mod place;
 mod plan;
 mod print;
 mod program;
+mod rest;
 mod run;
 mod sample;
 mod status;

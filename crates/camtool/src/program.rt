@@ -18,7 +18,8 @@ use std::alloc::Global;
 /// How many bytes of a program are read at once.
 const PIECE: usize = 65_536;
 
-/// Reads a program, from the job's home and in the job's unit.
+/// Reads the program that `name` names, from the job's home and in the job's unit. A fault is told as
+/// that of `file`.
 ///
 /// Its text is never held whole. It is read to the file's end, also behind its first fault and
 /// behind the program's end, so that a failed read and a file that is too long are told before a
@@ -28,22 +29,31 @@ pub fn load_program<S: Shelf>(
     shelf: &mut S,
     name: &str,
     job: &Job,
+    file: File,
 ) -> Result<Vec<Move>, LoadFault>
     requires { IsJob job.now }
-    ensures told { LoadsProgram job.now ((S.shows shelf.old).contents name.now) result }
+    ensures told { LoadsProgram job.now ((S.shows shelf.old).contents name.now) file result }
     ensures ready { IfOk result (λ moves. AreMoves job.now moves.items) }
     ensures store { OnlyLoads (S.shows shelf.old) (S.shows shelf.new) result }
 {
     let mut buf = vec![in alloc; 0u8; PIECE]?;
     let mut moves = Vec::new(alloc);
-    let reader = match take_file(shelf, name, job.home(), job.unit, &mut buf, &mut moves) {
+    let reader = match take_file(
+        shelf,
+        name,
+        file,
+        job.home(),
+        job.unit,
+        &mut buf,
+        &mut moves,
+    ) {
         Ok(reader) => reader,
         Err(fault) => return Err(fault),
     };
     match reader.finish(&mut moves) {
         Ok(()) => Ok(moves),
         Err(NgcFault::WantOfMemory) => Err(LoadFault::Memory),
-        Err(fault) => Err(LoadFault::Unfit(Unfit::ProgramRefused(fault))),
+        Err(fault) => Err(LoadFault::Unfit(Unfit::ProgramRefused(file, fault))),
     }
 }
 
@@ -51,6 +61,7 @@ pub fn load_program<S: Shelf>(
 fn take_file<S: Shelf>(
     shelf: &mut S,
     name: &str,
+    file: File,
     start: Pt3,
     unit: Unit,
     buf: &mut [u8],
@@ -61,16 +72,17 @@ fn take_file<S: Shelf>(
     requires moves { moves.old.items ≡ [] }
     ensures takes { IfOk result (λ reader.
         TakesFile start unit ((S.shows shelf.old).contents name.now) reader moves.new.items) }
-    ensures fault { IfErr result (LoadsNone ((S.shows shelf.old).contents name.now)) }
+    ensures fault { IfErr result (LoadsNone ((S.shows shelf.old).contents name.now) file) }
     ensures store { OnlyLoads (S.shows shelf.old) (S.shows shelf.new) result }
 {
     let mut pieces = Pieces::new(shelf, name, MAX_FILE_BYTES);
-    take_pieces(&mut pieces, start, unit, buf, moves)
+    take_pieces(&mut pieces, file, start, unit, buf, moves)
 }
 
 // The same, piece by piece.
 fn take_pieces<S: Shelf>(
     pieces: &mut Pieces<'_, S>,
+    file: File,
     start: Pt3,
     unit: Unit,
     buf: &mut [u8],
@@ -82,7 +94,7 @@ fn take_pieces<S: Shelf>(
     requires first { IsFirst pieces.old.limit pieces.old.given pieces.old.end }
     ensures takes { IfOk result (λ reader.
         TakesFile start unit ((S.shows pieces.old.shelf.now).contents pieces.old.name.now) reader moves.new.items) }
-    ensures fault { IfErr result (LoadsNone ((S.shows pieces.old.shelf.now).contents pieces.old.name.now)) }
+    ensures fault { IfErr result (LoadsNone ((S.shows pieces.old.shelf.now).contents pieces.old.name.now) file) }
     ensures store { OnlyLoads (S.shows pieces.old.shelf.now) (S.shows pieces.new.shelf.now) result }
     ensures same_reference { pieces.new.shelf.ghost_name ≡ pieces.old.shelf.ghost_name }
 {
@@ -91,8 +103,8 @@ fn take_pieces<S: Shelf>(
         let count = match pieces.next(buf) {
             Ok(0) => return Ok(reader),
             Ok(count) => count,
-            Err(PieceEnd::ReadFault) => return Err(LoadFault::ReadFault(File::Program)),
-            Err(PieceEnd::TooLong) => return Err(LoadFault::Unfit(Unfit::TooLong(File::Program))),
+            Err(PieceEnd::ReadFault) => return Err(LoadFault::ReadFault(file)),
+            Err(PieceEnd::TooLong) => return Err(LoadFault::Unfit(Unfit::TooLong(file))),
         };
         take_piece(&mut reader, &buf[..count], moves)?;
     }

@@ -3,7 +3,7 @@ ghost use Rattle.std.specs.Prelude.{◌≡◌, ◌-◌, ◌^◌, ◌<◌, ℕ, m
 ghost use Rattle.mill_command.specs.Requests.{IsBounded, request_of, sample as asks_sample};
 ghost use Rattle.mill_io.specs.Views.{ReadsOnly};
 ghost use Rattle.camtool.specs.Calls.{CanCount, BlamesReads, BlamesWrites, call_of};
-ghost use Rattle.camtool.specs.Headline.{Answers, Completes, Untaken, Headline, PlanHeadline, StockHeadline};
+ghost use Rattle.camtool.specs.Headline.{Answers, Completes, Untaken, Headline, PlanHeadline, StockHeadline, RestHeadline};
 ghost use Rattle.camtool.specs.Outcomes.{HasOutcome, Serves};
 ghost use Rattle.camtool.specs.inner.Prints.{PrintsOutcome, refusal_outcome};
 ghost use Rattle.camtool.specs.Statuses.{status_code};
@@ -12,6 +12,7 @@ ghost use Rattle.camtool.specs.Words.{AsksNoFile, AsksNoFileStored};
 use crate::drop::drop_cutter;
 use crate::level::level_part;
 use crate::plan::plan_program;
+use crate::rest::verify_files;
 use crate::sample::sample;
 use crate::status::Status;
 use crate::stock::stock_program;
@@ -19,7 +20,7 @@ use crate::tell::tell;
 use crate::verify::verify_program;
 use mill_command::{Command, Refusal, read_words};
 use mill_io::{Shelf, Sink};
-use mill_verify::one_verdict;
+use mill_verify::{one_list_verdict, one_verdict};
 use std::alloc::Global;
 use std::thread::Threads;
 
@@ -68,16 +69,20 @@ pub fn run<R: Threads + Sync, S: Shelf, O: Sink>(
     ensures untaken { Untaken (map string_bytes words.now) (call_of result
         (S.shows shelf.old) (S.shows shelf.new) (O.shows out.old) (O.shows out.new)) }
 
-    // What status 0 and status 3 of `verify` mean, and status 0 of `plan` and of `stock`.
+    // What status 0 and status 3 of `verify` and of `rest` mean, and status 0 of `plan` and of `stock`.
     ensures headline { Headline (map string_bytes words.now) (call_of result
         (S.shows shelf.old) (S.shows shelf.new) (O.shows out.old) (O.shows out.new)) }
     ensures plan_headline { PlanHeadline (map string_bytes words.now) (call_of result
         (S.shows shelf.old) (S.shows shelf.new) (O.shows out.old) (O.shows out.new)) }
     ensures stock_headline { StockHeadline (map string_bytes words.now) (call_of result
         (S.shows shelf.old) (S.shows shelf.new) (O.shows out.old) (O.shows out.new)) }
+    ensures rest_headline { RestHeadline (map string_bytes words.now) (call_of result
+        (S.shows shelf.old) (S.shows shelf.new) (O.shows out.old) (O.shows out.new)) }
 {
-    // A law without code: there is at most one verdict. The headline's last part rests on it.
+    // Laws without code: there is at most one verdict, on a program and on a list of them. The last
+    // parts of the headlines of `verify` and `rest` rest on them.
     one_verdict();
+    one_list_verdict();
     work(rt, alloc, words, shelf, out)
 }
 
@@ -148,6 +153,12 @@ fn serve<R: Threads + Sync, S: Shelf, O: Sink>(
             file,
             out: name,
         } => stock_program(alloc, shelf, job, file, name, out),
+        Command::Rest {
+            job,
+            part,
+            list,
+            workers,
+        } => verify_files(rt, alloc, shelf, job, part, list, workers, out),
         Command::Sample { size, workers } => sample(rt, alloc, size, workers, out),
     }
 }

@@ -4,8 +4,9 @@ ghost use Rattle.camtool.specs.Statuses.{status_code};
 /// How a run ends.
 #[derive(Clone, Copy, Debug, PartialEq, Eq)]
 pub enum Status {
-    /// The program is accepted, a planned program or a stock is stored, the drop height or the chains at
-    /// a height are told, a sample's program is verified, or clap's help or version is shown.
+    /// The program, or each program of a list, is accepted, a planned program or a stock is stored, the
+    /// drop height or the chains at a height are told, a sample's program is verified, or clap's help or
+    /// version is shown.
     Done,
     /// The words aren't taken.
     Words,

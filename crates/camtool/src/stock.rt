@@ -15,6 +15,7 @@ ghost use Rattle.camtool.specs.Outcomes.{Serves, ShowsOr, answered};
 ghost use Rattle.camtool.specs.inner.Prints.{ShowsStockOr};
 ghost use Rattle.camtool.specs.Stock.{IsSurface, drawn as drawn_answer, stock_texts, triangles_line};
 
+use crate::file::File;
 use crate::load::{LoadFault, load_job};
 use crate::print::{add_number, add_text};
 use crate::program::load_program;
@@ -77,7 +78,7 @@ fn load_cutting<S: Shelf>(
         Ok(job) => job,
         Err(fault) => return Err(fault),
     };
-    let moves = match load_program(alloc, shelf, program, &job) {
+    let moves = match load_program(alloc, shelf, program, &job, File::Program) {
         Ok(moves) => moves,
         Err(fault) => return Err(fault),
     };

@@ -9,6 +9,7 @@ ghost use Rattle.camtool.specs.inner.Prints.{PrintsOr, TriesVerdict};
 ghost use Rattle.camtool.specs.Statuses.{status_code};
 ghost use Rattle.camtool.specs.Verify.{texts_of, verdict_status, verdict_line, rejection_line, triangle_line, leaf_end, column_line, tolerances_end, NamesMove};
 
+use crate::file::File;
 use crate::load::{LoadFault, load_setup};
 use crate::print::{add_column, add_length, add_number, add_text};
 use crate::program::load_program;
@@ -72,7 +73,7 @@ fn load<S: Shelf>(
         Ok(setup) => setup,
         Err(fault) => return Err(fault),
     };
-    let moves = match load_program(alloc, shelf, program, &setup.job) {
+    let moves = match load_program(alloc, shelf, program, &setup.job, File::Program) {
         Ok(moves) => moves,
         Err(fault) => return Err(fault),
     };

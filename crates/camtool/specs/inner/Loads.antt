@@ -1,5 +1,5 @@
 -- What reading a file or a word comes to, and what reading all that a command needs comes to.
-use Rattle.std.specs.Prelude.{◌≡◌, ◌≤◌, ℕ, ℤ, ◌<ℤ◌, List, [], length, take, All, Option, Some, None, IfSome, Result, Ok, Err}
+use Rattle.std.specs.Prelude.{◌≡◌, ◌≤◌, ◌<◌, ℕ, ℤ, ◌<ℤ◌, List, [], length, take, All, Option, Some, None, IfSome, Result, Ok, Err}
 use Rattle.std.specs.Global.{Vec}
 use Rattle.mill_base.specs.declared.limits.TheConstants.{MAX_FILE_BYTES, MAX_MOVES, MAX_WORKERS}
 use Rattle.mill_base.specs.declared.points.Pt3.{Pt3}
@@ -22,9 +22,9 @@ use Rattle.mill_job.specs.Columns.{home}
 use Rattle.mill_job.specs.Jobs.{IsJob}
 use Rattle.mill_list.specs.declared.limits.TheConstants.{MAX_STEPS}
 use Rattle.mill_list.specs.declared.step.Step.{Step}
-use Rattle.mill_verify.specs.Files.{IsFileOf}
+use Rattle.mill_verify.specs.Files.{File as CutFile, IsFileOf}
 use Rattle.camtool.specs.declared.file.File.{File}
-use Rattle.camtool.specs.declared.file.File.TheVariants.{Job as JobFile, Part as PartFile, List as ListFile}
+use Rattle.camtool.specs.declared.file.File.TheVariants.{Job as JobFile, Part as PartFile, List as ListFile, StepProgram}
 use Rattle.camtool.specs.declared.load.LoadFault.{LoadFault}
 use Rattle.camtool.specs.declared.load.LoadFault.TheVariants.{Memory, ReadFault, Unfit}
 use Rattle.camtool.specs.declared.load.Unfit.TheVariants.{TooLong, JobRefused, PartRefused, ListRefused, ProgramRefused, PartTop}
@@ -37,7 +37,7 @@ use Rattle.mill_job.specs.declared.job.Place.{Place}
 use Rattle.camtool.specs.declared.place.WordFault.{WordFault}
 use Rattle.camtool.specs.Drop.{ReadsPlace, RefusesWord}
 use Rattle.camtool.specs.Level.{ReadsHeight, RefusesZ}
-use Rattle.camtool.specs.Rest.{RestTexts, ReadsRest, IsListText, IsRefusedList, IsUnfitRest, IsReadBeforeRest}
+use Rattle.camtool.specs.Rest.{RestTexts, ReadsRest, ReadsSteps, step_at, IsListText, IsRefusedList, IsUnfitRest, IsReadBeforeRest}
 use Rattle.camtool.specs.Sample.{sample_job, sample_part}
 use Rattle.camtool.specs.Setup.{SetupTexts, Fits, IsTooLong, IsJobText, IsRefusedJob, IsPartText, IsRefusedPart, ReadsSetup, IsUnfit, IsReadBefore}
 use Rattle.camtool.specs.Stock.{StockTexts, ReadsStock, IsUnfitStock, IsReadBeforeStock}
@@ -88,6 +88,14 @@ LoadsList job told (Err (ReadFault ListFile)) = Unit {0}
 LoadsList job told (Err (Unfit (TooLong ListFile))) = IfSome told IsTooLong
 LoadsList job told (Err (Unfit (ListRefused fault))) = IfSome told (λ text. IsRefusedList job text fault)
 LoadsList job told (Err _) = ⊥
+
+-- why the program of a step has no moves, where all steps before it are read
+pub record StopsAtStep (programs : List ℕ → Option (List ℕ)) (job : Job) (steps : List Step) (fault : LoadFault) : Type 0 where
+  pub number : ℕ
+  pub files : List CutFile
+  pub there : number < length steps
+  pub before : ReadsSteps programs job (take number steps) files
+  pub stops : LoadsProgram job (programs (step_at steps number).program) (StepProgram number) (Err fault)
 
 -- ---- a program's file, in pieces
 

@@ -5,7 +5,7 @@ use Rattle.camtool.proofs.Programs.{no_text, file_moves, file_fault, moves_ok}
 use Rattle.camtool.proofs.program.load_program.Goals as goal
 
 pub returns-in-Err-clause-told : goal.returns-in-Err-clause-told
-returns-in-Err-clause-told g c = no_text c.args.job.now ((g.S.Shelf.shows c.args.shelf.now).contents c.args.name.now) c.in-Err.fault c.in-Err.ensures.fault
+returns-in-Err-clause-told g c = no_text c.args.job.now ((g.S.Shelf.shows c.args.shelf.now).contents c.args.name.now) c.args.file c.in-Err.fault c.in-Err.ensures.fault
 
 pub returns-in-Ok-finish-clause-told : goal.returns-in-Ok-finish-clause-told
 returns-in-Ok-finish-clause-told g c =
@@ -20,8 +20,8 @@ pub returns : goal.returns
 returns g c =
     let other : (c.finish.result ≢ Err WantOfMemory) = search rules in
     record {
-      told = file_fault c.args.job.now c.home.result c.args.job.now.unit ((g.S.Shelf.shows c.args.shelf.now).contents c.args.name.now) c.in-Ok.reader c.take_file.new.moves.items c.in-Err-finish.fault
-          c.home.ensures.value refl c.in-Ok.ensures.takes (sym c.in-Err-finish.is ∙ c.finish.ensures.answer other);
+      told = (refl, file_fault c.args.job.now c.home.result c.args.job.now.unit ((g.S.Shelf.shows c.args.shelf.now).contents c.args.name.now) c.in-Ok.reader c.take_file.new.moves.items c.in-Err-finish.fault
+          c.home.ensures.value refl c.in-Ok.ensures.takes (sym c.in-Err-finish.is ∙ c.finish.ensures.answer other));
       ready = tt;
       store = record { only = c.in-Ok.ensures.store.only; reads = c.in-Ok.ensures.store.reads };
     }

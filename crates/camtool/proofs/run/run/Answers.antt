@@ -1,6 +1,6 @@
 use Rattle.camtool.proofs.Blaming.{blames_writes, blames_reads, keeps}
 use Rattle.camtool.proofs.Outcomes.{answers_of, completes_of, untaken_of}
-use Rattle.camtool.proofs.Headlines.{headline_of, plan_headline_of, stock_headline_of}
+use Rattle.camtool.proofs.Headlines.{headline_of, plan_headline_of, stock_headline_of, rest_headline_of}
 use Rattle.camtool.proofs.run.run.Goals as goal
 
 pub returns-clause-write : goal.returns-clause-write
@@ -29,3 +29,6 @@ returns-clause-plan_headline g c = plan_headline_of _ _ c.work.ensures.outcome
 
 pub returns-clause-stock_headline : goal.returns-clause-stock_headline
 returns-clause-stock_headline g c = stock_headline_of _ _ c.work.ensures.outcome
+
+pub returns-clause-rest_headline : goal.returns-clause-rest_headline
+returns-clause-rest_headline g c = rest_headline_of c.one_list_verdict.ensures _ _ c.work.ensures.outcome
