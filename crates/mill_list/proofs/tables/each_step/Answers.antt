@@ -1,4 +1,4 @@
-use Rattle.std.proofs.Common.{◌∷◌, [], ◌+◌, drop, Some}
+use Rattle.std.proofs.Common.{◌+◌, drop, Some}
 use Rattle.std.proofs.lemmas.List.Elements.{All-push}
 use Rattle.std.proofs.lemmas.Result.{err_from_is_err_and}
 use Rattle.toml.specs.View.{items_view, table_view}

@@ -1,4 +1,4 @@
-use Rattle.std.proofs.Common.{◌≡◌, ◌∙◌, ◌∷◌, [], length, sym, Some, None, is_some, true, inl, arith}
+use Rattle.std.proofs.Common.{◌≡◌, ◌∙◌, ◌∷◌, [], length, sym, Some, is_some, true, inl, arith}
 use Rattle.std.proofs.lemmas.Bool.Decides.{nat_tests}
 use Rattle.std.proofs.lemmas.Result.{IfErr-weaker, IfOk-weaker}
 use Rattle.toml.specs.View.{items_view}
@@ -18,8 +18,9 @@ returns-then-is_empty-clause-err c =
     let whole : is_some all ≡ true = sym c.are_tables.ensures ∙ c.if-not-are_tables.false in
     let size : length (all_of all) ≡ length values = length-tables values whole in
     let range : kind_fault Steps is_count all ≡ Some (Range Steps) = elim c.then-is_empty.branch [
-        then-is_empty-via-then-is_empty w ↦ too_few all whole (size ∙ grind (arith, nat_tests))
-      | then-is_empty-via-else-is_empty+then-values-gt-MAX_STEPS w ↦ too_many all (length values) whole size w.if-values-gt-MAX_STEPS.true ] in
+      | then-is_empty-via-then-is_empty w ↦ too_few all whole (size ∙ grind (arith, nat_tests))
+      | then-is_empty-via-else-is_empty+then-values-gt-MAX_STEPS w ↦ too_many all (length values) whole size w.if-values-gt-MAX_STEPS.true
+    ] in
     inl (first-some (kind_fault Steps is_count all) (each_fault c.args.job.now (all_of all) ∷ []) (Range Steps) range)
 
 pub returns-clause-count : goal.returns-clause-count
