@@ -406,16 +406,16 @@ fit_list texts job part steps files fault told r h =
 
 fit_long_step : (texts : RestTexts) (job : Job) (part : List Tri) (steps : List Step) (files : List CutFile) (k : ℕ) → AreRestTold texts steps → ReadsRest texts job part steps files → LongStep texts k → ⊥
 fit_long_step texts job part steps files k told r h =
-    let (same, step_told, file, read) = reads_to texts job h.job part steps files h.step k told r h.before in
-    let both = told_both IsTooLong (λ text. IsProgramText job text file.moves) (texts.programs h.step.program) step_told h.long read.moves_are in
+    let (same, there, read) = reads_to texts job h.job part steps files h.step k told r h.before in
+    let both = told_both IsTooLong (λ text. IsProgramText job text read.0.moves) (texts.programs h.step.program) there h.long read.1.moves_are in
     too_long _ _ both.1 both.2.fits
 
 fit_step : (texts : RestTexts) (job : Job) (part : List Tri) (steps : List Step) (files : List CutFile) (k : ℕ) (fault : NgcFault) → AreRestTold texts steps → ReadsRest texts job part steps files
     → RefusesStep texts k fault → ⊥
 fit_step texts job part steps files k fault told r h =
-    let (same, step_told, file, read) = reads_to texts job h.job part steps files h.step k told r h.before in
-    let both = told_both (λ text. IsRefusedProgram h.job text fault) (λ text. IsProgramText job text file.moves) (texts.programs h.step.program) step_told h.refused read.moves_are in
-    no_program_text job both.0 file.moves fault both.2 (subst (λ (j : Job). IsRefusedProgram j both.0 fault) same both.1)
+    let (same, there, read) = reads_to texts job h.job part steps files h.step k told r h.before in
+    let both = told_both (λ text. IsRefusedProgram h.job text fault) (λ text. IsProgramText job text read.0.moves) (texts.programs h.step.program) there h.refused read.1.moves_are in
+    no_program_text job both.0 read.0.moves fault both.2 (subst (λ (j : Job). IsRefusedProgram j both.0 fault) same both.1)
 
 fit_rest : (texts : RestTexts) (job : Job) (part : List Tri) (steps : List Step) (files : List CutFile) (u : Unfit) → AreRestTold texts steps → ReadsRest texts job part steps files → IsUnfitRest texts u → ⊥
 fit_rest texts job part steps files (TooLong JobFile) told r h = fit_setup texts.setup job part (TooLong JobFile) told.setup r.setup_is h

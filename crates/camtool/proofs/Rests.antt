@@ -1,5 +1,5 @@
 -- The work on `rest`: what was read and printed, put together.
-use Rattle.std.proofs.Common.{◌≡◌, ℕ, ◌+◌, ◌<◌, List, [], ◌∷◌, ◌++◌, length, take, Option, Some, None, Result, Ok, Err, refl, sym, ap, subst, ◌∙◌, inl, inr}
+use Rattle.std.proofs.Common.{◌≡◌, ℕ, suc, ◌+◌, ◌<◌, List, [], ◌∷◌, ◌++◌, length, take, Option, Some, None, Result, Ok, Err, refl, sym, ap, subst, ◌∙◌, inl, inr}
 use Rattle.std.proofs.Math.Path.{fun_ext}
 use Rattle.std.proofs.lemmas.List.{get_or_default, take_more}
 use Rattle.std.specs.Prelude.{IfSome, slice_index_or}
@@ -71,16 +71,17 @@ pub as_many : (programs : List ℕ → Option (List ℕ)) (job : Job) (steps : L
 as_many programs job [] [] r = refl
 as_many programs job [] (f ∷ files) r = absurd r
 as_many programs job (x ∷ steps) [] r = absurd r
-as_many programs job (x ∷ steps) (f ∷ files) r = ap (λ (n : ℕ). n + 1) (as_many programs job steps files r.1)
+as_many programs job (x ∷ steps) (f ∷ files) r = ap suc (as_many programs job steps files r.1)
 
 -- step n, as it is taken from the list
 module _ (programs : List ℕ → Option (List ℕ)) (job : Job) (steps : List Step) (files : List CutFile) (n : ℕ) (step : Step) (there : n < length steps) (is : step ≡ slice_index_or steps n step)
     (before : ReadsSteps programs job (take n steps) files) where
   -- it is read too
-  pub reads_more : (file : CutFile) → ReadsStep programs job step file → ReadsSteps programs job (take (n + 1) steps) (files ++ file ∷ [])
-  reads_more file s =
-      subst (λ (xs : List Step). ReadsSteps programs job xs (files ++ file ∷ [])) (sym (take_more steps n step there))
-      (subst (λ (x : Step). ReadsSteps programs job (take n steps ++ x ∷ []) (files ++ file ∷ [])) is (reads_push programs job (take n steps) files step file before s))
+  pub reads_more : (file : CutFile) (new : List CutFile) → new ≡ files ++ file ∷ [] → ReadsStep programs job step file → ReadsSteps programs job (take (n + 1) steps) new
+  reads_more file new pushed s =
+      subst (λ (fs : List CutFile). ReadsSteps programs job (take (n + 1) steps) fs) (sym pushed)
+      (subst (λ (xs : List Step). ReadsSteps programs job xs (files ++ file ∷ [])) (sym (take_more steps n step there))
+      (subst (λ (x : Step). ReadsSteps programs job (take n steps ++ x ∷ []) (files ++ file ∷ [])) is (reads_push programs job (take n steps) files step file before s)))
 
   -- it stops the reading
   pub stops_at : (f : LoadFault) → LoadsProgram job (programs step.program) (StepProgram n) (Err f) → StopsAtStep programs job steps f

@@ -149,7 +149,9 @@ fn load_steps<S: Shelf>(
             Ok(file) => file,
             Err(fault) => return Err(fault),
         };
-        files.push(file)?;
+        let Ok(()) = files.push(file) else {
+            return Err(LoadFault::Memory);
+        };
     }
     Ok(files)
 }
@@ -270,7 +272,8 @@ fn line_of_list_verdict(
                 Word::Text(b"file"),
                 Word::Number(u64::from(file)),
             ];
-            line_of_reason(alloc, &start, &files[file as usize].moves, reason, job.unit)
+            let rejected = &files[file as usize];
+            line_of_reason(alloc, &start, &rejected.moves, reason, job.unit)
         }
         ListVerdict::Left { row, col, top } => line_of(
             alloc,

@@ -19,6 +19,7 @@ mod faults;
 mod levels;
 mod missing;
 mod plans;
+mod rests;
 mod samples;
 mod stocks;
 mod untaken;
@@ -27,7 +28,8 @@ mod verdicts;
 /// The files of every store: behind `#` a name, and then the text. `groove` is two plates, with a
 /// groove between them that is one unit narrower than the cutter of `groove-job`; `peak` is the point
 /// (0, 0, 3), and `wall` the line from (2, -1, 3) to (2, 3, 3); `planned` is what is planned for `job` and
-/// `plate`, and `stocked` what `down` leaves of the stock of `job`.
+/// `plate`, and `stocked` what `down` leaves of the stock of `job`. The list `two` cuts with a ball and
+/// then with a flat cutter.
 const FILES: &str = r#"# job
 cutter = "flat"
 radius = 150
@@ -148,6 +150,19 @@ M2
 G21 G90
 G1 Z1
 M2
+# low
+G21 G90
+G0 Z1.99
+M2
+# off-grid
+G21 G90
+G1 Z2.001
+M2
+# two
+steps = [
+{ program = "down", cutter = "ball", radius = 150 },
+{ program = "down", cutter = "flat", radius = 150 },
+]
 # planned
 %
 G17 G21 G90
@@ -260,7 +275,14 @@ one-row: job: 200, 200 -> 200, 0
 many-columns: job: pitch = 100 -> pitch = 1; 200, 200 -> 317, 317
 deep-stocked: stocked: 2.00\n -> 1.00\n
 high: peak: 0 0 3 -> 0 0 3.01
-abnormal: cut-short: solid\n -> solid\nfacet abnormal"#;
+abnormal: cut-short: solid\n -> solid\nfacet abnormal
+ball-alone: two: },\n{ program = "down", cutter = "flat", radius = 150 },\n] -> }]
+first-low: two: down", cutter = "ball -> low", cutter = "ball
+second-low: two: down", cutter = "flat -> low", cutter = "flat
+second-off-grid: two: down", cutter = "flat -> off-grid", cutter = "flat
+second-absent: two: down", cutter = "flat -> absent", cutter = "flat
+second-narrow: two: "flat", radius = 150 -> "flat", radius = 50
+third: two: ]\n -> { program = "down", cutter = "flat", radius = 150 }]\n"#;
 
 /// A text with line ends in the place of `\n`.
 fn with_lines(alloc: Global, text: &str) -> Result<String, AllocError> {

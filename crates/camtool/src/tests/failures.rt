@@ -64,7 +64,12 @@ level job plate --z=0, out 1000 3, 200 0 => 7 <> => out
 stock job down out, out 1000 1, 200 => 6 <read fault job\n> => out
 stock job down out, out 1000 1, 200 0 => 7 <> => out
 stock job down out, out 1000 3, 200 => 6 <read fault program\n> => out
-stock job down out, out 1000 3, 200 0 => 7 <> => out";
+stock job down out, out 1000 3, 200 0 => 7 <> => out
+rest job plate two, out 1000 5, 200 => 6 <read fault list\n> => out
+rest job plate two, out 1000 5, 200 0 => 7 <> => out
+rest job plate two, out 1000 7, 200 => 6 <read fault program 0\n> => out
+rest job plate two, out 1000 9, 200 => 6 <read fault program 1\n> => out
+rest job plate two, out 1000 9, 200 0 => 7 <> => out";
 
 #[test]
 fn blames_each_failed_read(rt: HostRuntime) -> Result<(), Fail> {
@@ -90,6 +95,8 @@ drop job plate --x=1 --y=1, out 1000, 200 0 => 7 <> => out
 drop job plate --x=1 --y=1, out 1000, 5 => 7 <drop > => out
 level job plate --z=0, out 1000, 200 0 => 7 <> => out
 level job plate --z=0, out 1000, 7 => 7 <chains > => out
+rest job plate two, out 1000, 200 0 => 7 <> => out
+rest job plate two, out 1000, 9 => 7 <accepted > => out
 sample 1, out 1000, 200 0 => 7 <> => out
 sample 1, out 1000, 7 => 7 <sample > => out";
 

@@ -15,6 +15,9 @@ drop absent absent --x=0 --y=0.005 => 6 read fault job
 stock garbled absent out => 4 refused job syntax
 level garbled absent --z=0 => 4 refused job syntax
 level job absent --z=0 => 6 read fault part
+rest garbled absent absent => 4 refused job syntax
+rest job high absent => 4 refused part-top 3.01 top 3.00
+rest job absent absent => 6 read fault part
 level job absent --z=0.001 => 4 refused word z off-grid";
 
 #[test]
