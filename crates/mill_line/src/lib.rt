@@ -7,5 +7,5 @@
 mod line;
 mod word;
 
-pub use line::line_of;
+pub use line::{add_line, line_of};
 pub use word::Word;

@@ -9,7 +9,7 @@ use mill_base::{Unit, WantOfMemory};
 use mill_decimal::{NumText, write_decimal};
 use std::alloc::Global;
 
-/// The line of the words `start` and then `more`: they are parted by a space, and a line feed ends it.
+/// The line of the words `start` and then `more`, parted by spaces and ended by a line feed.
 ///
 /// Only want of memory keeps it from the line.
 pub fn line_of(
@@ -21,13 +21,31 @@ pub fn line_of(
         made.items ≡ line (map word_text start.now ++ map word_text more.now)) }
 {
     let mut made = Vec::new(alloc);
-    add_words(&mut made, start)?;
-    add_words(&mut made, more)?;
+    add_line(&mut made, start, more)?;
+    Ok(made)
+}
+
+/// Adds that line to a text.
+///
+/// Only want of memory keeps it from the line. The text may then have a part of it.
+pub fn add_line(
+    text: &mut Vec<u8>,
+    start: &[Word<'_>],
+    more: &[Word<'_>],
+) -> Result<(), WantOfMemory>
+    ensures { OnOk result (text.new.items ≡
+        text.old.items ++ line (map word_text start.now ++ map word_text more.now)) }
+{
+    let before = text.len();
+    add_words(text, start)?;
+    add_words(text, more)?;
 
     // The space behind the last word, if there is one, gives way to the line's end.
-    made.pop();
-    made.push(b'\n')?;
-    Ok(made)
+    if text.len() > before {
+        text.pop();
+    }
+    text.push(b'\n')?;
+    Ok(())
 }
 
 // Adds words, and a space behind each of them.
