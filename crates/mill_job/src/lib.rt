@@ -12,6 +12,7 @@
 mod arrays;
 mod cutter;
 mod document;
+mod extras;
 mod fault;
 mod fitting;
 mod holder;
@@ -20,10 +21,12 @@ mod key;
 mod laws;
 mod levels;
 mod limits;
+mod measure;
 mod name;
 mod paths;
 mod positions;
 mod reading;
+mod relations;
 mod space;
 mod values;
 

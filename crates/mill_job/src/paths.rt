@@ -1,10 +1,9 @@
 ghost use Rattle.std.specs.Prelude.{◌≡◌, pos, IfOk, IfErr, None, Some};
-ghost use Rattle.mill_base.specs.Units.{greatest_of};
 ghost use Rattle.toml.specs.View.{table_view};
 ghost use Rattle.mill_job.specs.Jobs.{IsFrom};
-ghost use Rattle.mill_job.specs.Tables.{are_levels, array_fault_if_there, first, levels_of, number_fault_if_there, number_or as number_or_other, numbers_at};
+ghost use Rattle.mill_job.specs.Tables.{first};
 ghost use Rattle.mill_job.specs.declared.limits.TheConstants.{MAX_DISTANCE};
-ghost use Rattle.mill_job.specs.inner.Groups.{paths_faults};
+ghost use Rattle.mill_job.specs.inner.Groups.{paths_faults, paths_of};
 ghost use Rattle.mill_job.specs.inner.Ranged.{ArePaths};
 
 use crate::arrays::levels;
@@ -30,12 +29,7 @@ pub struct Paths {
 /// By which paths the document's plans go; the raster is the pitch where the document doesn't say.
 pub fn paths_in(table: &Table, unit: Unit, pitch: i32) -> Result<Paths, JobFault>
     requires { IsFrom (pos 1) MAX_DISTANCE pitch }
-    ensures lift { IfOk result (λ paths. (number_fault_if_there Key.Lift (pos 0) MAX_DISTANCE (table_view table.now) ≡ None) × (paths.lift ≡ number_or_other Key.Lift (pos 0) (table_view table.now))) }
-    ensures raster { IfOk result (λ paths. (number_fault_if_there Key.Raster (pos 1) MAX_DISTANCE (table_view table.now) ≡ None) × (paths.raster ≡ number_or_other Key.Raster pitch (table_view table.now))) }
-    ensures rough_raster { IfOk result (λ paths. (number_fault_if_there Key.RoughRaster (pos 1) MAX_DISTANCE (table_view table.now) ≡ None) × (paths.rough_raster ≡ number_or_other Key.RoughRaster paths.raster (table_view table.now))) }
-    ensures layer { IfOk result (λ paths. (number_fault_if_there Key.Layer (pos 0) (pos (greatest_of unit)) (table_view table.now) ≡ None) × (paths.layer ≡ number_or_other Key.Layer (pos 0) (table_view table.now))) }
-    ensures rough_stock { IfOk result (λ paths. (number_fault_if_there Key.RoughStock (pos 0) MAX_DISTANCE (table_view table.now) ≡ None) × (paths.rough_stock ≡ number_or_other Key.RoughStock (pos 0) (table_view table.now))) }
-    ensures levels { IfOk result (λ paths. (array_fault_if_there Key.Levels (are_levels unit) (table_view table.now) ≡ None) × (paths.levels ≡ levels_of (numbers_at Key.Levels (table_view table.now)))) }
+    ensures ok { IfOk result (λ paths. (first (paths_faults unit (table_view table.now)) ≡ None) × (paths ≡ paths_of pitch (table_view table.now))) }
     ensures err { IfErr result (λ fault. first (paths_faults unit (table_view table.now)) ≡ Some fault) }
     ensures in_range { IfOk result (ArePaths unit) }
 {

@@ -1,7 +1,7 @@
 ghost use Rattle.std.specs.Prelude.{◌≡◌, IfOk, IfErr, None, Some};
 ghost use Rattle.toml.specs.View.{table_view};
-ghost use Rattle.mill_job.specs.Tables.{area_of, array_fault, coordinate_fault, first, is_area, is_place, number_at, numbers_at, place_of};
-ghost use Rattle.mill_job.specs.inner.Groups.{space_faults};
+ghost use Rattle.mill_job.specs.Tables.{first};
+ghost use Rattle.mill_job.specs.inner.Groups.{space_faults, space_of};
 ghost use Rattle.mill_job.specs.inner.Ranged.{IsSpace};
 
 use crate::arrays::{area, home};
@@ -24,11 +24,7 @@ pub struct Space {
 
 /// Where the document's stock stands, and from where programs start.
 pub fn space_in(table: &Table, unit: Unit) -> Result<Space, JobFault>
-    ensures floor { IfOk result (λ space. (coordinate_fault unit Key.Floor (table_view table.now) ≡ None) × (space.floor ≡ number_at Key.Floor (table_view table.now))) }
-    ensures top { IfOk result (λ space. (coordinate_fault unit Key.Top (table_view table.now) ≡ None) × (space.top ≡ number_at Key.Top (table_view table.now))) }
-    ensures clear { IfOk result (λ space. (coordinate_fault unit Key.Clear (table_view table.now) ≡ None) × (space.clear ≡ number_at Key.Clear (table_view table.now))) }
-    ensures area { IfOk result (λ space. (array_fault Key.Area (is_area unit) (table_view table.now) ≡ None) × (space.area ≡ area_of (numbers_at Key.Area (table_view table.now)))) }
-    ensures home { IfOk result (λ space. (array_fault Key.Home (is_place unit) (table_view table.now) ≡ None) × (space.home ≡ place_of (numbers_at Key.Home (table_view table.now)))) }
+    ensures ok { IfOk result (λ space. (first (space_faults unit (table_view table.now)) ≡ None) × (space ≡ space_of (table_view table.now))) }
     ensures err { IfErr result (λ fault. first (space_faults unit (table_view table.now)) ≡ Some fault) }
     ensures in_range { IfOk result (IsSpace unit) }
 {
