@@ -33,7 +33,7 @@ abbrev pub is_pointed : List ℕ → ℕ → Bool
 is_pointed bytes p = has_at 46 bytes (whole_end bytes p)
 
 -- behind the number
-abbrev pub number_end : List ℕ → ℕ → ℕ
+unfoldable pub number_end : List ℕ → ℕ → ℕ
 number_end bytes p = if is_pointed bytes p then digits_end bytes (whole_end bytes p + 1) else whole_end bytes p
 
 -- how many digits it has behind its point
@@ -41,7 +41,7 @@ abbrev pub part_digits : List ℕ → ℕ → ℕ
 part_digits bytes p = if is_pointed bytes p then digit_count (drop (whole_end bytes p + 1) bytes) else 0
 
 -- how many it has in all
-abbrev pub number_digits : List ℕ → ℕ → ℕ
+unfoldable pub number_digits : List ℕ → ℕ → ℕ
 number_digits bytes p = digit_count (drop (sign_end bytes p) bytes) + part_digits bytes p
 
 -- at the place p begins a minus sign or none, and 1 to 18 digits with a point before, among or behind them or none

@@ -8,7 +8,7 @@ ghost use Rattle.mill_words.specs.Plain.{IsPlainNumber, blank_end, digits_end, h
 ghost use Rattle.mill_words.specs.declared.marks.Region.TheVariants.{Outside};
 ghost use Rattle.mill_words.specs.declared.stage.Stage.{Stage};
 ghost use Rattle.mill_words.specs.declared.stage.Stage.TheVariants.{Between, InWord};
-ghost use Rattle.mill_words.specs.inner.Places.{rest_of, numbered_word, with_word, DigitsTo};
+ghost use Rattle.mill_words.specs.inner.Places.{rest_of, numbered_word, with_word, DigitsTo, IsPlainWord};
 
 use crate::line_words::{LineWords, MOST_WORDS};
 use crate::marks::is_blank;
@@ -74,6 +74,7 @@ pub(crate) fn take_plain_words(line: &[u8], from: usize, words: &mut LineWords) 
     requires within { from < length line.now }
     requires letter { is_ascii_alphabetic (slice_index line.now from) ≡ true }
     ensures same { rest_of Outside Between words.new line.now result ≡ rest_of Outside Between words.old line.now from }
+    ensures stops { result < length line.now → IsPlainWord (length words.new.words) line.now result → ⊥ }
     ensures forward { from ≤ result }
     ensures within { result ≤ length line.now }
 {
@@ -93,6 +94,7 @@ fn take_plain_word(line: &[u8], place: usize, words: &mut LineWords) -> usize
     requires within { place < length line.now }
     requires letter { is_ascii_alphabetic (slice_index line.now place) ≡ true }
     ensures same { rest_of Outside Between words.new line.now result ≡ rest_of Outside Between words.old line.now place }
+    ensures stops { result ≡ place → IsPlainWord (length words.new.words) line.now place → ⊥ }
     ensures forward { place ≤ result }
     ensures within { result ≤ length line.now }
     ensures letter { result < length line.now → is_ascii_alphabetic (slice_index line.now result) ≡ true }
@@ -125,6 +127,7 @@ fn word_end(line: &[u8], place: usize) -> Option<usize>
     requires within { place ≤ length line.now }
     ensures same { IfSome result (λ end. (w : OpenWord) (l : Line) → 0 < w.digits →
         rest_of Outside (InWord w) l line.now place ≡ rest_of Outside Between (with_word w l) line.now end) }
+    ensures ends { IsSome result ↔ EndsWord line.now (blank_end line.now place) }
     ensures forward { IfSome result (λ end. place ≤ end) }
     ensures within { IfSome result (λ end. end ≤ length line.now) }
     ensures letter { IfSome result (λ end. end < length line.now → is_ascii_alphabetic (slice_index line.now end) ≡ true) }
@@ -170,6 +173,7 @@ fn behind_any_blank(line: &[u8], place: usize) -> usize
 }
 
 // The number at a place, if it has 1 to 18 digits.
+#[tactic(auto, unfolding(crate::specs::Plain::number_end, crate::specs::Plain::number_digits))]
 fn number_at(line: &[u8], from: usize) -> Option<PlainNumber>
     requires within { from ≤ length line.now }
     ensures same { IfSome result (λ n. (letter place : ℕ) (l : Line) → rest_of Outside (InWord (opened_at letter place)) l line.now from
