@@ -79,14 +79,11 @@ pub fn outline_in(table: &Table) -> Result<Outline, JobFault>
     ensures in_range { IfOk result IsOutline }
 {
     let shape = named_shape(table)?;
-    let radius = number(table, Key::Radius, 1, MAX_RADIUS)?;
-    let rise = slope(table, Key::Rise, shape)?;
-    let run = slope(table, Key::Run, shape)?;
     Ok(Outline {
         shape,
-        radius,
-        rise,
-        run,
+        radius: number(table, Key::Radius, 1, MAX_RADIUS)?,
+        rise: slope(table, Key::Rise, shape)?,
+        run: slope(table, Key::Run, shape)?,
     })
 }
 

@@ -12,22 +12,19 @@
 mod arrays;
 mod cutter;
 mod document;
-mod extras;
 mod fault;
 mod fitting;
+mod groups;
 mod holder;
 mod job;
 mod key;
 mod laws;
 mod levels;
 mod limits;
-mod measure;
 mod name;
-mod paths;
 mod positions;
 mod reading;
 mod relations;
-mod space;
 mod values;
 
 pub use cutter::read_cutter;

@@ -1,5 +1,4 @@
 ghost use Rattle.std.specs.Prelude.{◌≡◌, ◌++◌, IfOk};
-ghost use Rattle.mill_base.specs.Sizes.{IsCutter};
 ghost use Rattle.toml.specs.View.{table_view};
 ghost use Rattle.mill_job.specs.Cutters.{cutter_faults};
 ghost use Rattle.mill_job.specs.Documents.{GivesJob, job_from, job_with, key_faults, key_faults_in, relation_faults};
@@ -10,15 +9,12 @@ ghost use Rattle.mill_job.specs.inner.Ranged.{AreExtras, ArePaths, IsMeasure, Is
 
 use crate::cutter::{cutter, outline_in};
 use crate::document::{first_unknown, read_document};
-use crate::extras::{Extras, extras_in};
 use crate::fault::JobFault;
+use crate::groups::{Extras, Measure, Paths, Space, extras_in, measure_in, paths_in, space_in};
 use crate::job::Job;
 use crate::key::JOB_KEYS;
-use crate::measure::{Measure, measure_in};
 use crate::name::Name;
-use crate::paths::{Paths, paths_in};
 use crate::relations::relation_fault;
-use crate::space::{Space, space_in};
 use crate::values::unit;
 use mill_base::{Cutter, Unit};
 use std::alloc::Global;

@@ -1,4 +1,4 @@
--- Keys that are read together: what is wrong with them, in the format's order, and what they say where nothing is.
+-- Keys that are read together: what is wrong with them, and what they say where nothing is.
 use Rattle.std.specs.Prelude.{codes, ℤ, pos, List, [], ◌∷◌, Option}
 use Rattle.toml.specs.Data.{Members}
 use Rattle.mill_base.specs.Units.{greatest_of}
@@ -9,16 +9,16 @@ use Rattle.mill_job.specs.Documents.{snap_of}
 use Rattle.mill_job.specs.Holders.{holder_fault, holder_of}
 use Rattle.mill_job.specs.Tables.{are_levels, area_of, array_fault, array_fault_if_there, coordinate_fault, is_area, is_place, levels_of, number_at, number_fault, number_fault_if_there, number_given, number_or, numbers_at, place_of, text_fault_if_there}
 use Rattle.mill_job.specs.declared.cutter.Outline.{Outline}
-use Rattle.mill_job.specs.declared.extras.Extras.{Extras}
+use Rattle.mill_job.specs.declared.groups.Extras.{Extras}
 use Rattle.mill_job.specs.declared.fault.JobFault.{JobFault}
 use Rattle.mill_job.specs.declared.job.Job.{Job}
 use Rattle.mill_job.specs.declared.key.Key.TheVariants as key
 use Rattle.mill_job.specs.declared.limits.TheConstants.{MAX_DISTANCE}
-use Rattle.mill_job.specs.declared.measure.Measure.{Measure}
-use Rattle.mill_job.specs.declared.paths.Paths.{Paths}
-use Rattle.mill_job.specs.declared.space.Space.{Space}
+use Rattle.mill_job.specs.declared.groups.Measure.{Measure}
+use Rattle.mill_job.specs.declared.groups.Paths.{Paths}
+use Rattle.mill_job.specs.declared.groups.Space.{Space}
 
--- those of the cutter, whose faults are its keys'
+-- those of the cutter; what is wrong with them is `cutter_key_faults`
 abbrev pub outline_of : Members → Outline
 outline_of ms = record {
   shape = shape_of ms;
@@ -84,7 +84,7 @@ paths_of pitch ms = record {
   levels = levels_of (numbers_at key.Levels ms);
 }
 
--- the others, which a document may have beside these
+-- the others, which a document need not have
 abbrev pub extras_faults : Unit → Members → List (Option JobFault)
 extras_faults unit ms =
     text_fault_if_there key.Snap (codes "nearest" ∷ codes "exact" ∷ []) ms

@@ -8,12 +8,12 @@ use Rattle.mill_job.specs.Jobs.{IsFrom}
 use Rattle.mill_job.specs.Tables.{IsArea, IsPlace}
 use Rattle.mill_job.specs.declared.cutter.Outline.{Outline}
 use Rattle.mill_job.specs.declared.cutter.Shape.TheVariants as shape
-use Rattle.mill_job.specs.declared.extras.Extras.{Extras}
+use Rattle.mill_job.specs.declared.groups.Extras.{Extras}
 use Rattle.mill_job.specs.declared.job.Job.{Job}
 use Rattle.mill_job.specs.declared.limits.TheConstants.{MAX_DISTANCE, MAX_LEVELS}
-use Rattle.mill_job.specs.declared.measure.Measure.{Measure}
-use Rattle.mill_job.specs.declared.paths.Paths.{Paths}
-use Rattle.mill_job.specs.declared.space.Space.{Space}
+use Rattle.mill_job.specs.declared.groups.Measure.{Measure}
+use Rattle.mill_job.specs.declared.groups.Paths.{Paths}
+use Rattle.mill_job.specs.declared.groups.Space.{Space}
 use Rattle.mill_base.specs.declared.unit.Unit.{Unit}
 
 -- the numbers with which the relations are reckoned are in their ranges

@@ -1,4 +1,4 @@
--- The relations between a job's numbers, in two parts: what is wrong, and what holds where nothing is.
+-- A job's relations, in two parts: what is wrong, and what holds where nothing is.
 use Rattle.std.specs.Prelude.{◌*◌, ◌≤◌, nat_lt, not, All, ◌<ℤ◌, ◌≤ℤ◌, int_lt, List, [], ◌∷◌, Option, IfSome}
 use Rattle.std.specs.List.{list_all}
 use Rattle.mill_base.specs.Sizes.{radius_of}

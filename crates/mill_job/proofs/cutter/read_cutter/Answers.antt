@@ -1,5 +1,5 @@
 use Rattle.toml.specs.View.{table_view}
-use Rattle.mill_job.proofs.Groups.{cutter_decides}
+use Rattle.mill_job.proofs.AllKeys.{cutter_decides}
 use Rattle.mill_job.proofs.cutter.read_cutter.Goals as goal
 
 pub returns-clause-value : goal.returns-clause-value

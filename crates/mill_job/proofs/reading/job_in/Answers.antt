@@ -8,7 +8,7 @@ use Rattle.mill_job.specs.Jobs.{IsJob}
 use Rattle.mill_job.specs.inner.Groups.{extras_faults, job_of_groups, measure_faults, paths_faults, paths_of, space_faults}
 use Rattle.mill_job.specs.inner.Relations.{IsRelated}
 use Rattle.mill_job.proofs.Faults.{first-append, first-found, if_ok, told}
-use Rattle.mill_job.proofs.Groups.{by_relations, behind_keys, behind_measure, behind_outline, behind_paths, behind_space, is_job, cutter_of_outline, is_ranged, job_of_document, slope_of_outline}
+use Rattle.mill_job.proofs.AllKeys.{by_relations, behind_keys, behind_measure, behind_outline, behind_paths, behind_space, is_job, cutter_of_outline, is_ranged, job_of_document, slope_of_outline}
 use Rattle.mill_job.proofs.Stored.{stored_number}
 use Rattle.mill_job.proofs.reading.job_in.Goals as goal
 

@@ -9,12 +9,12 @@ use Rattle.mill_job.specs.Documents.{job_with, key_faults_in, relation_faults}
 use Rattle.mill_job.specs.Jobs.{IsJob}
 use Rattle.mill_job.specs.Tables.{checked, first}
 use Rattle.mill_job.specs.declared.cutter.Outline.{Outline}
-use Rattle.mill_job.specs.declared.extras.Extras.{Extras}
+use Rattle.mill_job.specs.declared.groups.Extras.{Extras}
 use Rattle.mill_job.specs.declared.fault.JobFault.{JobFault}
 use Rattle.mill_job.specs.declared.job.Job.{Job}
-use Rattle.mill_job.specs.declared.measure.Measure.{Measure}
-use Rattle.mill_job.specs.declared.paths.Paths.{Paths}
-use Rattle.mill_job.specs.declared.space.Space.{Space}
+use Rattle.mill_job.specs.declared.groups.Measure.{Measure}
+use Rattle.mill_job.specs.declared.groups.Paths.{Paths}
+use Rattle.mill_job.specs.declared.groups.Space.{Space}
 use Rattle.mill_job.specs.inner.Groups.{extras_faults, extras_of, job_of_groups, measure_faults, measure_of, outline_of, paths_faults, paths_of, space_faults, space_of}
 use Rattle.mill_job.specs.inner.Ranged.{AreExtras, ArePaths, IsMeasure, IsRanged, IsSpace}
 use Rattle.mill_job.specs.inner.Relations.{IsRelated}
