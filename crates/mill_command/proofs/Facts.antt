@@ -2,7 +2,7 @@
 use Rattle.std.proofs.Common.{◌≡◌, ◌∷◌, [], codes, refl, Some}
 use Rattle.clap.specs.declared.error.kind.ErrorKind.TheVariants as kind
 use Rattle.clap.proofs.OnLiterals.{clap_on_literals}
-use Rattle.mill_command.specs.Requests.{faults, request, verify, plan, drop, level, stock, sample}
+use Rattle.mill_command.specs.Requests.{faults, request, verify, rest, plan, drop, level, stock, sample}
 
 verify_of_files : request (codes "verify" ∷ codes "j" ∷ codes "p" ∷ codes "f" ∷ []) ≡ Some (verify (codes "j") (codes "p") (codes "f") 1)
 unfolding clap_on_literals
@@ -48,6 +48,22 @@ version_wanted = refl
 help_on : faults (codes "help" ∷ []) ≡ kind.DisplayHelp ∷ kind.InvalidSubcommand ∷ []
 unfolding clap_on_literals
 help_on = refl
+
+rest_of_list : request (codes "rest" ∷ codes "j" ∷ codes "--workers=64" ∷ codes "p" ∷ codes "l" ∷ []) ≡ Some (rest (codes "j") (codes "p") (codes "l") 64)
+unfolding clap_on_literals
+rest_of_list = refl
+
+rest_of_one_worker : request (codes "rest" ∷ codes "j" ∷ codes "p" ∷ codes "l" ∷ []) ≡ Some (rest (codes "j") (codes "p") (codes "l") 1)
+unfolding clap_on_literals
+rest_of_one_worker = refl
+
+rest_of_too_many : faults (codes "rest" ∷ codes "j" ∷ codes "p" ∷ codes "l" ∷ codes "--workers=65" ∷ []) ≡ kind.ValueValidation ∷ []
+unfolding clap_on_literals
+rest_of_too_many = refl
+
+list_missing : faults (codes "rest" ∷ codes "j" ∷ codes "p" ∷ []) ≡ kind.MissingRequiredArgument ∷ []
+unfolding clap_on_literals
+list_missing = refl
 
 plan_to_file : request (codes "plan" ∷ codes "j" ∷ codes "--workers=2" ∷ codes "p" ∷ codes "o" ∷ []) ≡ Some (plan (codes "j") (codes "p") (codes "o") 2)
 unfolding clap_on_literals

@@ -11,10 +11,10 @@ use Rattle.clap.proofs.OnLiterals.{clap_on_literals}
 use Rattle.mill_command.proofs.Takes.{built_test, is_bare_app, none}
 use Rattle.clap.specs.Takes.{built_takes, is_given, takes}
 use Rattle.clap.specs.Faults.{entered_fault, is_simple_and_free, level_fault}
-use Rattle.mill_command.specs.Set.{commands, verify, plan, drop, level, stock, sample, workers}
+use Rattle.mill_command.specs.Set.{commands, verify, rest, plan, drop, level, stock, sample, workers}
 use Rattle.clap.specs.Kinds.{IsAmong, Kinds}
 use Rattle.clap.specs.declared.error.kind.ErrorKind.{ErrorKind}
-use Rattle.mill_command.specs.Requests.{IsBounded, ReadsWords, Refuses, Request, drop_of, faults, is_taken, level_of, number_in, plan_of, request, request_in, sample_of, stock_of, verify_of, verify as verify_files, plan as plan_to, drop as drop_at, level as level_at, stock as stock_to, sample as sample_with}
+use Rattle.mill_command.specs.Requests.{IsBounded, ReadsWords, Refuses, Request, drop_of, faults, is_taken, level_of, number_in, plan_of, request, request_in, rest_of, sample_of, stock_of, verify_of, verify as verify_files, rest as rest_list, plan as plan_to, drop as drop_at, level as level_at, stock as stock_to, sample as sample_with}
 use Rattle.mill_command.specs.declared.refusal.Refusal.{Refusal}
 use Rattle.mill_command.specs.declared.refusal.Refusal.TheVariants as refusal
 use Rattle.mill_command.proofs.Faultless.{AreSound, IsSound, IsStopped, defaults_make, given_row, given_value, is_full, level_faultless, none_missing, other_sound}
@@ -29,6 +29,9 @@ above = record commands.top { is_built = true }
 
 abbrev verify_shape : Shape
 verify_shape = built_leaf (inherited above verify.top)
+
+abbrev rest_shape : Shape
+rest_shape = built_leaf (inherited above rest.top)
 
 abbrev plan_shape : Shape
 plan_shape = built_leaf (inherited above plan.top)
@@ -48,7 +51,7 @@ sample_shape = built_leaf (inherited above sample.top)
 abbrev topic_shape : Shape
 topic_shape = built_leaf help_shape
 
-are_built : (built commands).subs ≡ verify_shape ∷ plan_shape ∷ drop_shape ∷ level_shape ∷ stock_shape ∷ sample_shape ∷ topic_shape ∷ []
+are_built : (built commands).subs ≡ verify_shape ∷ rest_shape ∷ plan_shape ∷ drop_shape ∷ level_shape ∷ stock_shape ∷ sample_shape ∷ topic_shape ∷ []
 are_built = refl
 
 abbrev HasRequest : Option Request → Type 0
@@ -57,6 +60,10 @@ HasRequest o = (asked : Request) × (o ≡ Some asked) × IsBounded asked
 verify_some : (job part file : Option Text) (count : Option ℕ) → ((v : Text) × (job ≡ Some v)) → ((v : Text) × (part ≡ Some v)) → ((v : Text) × (file ≡ Some v))
     → HasNumber 64 count → HasRequest (verify_of job part file count)
 verify_some job part file count j p f w = (verify_files j.0 p.0 f.0 w.0, rw (j.1, p.1, f.1, w.1) refl, (w.2, w.3))
+
+rest_some : (job part list : Option Text) (count : Option ℕ) → ((v : Text) × (job ≡ Some v)) → ((v : Text) × (part ≡ Some v)) → ((v : Text) × (list ≡ Some v))
+    → HasNumber 64 count → HasRequest (rest_of job part list count)
+rest_some job part list count j p l w = (rest_list j.0 p.0 l.0 w.0, rw (j.1, p.1, l.1, w.1) refl, (w.2, w.3))
 
 plan_some : (job part out : Option Text) (count : Option ℕ) → ((v : Text) × (job ≡ Some v)) → ((v : Text) × (part ≡ Some v)) → ((v : Text) × (out ≡ Some v))
     → HasNumber 64 count → HasRequest (plan_of job part out count)
@@ -103,6 +110,9 @@ top_sound = (other_sound _ refl refl, (other_sound _ refl refl, tt))
 verify_sound : AreSound verify_shape.rules
 verify_sound = (workers_sound, (other_sound _ refl refl, (other_sound _ refl refl, (other_sound _ refl refl, (other_sound _ refl refl, tt)))))
 
+rest_sound : AreSound rest_shape.rules
+rest_sound = (workers_sound, (other_sound _ refl refl, (other_sound _ refl refl, (other_sound _ refl refl, (other_sound _ refl refl, tt)))))
+
 plan_sound : AreSound plan_shape.rules
 plan_sound = (workers_sound, (other_sound _ refl refl, (other_sound _ refl refl, (other_sound _ refl refl, (other_sound _ refl refl, tt)))))
 
@@ -132,6 +142,15 @@ verify_asks words none =
     verify_some (first_of (codes "job") rows) (first_of (codes "part") rows) (first_of (codes "file") rows) (number_in (codes "workers") rows)
     (given_value (codes "job") rows level.right given.0) (given_value (codes "part") rows level.right given.1) (given_value (codes "file") rows level.right given.2)
     (number_found (codes "workers") 64 rows refl (omega arith) level.right (has_workers verify_shape.rules words refl))
+
+rest_asks : (words : List Text) → level_fault rest_shape [] nothing_held words false [] ≡ [] → HasRequest (request_in (codes "rest") (rows_after rest_shape.rules [] words))
+rest_asks words none =
+    let rows = rows_after rest_shape.rules [] words in
+    let level = level_faultless rest_shape [] words false [] rest_sound none in
+    let given = three_given (is_given (codes "job") rows) (is_given (codes "part") rows) (is_given (codes "list") rows) (none_missing rest_shape rows false level.checked).1 in
+    rest_some (first_of (codes "job") rows) (first_of (codes "part") rows) (first_of (codes "list") rows) (number_in (codes "workers") rows)
+    (given_value (codes "job") rows level.right given.0) (given_value (codes "part") rows level.right given.1) (given_value (codes "list") rows level.right given.2)
+    (number_found (codes "workers") 64 rows refl (omega arith) level.right (has_workers rest_shape.rules words refl))
 
 plan_asks : (words : List Text) → level_fault plan_shape [] nothing_held words false [] ≡ [] → HasRequest (request_in (codes "plan") (rows_after plan_shape.rules [] words))
 plan_asks words none =
@@ -177,23 +196,24 @@ sample_asks words none =
     (number_found (codes "workers") 64 rows refl (omega arith) level.right (has_workers sample_shape.rules words refl))
 
 -- the command that answers to a name, given which names are its own
-abbrev met : Bool → Bool → Bool → Bool → Bool → Bool → Bool → Option Shape
-met v p d l t s h =
-    cond (v || false) (Some verify_shape) (cond (p || false) (Some plan_shape) (cond (d || false) (Some drop_shape) (cond (l || false) (Some level_shape) (cond (t || false) (Some stock_shape) (cond (s || false) (Some sample_shape) (cond (h || false) (Some topic_shape) None))))))
+abbrev met : Bool → Bool → Bool → Bool → Bool → Bool → Bool → Bool → Option Shape
+met v r p d l t s h =
+    cond (v || false) (Some verify_shape) (cond (r || false) (Some rest_shape) (cond (p || false) (Some plan_shape) (cond (d || false) (Some drop_shape) (cond (l || false) (Some level_shape) (cond (t || false) (Some stock_shape) (cond (s || false) (Some sample_shape) (cond (h || false) (Some topic_shape) None)))))))
 
 -- the subcommand that was met is one of the commands
-named : (v p d l t s h : Bool) (words : List Text) → h ≡ false
-    → option_map_or (λ (s : Shape). level_fault s [] nothing_held words false []) (met v p d l t s h) [] ≡ []
-    → is_some (option_map (λ (s : Shape). rows_at s words) (met v p d l t s h)) ≡ true
-    → HasRequest (option_and_then (λ (m : Text × List Row). request_in m.0 m.1) (option_map (λ (s : Shape). rows_at s words) (met v p d l t s h)))
-named true p d l t s h words other none some = verify_asks words none
-named false true d l t s h words other none some = plan_asks words none
-named false false true l t s h words other none some = drop_asks words none
-named false false false true t s h words other none some = level_asks words none
-named false false false false true s h words other none some = stock_asks words none
-named false false false false false true h words other none some = sample_asks words none
-named false false false false false false true words other none some = absurd (true≢false other)
-named false false false false false false false words other none some = absurd (true≢false (sym some))
+named : (v r p d l t s h : Bool) (words : List Text) → h ≡ false
+    → option_map_or (λ (s : Shape). level_fault s [] nothing_held words false []) (met v r p d l t s h) [] ≡ []
+    → is_some (option_map (λ (s : Shape). rows_at s words) (met v r p d l t s h)) ≡ true
+    → HasRequest (option_and_then (λ (m : Text × List Row). request_in m.0 m.1) (option_map (λ (s : Shape). rows_at s words) (met v r p d l t s h)))
+named true r p d l t s h words other none some = verify_asks words none
+named false true p d l t s h words other none some = rest_asks words none
+named false false true d l t s h words other none some = plan_asks words none
+named false false false true l t s h words other none some = drop_asks words none
+named false false false false true t s h words other none some = level_asks words none
+named false false false false false true s h words other none some = stock_asks words none
+named false false false false false false true h words other none some = sample_asks words none
+named false false false false false false false true words other none some = absurd (true≢false other)
+named false false false false false false false false words other none some = absurd (true≢false (sym some))
 
 -- the name of the command for help, either way round
 help_named : (name : Text) → (bytes_eq name (codes "help") && true) ≡ false → bytes_eq (codes "help") name ≡ false
@@ -207,7 +227,7 @@ help_named name other = go (bytes_eq (codes "help") name) refl
 entered_asks : (stop : Option (Text × List Text)) → IsStopped top stop → entered_fault (built commands) stop ≡ [] → is_some (entered (built commands) stop) ≡ true
     → HasRequest (option_and_then (λ (m : Text × List Row). request_in m.0 m.1) (entered (built commands) stop))
 entered_asks None stop none some = absurd (true≢false (sym some))
-entered_asks (Some p) stop none some = named (bytes_eq (codes "verify") p.0) (bytes_eq (codes "plan") p.0) (bytes_eq (codes "drop") p.0) (bytes_eq (codes "level") p.0) (bytes_eq (codes "stock") p.0) (bytes_eq (codes "sample") p.0) (bytes_eq (codes "help") p.0) p.1 (help_named p.0 stop) none some
+entered_asks (Some p) stop none some = named (bytes_eq (codes "verify") p.0) (bytes_eq (codes "rest") p.0) (bytes_eq (codes "plan") p.0) (bytes_eq (codes "drop") p.0) (bytes_eq (codes "level") p.0) (bytes_eq (codes "stock") p.0) (bytes_eq (codes "sample") p.0) (bytes_eq (codes "help") p.0) p.1 (help_named p.0 stop) none some
 
 wanted : (b : Bool) → (not b && true) ≡ false → b ≡ true
 wanted true e = refl

@@ -14,6 +14,7 @@ use Rattle.mill_command.specs.declared.refusal.Refusal.TheVariants as refusal
 -- a command with its words: the names of files, coordinates as they were written, the size of a sample part, and the number of workers
 pub data Request : Type 0 where
   verify : Text → Text → Text → ℕ → Request
+  rest : Text → Text → Text → ℕ → Request
   plan : Text → Text → Text → ℕ → Request
   drop : Text → Text → Text → Text → Request
   level : Text → Text → Text → Request
@@ -23,6 +24,7 @@ pub data Request : Type 0 where
 -- what a command of the code says
 abbrev pub request_of : Command → Request
 request_of (command.Verify job part file workers) = verify job.now part.now file.now workers
+request_of (command.Rest job part list workers) = rest job.now part.now list.now workers
 request_of (command.Plan job part out workers) = plan job.now part.now out.now workers
 request_of (command.Drop job part x y) = drop job.now part.now x.now y.now
 request_of (command.Level job part z) = level job.now part.now z.now
@@ -32,6 +34,7 @@ request_of (command.Sample size workers) = sample size workers
 -- the numbers that a request has are in their ranges: workers from 1 to 64, the size of a sample part from 1 to 100
 abbrev pub IsBounded : Request → Type 0
 IsBounded (verify job part file workers) = (1 ≤ workers) × (workers ≤ 64)
+IsBounded (rest job part list workers) = (1 ≤ workers) × (workers ≤ 64)
 IsBounded (plan job part out workers) = (1 ≤ workers) × (workers ≤ 64)
 IsBounded (drop job part x y) = Unit {0}
 IsBounded (level job part z) = Unit {0}
@@ -50,6 +53,11 @@ number_in id rows = option_and_then number_of (one_of id rows)
 abbrev pub verify_of : Option Text → Option Text → Option Text → Option ℕ → Option Request
 verify_of (Some job) (Some part) (Some file) (Some workers) = Some (verify job part file workers)
 verify_of _ _ _ _ = None
+
+-- `rest` where each of its words is there
+abbrev pub rest_of : Option Text → Option Text → Option Text → Option ℕ → Option Request
+rest_of (Some job) (Some part) (Some list) (Some workers) = Some (rest job part list workers)
+rest_of _ _ _ _ = None
 
 -- `plan` where each of its words is there
 abbrev pub plan_of : Option Text → Option Text → Option Text → Option ℕ → Option Request
@@ -80,12 +88,13 @@ sample_of _ _ = None
 abbrev pub request_in : Text → List Row → Option Request
 request_in name rows =
     if bytes_eq name (codes "verify") then verify_of (first_of (codes "job") rows) (first_of (codes "part") rows) (first_of (codes "file") rows) (number_in (codes "workers") rows)
+    else (if bytes_eq name (codes "rest") then rest_of (first_of (codes "job") rows) (first_of (codes "part") rows) (first_of (codes "list") rows) (number_in (codes "workers") rows)
     else (if bytes_eq name (codes "plan") then plan_of (first_of (codes "job") rows) (first_of (codes "part") rows) (first_of (codes "out") rows) (number_in (codes "workers") rows)
     else (if bytes_eq name (codes "drop") then drop_of (first_of (codes "job") rows) (first_of (codes "part") rows) (first_of (codes "x") rows) (first_of (codes "y") rows)
     else (if bytes_eq name (codes "level") then level_of (first_of (codes "job") rows) (first_of (codes "part") rows) (first_of (codes "z") rows)
     else (if bytes_eq name (codes "stock") then stock_of (first_of (codes "job") rows) (first_of (codes "file") rows) (first_of (codes "out") rows)
     else (if bytes_eq name (codes "sample") then sample_of (number_in (codes "n") rows) (number_in (codes "workers") rows)
-    else None)))))
+    else None))))))
 
 -- clap takes the words: its own test, for this set of commands
 abbrev pub is_taken : List Text → Bool

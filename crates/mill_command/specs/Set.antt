@@ -46,6 +46,10 @@ with_files name = with_rule (with_job name) (place (codes "part"))
 abbrev pub verify : App
 verify = with_rule (with_files (codes "verify")) (place (codes "file"))
 
+-- `rest JOB PART LIST`
+abbrev pub rest : App
+rest = with_rule (with_files (codes "rest")) (place (codes "list"))
+
 -- `plan JOB PART OUT`
 abbrev pub plan : App
 plan = with_rule (with_files (codes "plan")) (place (codes "out"))
@@ -70,9 +74,12 @@ sample = with_rule (with_rule (new_app (codes "sample")) workers) size
 abbrev pub program : App
 program = record (new_app (codes "camtool")) { top = record (new_app (codes "camtool")).top { no_binary_name = true; has_version = true; subcommand_required = true } }
 
--- with the commands on programs, with those on a part, and with the others
+-- with the commands that judge programs, with all on programs, with those on a part, and with the others
+abbrev pub with_verdicts : App → App
+with_verdicts a = with_subcommand (with_subcommand a verify.top) rest.top
+
 abbrev pub with_programs : App → App
-with_programs a = with_subcommand (with_subcommand a verify.top) plan.top
+with_programs a = with_subcommand (with_verdicts a) plan.top
 
 abbrev pub with_parts : App → App
 with_parts a = with_subcommand (with_subcommand a drop.top) level.top

@@ -1,6 +1,6 @@
 ghost use Rattle.std.specs.Prelude.{◌≡◌, codes, option_map, Some};
 ghost use Rattle.clap.specs.Words.{first_of, found_of, rows_of};
-ghost use Rattle.mill_command.specs.Requests.{drop_of, level_of, number_in, plan_of, request_in, request_of, sample_of, stock_of, verify_of};
+ghost use Rattle.mill_command.specs.Requests.{drop_of, level_of, number_in, plan_of, request_in, request_of, rest_of, sample_of, stock_of, verify_of};
 
 use clap::ArgMatches;
 
@@ -13,6 +13,15 @@ pub enum Command<'a> {
         job: &'a str,
         part: &'a str,
         file: &'a str,
+        workers: u32,
+    },
+    /// The verdict on the programs that the file `list` names, which cut one stock in turn, each with
+    /// its own cutter, by the job and the part in the other two files. `workers` is how many threads
+    /// share the work, from 1 to 64.
+    Rest {
+        job: &'a str,
+        part: &'a str,
+        list: &'a str,
         workers: u32,
     },
     /// A program, planned by the job and the part in the first two files, and stored in the file
@@ -59,6 +68,7 @@ impl<'a> Command<'a> {
     {
         match name {
             "verify" => Command::verify_from(matches),
+            "rest" => Command::rest_from(matches),
             "plan" => Command::plan_from(matches),
             "drop" => Command::drop_from(matches),
             "level" => Command::level_from(matches),
@@ -75,6 +85,17 @@ impl<'a> Command<'a> {
             job: value(matches, "job")?,
             part: value(matches, "part")?,
             file: value(matches, "file")?,
+            workers: number(matches, "workers")?,
+        })
+    }
+
+    fn rest_from(matches: &ArgMatches<'a>) -> Option<Command<'a>>
+        ensures { option_map request_of result ≡ rest_of (first_of (codes "job") (rows_of (found_of matches.now))) (first_of (codes "part") (rows_of (found_of matches.now))) (first_of (codes "list") (rows_of (found_of matches.now))) (number_in (codes "workers") (rows_of (found_of matches.now))) }
+    {
+        Some(Command::Rest {
+            job: value(matches, "job")?,
+            part: value(matches, "part")?,
+            list: value(matches, "list")?,
             workers: number(matches, "workers")?,
         })
     }

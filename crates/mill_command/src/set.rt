@@ -2,7 +2,7 @@
 //! in `specs/Set.antt`, and where matches are read.
 ghost use Rattle.std.specs.Prelude.{◌≡◌, false, IfOk};
 ghost use Rattle.clap.specs.Words.{App, Rule, new_app, rule_of, with_rule, with_subcommand};
-ghost use Rattle.mill_command.specs.Set.{Is, commands, count_parser, drop as drop_command, level, option, place, plan, program, sample, size, size_parser, stock, verify, with_files, with_job, with_others, with_parts, with_programs, workers};
+ghost use Rattle.mill_command.specs.Set.{Is, commands, count_parser, drop as drop_command, level, option, place, plan, program, rest, sample, size, size_parser, stock, verify, with_files, with_job, with_others, with_parts, with_programs, with_verdicts, workers};
 
 use clap::builder::ValueParser;
 use clap::{Arg, Command, value_parser};
@@ -20,12 +20,20 @@ pub fn commands<'a>(alloc: Global) -> Result<Command<'a>, AllocError>
     with_others(alloc, program)
 }
 
-/// The program with the commands on programs.
+/// The program with the commands that judge programs.
 // The commands are added by twos, since each that may fail costs a proof that all before it are dropped.
+fn with_verdicts<'a>(alloc: Global, program: Command<'a>) -> Result<Command<'a>, AllocError>
+    ensures { IfOk result (λ c. (a : App) → Is a program.entry → Is (with_verdicts a) c) }
+{
+    let program = with_command(program, verify(alloc)?)?;
+    with_command(program, rest(alloc)?)
+}
+
+/// The program with all commands on programs.
 fn with_programs<'a>(alloc: Global, program: Command<'a>) -> Result<Command<'a>, AllocError>
     ensures { IfOk result (λ c. (a : App) → Is a program.entry → Is (with_programs a) c) }
 {
-    let program = with_command(program, verify(alloc)?)?;
+    let program = with_verdicts(alloc, program)?;
     with_command(program, plan(alloc)?)
 }
 
@@ -65,6 +73,26 @@ fn verify<'a>(alloc: Global) -> Result<Command<'a>, AllocError>
     with_arg(
         command,
         place(alloc, "file", "FILE", "The program's file, RS274/NGC"),
+    )
+}
+
+/// `rest JOB PART LIST`, with how many workers.
+fn rest<'a>(alloc: Global) -> Result<Command<'a>, AllocError>
+    ensures { IfOk result (Is rest) }
+{
+    let command = with_files(
+        alloc,
+        "rest",
+        "Verifies programs that cut one stock in turn, each with its own cutter",
+    )?;
+    with_arg(
+        command,
+        place(
+            alloc,
+            "list",
+            "LIST",
+            "The list of programs and their cutters, TOML",
+        ),
     )
 }
 

@@ -1,14 +1,15 @@
 -- The tables of an array, which are read one by one, each with nothing wrong before the next.
-use Rattle.std.proofs.Common.{◌≡◌, ◌∙◌, ap, sym, refl, ℕ, suc, ◌+◌, ◌<◌, ◌≤◌, drop, get_or, Bool, true, false, ◌&&◌, List, [], ◌∷◌, ◌++◌, length, map, Option, Some, None, is_some, arith}
+use Rattle.std.proofs.Common.{◌≡◌, ◌∙◌, ◌⊎◌, inl, inr, ap, sym, refl, ℕ, suc, ◌+◌, ◌<◌, ◌≤◌, drop, get_or, Bool, true, false, ◌&&◌, List, [], ◌∷◌, ◌++◌, length, map, Option, Some, None, is_some, arith}
 use Rattle.std.proofs.lemmas.Bool.{le-leb, lt-leb}
-use Rattle.std.proofs.lemmas.List.{append_assoc, append-nil, at_drop_more, at_drop_all}
-use Rattle.std.specs.Prelude.{nat_le}
+use Rattle.std.proofs.lemmas.Bool.Decides.{nat_tests}
+use Rattle.std.proofs.lemmas.List.{append_assoc, append-nil, at_drop_more, at_drop_all, length-map}
+use Rattle.std.specs.Prelude.{nat_le, ◌==◌}
 use Rattle.toml.specs.declared.value.Value.{Value}
 use Rattle.toml.specs.Data.{Members, as_table}
 use Rattle.toml.specs.View.{view, items_view}
 use Rattle.mill_job.specs.Tables.{first, kind_fault}
 use Rattle.mill_job.specs.declared.fault.JobFault.{JobFault}
-use Rattle.mill_job.specs.declared.fault.JobFault.TheVariants.{Range, WrongKind}
+use Rattle.mill_job.specs.declared.fault.JobFault.TheVariants.{Range, WantOfMemory, WrongKind}
 use Rattle.mill_job.specs.declared.job.Job.{Job}
 use Rattle.mill_job.specs.declared.key.Key.TheVariants.{Steps}
 use Rattle.mill_list.specs.Lists.{all_of, each_fault, is_count, tables, with_rest}
@@ -42,7 +43,7 @@ first-none : (found : Option JobFault) (rest : List (Option JobFault)) → found
 first-none None rest e = refl
 first-none (Some fault) rest e = absurd (cc)
 
-first-some : (found : Option JobFault) (rest : List (Option JobFault)) (fault : JobFault) → found ≡ Some fault → first (found ∷ rest) ≡ Some fault
+pub first-some : (found : Option JobFault) (rest : List (Option JobFault)) (fault : JobFault) → found ≡ Some fault → first (found ∷ rest) ≡ Some fault
 first-some None rest fault e = absurd (cc)
 first-some (Some other) rest fault e = e
 
@@ -59,10 +60,16 @@ one_read job all (Some ts) steps ms step h fine is =
     }
 
 -- a fault of the next table is the first of all
-pub one_fails : (job : Job) (all rest : Option (List Members)) (steps : List Step) (ms : Members) (fault : JobFault) → IsRead job all (with_rest (Some ms) rest) steps → step_fault job ms ≡ Some fault
+one_fails : (job : Job) (all rest : Option (List Members)) (steps : List Step) (ms : Members) (fault : JobFault) → IsRead job all (with_rest (Some ms) rest) steps → step_fault job ms ≡ Some fault
     → each_fault job (all_of all) ≡ Some fault
 one_fails job all None steps ms fault h fails = let none : false ≡ true = h.whole in absurd (cc)
 one_fails job all (Some ts) steps ms fault h fails = sym h.fault ∙ first-some (step_fault job ms) (map (step_fault job) ts) fault fails
+
+-- what is told of the next table, unless it is read, is what is told of all
+pub one_told : (job : Job) (all rest : Option (List Members)) (steps : List Step) (ms : Members) (fault : JobFault) → IsRead job all (with_rest (Some ms) rest) steps
+    → (step_fault job ms ≡ Some fault) ⊎ (fault ≡ WantOfMemory) → (each_fault job (all_of all) ≡ Some fault) ⊎ (fault ≡ WantOfMemory)
+one_told job all rest steps ms fault h (inl fails) = inl (one_fails job all rest steps ms fault h fails)
+one_told job all rest steps ms fault h (inr short) = inr short
 
 -- each value is a table
 pub is_table : (job : Job) (all rest : Option (List Members)) (steps : List Step) → ¬ IsRead job all (with_rest None rest) steps
@@ -70,6 +77,12 @@ is_table job all rest steps h = let none : false ≡ true = h.whole in absurd (c
 
 pub all_read : (job : Job) (all : Option (List Members)) (steps : List Step) → IsRead job all (Some []) steps → (each_fault job (all_of all) ≡ None) × (steps ≡ map step_of (all_of all))
 all_read job all steps h = (sym h.fault, sym (append-nil steps) ∙ h.read)
+
+-- what is told of the tables is the first fault behind none of the steps as a whole
+pub told_behind : (whole found : Option JobFault) (fault : JobFault) → whole ≡ None → (found ≡ Some fault) ⊎ (fault ≡ WantOfMemory)
+    → (first (whole ∷ found ∷ []) ≡ Some fault) ⊎ (fault ≡ WantOfMemory)
+told_behind whole found fault fine (inl there) = inl (first-none whole (found ∷ []) fine ∙ first-some found [] fault there)
+told_behind whole found fault fine (inr short) = inr short
 
 -- ---- their number
 
@@ -117,7 +130,7 @@ too_few (Some ts) whole empty =
     let no : is_count ts ≡ false = not_first (nat_le 1 (length ts)) (nat_le (length ts) 16) under in
     rw no refl
 
-pub fitting : (all : Option (List Members)) (n : ℕ) → is_some all ≡ true → length (all_of all) ≡ n → 0 < n → n ≤ 16 → kind_fault Steps is_count all ≡ None
+fitting : (all : Option (List Members)) (n : ℕ) → is_some all ≡ true → length (all_of all) ≡ n → 0 < n → n ≤ 16 → kind_fault Steps is_count all ≡ None
 fitting None n whole long some few = absurd (cc)
 fitting (Some ts) n whole long some few =
     let size : length ts ≡ n = long in
@@ -125,3 +138,11 @@ fitting (Some ts) n whole long some few =
     let under : nat_le (length ts) 16 ≡ true = le-leb _ _ (omega arith) in
     let yes : is_count ts ≡ true = both (nat_le 1 (length ts)) (nat_le (length ts) 16) over under in
     rw yes refl
+
+-- 1 to 16 tables are neither too few nor too many
+pub counted : (vs : List Value) → is_some (tables (items_view vs)) ≡ true → (length vs == 0) ≡ false → length vs ≤ 16 → kind_fault Steps is_count (tables (items_view vs)) ≡ None
+counted vs whole some few = fitting (tables (items_view vs)) (length vs) whole (length-tables vs whole) (grind (arith, nat_tests)) few
+
+-- there are as many steps as tables
+pub length-steps : (vs : List Value) (steps : List Step) → is_some (tables (items_view vs)) ≡ true → steps ≡ map step_of (all_of (tables (items_view vs))) → length steps ≡ length vs
+length-steps vs steps whole are = ap length are ∙ length-map (all_of (tables (items_view vs))) step_of ∙ length-tables vs whole

@@ -4,7 +4,7 @@ use Rattle.std.specs.declared.alloc.Global.{Global}
 use Rattle.toml.specs.Data.{Data, Items, no_items, item, Members, as_array, as_table, get_member}
 use Rattle.toml.specs.Parse.{parse_document}
 use Rattle.mill_job.specs.Keys.{name_of, unknown_but}
-use Rattle.mill_job.specs.Tables.{first, checked, kind_fault, must_be}
+use Rattle.mill_job.specs.Tables.{first, checked, must_be}
 use Rattle.mill_job.specs.declared.fault.JobFault.{JobFault}
 use Rattle.mill_job.specs.declared.fault.JobFault.TheVariants.{Syntax, Unknown, WantOfMemory}
 use Rattle.mill_job.specs.declared.job.Job.{Job}

@@ -1,5 +1,5 @@
 -- What one table of a list means: a program's name and a cutter, and what is wrong with it.
-use Rattle.std.specs.Prelude.{ℕ, Bool, true, List, [], ◌∷◌, ◌++◌, Option, Some, None, option_and_then, option_map, unwrap_or}
+use Rattle.std.specs.Prelude.{ℕ, Bool, true, List, [], ◌∷◌, ◌++◌, Option, option_and_then, option_map, unwrap_or}
 use Rattle.toml.specs.Data.{Members, get_member, as_str}
 use Rattle.mill_job.specs.Cutters.{cutter_faults, cutter_key_faults, cutter_of}
 use Rattle.mill_job.specs.Documents.{fit_faults}

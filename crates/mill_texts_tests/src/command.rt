@@ -51,6 +51,8 @@ verify a b c --workers=1 => Verify { job: "a", part: "b", file: "c", workers: 1 
 verify --workers=64 a b c => Verify { job: "a", part: "b", file: "c", workers: 64 }
 verify a --workers 64 b c => Verify { job: "a", part: "b", file: "c", workers: 64 }
 verify a b --workers=+064 c => Verify { job: "a", part: "b", file: "c", workers: 64 }
+rest a b c => Rest { job: "a", part: "b", list: "c", workers: 1 }
+rest a --workers=64 b -- c => Rest { job: "a", part: "b", list: "c", workers: 64 }
 plan a b c => Plan { job: "a", part: "b", out: "c", workers: 1 }
 plan a b --workers 1 -- c => Plan { job: "a", part: "b", out: "c", workers: 1 }
 plan --workers=8 a b c => Plan { job: "a", part: "b", out: "c", workers: 8 }
@@ -82,6 +84,7 @@ help => Usage: camtool <COMMAND>
 help verify => Verifies a program
 verify --help => Usage: camtool verify [OPTIONS] <JOB> <PART> <FILE>
 verify a -h => Usage: camtool verify [OPTIONS] <JOB> <PART> <FILE>
+rest -h => Usage: camtool rest [OPTIONS] <JOB> <PART> <LIST>
 plan -h => Usage: camtool plan [OPTIONS] <JOB> <PART> <OUT>
 drop -h => Usage: camtool drop [OPTIONS] --x <X> --y <Y> <JOB> <PART>
 level -h => Usage: camtool level [OPTIONS] --z <Z> <JOB> <PART>
@@ -118,6 +121,10 @@ verify a b c --workers= => '--workers <W>'
 verify a b c --workers => a value is required for '--workers <W>'
 verify a b c --workers=2 --workers=2 => multiple times
 verify --workers=2 a b => not provided:\n  <FILE>\n
+rest a b => not provided:\n  <LIST>\n
+rest a b c d => unexpected argument 'd'
+rest a b c --workers=0 => 0 is not in 1..=64
+rest a b c --workers=65 => 65 is not in 1..=64
 drop a b --x=1 --y=2 --workers=65 => 65 is not in 1..=64
 plan a b => not provided:\n  <OUT>\n
 plan a b c d => unexpected argument 'd'

@@ -24,7 +24,8 @@ holder_radius = 160
 stickout = 50
 ";
 
-const EXAMPLE: &str = r#"steps = [{ program = "rough.ngc", cutter = "ball", radius = 150 }, { program = "b/2.ngc", cutter = "cone", radius = 100, rise = 16, run = 1 }]"#;
+const EXAMPLE: &str =
+    r#"steps = [{ program = "rough.ngc", cutter = "ball", radius = 150 }, { program = "b/2.ngc", cutter = "cone", radius = 100, rise = 16, run = 1 }]"#;
 
 /// What is said of a list: each step's program and cutter, or the fault.
 fn answer(alloc: Global, text: &[u8], job: &Job) -> Result<String, Fail> {
@@ -43,12 +44,17 @@ fn each_is_answered<R: Abort>(rt: &R, alloc: Global, table: &str) -> Result<(), 
     let job = read_job(alloc, JOB.as_bytes())?;
     for row in table.lines() {
         let (text, says) = text_of_row(alloc, EXAMPLE, row)?;
-        assert_eq!(rt; answer(alloc, text.as_bytes(), &job)?.as_str(), says, "{row}");
+        assert_eq!(rt;
+            answer(alloc, text.as_bytes(), &job)?.as_str(),
+            says,
+            "{row}"
+        );
     }
     Ok(())
 }
 
-const ROWS: &str = r#"steps => steps => rough.ngc by Ball { radius: 150 };b/2.ngc by Cone { radius: 100, rise: 16, run: 1 };
+const ROWS: &str =
+    r#"steps => steps => rough.ngc by Ball { radius: 150 };b/2.ngc by Cone { radius: 100, rise: 16, run: 1 };
 "rough.ngc" => "" =>  by Ball { radius: 150 };b/2.ngc by Cone { radius: 100, rise: 16, run: 1 };
 "ball", radius = 150 => "flat", radius = 159 => rough.ngc by Flat { radius: 159 };b/2.ngc by Cone { radius: 100, rise: 16, run: 1 };
 steps = [{ => [[steps]]\nprogram = "1"\ncutter = "flat"\nradius = 100\n#  => 1 by Flat { radius: 100 };
@@ -61,25 +67,30 @@ steps = [ => steps = { step = 1 } # => wrong kind of steps
 steps = [ => steps = "" # => wrong kind of steps
 steps = [{ => steps = [{ depth = 1 }, { depth = 1 }, 1, { => wrong kind of steps
 run = 1 }] => run = 1 }, []] => wrong kind of steps
+steps = [{ => steps = [0, 0, 0, 0, 0, 0, 0, 0, 0, 0, 0, 0, 0, 0, 0, 0, { => wrong kind of steps
 steps = [ => steps = [] # => steps out of range
+steps = [{ => steps = [{}, {}, {}, {}, {}, {}, {}, {}, {}, {}, {}, {}, {}, {}, {}, { => steps out of range
+steps = [{ => steps = [{}, {}, {}, {}, {}, {}, {}, {}, {}, {}, {}, {}, {}, {}, { => missing program
 rough.ngc", => rough.ngc", floor = 0, => unknown floor
 rough.ngc", => rough.ngc", steps = [], band = 0, => unknown band
-program = "rough.ngc", =>  => missing program
+program = "rough.ngc", cutter = "ball" => cutter = 1 => missing program
 program = "rough.ngc" => program = 1, depth = 1 => unknown depth
 "rough.ngc" => ["rough.ngc"] => wrong kind of program
 "rough.ngc", cutter = "ball" => 1, cutter = 1 => wrong kind of program
-cutter = "ball", =>  => missing cutter
+cutter = "ball", radius = 150 => radius = 0 => missing cutter
 "ball" => 1 => wrong kind of cutter
 "ball", radius = 150 => "disc", radius = 0 => cutter out of range
-, radius = 150 =>  => missing radius
+, radius = 150 => , rise = 0 => missing radius
 150 => 150.0 => wrong kind of radius
 150 => 10001 => radius out of range
 150 => 0, rise = 0 => radius out of range
- rise = 16, =>  => missing rise
-rise = 16 => rise = "16" => wrong kind of rise
+rise = 16, run = 1 => run = 0 => missing rise
+rise = 16, run = 1 => rise = "16" => wrong kind of rise
 rise = 16, run = 1 => rise = 0, run = 0 => rise out of range
-, run = 1 =>  => missing run
+rise = 16, run = 1 => rise = 101, run = "1" => rise out of range
+radius = 100, rise = 16, run = 1 => radius = 99, rise = 17 => missing run
 run = 1 => run = [] => wrong kind of run
+run = 1 => run = 0 => run out of range
 run = 1 => run = 101 => run out of range
 radius = 150 => radius = 99, run = 101 => run out of range
 radius = 150 => radius = 99, rise = 1, run = 1 => cutter doesn't fit rise
@@ -117,7 +128,10 @@ fn takes_16_steps(rt: HostRuntime) -> Result<(), Fail> {
         "steps out of range"
     );
     assert_eq!(rt; answer(alloc, &[b'#', 0xFF], &job)?.as_str(), "syntax");
-    assert_eq!(rt; (Key::Steps.name(), Key::Program.name()), ("steps", "program"));
+    assert_eq!(rt;
+        (Key::Steps.name(), Key::Program.name()),
+        ("steps", "program")
+    );
     Ok(())
 }
 
