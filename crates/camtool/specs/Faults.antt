@@ -1,11 +1,11 @@
 -- The line of a refused word, and of a file that is refused or too long: how it names the first fault.
 use Rattle.std.specs.Prelude.{ℕ, codes, decimal, List, [], ◌∷◌, ◌++◌}
 use Rattle.mill_decimal.specs.Decimals.{canonical}
+use Rattle.mill_line.specs.Lines.{line}
 use Rattle.camtool.specs.declared.file.File.{File}
 use Rattle.camtool.specs.declared.file.File.TheVariants.{Job as JobFile, Part as PartFile, Program as ProgramFile, List as ListFile, StepProgram}
 use Rattle.camtool.specs.declared.load.Unfit.{Unfit}
 use Rattle.camtool.specs.declared.load.Unfit.TheVariants.{TooLong, JobRefused, PartRefused, ListRefused, ProgramRefused, PartTop}
-use Rattle.camtool.specs.Printed.{line}
 use Rattle.camtool.specs.declared.place.Coordinate.{Coordinate}
 use Rattle.camtool.specs.declared.place.Coordinate.TheVariants.{X, Y, Z}
 use Rattle.mill_job.specs.declared.key.Key.{Key}

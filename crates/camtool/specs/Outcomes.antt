@@ -3,13 +3,13 @@ use Rattle.std.specs.Prelude.{◌⊎◌, ◌≡◌, ◌<◌, ℕ, codes, false, 
 use Rattle.mill_io.specs.Contents.{AppendedPart}
 use Rattle.mill_io.specs.Views.{IsWritten, IsPartStored}
 use Rattle.mill_command.specs.Requests.{AsksHelp, IsMistaken, Request, faults, is_taken, request, verify, plan, drop, level, stock, rest, sample}
+use Rattle.mill_line.specs.Lines.{line}
 use Rattle.camtool.specs.declared.file.File.{File}
 use Rattle.camtool.specs.Answers.{Answer, IsAnswer, answer_status, answer_line, answer_file}
 use Rattle.camtool.specs.Calls.{Call, NamedText, Stores}
 use Rattle.camtool.specs.Drop.{HasPlace}
 use Rattle.camtool.specs.Faults.{file_words}
 use Rattle.camtool.specs.Level.{HasHeight}
-use Rattle.camtool.specs.Printed.{line}
 use Rattle.camtool.specs.Rest.{rest_texts, IsReadBeforeRest}
 use Rattle.camtool.specs.Setup.{setup_texts, IsReadBefore, IsReadBeforeWith}
 use Rattle.camtool.specs.Stock.{stock_texts, IsReadBeforeStock}

@@ -14,11 +14,12 @@ use Rattle.mill_verify.specs.Lists.{IsListVerdict}
 use Rattle.mill_verify.specs.Verdicts.{NamesLeaf}
 use Rattle.mill_verify.specs.declared.list.ListVerdict.{ListVerdict}
 use Rattle.mill_verify.specs.declared.list.ListVerdict.TheVariants.{Accept, Reject, Left}
+use Rattle.mill_line.specs.Lines.{line}
 use Rattle.camtool.specs.declared.file.File.{File}
 use Rattle.camtool.specs.declared.file.File.TheVariants.{List as ListFile, StepProgram}
 use Rattle.camtool.specs.declared.load.Unfit.{Unfit}
 use Rattle.camtool.specs.declared.load.Unfit.TheVariants.{TooLong, ListRefused, ProgramRefused}
-use Rattle.camtool.specs.Printed.{column_words, line}
+use Rattle.camtool.specs.Printed.{column_words}
 use Rattle.camtool.specs.Setup.{SetupTexts, setup_texts, AreSetupTold, Fits, IsTooLong, ReadsSetup, IsUnfit, IsReadBefore}
 use Rattle.camtool.specs.Verify.{IsProgramText, IsRefusedProgram, NamesMove, reason_words}
 use Rattle.camtool.specs.Words.{RestFiles}

@@ -8,11 +8,11 @@ use Rattle.mill_job.specs.declared.job.Job.{Job}
 use Rattle.mill_ngc.specs.declared.fault.NgcFault.{NgcFault}
 use Rattle.mill_stl.specs.Written.{ReadsBack, part_text}
 use Rattle.mill_surface.specs.Surfaces.{HasManyTriangles, surface_of}
+use Rattle.mill_line.specs.Lines.{line}
 use Rattle.camtool.specs.declared.file.File.{File}
 use Rattle.camtool.specs.declared.file.File.TheVariants.{Job as JobFile, Program as ProgramFile}
 use Rattle.camtool.specs.declared.load.Unfit.{Unfit}
 use Rattle.camtool.specs.declared.load.Unfit.TheVariants.{TooLong, JobRefused, ProgramRefused}
-use Rattle.camtool.specs.Printed.{line}
 use Rattle.camtool.specs.Setup.{Fits, IsTooLong, IsJobText, IsRefusedJob}
 use Rattle.camtool.specs.Verify.{IsProgramText, IsRefusedProgram}
 

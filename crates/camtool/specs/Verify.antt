@@ -17,11 +17,12 @@ use Rattle.mill_verify.specs.declared.verdict.Verdict.{Verdict}
 use Rattle.mill_verify.specs.declared.verdict.Verdict.TheVariants.{Accept, Reject}
 use Rattle.mill_verify.specs.declared.verdict.Reason.{Reason}
 use Rattle.mill_verify.specs.declared.verdict.Reason.TheVariants.{Floor, Gouge, Holder, Rapid as RapidCut, Cut, HolderStock, Left}
+use Rattle.mill_line.specs.Lines.{line}
 use Rattle.camtool.specs.declared.file.File.{File}
 use Rattle.camtool.specs.declared.file.File.TheVariants.{Program as ProgramFile}
 use Rattle.camtool.specs.declared.load.Unfit.{Unfit}
 use Rattle.camtool.specs.declared.load.Unfit.TheVariants.{TooLong, ProgramRefused}
-use Rattle.camtool.specs.Printed.{column_words, line}
+use Rattle.camtool.specs.Printed.{column_words}
 use Rattle.camtool.specs.Setup.{SetupTexts, setup_texts, AreSetupTold, Fits, IsTooLong, ReadsSetup, IsUnfit, IsReadBefore}
 use Rattle.camtool.specs.Words.{Files}
 
@@ -146,6 +147,11 @@ reason_words unit moves (Left j i top) = codes "left" ∷ column_words unit j i 
 abbrev pub NamesMove : List Move → Reason → Type 0
 NamesMove moves (Floor k) = k < length moves
 NamesMove moves _ = Unit {0}
+
+-- so is that of a verdict
+abbrev pub NamesVerdictMove : List Move → Verdict → Type 0
+NamesVerdictMove moves (Accept count columns left) = Unit {0}
+NamesVerdictMove moves (Reject reason) = NamesMove moves reason
 
 -- the line of a verdict
 abbrev pub verdict_line : Job → List Move → Verdict → List ℕ

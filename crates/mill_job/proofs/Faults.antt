@@ -1,5 +1,5 @@
 -- The first fault of a list.
-use Rattle.std.proofs.Common.{◌≡◌, List, [], ◌∷◌, ◌++◌, Option, Some, None, refl, IfOk, IfErr}
+use Rattle.std.proofs.Common.{◌≡◌, List, [], ◌∷◌, ◌++◌, Option, Some, None, Err, refl, IfOk, IfErr}
 use Rattle.mill_job.specs.Tables.{first, checked}
 use Rattle.mill_job.specs.declared.fault.JobFault.{JobFault}
 
@@ -24,3 +24,7 @@ if_err (Some fault) v = refl
 pub if_ok : {V : Type 0} (fault : Option JobFault) (v : V) (P : V → Type 0) → (fault ≡ None → P v) → IfOk (checked fault v) P
 if_ok None v P h = h refl
 if_ok (Some fault) v P h = tt
+
+-- the first fault of a list is what is told
+pub told : {V : Type 0} (faults : List (Option JobFault)) (fault : JobFault) (v : V) → first faults ≡ Some fault → Err fault ≡ checked (first faults) v
+told faults fault v found = rw found refl

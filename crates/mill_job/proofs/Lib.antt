@@ -1,6 +1,6 @@
+mod AllKeys
 mod Falling
 pub mod Faults
-mod Groups
 mod Holding
 mod InOrder
 mod Meaning

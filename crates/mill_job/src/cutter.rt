@@ -1,10 +1,11 @@
 ghost use Rattle.std.specs.Prelude.{◌≡◌, ◌++◌, pos, IfOk, IfErr, IfSome, IsSome, None, Some};
 ghost use Rattle.mill_base.specs.Sizes.{IsCutter};
-ghost use Rattle.mill_base.specs.declared.limits.TheConstants.{MAX_RADIUS};
 ghost use Rattle.toml.specs.View.{table_view};
 ghost use Rattle.mill_job.specs.Cutters.{cutter_faults, cutter_key_faults, cutter_of, cutter_with, shape_fault, shape_of, slope_fault, slope_faults};
 ghost use Rattle.mill_job.specs.Jobs.{IsFrom};
 ghost use Rattle.mill_job.specs.Tables.{checked, first, number_given};
+ghost use Rattle.mill_job.specs.inner.Groups.{outline_of};
+ghost use Rattle.mill_job.specs.inner.Ranged.{IsOutline};
 
 use crate::fault::JobFault;
 use crate::key::Key;
@@ -62,23 +63,39 @@ pub fn slope(table: &Table, key: Key, shape: Shape) -> Result<Option<i32>, JobFa
     Ok(Some(in_range(number, key, 1, 100)?))
 }
 
-/// The cutter of this shape; only a cone may have a rise and a run, and must have both.
-pub fn cutter(
-    shape: Shape,
-    radius: i32,
-    rise: Option<i32>,
-    run: Option<i32>,
-) -> Result<Cutter, JobFault>
-    requires radius_ok { IsFrom (pos 1) MAX_RADIUS radius }
-    requires rise_ok { IfSome rise (IsFrom (pos 1) (pos 100)) }
-    requires run_ok { IfSome run (IsFrom (pos 1) (pos 100)) }
-    requires has_rise { shape ≡ Shape.Cone → IsSome rise }
-    requires has_run { shape ≡ Shape.Cone → IsSome run }
-    ensures ok { IfOk result (λ cutter. (first (slope_faults shape rise run) ≡ None) × (cutter ≡ cutter_with shape radius rise run)) }
-    ensures err { IfErr result (λ fault. first (slope_faults shape rise run) ≡ Some fault) }
+/// What a document says of its cutter, as long as nothing is wrong with a key of it alone.
+#[derive(Clone, Copy)]
+pub struct Outline {
+    pub shape: Shape,
+    pub radius: i32,
+    pub rise: Option<i32>,
+    pub run: Option<i32>,
+}
+
+/// What the document says of its cutter.
+pub fn outline_in(table: &Table) -> Result<Outline, JobFault>
+    ensures ok { IfOk result (λ outline. (first (cutter_key_faults (table_view table.now)) ≡ None) × (outline ≡ outline_of (table_view table.now))) }
+    ensures err { IfErr result (λ fault. first (cutter_key_faults (table_view table.now)) ≡ Some fault) }
+    ensures in_range { IfOk result IsOutline }
+{
+    let shape = named_shape(table)?;
+    Ok(Outline {
+        shape,
+        radius: number(table, Key::Radius, 1, MAX_RADIUS)?,
+        rise: slope(table, Key::Rise, shape)?,
+        run: slope(table, Key::Run, shape)?,
+    })
+}
+
+/// The cutter of this outline; only a cone may have a rise and a run, and must have both.
+pub fn cutter(outline: Outline) -> Result<Cutter, JobFault>
+    requires { IsOutline outline }
+    ensures ok { IfOk result (λ cutter. (first (slope_faults outline.shape outline.rise outline.run) ≡ None) × (cutter ≡ cutter_with outline.shape outline.radius outline.rise outline.run)) }
+    ensures err { IfErr result (λ fault. first (slope_faults outline.shape outline.rise outline.run) ≡ Some fault) }
     ensures in_range { IfOk result IsCutter }
 {
-    match (shape, rise, run) {
+    let radius = outline.radius;
+    match (outline.shape, outline.rise, outline.run) {
         (Shape::Cone, Some(rise), Some(run)) if rise <= STEEPEST * run => {
             Ok(Cutter::Cone { radius, rise, run })
         }
@@ -103,9 +120,5 @@ pub fn read_cutter(table: &Table) -> Result<Cutter, JobFault>
     ensures value { result ≡ checked (first (cutter_key_faults (table_view table.now) ++ cutter_faults (table_view table.now))) (cutter_of (table_view table.now)) }
     ensures in_range { IfOk result IsCutter }
 {
-    let shape = named_shape(table)?;
-    let radius = number(table, Key::Radius, 1, MAX_RADIUS)?;
-    let rise = slope(table, Key::Rise, shape)?;
-    let run = slope(table, Key::Run, shape)?;
-    cutter(shape, radius, rise, run)
+    cutter(outline_in(table)?)
 }

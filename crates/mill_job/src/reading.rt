@@ -1,101 +1,63 @@
-ghost use Rattle.std.specs.Prelude.{◌≡◌, ◌≤◌, ◌*◌, ◌≤ℤ◌, ◌<ℤ◌, ◌++◌, pos, false, All, IfOk, IfSome, IsTrue, None};
-ghost use Rattle.std.specs.List.{list_all};
-ghost use Rattle.mill_base.specs.Numbers.{Within};
-ghost use Rattle.mill_base.specs.declared.limits.TheConstants.{MAX_COLUMNS};
-ghost use Rattle.mill_base.specs.Units.{greatest_of};
-ghost use Rattle.mill_base.specs.Sizes.{radius_of};
+ghost use Rattle.std.specs.Prelude.{◌≡◌, ◌++◌, IfOk};
 ghost use Rattle.toml.specs.View.{table_view};
-ghost use Rattle.mill_job.specs.Columns.{row_count, column_count};
 ghost use Rattle.mill_job.specs.Cutters.{cutter_faults};
-ghost use Rattle.mill_job.specs.Documents.{GivesJob, has_many_layers as many_layers_in, is_level, job_from, job_with, key_faults, key_faults_in, relation_faults};
-ghost use Rattle.mill_job.specs.Holders.{is_narrow};
-ghost use Rattle.mill_job.specs.Jobs.{HasFewLayers, IsFrom, IsJob, IsLevel};
+ghost use Rattle.mill_job.specs.Documents.{GivesJob, job_from, job_with, key_faults, key_faults_in, relation_faults};
+ghost use Rattle.mill_job.specs.Jobs.{IsJob};
 ghost use Rattle.mill_job.specs.Tables.{checked, first};
-ghost use Rattle.mill_job.specs.inner.Ranged.{IsRanged};
+ghost use Rattle.mill_job.specs.inner.Groups.{job_of_groups};
+ghost use Rattle.mill_job.specs.inner.Ranged.{AreExtras, ArePaths, IsMeasure, IsSpace};
 
-use crate::cutter::{cutter, named_shape, slope};
+use crate::cutter::{cutter, outline_in};
 use crate::document::{first_unknown, read_document};
 use crate::fault::JobFault;
-use crate::fitting::has_narrow_holder;
-use crate::holder::holder;
+use crate::groups::{Extras, Measure, Paths, Space, extras_in, measure_in, paths_in, space_in};
 use crate::job::Job;
-use crate::key::{JOB_KEYS, Key};
-use crate::limits::{MAX_DISTANCE, MAX_LAYERS};
+use crate::key::JOB_KEYS;
 use crate::name::Name;
-use crate::paths::paths_in;
-use crate::positions::count;
-use crate::space::space_in;
-use crate::values::{depth, number, number_if_there, snap, unit};
-use mill_base::{MAX_COLUMNS, MAX_RADIUS, Unit};
+use crate::relations::relation_fault;
+use crate::values::unit;
+use mill_base::{Cutter, Unit};
 use std::alloc::Global;
 use toml::Table;
 
-/// Whether roughing takes off more layers than it may.
-fn has_many_layers(job: &Job) -> bool
-    requires floor_ok { Within (greatest_of job.now.unit) job.now.floor }
-    requires top_ok { Within (greatest_of job.now.unit) job.now.top }
-    requires layer_ok { IsFrom (pos 0) (pos (greatest_of job.now.unit)) job.now.layer }
-    ensures value { result ≡ many_layers_in job.now }
-    ensures no { result ≡ false → HasFewLayers job.now }
+/// The job of these values.
+fn assembled(
+    unit: Unit,
+    cutter: Cutter,
+    space: Space,
+    measure: Measure,
+    paths: Paths,
+    extras: Extras,
+) -> Job
+    requires space_ok { IsSpace unit space }
+    requires measure_ok { IsMeasure measure }
+    requires paths_ok { ArePaths unit paths }
+    requires extras_ok { AreExtras unit extras }
+    ensures { result ≡ job_of_groups unit cutter space measure paths extras }
 {
-    0 < job.layer && MAX_LAYERS * job.layer < job.top - job.floor
-}
-
-/// Whether each level is from the floor on and under the top.
-fn has_levels_in_stock(job: &Job) -> bool
-    ensures value { result ≡ list_all (is_level job.now.floor job.now.top) job.now.levels }
-    ensures yes { IsTrue result → All (IsLevel job.now.floor job.now.top) job.now.levels }
-{
-    job.levels
-        .as_slice()
-        .iter()
-        .all(|level| job.floor <= *level && *level < job.top)
-}
-
-/// How many columns stand over the job's area.
-fn column_total(job: &Job) -> u64
-    requires { IsRanged job.now }
-    ensures { result ≡ row_count job.now * column_count job.now }
-{
-    let rows = count(job.area.y0, job.area.y1, job.pitch);
-    let columns = count(job.area.x0, job.area.x1, job.pitch);
-    u64::from(rows) * u64::from(columns)
-}
-
-/// The first relation between the values of a job that fails.
-fn relation_fault(job: &Job) -> Option<JobFault>
-    requires ranged { IsRanged job.now }
-    ensures value { result ≡ first (relation_faults job.now) }
-    ensures stock { result ≡ None → job.now.floor ≤ℤ job.now.top }
-    ensures over_stock { result ≡ None → job.now.top ≤ℤ job.now.clear }
-    ensures few { result ≡ None → row_count job.now * column_count job.now ≤ MAX_COLUMNS }
-    ensures narrow { result ≡ None → job.now.band ≤ℤ radius_of job.now.cutter }
-    ensures layers { result ≡ None → HasFewLayers job.now }
-    ensures levels { result ≡ None → All (IsLevel job.now.floor job.now.top) job.now.levels }
-    ensures wider { result ≡ None → IfSome job.now.holder (λ holder. radius_of job.now.cutter <ℤ holder.radius) }
-{
-    if job.top < job.floor {
-        return Some(JobFault::Relation(Key::Floor, Key::Top));
+    Job {
+        unit,
+        cutter,
+        floor: space.floor,
+        top: space.top,
+        clear: space.clear,
+        area: space.area,
+        home: space.home,
+        pitch: measure.pitch,
+        sample: measure.sample,
+        allowance: measure.allowance,
+        band: measure.band,
+        lift: paths.lift,
+        raster: paths.raster,
+        rough_raster: paths.rough_raster,
+        layer: paths.layer,
+        rough_stock: paths.rough_stock,
+        levels: paths.levels,
+        snap: extras.snap,
+        max_cut: extras.max_cut,
+        holder: extras.holder,
+        path_tol: extras.path_tol,
     }
-    if job.clear < job.top {
-        return Some(JobFault::Relation(Key::Top, Key::Clear));
-    }
-    if MAX_COLUMNS < column_total(job) {
-        return Some(JobFault::Relation(Key::Area, Key::Pitch));
-    }
-    if job.cutter.radius() < job.band {
-        return Some(JobFault::Relation(Key::Band, Key::Radius));
-    }
-    if has_many_layers(job) {
-        return Some(JobFault::Relation(Key::Layer, Key::Top));
-    }
-    if !has_levels_in_stock(job) {
-        return Some(JobFault::Relation(Key::Levels, Key::Top));
-    }
-    if has_narrow_holder(job, &job.cutter) {
-        return Some(JobFault::Relation(Key::Radius, Key::HolderRadius));
-    }
-    None
 }
 
 /// The job, or the fault if there is one.
@@ -121,44 +83,13 @@ fn job_in(table: &Table, unit: Unit) -> Result<Job, JobFault>
     ensures value { result ≡ checked (first (key_faults_in unit (table_view table.now) ++ cutter_faults (table_view table.now) ++ relation_faults (job_with unit (table_view table.now)))) (job_with unit (table_view table.now)) }
     ensures in_range { IfOk result IsJob }
 {
-    let shape = named_shape(table)?;
-    let radius = number(table, Key::Radius, 1, MAX_RADIUS)?;
-    let rise = slope(table, Key::Rise, shape)?;
-    let run = slope(table, Key::Run, shape)?;
+    let outline = outline_in(table)?;
     let space = space_in(table, unit)?;
-    let pitch = number(table, Key::Pitch, 1, MAX_DISTANCE)?;
-    let sample = number(table, Key::Sample, 1, MAX_DISTANCE)?;
-    let allowance = number(table, Key::Allowance, 0, MAX_DISTANCE)?;
-    let band = number(table, Key::Band, 0, MAX_DISTANCE)?;
-    let paths = paths_in(table, unit, pitch)?;
-    let snap = snap(table)?;
-    let max_cut = depth(table, Key::MaxCut, unit)?;
-    let holder = holder(table, unit)?;
-    let path_tol = number_if_there(table, Key::PathTol, 0, MAX_DISTANCE)?;
-    let cutter = cutter(shape, radius, rise, run)?;
-    let job = Job {
-        unit,
-        cutter,
-        floor: space.floor,
-        top: space.top,
-        clear: space.clear,
-        area: space.area,
-        home: space.home,
-        pitch,
-        sample,
-        allowance,
-        band,
-        lift: paths.lift,
-        raster: paths.raster,
-        rough_raster: paths.rough_raster,
-        layer: paths.layer,
-        rough_stock: paths.rough_stock,
-        levels: paths.levels,
-        snap,
-        max_cut,
-        holder,
-        path_tol,
-    };
+    let measure = measure_in(table)?;
+    let paths = paths_in(table, unit, measure.pitch)?;
+    let extras = extras_in(table, unit)?;
+    let cutter = cutter(outline)?;
+    let job = assembled(unit, cutter, space, measure, paths, extras);
     unless(relation_fault(&job), job)
 }
 

@@ -4,7 +4,8 @@
 //! says, or its first fault with the place in the line, after NISTIR 6556 (RS274/NGC version 3),
 //! 3.3. [`plain_number_behind`] takes the number of one word, for a caller that needs no list of
 //! them, and says how the line goes on behind it. `specs/Marks.antt` defines what of a line stands
-//! outside its blanks and comments, and `specs/Lines.antt` what words that makes.
+//! outside its blanks and comments, `specs/Lines.antt` what words that makes, and `specs/Plain.antt`
+//! which numbers are plain.
 #![tactic(auto)]
 
 mod line;

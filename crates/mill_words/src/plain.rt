@@ -1,13 +1,14 @@
 //! Plain words, which are read at once: a letter, a minus sign or none, digits, and a point with
 //! digits behind it or none.
-ghost use Rattle.std.specs.Prelude.{◌≡◌, ℕ, true, ◌<◌, ◌≤◌, ◌+◌, length, slice_index, IfSome, IsTrue};
+ghost use Rattle.std.specs.Prelude.{◌≡◌, ◌↔◌, ℕ, true, ◌<◌, ◌≤◌, ◌+◌, length, slice_index, IfSome, IsSome, IsTrue};
 ghost use Rattle.std.specs.Char.{is_ascii_alphabetic, to_ascii_uppercase};
 ghost use Rattle.mill_words.specs.Lines.{EndsWord, and_word, is_word_letter, line_from, opened_at};
 ghost use Rattle.mill_words.specs.Words.{Line, FitsNum};
+ghost use Rattle.mill_words.specs.Plain.{IsPlainNumber, blank_end, digits_end, has_at, number_end};
 ghost use Rattle.mill_words.specs.declared.marks.Region.TheVariants.{Outside};
 ghost use Rattle.mill_words.specs.declared.stage.Stage.{Stage};
 ghost use Rattle.mill_words.specs.declared.stage.Stage.TheVariants.{Between, InWord};
-ghost use Rattle.mill_words.specs.inner.Places.{rest_of, numbered_word, with_word, DigitsTo};
+ghost use Rattle.mill_words.specs.inner.Places.{rest_of, numbered_word, with_word, DigitsTo, IsPlainWord};
 
 use crate::line_words::{LineWords, MOST_WORDS};
 use crate::marks::is_blank;
@@ -32,13 +33,15 @@ pub struct LetterNumber {
     pub end: usize,
 }
 
-/// The number of the word whose letter stands at a place, if it is plain: a minus sign or none, 1 to
-/// 18 digits, a point before, among or behind them or none, and behind all that a blank or none.
+/// The number of the word whose letter stands at a place, if it is plain: a minus sign or none, and
+/// 1 to 18 digits, with a point before, among or behind them or none. It ends behind the blank that
+/// stands behind it, if one does.
 ///
-/// Where a letter stands at its end, or the line ends there, the line says that word and goes on
-/// there: `word` tells it of a letter other than `N`, behind at most 31 words. Where any other byte
-/// stands there, or the answer is none, nothing is said of the line, and [`read_line_into`] is to
-/// read it.
+/// The answer is none only where the number isn't plain: `plain` and `end` tell that, and where it
+/// ends. Where a letter stands at its end, or the line ends there, the line says that word and goes
+/// on there: `word` tells it of a letter other than `N`, behind at most 31 words. Where any other
+/// byte stands there, or the answer is none, nothing is said of the line, and [`read_line_into`] is
+/// to read it.
 ///
 /// [`read_line_into`]: crate::read_line_into
 #[inline(always)]
@@ -47,6 +50,8 @@ pub fn plain_number_behind(line: &[u8], place: usize) -> Option<LetterNumber>
     ensures word { IfSome result (λ n. (l : Line) → is_word_letter (slice_index line.now place) ≡ true → length l.words < 32 → EndsWord line.now n.end →
         line_from l line.now place ≡ line_from (and_word l (to_ascii_uppercase (slice_index line.now place)) n.num) line.now n.end) }
     ensures fits { IfSome result (λ n. FitsNum 18 n.num) }
+    ensures plain { IsSome result ↔ IsPlainNumber line.now (place + 1) }
+    ensures end { IfSome result (λ n. n.end ≡ blank_end line.now (number_end line.now (place + 1))) }
     ensures forward { IfSome result (λ n. place < n.end) }
     ensures within { IfSome result (λ n. n.end ≤ length line.now) }
 {
@@ -69,6 +74,7 @@ pub(crate) fn take_plain_words(line: &[u8], from: usize, words: &mut LineWords) 
     requires within { from < length line.now }
     requires letter { is_ascii_alphabetic (slice_index line.now from) ≡ true }
     ensures same { rest_of Outside Between words.new line.now result ≡ rest_of Outside Between words.old line.now from }
+    ensures stops { result < length line.now → IsPlainWord (length words.new.words) line.now result → ⊥ }
     ensures forward { from ≤ result }
     ensures within { result ≤ length line.now }
 {
@@ -88,6 +94,7 @@ fn take_plain_word(line: &[u8], place: usize, words: &mut LineWords) -> usize
     requires within { place < length line.now }
     requires letter { is_ascii_alphabetic (slice_index line.now place) ≡ true }
     ensures same { rest_of Outside Between words.new line.now result ≡ rest_of Outside Between words.old line.now place }
+    ensures stops { result ≡ place → IsPlainWord (length words.new.words) line.now place → ⊥ }
     ensures forward { place ≤ result }
     ensures within { result ≤ length line.now }
     ensures letter { result < length line.now → is_ascii_alphabetic (slice_index line.now result) ≡ true }
@@ -120,6 +127,7 @@ fn word_end(line: &[u8], place: usize) -> Option<usize>
     requires within { place ≤ length line.now }
     ensures same { IfSome result (λ end. (w : OpenWord) (l : Line) → 0 < w.digits →
         rest_of Outside (InWord w) l line.now place ≡ rest_of Outside Between (with_word w l) line.now end) }
+    ensures ends { IsSome result ↔ EndsWord line.now (blank_end line.now place) }
     ensures forward { IfSome result (λ end. place ≤ end) }
     ensures within { IfSome result (λ end. end ≤ length line.now) }
     ensures letter { IfSome result (λ end. end < length line.now → is_ascii_alphabetic (slice_index line.now end) ≡ true) }
@@ -135,6 +143,7 @@ fn word_end(line: &[u8], place: usize) -> Option<usize>
 fn behind_blank(line: &[u8], place: usize) -> usize
     requires within { place ≤ length line.now }
     ensures same { (s : Stage) (l : Line) → rest_of Outside s l line.now place ≡ rest_of Outside s l line.now result }
+    ensures end { result ≡ blank_end line.now place }
     ensures forward { place ≤ result }
     ensures within { result ≤ length line.now }
 {
@@ -153,6 +162,7 @@ fn behind_blank(line: &[u8], place: usize) -> usize
 fn behind_any_blank(line: &[u8], place: usize) -> usize
     requires within { place ≤ length line.now }
     ensures same { (s : Stage) (l : Line) → rest_of Outside s l line.now place ≡ rest_of Outside s l line.now result }
+    ensures end { result ≡ blank_end line.now place }
     ensures forward { place ≤ result }
     ensures within { result ≤ length line.now }
 {
@@ -163,6 +173,7 @@ fn behind_any_blank(line: &[u8], place: usize) -> usize
 }
 
 // The number at a place, if it has 1 to 18 digits.
+#[tactic(auto, unfolding(crate::specs::Plain::number_end, crate::specs::Plain::number_digits))]
 fn number_at(line: &[u8], from: usize) -> Option<PlainNumber>
     requires within { from ≤ length line.now }
     ensures same { IfSome result (λ n. (letter place : ℕ) (l : Line) → rest_of Outside (InWord (opened_at letter place)) l line.now from
@@ -170,6 +181,8 @@ fn number_at(line: &[u8], from: usize) -> Option<PlainNumber>
     ensures some { IfSome result (λ n. 0 < n.digits) }
     ensures few { IfSome result (λ n. n.digits ≤ 18) }
     ensures fits { IfSome result (λ n. FitsNum n.digits n.num) }
+    ensures plain { IsSome result ↔ IsPlainNumber line.now from }
+    ensures end { IfSome result (λ n. n.end ≡ number_end line.now from) }
     ensures forward { IfSome result (λ n. from ≤ n.end) }
     ensures within { IfSome result (λ n. n.end ≤ length line.now) }
 {
@@ -211,6 +224,7 @@ fn number_at(line: &[u8], from: usize) -> Option<PlainNumber>
 
 fn has_byte(line: &[u8], place: usize, byte: u8) -> bool
     requires within { place ≤ length line.now }
+    ensures value { result ≡ has_at byte line.now place }
     ensures within { IsTrue result → place < length line.now }
     ensures byte { IsTrue result → slice_index line.now place ≡ byte }
 {
@@ -222,6 +236,7 @@ fn has_byte(line: &[u8], place: usize, byte: u8) -> bool
 fn digits_at(line: &[u8], from: usize, front: u64) -> (u64, usize)
     requires { from ≤ length line.now }
     ensures digits { DigitsTo line.now from result.1 front result.0 }
+    ensures end { result.1 ≡ digits_end line.now from }
     ensures forward { from ≤ result.1 }
     ensures within { result.1 ≤ length line.now }
 {

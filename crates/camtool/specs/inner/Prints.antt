@@ -149,10 +149,6 @@ pub record ShowsStock (c : Cutting) (name : List ℕ) (call : Call) : Type 0 whe
 abbrev pub ShowsStockOr : Cutting → List ℕ → Call → Type 0
 ShowsStockOr c name call = ShowsStock c name call ⊎ Shows call no_memory
 
--- the beginning of a sample's line: its size, and how many triangles it has
-abbrev pub sample_start : ℕ → List ℕ
-sample_start n = codes "sample " ++ decimal n ++ codes " triangles " ++ decimal (2 * n * n)
-
 -- the planner's answer to the sample part of a size is printed, or that memory was short
 pub record PrintsSample (n status : ℕ) (sink sink_after : SinkView) : Type 0 where
   pub answer : PlanAnswer

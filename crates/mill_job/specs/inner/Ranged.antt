@@ -1,13 +1,19 @@
 -- What is known of a job's values before its relations are.
-use Rattle.std.specs.Prelude.{◌≤◌, ℤ, pos, ◌<ℤ◌, List, length, AllPairs}
+use Rattle.std.specs.Prelude.{◌≡◌, ◌≤◌, ℤ, pos, ◌<ℤ◌, List, length, AllPairs, IfSome, IsSome}
 use Rattle.mill_base.specs.Numbers.{Within}
+use Rattle.mill_base.specs.Tools.{IsHolder}
 use Rattle.mill_base.specs.Units.{greatest_of}
+use Rattle.mill_base.specs.declared.limits.TheConstants.{MAX_RADIUS}
 use Rattle.mill_job.specs.Jobs.{IsFrom}
 use Rattle.mill_job.specs.Tables.{IsArea, IsPlace}
+use Rattle.mill_job.specs.declared.cutter.Outline.{Outline}
+use Rattle.mill_job.specs.declared.cutter.Shape.TheVariants as shape
+use Rattle.mill_job.specs.declared.groups.Extras.{Extras}
 use Rattle.mill_job.specs.declared.job.Job.{Job}
 use Rattle.mill_job.specs.declared.limits.TheConstants.{MAX_DISTANCE, MAX_LEVELS}
-use Rattle.mill_job.specs.declared.paths.Paths.{Paths}
-use Rattle.mill_job.specs.declared.space.Space.{Space}
+use Rattle.mill_job.specs.declared.groups.Measure.{Measure}
+use Rattle.mill_job.specs.declared.groups.Paths.{Paths}
+use Rattle.mill_job.specs.declared.groups.Space.{Space}
 use Rattle.mill_base.specs.declared.unit.Unit.{Unit}
 
 -- the numbers with which the relations are reckoned are in their ranges
@@ -23,6 +29,14 @@ pub record AreInOrder (heights : List ℤ) : Type 0 where
   pub few : length heights ≤ MAX_LEVELS
   pub falling : AllPairs (λ before after. after <ℤ before) heights
 
+-- each value is in the range of its key, and a cone has a rise and a run
+pub record IsOutline (outline : Outline) : Type 0 where
+  pub radius_ok : IsFrom (pos 1) MAX_RADIUS outline.radius
+  pub rise_ok : IfSome outline.rise (IsFrom (pos 1) (pos 100))
+  pub run_ok : IfSome outline.run (IsFrom (pos 1) (pos 100))
+  pub has_rise : outline.shape ≡ shape.Cone → IsSome outline.rise
+  pub has_run : outline.shape ≡ shape.Cone → IsSome outline.run
+
 -- each value is in the range of its key
 pub record IsSpace (unit : Unit) (space : Space) : Type 0 where
   pub floor_ok : Within (greatest_of unit) space.floor
@@ -31,6 +45,12 @@ pub record IsSpace (unit : Unit) (space : Space) : Type 0 where
   pub area_ok : IsArea unit space.area
   pub home_ok : IsPlace unit space.home
 
+pub record IsMeasure (measure : Measure) : Type 0 where
+  pub pitch_ok : IsFrom (pos 1) MAX_DISTANCE measure.pitch
+  pub sample_ok : IsFrom (pos 1) MAX_DISTANCE measure.sample
+  pub allowance_ok : IsFrom (pos 0) MAX_DISTANCE measure.allowance
+  pub band_ok : IsFrom (pos 0) MAX_DISTANCE measure.band
+
 pub record ArePaths (unit : Unit) (paths : Paths) : Type 0 where
   pub lift_ok : IsFrom (pos 0) MAX_DISTANCE paths.lift
   pub raster_ok : IsFrom (pos 1) MAX_DISTANCE paths.raster
@@ -38,3 +58,8 @@ pub record ArePaths (unit : Unit) (paths : Paths) : Type 0 where
   pub layer_ok : IsFrom (pos 0) (pos (greatest_of unit)) paths.layer
   pub rough_stock_ok : IsFrom (pos 0) MAX_DISTANCE paths.rough_stock
   pub levels_ok : AreInOrder paths.levels
+
+pub record AreExtras (unit : Unit) (extras : Extras) : Type 0 where
+  pub max_cut_ok : IsFrom (pos 0) (pos (greatest_of unit)) extras.max_cut
+  pub holder_ok : IfSome extras.holder IsHolder
+  pub path_tol_ok : IfSome extras.path_tol (IsFrom (pos 0) MAX_DISTANCE)

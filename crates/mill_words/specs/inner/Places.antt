@@ -1,5 +1,5 @@
 -- What a line says from one of its places on.
-use Rattle.std.specs.Prelude.{◌≡◌, ℕ, ◌+◌, ◌<◌, ◌≤◌, ◌^◌, Bool, true, false, not, ◌&&◌, ◌==◌, List, [], ◌∷◌, ◌++◌, drop, Result}
+use Rattle.std.specs.Prelude.{◌≡◌, ℕ, ◌+◌, ◌<◌, ◌≤◌, ◌^◌, Bool, true, false, not, ◌&&◌, ◌==◌, List, [], ◌∷◌, ◌++◌, drop, slice_index, Result}
 use Rattle.std.specs.Char.{is_ascii_alphabetic, to_ascii_uppercase}
 use Rattle.mill_words.specs.declared.word.WordFault.{WordFault}
 use Rattle.mill_words.specs.declared.marks.Region.{Region}
@@ -10,7 +10,8 @@ use Rattle.mill_words.specs.declared.stage.Stage.{Stage}
 use Rattle.mill_words.specs.declared.stage.Stage.TheVariants.{InLineNumber, InWord}
 use Rattle.mill_words.specs.Words.{Line}
 use Rattle.mill_words.specs.Marks.{marks_from}
-use Rattle.mill_words.specs.Lines.{read_marks}
+use Rattle.mill_words.specs.Lines.{read_marks, is_word_letter, EndsWord}
+use Rattle.mill_words.specs.Plain.{IsPlainNumber, blank_end, number_end}
 
 -- from the place p on, which stands in this region, where this has begun and that stands before it
 abbrev pub rest_of : Region → Stage → Line → List ℕ → ℕ → Result Line WordFault
@@ -39,6 +40,13 @@ numbered_word letter place n = plain_word letter place n.num.neg n.num.mant n.nu
 -- the line with one word more
 abbrev pub with_word : OpenWord → Line → Line
 with_word w line = record line { words = line.words ++ record { letter = w.letter; num = w.num } ∷ [] }
+
+-- a plain word that ends stands at the place p, and has room behind n others
+pub record IsPlainWord (n : ℕ) (bytes : List ℕ) (p : ℕ) : Type 0 where
+  pub letter : is_word_letter (slice_index bytes p) ≡ true
+  pub room : n < 32
+  pub number : IsPlainNumber bytes (p + 1)
+  pub ends : EndsWord bytes (blank_end bytes (number_end bytes (p + 1)))
 
 -- the bytes from a place up to another are digits: behind `before` digits of the number `front` they make this value, where all of them are at most 18
 pub record DigitsTo (bytes : List ℕ) (from end front value : ℕ) : Type 0 where

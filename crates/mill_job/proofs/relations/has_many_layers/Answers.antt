@@ -2,7 +2,7 @@ use Rattle.std.proofs.Common.{◌≡◌, true, false, refl, arith, rules}
 use Rattle.std.proofs.lemmas.Int.{ints}
 use Rattle.std.specs.Prelude.{pos, ◌-ℤ◌, ◌*ℤ◌, int_lt}
 use Rattle.mill_job.proofs.Stored.{stored_layers, stored_height}
-use Rattle.mill_job.proofs.reading.has_many_layers.Goals as goal
+use Rattle.mill_job.proofs.relations.has_many_layers.Goals as goal
 
 -- Neither the product nor the difference leaves its type.
 pub returns-then-job-gt0-clause-value : goal.returns-then-job-gt0-clause-value

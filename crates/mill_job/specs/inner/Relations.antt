@@ -1,0 +1,47 @@
+-- A job's relations, in two parts: what is wrong, and what holds where nothing is.
+use Rattle.std.specs.Prelude.{◌*◌, ◌≤◌, nat_lt, not, All, ◌<ℤ◌, ◌≤ℤ◌, int_lt, List, [], ◌∷◌, Option, IfSome}
+use Rattle.std.specs.List.{list_all}
+use Rattle.mill_base.specs.Sizes.{radius_of}
+use Rattle.mill_base.specs.declared.limits.TheConstants.{MAX_COLUMNS}
+use Rattle.mill_job.specs.Columns.{row_count, column_count}
+use Rattle.mill_job.specs.Documents.{has_many_layers, is_level}
+use Rattle.mill_job.specs.Holders.{is_narrow}
+use Rattle.mill_job.specs.Jobs.{HasFewLayers, IsLevel}
+use Rattle.mill_job.specs.Tables.{fault_if}
+use Rattle.mill_job.specs.declared.job.Job.{Job}
+use Rattle.mill_job.specs.declared.key.Key.TheVariants as key
+use Rattle.mill_job.specs.declared.fault.JobFault.{JobFault}
+use Rattle.mill_job.specs.declared.fault.JobFault.TheVariants.{Relation}
+
+-- between its heights, and of its area and its pitch
+abbrev pub stock_faults : Job → List (Option JobFault)
+stock_faults job =
+    fault_if (int_lt job.top job.floor) (Relation key.Floor key.Top)
+    ∷ fault_if (int_lt job.clear job.top) (Relation key.Top key.Clear)
+    ∷ fault_if (nat_lt MAX_COLUMNS (row_count job * column_count job)) (Relation key.Area key.Pitch)
+    ∷ []
+
+pub record IsStock (job : Job) : Type 0 where
+  pub stock : job.floor ≤ℤ job.top
+  pub over_stock : job.top ≤ℤ job.clear
+  pub few : (row_count job * column_count job) ≤ MAX_COLUMNS
+
+-- between how is cut and the cutter, the stock or the holder
+abbrev pub cut_faults : Job → List (Option JobFault)
+cut_faults job =
+    fault_if (int_lt (radius_of job.cutter) job.band) (Relation key.Band key.Radius)
+    ∷ fault_if (has_many_layers job) (Relation key.Layer key.Top)
+    ∷ fault_if (not (list_all (is_level job.floor job.top) job.levels)) (Relation key.Levels key.Top)
+    ∷ fault_if (is_narrow (radius_of job.cutter) job.holder) (Relation key.Radius key.HolderRadius)
+    ∷ []
+
+pub record IsCut (job : Job) : Type 0 where
+  pub narrow : job.band ≤ℤ radius_of job.cutter
+  pub layers : HasFewLayers job
+  pub levels : All (IsLevel job.floor job.top) job.levels
+  pub wider : IfSome job.holder (λ holder. radius_of job.cutter <ℤ holder.radius)
+
+-- all of them hold
+pub record IsRelated (job : Job) : Type 0 where
+  pub of_stock : IsStock job
+  pub of_cut : IsCut job

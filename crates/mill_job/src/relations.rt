@@ -1,0 +1,102 @@
+ghost use Rattle.std.specs.Prelude.{◌≡◌, ◌*◌, pos, false, All, IsTrue, None};
+ghost use Rattle.std.specs.List.{list_all};
+ghost use Rattle.mill_base.specs.Numbers.{Within};
+ghost use Rattle.mill_base.specs.Units.{greatest_of};
+ghost use Rattle.mill_job.specs.Columns.{row_count, column_count};
+ghost use Rattle.mill_job.specs.Documents.{has_many_layers as many_layers_in, is_level, relation_faults};
+ghost use Rattle.mill_job.specs.Jobs.{HasFewLayers, IsFrom, IsLevel};
+ghost use Rattle.mill_job.specs.Tables.{first};
+ghost use Rattle.mill_job.specs.inner.Relations.{IsCut, IsRelated, IsStock, cut_faults, stock_faults};
+ghost use Rattle.mill_job.specs.inner.Ranged.{IsRanged};
+
+use crate::fault::JobFault;
+use crate::fitting::has_narrow_holder;
+use crate::job::Job;
+use crate::key::Key;
+use crate::limits::MAX_LAYERS;
+use crate::positions::count;
+use mill_base::MAX_COLUMNS;
+
+/// Whether roughing takes off more layers than it may.
+fn has_many_layers(job: &Job) -> bool
+    requires floor_ok { Within (greatest_of job.now.unit) job.now.floor }
+    requires top_ok { Within (greatest_of job.now.unit) job.now.top }
+    requires layer_ok { IsFrom (pos 0) (pos (greatest_of job.now.unit)) job.now.layer }
+    ensures value { result ≡ many_layers_in job.now }
+    ensures no { result ≡ false → HasFewLayers job.now }
+{
+    0 < job.layer && MAX_LAYERS * job.layer < job.top - job.floor
+}
+
+/// Whether each level is from the floor on and under the top.
+fn has_levels_in_stock(job: &Job) -> bool
+    ensures value { result ≡ list_all (is_level job.now.floor job.now.top) job.now.levels }
+    ensures yes { IsTrue result → All (IsLevel job.now.floor job.now.top) job.now.levels }
+{
+    job.levels
+        .as_slice()
+        .iter()
+        .all(|level| job.floor <= *level && *level < job.top)
+}
+
+/// How many columns stand over the job's area.
+fn column_total(job: &Job) -> u64
+    requires { IsRanged job.now }
+    ensures { result ≡ row_count job.now * column_count job.now }
+{
+    let rows = count(job.area.y0, job.area.y1, job.pitch);
+    let columns = count(job.area.x0, job.area.x1, job.pitch);
+    u64::from(rows) * u64::from(columns)
+}
+
+/// The first relation that fails between a job's heights, or of its area and its pitch.
+fn stock_fault(job: &Job) -> Option<JobFault>
+    requires { IsRanged job.now }
+    ensures value { result ≡ first (stock_faults job.now) }
+    ensures none { result ≡ None → IsStock job.now }
+{
+    if job.top < job.floor {
+        return Some(JobFault::Relation(Key::Floor, Key::Top));
+    }
+    if job.clear < job.top {
+        return Some(JobFault::Relation(Key::Top, Key::Clear));
+    }
+    if MAX_COLUMNS < column_total(job) {
+        return Some(JobFault::Relation(Key::Area, Key::Pitch));
+    }
+    None
+}
+
+/// The first relation that fails between how a job's stock is cut and its cutter, its stock or its
+/// holder.
+fn cut_fault(job: &Job) -> Option<JobFault>
+    requires { IsRanged job.now }
+    ensures value { result ≡ first (cut_faults job.now) }
+    ensures none { result ≡ None → IsCut job.now }
+{
+    if job.cutter.radius() < job.band {
+        return Some(JobFault::Relation(Key::Band, Key::Radius));
+    }
+    if has_many_layers(job) {
+        return Some(JobFault::Relation(Key::Layer, Key::Top));
+    }
+    if !has_levels_in_stock(job) {
+        return Some(JobFault::Relation(Key::Levels, Key::Top));
+    }
+    if has_narrow_holder(job, &job.cutter) {
+        return Some(JobFault::Relation(Key::Radius, Key::HolderRadius));
+    }
+    None
+}
+
+/// The first relation between the values of a job that fails.
+pub fn relation_fault(job: &Job) -> Option<JobFault>
+    requires { IsRanged job.now }
+    ensures value { result ≡ first (relation_faults job.now) }
+    ensures none { result ≡ None → IsRelated job.now }
+{
+    match stock_fault(job) {
+        Some(fault) => Some(fault),
+        None => cut_fault(job),
+    }
+}
