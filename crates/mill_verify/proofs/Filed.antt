@@ -11,7 +11,7 @@ use Rattle.mill_job.specs.Columns.{IsColumn}
 use Rattle.mill_job.specs.Jobs.{IsJob}
 use Rattle.mill_dexel.specs.Rows.{RowState}
 use Rattle.mill_dexel.specs.Stocks.{AreSame, IsStockOf, ShowsStock}
-use Rattle.mill_dexel.specs.Tops.{Stock, stock_after, uncut}
+use Rattle.mill_dexel.specs.Tops.{Stock, uncut}
 use Rattle.mill_dexel.proofs.SameStocks.{shown_same, shows_same}
 use Rattle.mill_dexel.proofs.TopLaws.{stock_stays, uncut_stays}
 use Rattle.mill_verify.specs.Files.{File, IsFileOf, after_file, after_files, file_at, job_of, stock_before}

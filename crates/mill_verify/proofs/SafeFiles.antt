@@ -1,39 +1,32 @@
 -- Accepted files cut safely, each from the stock on that those before it left.
-use Rattle.std.specs.Prelude.{◌≡◌, ◌⊎◌, ℕ, ◌<◌, ℤ, pos, ◌<ℤ◌, ◌≤ℤ◌, List, [], ◌∷◌, ◌++◌, All, Contains, fold, length, take, drop, int_lt, Bool, true, false, refl}
-use Rattle.std.proofs.Common.{sym, subst, ap, inl, inr, arith, ◌∙◌}
+use Rattle.std.specs.Prelude.{◌≡◌, ◌⊎◌, ℕ, ◌<◌, ℤ, ◌<ℤ◌, ◌≤ℤ◌, List, [], ◌∷◌, All, Contains, length, take, drop, int_lt, Bool, true, false, refl}
+use Rattle.std.proofs.Common.{sym, subst, inl, inr, arith, ◌∙◌}
 use Rattle.std.proofs.lemmas.Int.{ints}
 use Rattle.std.proofs.lemmas.List.{take-append-drop}
 use Rattle.std.proofs.lemmas.List.Elements.{Contains-append_left, Contains-append_right}
-use Rattle.std.proofs.lemmas.List.Sums.{fold-append}
 use Rattle.mill_base.specs.Contact.{IsRemoved}
-use Rattle.mill_base.specs.Covers.{CoveredBelow}
 use Rattle.mill_base.specs.Points.{point_at}
-use Rattle.mill_base.specs.Ranges.{MovesInRange}
 use Rattle.mill_base.specs.Sizes.{IsCutter}
-use Rattle.mill_base.specs.declared.motion.Move.{Move}
 use Rattle.mill_base.specs.declared.points.Pt3.{Pt3}
 use Rattle.mill_base.specs.declared.points.Tri.{Tri}
-use Rattle.mill_sweep.specs.Holders.{HolderIsClear, HolderKeepsPoint}
-use Rattle.mill_sweep.specs.Moments.{PassingIsClear, PassingKeepsPoint}
 use Rattle.mill_job.specs.declared.job.Job.{Job}
 use Rattle.mill_job.specs.Columns.{column_x, column_y}
 use Rattle.mill_job.specs.Jobs.{IsJob}
-use Rattle.mill_dexel.specs.Laws.{PassedIsLeft}
-use Rattle.mill_dexel.specs.Tops.{Stock, stock_after, uncut}
+use Rattle.mill_dexel.specs.Tops.{Stock, uncut}
 use Rattle.mill_dexel.proofs.Removal.{moves_remove, passed_is_left}
 use Rattle.mill_shape.proofs.Over.{holds_over}
 use Rattle.mill_part.proofs.Below.{covered_below}
 use Rattle.mill_sweep.proofs.Halves.{passing_is_clear}
 use Rattle.mill_sweep.proofs.Holding.{holder_is_clear, holder_keeps_point}
 use Rattle.mill_sweep.proofs.Lower.{passing_keeps_point}
-use Rattle.mill_verify.specs.Claims.{IsColumnPoint, NeverGouges, PointsMet}
+use Rattle.mill_verify.specs.Claims.{NeverGouges}
 use Rattle.mill_verify.specs.Files.{File, IsFileOf, after_file, after_files, file_at, job_of, stock_before}
-use Rattle.mill_verify.specs.ListClaims.{FileCutsSafely, FilesCutSafely, IsRemovedBy, files_to, left_by, met_by}
+use Rattle.mill_verify.specs.ListClaims.{FileCutsSafely, FilesCutSafely, IsRemovedBy, left_by, met_by}
 use Rattle.mill_verify.specs.Lists.{AcceptsFiles, IsGoodFile, IsListVerdict}
 use Rattle.mill_verify.specs.Tests.{stock_met}
 use Rattle.mill_verify.specs.declared.list.ListVerdict.{ListVerdict}
 use Rattle.mill_verify.specs.declared.list.ListVerdict.TheVariants as list
-use Rattle.mill_verify.proofs.Filed.{before_stays, column_back, file_ok, file_read, stock_as}
+use Rattle.mill_verify.proofs.Filed.{before_stays, file_ok, file_read, stock_as}
 use Rattle.mill_verify.proofs.Safe.{AreUnderTop, are_covered, keeps_clear, keeps_depth, keeps_part, never_gouges, rapids_miss}
 
 -- the job keeps its relations with a file's cutter

@@ -1,5 +1,5 @@
 -- There is at most one verdict on files in turn, and for one file it is that on its program.
-use Rattle.std.specs.Prelude.{◌≡◌, ℕ, zero, suc, ◌+◌, ◌<◌, ℤ, List, [], ◌∷◌, length, refl}
+use Rattle.std.specs.Prelude.{◌≡◌, ℕ, zero, suc, ◌+◌, ℤ, List, [], ◌∷◌, length, refl}
 use Rattle.std.proofs.Common.{sym, ◌∙◌, ap, subst, arith}
 use Rattle.mill_base.specs.declared.points.Tri.{Tri}
 use Rattle.mill_job.specs.declared.job.Job.{Job}
@@ -8,7 +8,7 @@ use Rattle.mill_dexel.proofs.RunLaws.{same_number}
 use Rattle.mill_verify.specs.Files.{File, after_files, file_at, job_of, stock_before}
 use Rattle.mill_verify.specs.Lists.{AcceptsFiles, AloneIsVerdict, GoodFilesBefore, IsGoodFile, IsListVerdict, LeavesUncut, OneListVerdict, RejectsFile, of_reason, of_verdict}
 use Rattle.mill_verify.specs.Tests.{GoodBeforeOn}
-use Rattle.mill_verify.specs.Verdicts.{AcceptsOn, FailsCutOn, IsFirstUncut, IsLeftOverOn, IsMostLeftOn, IsOfMove, IsRejection, IsRejectionOn, IsVerdict}
+use Rattle.mill_verify.specs.Verdicts.{AcceptsOn, IsFirstUncut, IsLeftOverOn, IsMostLeftOn, IsOfMove, IsRejection, IsVerdict}
 use Rattle.mill_verify.specs.declared.list.ListVerdict.{ListVerdict}
 use Rattle.mill_verify.specs.declared.list.ListVerdict.TheVariants as list
 use Rattle.mill_verify.specs.declared.verdict.Reason.{Reason}

@@ -1,5 +1,5 @@
 -- What accepted files do, at every fraction of every move.
-use Rattle.std.specs.Prelude.{ℕ, ◌<◌, pos, List, [], ◌∷◌, ◌++◌, Contains, length, take}
+use Rattle.std.specs.Prelude.{ℕ, ◌<◌, List, [], ◌∷◌, ◌++◌, Contains, length, take}
 use Rattle.mill_base.specs.Contact.{IsRemoved}
 use Rattle.mill_base.specs.Points.{point_at}
 use Rattle.mill_base.specs.declared.points.Pt3.{Pt3}
