@@ -13,3 +13,4 @@ pub mod Lengths
 pub mod Outcomes
 pub mod Headlines
 pub mod Named
+mod Parts

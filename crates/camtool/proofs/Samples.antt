@@ -33,7 +33,7 @@ use Rattle.camtool.specs.declared.load.Setup.{Setup}
 use Rattle.camtool.specs.Answers.{sampled}
 use Rattle.camtool.specs.Calls.{Call}
 use Rattle.camtool.specs.inner.Loads.{IsSample, IsSize}
-use Rattle.camtool.specs.inner.Prints.{PrintsMade, PrintsPlanFault, TriesSample, sample_start}
+use Rattle.camtool.specs.inner.Prints.{PrintsMade, PrintsPlanFault, TriesSample}
 use Rattle.camtool.specs.Outcomes.{no_memory, Serves}
 use Rattle.camtool.specs.Sample.{sample_node, sample_square, sample_row, sample_part, sample_job, sample_line}
 use Rattle.camtool.proofs.Serving.{same_store, answer_serves, answer_shows, made_prints, printed_shows}
@@ -177,18 +177,6 @@ sample_ready n s size job_is part_is = record {
   };
 }
 
--- ---- the line
-
-joined : (w a x b y d z e u f t : List ℕ) → (((((((((w ++ a) ++ x) ++ b) ++ y) ++ d) ++ z) ++ e) ++ u) ++ f) ++ t ≡ w ++ (a ++ (x ++ (b ++ (y ++ (d ++ (z ++ (e ++ (u ++ (f ++ t)))))))))
-joined w a x b y d z e u f t = simp append_assoc
-
--- the pieces of a sample's line are the line
-pub line_joined : (n moves columns : ℕ) (left : ℤ) (program : List ℕ)
-    → ((((((sample_start n ++ codes " columns ") ++ decimal columns) ++ codes " moves ") ++ decimal moves) ++ codes " left ") ++ canonical Hundredth left) ++ codes "\n"
-    ≡ sample_line n (done program moves columns left)
-line_joined n moves columns left program =
-    joined (codes "sample ") (decimal n) (codes " triangles ") (decimal (2 * n * n)) (codes " columns ") (decimal columns) (codes " moves ") (decimal moves) (codes " left ") (canonical Hundredth left) (codes "\n")
-
 -- ---- the work
 
 ok_is : {A E : Type 0} (a b : A) → (let r : Result A E = Ok a in r) ≡ Ok b → a ≡ b
@@ -220,16 +208,16 @@ accept_is a b d e x y h = (cc, cc, cc)
 -- the verdict's numbers are the plan's, and are printed
 pub verdict_tries : (n status : ℕ) (sink sink_after : SinkView) (s : Setup) (planned : Planned) (moves columns : ℕ) (left : ℤ) (line : Result (Vec ℕ) WantOfMemory)
     → IsSample n s → IsPlanAnswer s.job s.part (answer_of planned) → Accept moves columns left ≡ Accept planned.moves planned.columns planned.most_left
-    → IfOk line (λ v. (program : List ℕ) → v.items ≡ sample_line n (done program moves columns left)) → PrintsMade line 0 status sink sink_after → TriesSample n status sink sink_after
+    → IfOk line (λ v. v.items ≡ sample_line n (done [] moves columns left)) → PrintsMade line 0 status sink sink_after → TriesSample n status sink sink_after
 verdict_tries n status sink sink_after s planned moves columns left line made is same text printed =
     let numbers = accept_is moves columns planned.moves planned.columns left planned.most_left same in
     inl (record {
       answer = answer_of planned;
       is = subst (λ (p : List Tri). IsPlanAnswer (sample_job n) p (answer_of planned)) made.part_is (subst (λ (j : Job). IsPlanAnswer j s.part (answer_of planned)) made.job_is is);
-      printed = made_prints line (sampled n (answer_of planned)) 0 status sink sink_after refl (IfOk-weaker line _ _ (λ v whole. whole planned.program.items ∙ line_is numbers.0 numbers.1 numbers.2) text) printed;
+      printed = made_prints line (sampled n (answer_of planned)) 0 status sink sink_after refl (IfOk-weaker line _ _ (λ v whole. whole ∙ line_is numbers.0 numbers.1 numbers.2) text) printed;
     })
   where
-    line_is : moves ≡ planned.moves → columns ≡ planned.columns → left ≡ planned.most_left → sample_line n (done planned.program.items moves columns left) ≡ sample_line n (answer_of planned)
+    line_is : moves ≡ planned.moves → columns ≡ planned.columns → left ≡ planned.most_left → sample_line n (done [] moves columns left) ≡ sample_line n (answer_of planned)
     line_is m k l = rw (m, k, l) refl
 
 -- what was printed is the work on `sample`, whatever the store is

@@ -8,10 +8,10 @@ use Rattle.mill_decimal.specs.declared.snap.Snap.TheVariants.{Exact}
 use Rattle.mill_job.specs.declared.job.Job.{Job}
 use Rattle.mill_job.specs.Jobs.{tool_of}
 use Rattle.mill_drop.specs.Drops.{IsDropHeight}
+use Rattle.mill_line.specs.Lines.{line}
 use Rattle.camtool.specs.declared.place.Coordinate.{Coordinate}
 use Rattle.camtool.specs.declared.place.Coordinate.TheVariants.{X, Y, Z}
 use Rattle.mill_job.specs.declared.job.Place.{Place}
-use Rattle.camtool.specs.Printed.{line}
 use Rattle.camtool.specs.Setup.{SetupTexts, ReadsJob, ReadsSetup}
 
 -- ---- the words

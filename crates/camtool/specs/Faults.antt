@@ -1,11 +1,11 @@
 -- The line of a refused word, and of a file that is refused or too long: how it names the first fault.
 use Rattle.std.specs.Prelude.{ℕ, codes, decimal, List, [], ◌∷◌, ◌++◌}
 use Rattle.mill_decimal.specs.Decimals.{canonical}
+use Rattle.mill_line.specs.Lines.{line}
 use Rattle.camtool.specs.declared.file.File.{File}
-use Rattle.camtool.specs.declared.file.File.TheVariants.{Job as JobFile, Part as PartFile, Program as ProgramFile}
+use Rattle.camtool.specs.declared.file.File.TheVariants.{Job as JobFile, Part as PartFile, Program as ProgramFile, List as ListFile, StepProgram}
 use Rattle.camtool.specs.declared.load.Unfit.{Unfit}
-use Rattle.camtool.specs.declared.load.Unfit.TheVariants.{TooLong, JobRefused, PartRefused, ProgramRefused, PartTop}
-use Rattle.camtool.specs.Printed.{line}
+use Rattle.camtool.specs.declared.load.Unfit.TheVariants.{TooLong, JobRefused, PartRefused, ListRefused, ProgramRefused, PartTop}
 use Rattle.camtool.specs.declared.place.Coordinate.{Coordinate}
 use Rattle.camtool.specs.declared.place.Coordinate.TheVariants.{X, Y, Z}
 use Rattle.mill_job.specs.declared.key.Key.{Key}
@@ -25,7 +25,7 @@ coordinate_name X = codes "x"
 coordinate_name Y = codes "y"
 coordinate_name Z = codes "z"
 
--- a job's fault: what is wrong, and with which keys
+-- a job's fault, or a list's: what is wrong, and with which keys
 abbrev pub job_fault_words : JobFault → List (List ℕ)
 job_fault_words job_fault.Syntax = codes "syntax" ∷ []
 job_fault_words (job_fault.Unknown name) = codes "unknown" ∷ name ∷ []
@@ -34,18 +34,6 @@ job_fault_words (job_fault.WrongKind key) = codes "kind" ∷ name_of key ∷ []
 job_fault_words (job_fault.Range key) = codes "range" ∷ name_of key ∷ []
 job_fault_words (job_fault.Relation first second) = codes "relation" ∷ name_of first ∷ name_of second ∷ []
 job_fault_words job_fault.WantOfMemory = codes "memory" ∷ []
-
--- these words and LF
-abbrev pub job_fault_end : JobFault → List ℕ
-job_fault_end fault = line (job_fault_words fault)
-
--- a text, a key and LF
-abbrev pub one_key : List ℕ → Key → List ℕ
-one_key what key = what ++ name_of key ++ 10 ∷ []
-
--- two keys that don't fit together, and LF
-abbrev pub two_keys : Key → Key → List ℕ
-two_keys first second = line (codes "relation" ∷ name_of first ∷ name_of second ∷ [])
 
 -- what is wrong with a decimal
 abbrev pub decimal_fault_code : DecFault → List ℕ
@@ -106,10 +94,13 @@ program_fault_code program_fault.WantOfMemory = codes "memory"
 
 -- ---- lines
 
-abbrev pub file_name : File → List ℕ
-file_name JobFile = codes "job"
-file_name PartFile = codes "part"
-file_name ProgramFile = codes "program"
+-- a file, by the word of the command line that names it; a program of a list, by its number in the list
+abbrev pub file_words : File → List (List ℕ)
+file_words JobFile = codes "job" ∷ []
+file_words PartFile = codes "part" ∷ []
+file_words ProgramFile = codes "program" ∷ []
+file_words ListFile = codes "list" ∷ []
+file_words (StepProgram k) = codes "program" ∷ decimal k ∷ []
 
 -- the line of a word that is refused
 abbrev pub word_line : Coordinate → DecFault → List ℕ
@@ -117,8 +108,9 @@ word_line coordinate fault = line (codes "refused" ∷ codes "word" ∷ coordina
 
 -- the line of files that give a command nothing to work on
 abbrev pub unfit_line : Unfit → List ℕ
-unfit_line (TooLong file) = line (codes "refused" ∷ codes "too-long" ∷ file_name file ∷ [])
+unfit_line (TooLong file) = line (codes "refused" ∷ codes "too-long" ∷ file_words file)
 unfit_line (JobRefused fault) = line (codes "refused" ∷ codes "job" ∷ job_fault_words fault)
 unfit_line (PartRefused fault) = line (codes "refused" ∷ codes "part" ∷ codes "line" ∷ decimal (part_fault_line fault) ∷ part_fault_code fault ∷ [])
-unfit_line (ProgramRefused fault) = line (codes "refused" ∷ codes "program" ∷ codes "line" ∷ decimal (program_fault_line fault) ∷ program_fault_code fault ∷ [])
+unfit_line (ListRefused fault) = line (codes "refused" ∷ codes "list" ∷ job_fault_words fault)
+unfit_line (ProgramRefused file fault) = line (codes "refused" ∷ file_words file ++ codes "line" ∷ decimal (program_fault_line fault) ∷ program_fault_code fault ∷ [])
 unfit_line (PartTop height top unit) = line (codes "refused" ∷ codes "part-top" ∷ canonical unit height ∷ codes "top" ∷ canonical unit top ∷ [])

@@ -8,7 +8,12 @@ use Rattle.mill_job.specs.declared.job.Job.{Job}
 use Rattle.mill_plan.specs.Plans.{done}
 use Rattle.mill_stl.specs.Written.{ReadsBack}
 use Rattle.mill_verify.specs.Verdicts.{IsRejection}
+use Rattle.mill_list.specs.declared.step.Step.{Step}
 use Rattle.mill_verify.specs.Claims.{CutsSafely}
+use Rattle.mill_verify.specs.Files.{File as CutFile}
+use Rattle.mill_verify.specs.ListClaims.{FilesCutSafely}
+use Rattle.mill_verify.specs.Lists.{IsListVerdict}
+use Rattle.mill_verify.specs.declared.list.ListVerdict.{ListVerdict}
 use Rattle.mill_verify.specs.declared.verdict.Verdict.TheVariants.{Accept, Reject}
 use Rattle.mill_verify.specs.declared.verdict.Reason.{Reason}
 use Rattle.mill_job.specs.declared.job.Place.{Place}
@@ -18,10 +23,11 @@ use Rattle.camtool.specs.Drop.{ReadsPlace}
 use Rattle.camtool.specs.Level.{ReadsHeight}
 use Rattle.camtool.specs.Outcomes.{ShowsHelp, RefusesWords}
 use Rattle.camtool.specs.Plan.{plan_line}
+use Rattle.camtool.specs.Rest.{RestTexts, rest_texts, AreRestTold, ReadsRest, IsFileNamed, list_status, list_line}
 use Rattle.camtool.specs.Setup.{Fits, setup_texts, AreSetupTold, ReadsSetup}
 use Rattle.camtool.specs.Stock.{stock_texts, AreStockTold, ReadsStock, stock_surface, drawn, stock_line}
 use Rattle.camtool.specs.Verify.{Texts, texts_of, AreTold, Reads, Judges, NamesBlocked, verdict_line}
-use Rattle.camtool.specs.Words.{Files, AsksVerify, PlanFiles, AsksPlan, DropWords, AsksDrop, LevelWords, AsksLevel, StockFiles, AsksStock, AsksSample}
+use Rattle.camtool.specs.Words.{Files, AsksVerify, PlanFiles, AsksPlan, DropWords, AsksDrop, LevelWords, AsksLevel, StockFiles, AsksStock, RestFiles, AsksRest, AsksSample}
 
 -- ---- from bytes to bytes
 
@@ -40,6 +46,7 @@ Answers words call = (asked : Request) → request words ≡ Some asked → NoFa
 -- where the files are told and read, the part isn't over the job's top and nothing of the outside failed, a program is accepted or rejected;
 -- a plan is stored, or leaves stock uncut, or its holder would touch stock, or it is too large; a drop height is told; the chains at a height are told, or the lattice is too large; or memory was short;
 -- where the job's and the program's file are told and read and nothing of the outside failed, the stock is stored, or its surface is too large; or memory was short;
+-- where the files and the programs that the list names are told and read, the part isn't over the job's top and nothing of the outside failed, the programs are accepted or rejected; or memory was short;
 -- where nothing of the outside failed, a sample is planned, or its plan leaves stock uncut, or its holder would touch stock, or it is too large; or memory was short
 pub record Completes (words : List (List ℕ)) (call : Call) : Type 0 where
   pub verifies : (files : Files) (job : Job) (part : List Tri) (moves : List Move) → AsksVerify words files → AreTold (texts_of call.store.contents files)
@@ -55,6 +62,9 @@ pub record Completes (words : List (List ℕ)) (call : Call) : Type 0 where
       → NoFault call → (call.status ≡ 0) ⊎ ((call.status ≡ 9) ⊎ (call.status ≡ 5))
   pub stocks : (files : StockFiles) (job : Job) (moves : List Move) → AsksStock words files → AreStockTold (stock_texts call.store.contents files.job files.program)
       → ReadsStock (stock_texts call.store.contents files.job files.program) job moves → NoFault call → (call.status ≡ 0) ⊎ ((call.status ≡ 9) ⊎ (call.status ≡ 5))
+  pub rests : (names : RestFiles) (job : Job) (part : List Tri) (steps : List Step) (files : List CutFile) → AsksRest words names
+      → AreRestTold (rest_texts call.store.contents names) steps → ReadsRest (rest_texts call.store.contents names) job part steps files → NoFault call
+      → (call.status ≡ 0) ⊎ ((call.status ≡ 3) ⊎ (call.status ≡ 5))
   pub samples : (n : ℕ) → AsksSample words n → NoFault call → (call.status ≡ 0) ⊎ ((call.status ≡ 8) ⊎ ((call.status ≡ 9) ⊎ (call.status ≡ 5)))
 
 -- where the words aren't taken and nothing of the outside failed, the status is that of help, of a mistake or of want of memory;
@@ -130,3 +140,35 @@ pub record StoresStock (call : Call) (files : StockFiles) : Type 0 where
 -- when `stock` answers 0, what it stored is the surface of the stock after the program's moves
 abbrev pub StockHeadline : List (List ℕ) → Call → Type 0
 StockHeadline words call = (files : StockFiles) → AsksStock words files → call.status ≡ 0 → StoresStock call files
+
+-- each file, where it is told, reads as this job, this part, these steps and these files, and the files cut safely in turn, each with its step's cutter
+pub record AcceptsFilesSafely (texts : RestTexts) : Type 0 where
+  pub job : Job
+  pub part : List Tri
+  pub steps : List Step
+  pub files : List CutFile
+  pub all_read : ReadsRest texts job part steps files
+  pub safe : FilesCutSafely job part files
+
+-- each file, where it is told, reads as this job, this part, these steps and these files, the verdict on them is this rejection, and the line names it;
+-- a leaf that it names is one of the last of its move, and blocked
+pub record RejectsFilesFirst (call : Call) (texts : RestTexts) : Type 0 where
+  pub job : Job
+  pub part : List Tri
+  pub steps : List Step
+  pub files : List CutFile
+  pub verdict : ListVerdict
+  pub all_read : ReadsRest texts job part steps files
+  pub first : IsListVerdict job part files verdict
+  pub rejects : list_status verdict ≡ 3
+  pub named : IsFileNamed job part files verdict
+  pub printed : IsWritten (list_line job files verdict) call.sink call.sink_after
+
+-- when `rest` answers 0, the headline of `verify` holds for the moves of all the list's programs in turn, each with its own cutter;
+-- status 3 names exactly the first written test that fails
+pub record RestHeadline (words : List (List ℕ)) (call : Call) : Type 0 where
+  pub accepts : (names : RestFiles) → AsksRest words names → call.status ≡ 0 → AcceptsFilesSafely (rest_texts call.store.contents names)
+  pub rejects : (names : RestFiles) → AsksRest words names → call.status ≡ 3 → RejectsFilesFirst call (rest_texts call.store.contents names)
+  pub exactly : (names : RestFiles) (job : Job) (part : List Tri) (steps : List Step) (files : List CutFile) (verdict : ListVerdict) → AsksRest words names
+      → AreRestTold (rest_texts call.store.contents names) steps → ReadsRest (rest_texts call.store.contents names) job part steps files
+      → IsListVerdict job part files verdict → list_status verdict ≡ 3 → NoFault call → call.status ≢ 5 → call.status ≡ 3

@@ -13,9 +13,10 @@ use Rattle.mill_job.specs.declared.job.Job.{Job}
 use Rattle.mill_job.specs.Jobs.{tool_of}
 use Rattle.mill_level.specs.Waterlines.{Outline, IsWaterline, HasManyNodes}
 use Rattle.mill_paths.specs.Lattices.{finish_lattice}
+use Rattle.mill_line.specs.Lines.{line}
 use Rattle.camtool.specs.declared.place.Coordinate.{Coordinate}
 use Rattle.camtool.specs.declared.place.Coordinate.TheVariants.{Z}
-use Rattle.camtool.specs.Printed.{line, nodes_line}
+use Rattle.camtool.specs.Printed.{nodes_line}
 use Rattle.camtool.specs.Setup.{SetupTexts, ReadsJob, ReadsSetup}
 
 -- ---- the word

@@ -9,6 +9,7 @@ pub mod Plan
 pub mod Drop
 pub mod Level
 pub mod Stock
+pub mod Rest
 pub mod Sample
 pub mod Answers
 pub mod Outcomes

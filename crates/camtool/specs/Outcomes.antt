@@ -2,14 +2,15 @@
 use Rattle.std.specs.Prelude.{◌⊎◌, ◌≡◌, ◌<◌, ℕ, codes, false, List, [], ◌∷◌, Option, None, Some}
 use Rattle.mill_io.specs.Contents.{AppendedPart}
 use Rattle.mill_io.specs.Views.{IsWritten, IsPartStored}
-use Rattle.mill_command.specs.Requests.{AsksHelp, IsMistaken, Request, faults, is_taken, request, verify, plan, drop, level, stock, sample}
+use Rattle.mill_command.specs.Requests.{AsksHelp, IsMistaken, Request, faults, is_taken, request, verify, plan, drop, level, stock, rest, sample}
+use Rattle.mill_line.specs.Lines.{line}
 use Rattle.camtool.specs.declared.file.File.{File}
 use Rattle.camtool.specs.Answers.{Answer, IsAnswer, answer_status, answer_line, answer_file}
 use Rattle.camtool.specs.Calls.{Call, NamedText, Stores}
 use Rattle.camtool.specs.Drop.{HasPlace}
-use Rattle.camtool.specs.Faults.{file_name}
+use Rattle.camtool.specs.Faults.{file_words}
 use Rattle.camtool.specs.Level.{HasHeight}
-use Rattle.camtool.specs.Printed.{line}
+use Rattle.camtool.specs.Rest.{rest_texts, IsReadBeforeRest}
 use Rattle.camtool.specs.Setup.{setup_texts, IsReadBefore, IsReadBeforeWith}
 use Rattle.camtool.specs.Stock.{stock_texts, IsReadBeforeStock}
 use Rattle.camtool.specs.Verify.{texts_of, IsReadBeforeProgram}
@@ -35,7 +36,7 @@ abbrev pub outcome_line : Outcome → List ℕ
 outcome_line (help text) = text
 outcome_line (bad_words text) = text
 outcome_line no_memory = line (codes "out" ∷ codes "of" ∷ codes "memory" ∷ [])
-outcome_line (read_fault file) = line (codes "read" ∷ codes "fault" ∷ file_name file ∷ [])
+outcome_line (read_fault file) = line (codes "read" ∷ codes "fault" ∷ file_words file)
 outcome_line (answered answer) = answer_line answer
 
 -- what is stored
@@ -52,6 +53,7 @@ ReadsBefore contents (plan job part out workers) file = IsReadBefore (setup_text
 ReadsBefore contents (drop job part x y) file = IsReadBeforeWith (HasPlace (setup_texts contents job part) x y) file
 ReadsBefore contents (level job part z) file = IsReadBeforeWith (HasHeight (setup_texts contents job part) z) file
 ReadsBefore contents (stock job program out) file = IsReadBeforeStock (stock_texts contents job program) file
+ReadsBefore contents (rest job part list workers) file = IsReadBeforeRest (rest_texts contents (record { job = job; part = part; list = list })) file
 ReadsBefore contents (sample n workers) file = ⊥
 
 -- the work on a request comes to this: memory was short; or a file couldn't be read, and all before it could; or this is the answer

@@ -5,7 +5,8 @@ use Rattle.mill_base.specs.declared.unit.Unit.{Unit}
 use Rattle.mill_decimal.specs.Decimals.{canonical}
 use Rattle.mill_job.specs.declared.job.Job.{Job}
 use Rattle.mill_plan.specs.Plans.{PlanAnswer, IsPlanAnswer, done, too_many_nodes, too_many_moves, uncut, held}
-use Rattle.camtool.specs.Printed.{column_words, line, nodes_line}
+use Rattle.mill_line.specs.Lines.{line}
+use Rattle.camtool.specs.Printed.{column_words, nodes_line}
 use Rattle.camtool.specs.Setup.{SetupTexts, ReadsSetup}
 
 -- job and part are read, and this is the planner's answer to them, in the job's unit

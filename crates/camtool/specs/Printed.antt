@@ -1,21 +1,12 @@
--- How a line is made of its words, and what two commands print.
-use Rattle.std.specs.Prelude.{ℕ, ℤ, codes, decimal, List, [], ◌∷◌, ◌++◌}
+-- What lines of several commands say.
+use Rattle.std.specs.Prelude.{ℕ, ℤ, codes, decimal, List, [], ◌∷◌}
 use Rattle.mill_base.specs.declared.unit.Unit.{Unit}
 use Rattle.mill_decimal.specs.Decimals.{canonical}
-
--- words parted by a space, and LF at the end
-abbrev pub line : List (List ℕ) → List ℕ
-line [] = 10 ∷ []
-line (w ∷ []) = w ++ 10 ∷ []
-line (w ∷ v ∷ ws) = w ++ 32 ∷ line (v ∷ ws)
+use Rattle.mill_line.specs.Lines.{line}
 
 -- the words for a column of the stock that is left with this top, a length in this unit
 abbrev pub column_words : Unit → ℕ → ℕ → ℤ → List (List ℕ)
 column_words unit row column top = codes "row" ∷ decimal row ∷ codes "column" ∷ decimal column ∷ codes "top" ∷ canonical unit top ∷ []
-
--- a line's end with them, from the space before them on
-abbrev pub column_end : Unit → ℕ → ℕ → ℤ → List ℕ
-column_end unit row column top = 32 ∷ line (column_words unit row column top)
 
 -- the line of a lattice that has so many nodes, which are too many
 abbrev pub nodes_line : ℕ → List ℕ

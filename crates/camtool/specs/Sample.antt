@@ -9,8 +9,8 @@ use Rattle.mill_decimal.specs.Decimals.{canonical}
 use Rattle.mill_decimal.specs.declared.snap.Snap.TheVariants.{Nearest}
 use Rattle.mill_job.specs.declared.job.Job.{Job}
 use Rattle.mill_plan.specs.Plans.{PlanAnswer, IsPlanAnswer, done}
+use Rattle.mill_line.specs.Lines.{line}
 use Rattle.camtool.specs.Plan.{plan_line, plan_status}
-use Rattle.camtool.specs.Printed.{line}
 
 -- ---- the part
 

@@ -11,9 +11,9 @@ use Rattle.mill_job.specs.declared.job.Job.{Job}
 use Rattle.mill_job.specs.declared.fault.JobFault.{JobFault}
 use Rattle.mill_job.specs.Documents.{IsJobOf}
 use Rattle.camtool.specs.declared.file.File.{File}
-use Rattle.camtool.specs.declared.file.File.TheVariants.{Job as JobFile, Part as PartFile, Program as ProgramFile}
+use Rattle.camtool.specs.declared.file.File.TheVariants.{Job as JobFile, Part as PartFile}
 use Rattle.camtool.specs.declared.load.Unfit.{Unfit}
-use Rattle.camtool.specs.declared.load.Unfit.TheVariants.{TooLong, JobRefused, PartRefused, ProgramRefused, PartTop}
+use Rattle.camtool.specs.declared.load.Unfit.TheVariants.{TooLong, JobRefused, PartRefused, PartTop}
 
 -- what the store tells of the job's and of the part's file
 pub record SetupTexts : Type 0 where
@@ -103,17 +103,16 @@ pub record HighPart (texts : SetupTexts) (height top : ℤ) (unit : LengthUnit) 
 abbrev pub IsUnfit : SetupTexts → Unfit → Type 0
 IsUnfit texts (TooLong JobFile) = IfSome texts.job IsTooLong
 IsUnfit texts (TooLong PartFile) = LongPart texts
-IsUnfit texts (TooLong ProgramFile) = ⊥
 IsUnfit texts (JobRefused fault) = IfSome texts.job (λ text. IsRefusedJob text fault)
 IsUnfit texts (PartRefused fault) = RefusesPart texts fault
-IsUnfit texts (ProgramRefused fault) = ⊥
 IsUnfit texts (PartTop height top unit) = HighPart texts height top unit
+IsUnfit texts _ = ⊥
 
 -- all that is read and checked before the job's or the part's file holds
 abbrev pub IsReadBefore : SetupTexts → File → Type 0
 IsReadBefore texts JobFile = Unit {0}
 IsReadBefore texts PartFile = (job : Job) × ReadsJob texts job
-IsReadBefore texts ProgramFile = ⊥
+IsReadBefore texts _ = ⊥
 
 -- ---- where a command reads words behind the job
 
@@ -121,7 +120,7 @@ IsReadBefore texts ProgramFile = ⊥
 abbrev pub IsReadBeforeWith : Type 0 → File → Type 0
 IsReadBeforeWith ReadsWords JobFile = Unit {0}
 IsReadBeforeWith ReadsWords PartFile = ReadsWords
-IsReadBeforeWith ReadsWords ProgramFile = ⊥
+IsReadBeforeWith ReadsWords _ = ⊥
 
 -- the first check of the two files that fails, where a command reads words between the two
 abbrev pub IsUnfitWith : Type 0 → SetupTexts → Unfit → Type 0

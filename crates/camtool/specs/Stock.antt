@@ -8,11 +8,11 @@ use Rattle.mill_job.specs.declared.job.Job.{Job}
 use Rattle.mill_ngc.specs.declared.fault.NgcFault.{NgcFault}
 use Rattle.mill_stl.specs.Written.{ReadsBack, part_text}
 use Rattle.mill_surface.specs.Surfaces.{HasManyTriangles, surface_of}
+use Rattle.mill_line.specs.Lines.{line}
 use Rattle.camtool.specs.declared.file.File.{File}
-use Rattle.camtool.specs.declared.file.File.TheVariants.{Job as JobFile, Part as PartFile, Program as ProgramFile}
+use Rattle.camtool.specs.declared.file.File.TheVariants.{Job as JobFile, Program as ProgramFile}
 use Rattle.camtool.specs.declared.load.Unfit.{Unfit}
-use Rattle.camtool.specs.declared.load.Unfit.TheVariants.{TooLong, JobRefused, PartRefused, ProgramRefused, PartTop}
-use Rattle.camtool.specs.Printed.{line}
+use Rattle.camtool.specs.declared.load.Unfit.TheVariants.{TooLong, JobRefused, ProgramRefused}
 use Rattle.camtool.specs.Setup.{Fits, IsTooLong, IsJobText, IsRefusedJob}
 use Rattle.camtool.specs.Verify.{IsProgramText, IsRefusedProgram}
 
@@ -57,18 +57,16 @@ pub record RefusesStockProgram (texts : StockTexts) (fault : NgcFault) : Type 0 
 -- the first check of the two files that fails
 abbrev pub IsUnfitStock : StockTexts → Unfit → Type 0
 IsUnfitStock texts (TooLong JobFile) = IfSome texts.job IsTooLong
-IsUnfitStock texts (TooLong PartFile) = ⊥
 IsUnfitStock texts (TooLong ProgramFile) = LongStockProgram texts
 IsUnfitStock texts (JobRefused fault) = IfSome texts.job (λ text. IsRefusedJob text fault)
-IsUnfitStock texts (PartRefused fault) = ⊥
-IsUnfitStock texts (ProgramRefused fault) = RefusesStockProgram texts fault
-IsUnfitStock texts (PartTop height top unit) = ⊥
+IsUnfitStock texts (ProgramRefused ProgramFile fault) = RefusesStockProgram texts fault
+IsUnfitStock texts _ = ⊥
 
 -- all that is read and checked before the job's or the program's file holds
 abbrev pub IsReadBeforeStock : StockTexts → File → Type 0
 IsReadBeforeStock texts JobFile = Unit {0}
-IsReadBeforeStock texts PartFile = ⊥
 IsReadBeforeStock texts ProgramFile = (job : Job) × ReadsStockJob texts job
+IsReadBeforeStock texts _ = ⊥
 
 -- ---- the answers
 

@@ -17,11 +17,12 @@ use Rattle.mill_verify.specs.declared.verdict.Verdict.{Verdict}
 use Rattle.mill_verify.specs.declared.verdict.Verdict.TheVariants.{Accept, Reject}
 use Rattle.mill_verify.specs.declared.verdict.Reason.{Reason}
 use Rattle.mill_verify.specs.declared.verdict.Reason.TheVariants.{Floor, Gouge, Holder, Rapid as RapidCut, Cut, HolderStock, Left}
+use Rattle.mill_line.specs.Lines.{line}
 use Rattle.camtool.specs.declared.file.File.{File}
 use Rattle.camtool.specs.declared.file.File.TheVariants.{Program as ProgramFile}
 use Rattle.camtool.specs.declared.load.Unfit.{Unfit}
 use Rattle.camtool.specs.declared.load.Unfit.TheVariants.{TooLong, ProgramRefused}
-use Rattle.camtool.specs.Printed.{column_words, line}
+use Rattle.camtool.specs.Printed.{column_words}
 use Rattle.camtool.specs.Setup.{SetupTexts, setup_texts, AreSetupTold, Fits, IsTooLong, ReadsSetup, IsUnfit, IsReadBefore}
 use Rattle.camtool.specs.Words.{Files}
 
@@ -78,7 +79,7 @@ pub record RefusesProgram (texts : Texts) (fault : NgcFault) : Type 0 where
 -- the first check of the three files that fails
 abbrev pub IsUnfitProgram : Texts → Unfit → Type 0
 IsUnfitProgram texts (TooLong ProgramFile) = LongProgram texts
-IsUnfitProgram texts (ProgramRefused fault) = RefusesProgram texts fault
+IsUnfitProgram texts (ProgramRefused ProgramFile fault) = RefusesProgram texts fault
 IsUnfitProgram texts unfit = IsUnfit texts.setup unfit
 
 -- all that is read and checked before one of the three files holds
@@ -124,38 +125,35 @@ verdict_status (Reject reason) = 3
 abbrev pub leaf_words : Leaf → List (List ℕ)
 leaf_words leaf = codes "leaf" ∷ decimal leaf.d ∷ decimal leaf.k ∷ []
 
--- the line of a move on which a triangle stops the cutter or the holder, as this word says
-abbrev pub triangle_line : List ℕ → ℕ → ℕ → Leaf → List ℕ
-triangle_line word k t leaf = line (codes "rejected" ∷ word ∷ codes "move" ∷ decimal k ∷ codes "triangle" ∷ decimal t ∷ leaf_words leaf)
+-- the words of a move on which a triangle stops the cutter or the holder, as this word says
+abbrev pub triangle_words : List ℕ → ℕ → ℕ → Leaf → List (List ℕ)
+triangle_words word k t leaf = word ∷ codes "move" ∷ decimal k ∷ codes "triangle" ∷ decimal t ∷ leaf_words leaf
 
--- the line of a move on which a column stops the cutter or the holder, as this word says
-abbrev pub column_line : List ℕ → ℕ → ℕ → ℕ → Leaf → List ℕ
-column_line word k j i leaf = line (codes "rejected" ∷ word ∷ codes "move" ∷ decimal k ∷ codes "row" ∷ decimal j ∷ codes "column" ∷ decimal i ∷ leaf_words leaf)
+-- the words of a move on which a column stops the cutter or the holder, as this word says
+abbrev pub blocked_words : List ℕ → ℕ → ℕ → ℕ → Leaf → List (List ℕ)
+blocked_words word k j i leaf = word ∷ codes "move" ∷ decimal k ∷ codes "row" ∷ decimal j ∷ codes "column" ∷ decimal i ∷ leaf_words leaf
 
--- the line of a rejection, with lengths in this unit; a floor's has the height of the move's end
-abbrev pub rejection_line : LengthUnit → List Move → Reason → List ℕ
-rejection_line unit moves (Floor k) = line (codes "rejected" ∷ codes "floor" ∷ codes "move" ∷ decimal k ∷ codes "z" ∷ canonical unit (move_at moves k).to.z ∷ [])
-rejection_line unit moves (Gouge k t leaf) = triangle_line (codes "gouge") k t leaf
-rejection_line unit moves (Holder k t leaf) = triangle_line (codes "holder") k t leaf
-rejection_line unit moves (RapidCut k j i leaf) = column_line (codes "rapid") k j i leaf
-rejection_line unit moves (Cut k j i leaf) = column_line (codes "cut") k j i leaf
-rejection_line unit moves (HolderStock k j i leaf) = column_line (codes "holder-stock") k j i leaf
-rejection_line unit moves (Left j i top) = line (codes "rejected" ∷ codes "left" ∷ column_words unit j i top)
+-- the words of a reason, with lengths in this unit; a floor's have the height of the move's end
+abbrev pub reason_words : LengthUnit → List Move → Reason → List (List ℕ)
+reason_words unit moves (Floor k) = codes "floor" ∷ codes "move" ∷ decimal k ∷ codes "z" ∷ canonical unit (move_at moves k).to.z ∷ []
+reason_words unit moves (Gouge k t leaf) = triangle_words (codes "gouge") k t leaf
+reason_words unit moves (Holder k t leaf) = triangle_words (codes "holder") k t leaf
+reason_words unit moves (RapidCut k j i leaf) = blocked_words (codes "rapid") k j i leaf
+reason_words unit moves (Cut k j i leaf) = blocked_words (codes "cut") k j i leaf
+reason_words unit moves (HolderStock k j i leaf) = blocked_words (codes "holder-stock") k j i leaf
+reason_words unit moves (Left j i top) = codes "left" ∷ column_words unit j i top
 
--- the end of a line that names a segment of a move
-abbrev pub leaf_end : Leaf → List ℕ
-leaf_end leaf = 32 ∷ line (leaf_words leaf)
-
--- the end of an acceptance's line
-abbrev pub tolerances_end : Job → List ℕ
-tolerances_end job = 32 ∷ line (codes "band" ∷ canonical job.unit job.band ∷ codes "allowance" ∷ canonical job.unit job.allowance ∷ [])
-
--- the move that a verdict's line shows the height of is there
-abbrev pub NamesMove : List Move → Verdict → Type 0
-NamesMove moves (Reject (Floor k)) = k < length moves
+-- the move that a reason's words show the height of is there
+abbrev pub NamesMove : List Move → Reason → Type 0
+NamesMove moves (Floor k) = k < length moves
 NamesMove moves _ = Unit {0}
+
+-- so is that of a verdict
+abbrev pub NamesVerdictMove : List Move → Verdict → Type 0
+NamesVerdictMove moves (Accept count columns left) = Unit {0}
+NamesVerdictMove moves (Reject reason) = NamesMove moves reason
 
 -- the line of a verdict
 abbrev pub verdict_line : Job → List Move → Verdict → List ℕ
 verdict_line job moves (Accept count columns left) = line (codes "accepted" ∷ codes "moves" ∷ decimal count ∷ codes "columns" ∷ decimal columns ∷ codes "left" ∷ canonical job.unit left ∷ codes "band" ∷ canonical job.unit job.band ∷ codes "allowance" ∷ canonical job.unit job.allowance ∷ [])
-verdict_line job moves (Reject reason) = rejection_line job.unit moves reason
+verdict_line job moves (Reject reason) = line (codes "rejected" ∷ reason_words job.unit moves reason)

@@ -1,6 +1,6 @@
 -- What the words of the command line ask for.
 use Rattle.std.specs.Prelude.{◌≡◌, ◌⊎◌, ℕ, false, List, Some}
-use Rattle.mill_command.specs.Requests.{is_taken, request, verify, plan, drop, level, stock, sample}
+use Rattle.mill_command.specs.Requests.{is_taken, request, verify, plan, drop, level, stock, rest, sample}
 
 -- the names of the job's, the part's and the program's file
 pub record Files : Type 0 where
@@ -52,6 +52,16 @@ pub record StockFiles : Type 0 where
 -- the words are taken as `stock` with these files
 abbrev pub AsksStock : List (List ℕ) → StockFiles → Type 0
 AsksStock words files = request words ≡ Some (stock files.job files.program files.out)
+
+-- the names of the job's, the part's and the list's file
+pub record RestFiles : Type 0 where
+  pub job : List ℕ
+  pub part : List ℕ
+  pub list : List ℕ
+
+-- the words are taken as `rest` with these files, with any number of workers
+abbrev pub AsksRest : List (List ℕ) → RestFiles → Type 0
+AsksRest words files = (workers : ℕ) × (request words ≡ Some (rest files.job files.part files.list workers))
 
 -- the words ask for nothing to be stored: they are taken neither as `plan` nor as `stock`
 pub record AsksNoFileStored (words : List (List ℕ)) : Type 0 where

@@ -12,13 +12,14 @@ ghost use Rattle.camtool.specs.Statuses.{status_code};
 use crate::faults::line_of_word_fault;
 use crate::load::{Setup, load_job, load_under};
 use crate::place::read_place;
-use crate::print::{add_length, add_text};
 use crate::status::Status;
 use crate::tell::{tell_fault, tell_made};
 use mill_base::{Unit, WantOfMemory};
 use mill_drop::drop_once;
 use mill_io::{Shelf, Sink};
 use mill_job::Place;
+use mill_line::Word::{Length, Text};
+use mill_line::line_of;
 use std::alloc::Global;
 
 /// The work of `drop`: reads the job, then the place in the job's unit, then the part, and prints
@@ -66,11 +67,7 @@ fn tell_drop<O: Sink>(alloc: Global, setup: &Setup, place: Place, out: &mut O) -
 
 /// The line of a drop height.
 fn line_of_height(alloc: Global, height: i32, unit: Unit) -> Result<Vec<u8>, WantOfMemory>
-    ensures { IfOk result (λ line. line.items ≡ height_line unit height) }
+    ensures { IfOk result (λ made. made.items ≡ height_line unit height) }
 {
-    let mut line = Vec::new(alloc);
-    add_text(&mut line, b"drop ")?;
-    add_length(&mut line, height, unit)?;
-    add_text(&mut line, b"\n")?;
-    Ok(line)
+    line_of(alloc, &[Text(b"drop")], &[Length(height, unit)])
 }

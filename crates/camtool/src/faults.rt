@@ -1,30 +1,33 @@
 //! The lines of refusals.
-ghost use Rattle.std.specs.Prelude.{◌≡◌, ◌++◌, IfOk, OnOk};
-ghost use Rattle.camtool.specs.Faults.{coordinate_name, word_line, unfit_line, job_fault_end, decimal_fault_code, part_fault_line, part_fault_code, program_fault_line, program_fault_code, one_key, two_keys};
-ghost use Rattle.camtool.specs.Outcomes.{outcome_line, read_fault};
+ghost use Rattle.std.specs.Prelude.{◌≡◌, [], ◌∷◌, codes, decimal, IfOk, map};
+ghost use Rattle.std.specs.Option.{option_to_list};
+ghost use Rattle.mill_line.specs.Lines.{line};
+ghost use Rattle.camtool.specs.Faults.{coordinate_name, word_line, unfit_line, file_words, job_fault_words, decimal_fault_code, part_fault_line, part_fault_code, program_fault_line, program_fault_code};
 
 use crate::file::File;
 use crate::load::Unfit;
 use crate::place::{Coordinate, WordFault};
-use crate::print::{add_length, add_number, add_text};
 use mill_base::{Unit, WantOfMemory};
 use mill_decimal::DecFault;
-use mill_job::{JobFault, Key};
+use mill_job::JobFault;
+use mill_line::Word::{Length, Number, Text};
+use mill_line::line_of;
 use mill_ngc::NgcFault;
 use mill_stl::StlFault;
 use std::alloc::Global;
 
 /// The line of a word that is refused.
 pub fn line_of_word_fault(alloc: Global, refused: WordFault) -> Result<Vec<u8>, WantOfMemory>
-    ensures { IfOk result (λ line. line.items ≡ word_line refused.coordinate refused.fault) }
+    ensures { IfOk result (λ made. made.items ≡ word_line refused.coordinate refused.fault) }
 {
-    let mut line = Vec::new(alloc);
-    add_text(&mut line, b"refused word ")?;
-    add_text(&mut line, name_of_coordinate(refused.coordinate))?;
-    add_text(&mut line, b" ")?;
-    add_text(&mut line, code_of_decimal(refused.fault))?;
-    add_text(&mut line, b"\n")?;
-    Ok(line)
+    line_of(
+        alloc,
+        &[Text(b"refused"), Text(b"word")],
+        &[
+            Text(name_of_coordinate(refused.coordinate)),
+            Text(code_of_decimal(refused.fault)),
+        ],
+    )
 }
 
 fn name_of_coordinate(coordinate: Coordinate) -> &'static [u8]
@@ -39,90 +42,96 @@ fn name_of_coordinate(coordinate: Coordinate) -> &'static [u8]
 
 /// The line of files that give a command nothing to work on.
 pub fn line_of_unfit(alloc: Global, fault: &Unfit) -> Result<Vec<u8>, WantOfMemory>
-    ensures { IfOk result (λ line. line.items ≡ unfit_line fault.now) }
+    ensures { IfOk result (λ made. made.items ≡ unfit_line fault.now) }
 {
     match fault {
-        Unfit::TooLong(file) => line_of_text(alloc, line_of_long(*file)),
-        Unfit::JobRefused(fault) => line_of_job_fault(alloc, fault),
+        Unfit::TooLong(file) => line_of_long(alloc, *file),
+        Unfit::JobRefused(fault) => line_of_job_fault(alloc, b"job", fault),
         Unfit::PartRefused(fault) => line_of_part_fault(alloc, *fault),
-        Unfit::ProgramRefused(fault) => line_of_program_fault(alloc, *fault),
+        Unfit::ListRefused(fault) => line_of_job_fault(alloc, b"list", fault),
+        Unfit::ProgramRefused(file, fault) => line_of_program_fault(alloc, *file, *fault),
         Unfit::PartTop { height, top, unit } => line_of_high_part(alloc, *height, *top, *unit),
     }
 }
 
-fn line_of_text(alloc: Global, text: &[u8]) -> Result<Vec<u8>, WantOfMemory>
-    ensures { IfOk result (λ line. line.items ≡ text.now) }
+// The word that names a file, and of a program of a list its number.
+fn words_of_file(file: File) -> (&'static [u8], Option<u32>)
+    ensures { file_words file ≡ result.0.now ∷ map decimal (option_to_list result.1) }
 {
-    let mut line = Vec::new(alloc);
-    add_text(&mut line, text)?;
-    Ok(line)
-}
-
-/// The line of a job's text that is refused.
-fn line_of_job_fault(alloc: Global, fault: &JobFault) -> Result<Vec<u8>, WantOfMemory>
-    ensures { IfOk result (λ line. line.items ≡ unfit_line (Unfit.JobRefused fault.now)) }
-{
-    let mut line = Vec::new(alloc);
-    add_text(&mut line, b"refused job ")?;
-    add_job_fault(&mut line, fault)?;
-    Ok(line)
-}
-
-// What is wrong with a job, and the line's end.
-fn add_job_fault(line: &mut Vec<u8>, fault: &JobFault) -> Result<(), WantOfMemory>
-    ensures { OnOk result (line.new.items ≡ line.old.items ++ job_fault_end fault.now) }
-{
-    match fault {
-        JobFault::Syntax => add_text(line, b"syntax\n"),
-        JobFault::Unknown(name) => add_unknown(line, name.as_bytes()),
-        JobFault::Missing(key) => add_key(line, b"missing ", *key),
-        JobFault::WrongKind(key) => add_key(line, b"kind ", *key),
-        JobFault::Range(key) => add_key(line, b"range ", *key),
-        JobFault::Relation(first, second) => add_keys(line, *first, *second),
-        JobFault::WantOfMemory => add_text(line, b"memory\n"),
+    match file {
+        File::Job => (b"job", None),
+        File::Part => (b"part", None),
+        File::Program => (b"program", None),
+        File::List => (b"list", None),
+        File::StepProgram(number) => (b"program", Some(number)),
     }
 }
 
-fn add_unknown(line: &mut Vec<u8>, name: &[u8]) -> Result<(), WantOfMemory>
-    ensures { OnOk result (line.new.items ≡ line.old.items ++ job_fault_end (JobFault.Unknown name.now)) }
+/// The line of a file with too many bytes.
+fn line_of_long(alloc: Global, file: File) -> Result<Vec<u8>, WantOfMemory>
+    ensures { IfOk result (λ made. made.items ≡ unfit_line (Unfit.TooLong file)) }
 {
-    add_text(line, b"unknown ")?;
-    add_text(line, name)?;
-    add_text(line, b"\n")?;
-    Ok(())
+    let start = [Text(b"refused"), Text(b"too-long")];
+    match words_of_file(file) {
+        (name, None) => line_of(alloc, &start, &[Text(name)]),
+        (name, Some(number)) => line_of(
+            alloc,
+            &start,
+            &[Text(name), Number(u64::from(number))],
+        ),
+    }
 }
 
-fn add_key(line: &mut Vec<u8>, what: &[u8], key: Key) -> Result<(), WantOfMemory>
-    ensures { OnOk result (line.new.items ≡ line.old.items ++ one_key what.now key) }
+/// The line of the text of a job that is refused, or of a list: `file` is the word that names it.
+fn line_of_job_fault(
+    alloc: Global,
+    file: &[u8],
+    fault: &JobFault,
+) -> Result<Vec<u8>, WantOfMemory>
+    ensures { IfOk result (λ made. made.items ≡
+        line (codes "refused" ∷ file.now ∷ job_fault_words fault.now)) }
 {
-    add_text(line, what)?;
-    add_text(line, key.name().as_bytes())?;
-    add_text(line, b"\n")?;
-    Ok(())
-}
-
-fn add_keys(line: &mut Vec<u8>, first: Key, second: Key) -> Result<(), WantOfMemory>
-    ensures { OnOk result (line.new.items ≡ line.old.items ++ two_keys first second) }
-{
-    add_text(line, b"relation ")?;
-    add_text(line, first.name().as_bytes())?;
-    add_text(line, b" ")?;
-    add_text(line, second.name().as_bytes())?;
-    add_text(line, b"\n")?;
-    Ok(())
+    let start = [Text(b"refused"), Text(file)];
+    match fault {
+        JobFault::Syntax => line_of(alloc, &start, &[Text(b"syntax")]),
+        JobFault::Unknown(name) => {
+            line_of(alloc, &start, &[Text(b"unknown"), Text(name.as_bytes())])
+        }
+        JobFault::Missing(key) => {
+            line_of(alloc, &start, &[Text(b"missing"), Text(key.name().as_bytes())])
+        }
+        JobFault::WrongKind(key) => {
+            line_of(alloc, &start, &[Text(b"kind"), Text(key.name().as_bytes())])
+        }
+        JobFault::Range(key) => {
+            line_of(alloc, &start, &[Text(b"range"), Text(key.name().as_bytes())])
+        }
+        JobFault::Relation(first, second) => line_of(
+            alloc,
+            &start,
+            &[
+                Text(b"relation"),
+                Text(first.name().as_bytes()),
+                Text(second.name().as_bytes()),
+            ],
+        ),
+        JobFault::WantOfMemory => line_of(alloc, &start, &[Text(b"memory")]),
+    }
 }
 
 /// The line of a part's text that is refused.
 fn line_of_part_fault(alloc: Global, fault: StlFault) -> Result<Vec<u8>, WantOfMemory>
-    ensures { IfOk result (λ line. line.items ≡ unfit_line (Unfit.PartRefused fault)) }
+    ensures { IfOk result (λ made. made.items ≡ unfit_line (Unfit.PartRefused fault)) }
 {
-    let mut line = Vec::new(alloc);
-    add_text(&mut line, b"refused part line ")?;
-    add_number(&mut line, line_of_part(fault))?;
-    add_text(&mut line, b" ")?;
-    add_text(&mut line, code_of_part(fault))?;
-    add_text(&mut line, b"\n")?;
-    Ok(line)
+    line_of(
+        alloc,
+        &[Text(b"refused"), Text(b"part")],
+        &[
+            Text(b"line"),
+            Number(line_of_part(fault)),
+            Text(code_of_part(fault)),
+        ],
+    )
 }
 
 fn line_of_part(fault: StlFault) -> u64
@@ -161,16 +170,26 @@ fn code_of_decimal(fault: DecFault) -> &'static [u8]
 }
 
 /// The line of a program's text that is refused.
-fn line_of_program_fault(alloc: Global, fault: NgcFault) -> Result<Vec<u8>, WantOfMemory>
-    ensures { IfOk result (λ line. line.items ≡ unfit_line (Unfit.ProgramRefused fault)) }
+fn line_of_program_fault(
+    alloc: Global,
+    file: File,
+    fault: NgcFault,
+) -> Result<Vec<u8>, WantOfMemory>
+    ensures { IfOk result (λ made. made.items ≡ unfit_line (Unfit.ProgramRefused file fault)) }
 {
-    let mut line = Vec::new(alloc);
-    add_text(&mut line, b"refused program line ")?;
-    add_number(&mut line, line_of_program(fault))?;
-    add_text(&mut line, b" ")?;
-    add_text(&mut line, code_of_program(fault))?;
-    add_text(&mut line, b"\n")?;
-    Ok(line)
+    let more = [
+        Text(b"line"),
+        Number(line_of_program(fault)),
+        Text(code_of_program(fault)),
+    ];
+    match words_of_file(file) {
+        (name, None) => line_of(alloc, &[Text(b"refused"), Text(name)], &more),
+        (name, Some(number)) => line_of(
+            alloc,
+            &[Text(b"refused"), Text(name), Number(u64::from(number))],
+            &more,
+        ),
+    }
 }
 
 fn line_of_program(fault: NgcFault) -> u64
@@ -224,35 +243,11 @@ fn line_of_high_part(
     top: i32,
     unit: Unit,
 ) -> Result<Vec<u8>, WantOfMemory>
-    ensures { IfOk result (λ line. line.items ≡ unfit_line (Unfit.PartTop height top unit)) }
+    ensures { IfOk result (λ made. made.items ≡ unfit_line (Unfit.PartTop height top unit)) }
 {
-    let mut line = Vec::new(alloc);
-    add_text(&mut line, b"refused part-top ")?;
-    add_length(&mut line, height, unit)?;
-    add_text(&mut line, b" top ")?;
-    add_length(&mut line, top, unit)?;
-    add_text(&mut line, b"\n")?;
-    Ok(line)
-}
-
-/// The line of a file that couldn't be read.
-pub fn line_of_read_fault(file: File) -> &'static [u8]
-    ensures { result.now ≡ outcome_line (read_fault file) }
-{
-    match file {
-        File::Job => b"read fault job\n",
-        File::Part => b"read fault part\n",
-        File::Program => b"read fault program\n",
-    }
-}
-
-/// The line of a file with too many bytes.
-pub fn line_of_long(file: File) -> &'static [u8]
-    ensures { result.now ≡ unfit_line (Unfit.TooLong file) }
-{
-    match file {
-        File::Job => b"refused too-long job\n",
-        File::Part => b"refused too-long part\n",
-        File::Program => b"refused too-long program\n",
-    }
+    line_of(
+        alloc,
+        &[Text(b"refused"), Text(b"part-top")],
+        &[Length(height, unit), Text(b"top"), Length(top, unit)],
+    )
 }

@@ -18,12 +18,14 @@ ghost use Rattle.camtool.specs.Statuses.{status_code};
 use crate::faults::line_of_word_fault;
 use crate::load::{Setup, load_job, load_under};
 use crate::place::read_height;
-use crate::print::{add_length, add_number, add_text, line_of_nodes};
+use crate::print::line_of_nodes;
 use crate::status::Status;
 use crate::tell::{tell, tell_fault, tell_made};
 use mill_base::{Pt3, Unit, WantOfMemory};
 use mill_io::{Shelf, Sink};
 use mill_level::{Chain, LevelFault, waterline};
+use mill_line::Word::{Length, Number, Text};
+use mill_line::add_line;
 use mill_part::SortedPart;
 use mill_paths::finish_lattice;
 use std::alloc::Global;
@@ -102,9 +104,11 @@ fn text_of_chains(alloc: Global, chains: &[Chain], unit: Unit) -> Result<Vec<u8>
     for chain in chains {
         add_chain(&mut text, chain, unit)?;
     }
-    add_text(&mut text, b"chains ")?;
-    add_number(&mut text, chains.len() as u64)?;
-    add_text(&mut text, b"\n")?;
+    add_line(
+        &mut text,
+        &[Text(b"chains")],
+        &[Number(chains.len() as u64)],
+    )?;
     Ok(text)
 }
 
@@ -112,10 +116,11 @@ fn text_of_chains(alloc: Global, chains: &[Chain], unit: Unit) -> Result<Vec<u8>
 fn add_chain(text: &mut Vec<u8>, chain: &Chain, unit: Unit) -> Result<(), WantOfMemory>
     ensures { OnOk result (text.new.items ≡ text.old.items ++ outline_text unit (seen chain.now)) }
 {
-    add_text(text, word_of_closed(chain.closed))?;
-    add_text(text, b" ")?;
-    add_number(text, chain.points.len() as u64)?;
-    add_text(text, b"\n")?;
+    add_line(
+        text,
+        &[Text(word_of_closed(chain.closed))],
+        &[Number(chain.points.len() as u64)],
+    )?;
     for point in &chain.points {
         add_point(text, *point, unit)?;
     }
@@ -131,9 +136,9 @@ fn word_of_closed(closed: bool) -> &'static [u8]
 fn add_point(text: &mut Vec<u8>, point: Pt3, unit: Unit) -> Result<(), WantOfMemory>
     ensures { OnOk result (text.new.items ≡ text.old.items ++ point_line unit point) }
 {
-    add_length(text, point.x, unit)?;
-    add_text(text, b" ")?;
-    add_length(text, point.y, unit)?;
-    add_text(text, b"\n")?;
-    Ok(())
+    add_line(
+        text,
+        &[Length(point.x, unit)],
+        &[Length(point.y, unit)],
+    )
 }

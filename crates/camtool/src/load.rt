@@ -23,8 +23,10 @@ pub enum Unfit {
     JobRefused(JobFault),
     /// The part's text is refused.
     PartRefused(StlFault),
-    /// The program's text is refused.
-    ProgramRefused(NgcFault),
+    /// The list's text is refused.
+    ListRefused(JobFault),
+    /// The text of this file, a program, is refused.
+    ProgramRefused(File, NgcFault),
     /// The part's greatest height is over the job's top; both are in the job's unit.
     PartTop { height: i32, top: i32, unit: Unit },
 }

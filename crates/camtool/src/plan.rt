@@ -1,7 +1,7 @@
 //! The command `plan`: a program that cuts the job's part, stored as a file.
 ghost use Rattle.std.specs.Prelude.{◌≡◌, ◌-◌, ◌^◌, ◌<◌, IfOk};
 ghost use Rattle.mill_command.specs.Requests.{plan as asks_plan};
-ghost use Rattle.mill_plan.specs.Plans.{answer_of, uncut};
+ghost use Rattle.mill_plan.specs.Plans.{answer_of};
 ghost use Rattle.camtool.specs.Answers.{planned as planned_answer};
 ghost use Rattle.camtool.specs.Calls.{CanCount, call_of};
 ghost use Rattle.camtool.specs.inner.Loads.{AreWorkers, IsSetup};
@@ -11,11 +11,13 @@ ghost use Rattle.camtool.specs.inner.Prints.{PrintsPlanFault, ShowsPlanOr};
 ghost use Rattle.camtool.specs.Statuses.{status_code};
 
 use crate::load::{Setup, load_setup};
-use crate::print::{add_column, add_length, add_number, add_text, line_of_nodes};
+use crate::print::{line_of_column, line_of_nodes};
 use crate::status::Status;
 use crate::tell::{tell, tell_fault, tell_made};
 use mill_base::{Unit, WantOfMemory};
 use mill_io::{Failed, Shelf, Sink, store};
+use mill_line::Word::{Length, Number, Text};
+use mill_line::line_of;
 use mill_plan::{PlanFault, Planned, plan};
 use std::alloc::Global;
 use std::thread::Threads;
@@ -103,7 +105,7 @@ pub fn tell_plan_fault<O: Sink>(alloc: Global, fault: PlanFault, unit: Unit, out
         PlanFault::TooManyMoves => tell(out, b"over moves\n", Status::TooLarge),
         PlanFault::Uncut { row, col, top } => {
             tell_made(
-                line_of_uncut(alloc, row, col, top, unit),
+                line_of_column(alloc, &[], b"uncut", row, col, top, unit),
                 Status::Uncut,
                 out,
             )
@@ -117,46 +119,36 @@ pub fn tell_plan_fault<O: Sink>(alloc: Global, fault: PlanFault, unit: Unit, out
 
 /// The line of a program that was planned.
 fn line_of_plan(alloc: Global, planned: &Planned, unit: Unit) -> Result<Vec<u8>, WantOfMemory>
-    ensures { IfOk result (λ line. line.items ≡ plan_line unit (answer_of planned.now)) }
+    ensures { IfOk result (λ made. made.items ≡ plan_line unit (answer_of planned.now)) }
 {
-    let mut line = Vec::new(alloc);
-    add_text(&mut line, b"planned moves ")?;
-    add_number(&mut line, planned.moves)?;
-    add_text(&mut line, b" columns ")?;
-    add_number(&mut line, planned.columns)?;
-    add_text(&mut line, b" left ")?;
-    add_length(&mut line, planned.most_left, unit)?;
-    add_text(&mut line, b"\n")?;
-    Ok(line)
-}
-
-/// The line of a plan that leaves this column's top uncut.
-fn line_of_uncut(
-    alloc: Global,
-    row: u32,
-    col: u32,
-    top: i32,
-    unit: Unit,
-) -> Result<Vec<u8>, WantOfMemory>
-    ensures { IfOk result (λ line. line.items ≡ plan_line unit (uncut row col top)) }
-{
-    let mut line = Vec::new(alloc);
-    add_text(&mut line, b"uncut")?;
-    add_column(&mut line, row, col, top, unit)?;
-    Ok(line)
+    line_of(
+        alloc,
+        &[Text(b"planned")],
+        &[
+            Text(b"moves"),
+            Number(planned.moves),
+            Text(b"columns"),
+            Number(planned.columns),
+            Text(b"left"),
+            Length(planned.most_left, unit),
+        ],
+    )
 }
 
 /// The line of a plan on this move of which the holder would touch what is left of this column.
 fn line_of_held(alloc: Global, at: u64, row: u32, col: u32) -> Result<Vec<u8>, WantOfMemory>
-    ensures { IfOk result (λ line. line.items ≡ held_line at row col) }
+    ensures { IfOk result (λ made. made.items ≡ held_line at row col) }
 {
-    let mut line = Vec::new(alloc);
-    add_text(&mut line, b"held move ")?;
-    add_number(&mut line, at)?;
-    add_text(&mut line, b" row ")?;
-    add_number(&mut line, u64::from(row))?;
-    add_text(&mut line, b" column ")?;
-    add_number(&mut line, u64::from(col))?;
-    add_text(&mut line, b"\n")?;
-    Ok(line)
+    line_of(
+        alloc,
+        &[Text(b"held")],
+        &[
+            Text(b"move"),
+            Number(at),
+            Text(b"row"),
+            Number(u64::from(row)),
+            Text(b"column"),
+            Number(u64::from(col)),
+        ],
+    )
 }

@@ -1,5 +1,5 @@
 //! The command `sample`: a sample part of a size that is asked for, planned and verified.
-ghost use Rattle.std.specs.Prelude.{◌≡◌, ◌-◌, ◌^◌, ◌<◌, ◌≤◌, ◌++◌, ℕ, List, IfOk, Ok, OnOk};
+ghost use Rattle.std.specs.Prelude.{◌≡◌, ◌-◌, ◌^◌, ◌<◌, ◌≤◌, ◌++◌, ℕ, List, [], IfOk, Ok, OnOk};
 ghost use Rattle.mill_base.specs.declared.motion.Move.{Move as OneMove};
 ghost use Rattle.mill_command.specs.Requests.{sample as asks_sample};
 ghost use Rattle.mill_io.specs.Views.{StoreView};
@@ -11,12 +11,11 @@ ghost use Rattle.camtool.specs.Calls.{call_of};
 ghost use Rattle.camtool.specs.inner.Loads.{AreMoves, AreWorkers, IsSample, IsSetup, IsSize};
 ghost use Rattle.camtool.specs.Outcomes.{Serves};
 ghost use Rattle.camtool.specs.Sample.{sample_job as job_of, sample_line, sample_node, sample_part as part_of, sample_row, sample_square};
-ghost use Rattle.camtool.specs.inner.Prints.{TriesSample, sample_start};
+ghost use Rattle.camtool.specs.inner.Prints.{TriesSample};
 ghost use Rattle.camtool.specs.Statuses.{status_code};
 
 use crate::load::Setup;
 use crate::plan::tell_plan_fault;
-use crate::print::{add_length, add_number, add_text};
 use crate::program::take_piece;
 use crate::status::Status;
 use crate::tell::{tell, tell_made};
@@ -24,6 +23,8 @@ use mill_base::{Box2, Cutter, Move, Pt3, Tri, Unit, WantOfMemory};
 use mill_decimal::Snap;
 use mill_io::Sink;
 use mill_job::{Job, Levels, Place};
+use mill_line::Word::{Length, Number, Text};
+use mill_line::line_of;
 use mill_ngc::{NgcFault, Reader};
 use mill_part::Part;
 use mill_plan::{Planned, plan};
@@ -157,30 +158,22 @@ fn line_of_sample(
     most_left: i32,
 ) -> Result<Vec<u8>, WantOfMemory>
     requires { IsSize size }
-    ensures { IfOk result (λ line. (program : List ℕ)
-        → line.items ≡ sample_line size (done program moves columns most_left)) }
+    ensures { IfOk result (λ made. made.items ≡ sample_line size (done [] moves columns most_left)) }
 {
-    let mut line = Vec::new(alloc);
-    add_part(&mut line, size)?;
-    add_text(&mut line, b" columns ")?;
-    add_number(&mut line, columns)?;
-    add_text(&mut line, b" moves ")?;
-    add_number(&mut line, moves)?;
-    add_text(&mut line, b" left ")?;
-    add_length(&mut line, most_left, Unit::Hundredth)?;
-    add_text(&mut line, b"\n")?;
-    Ok(line)
-}
-
-// The words of the part: its size, and how many triangles it has.
-fn add_part(line: &mut Vec<u8>, size: u32) -> Result<(), WantOfMemory>
-    requires { IsSize size }
-    ensures { OnOk result (line.new.items ≡ line.old.items ++ sample_start size) }
-{
-    add_text(line, b"sample ")?;
-    add_number(line, u64::from(size))?;
-    add_text(line, b" triangles ")?;
-    add_number(line, u64::from(2 * size * size))
+    line_of(
+        alloc,
+        &[Text(b"sample"), Number(u64::from(size))],
+        &[
+            Text(b"triangles"),
+            Number(u64::from(2 * size * size)),
+            Text(b"columns"),
+            Number(columns),
+            Text(b"moves"),
+            Number(moves),
+            Text(b"left"),
+            Length(most_left, Unit::Hundredth),
+        ],
+    )
 }
 
 /// The job and the part of a size.

@@ -16,7 +16,6 @@ ghost use Rattle.camtool.specs.inner.Prints.{ShowsStockOr};
 ghost use Rattle.camtool.specs.Stock.{IsSurface, drawn as drawn_answer, stock_texts, triangles_line};
 
 use crate::load::{LoadFault, load_job};
-use crate::print::{add_number, add_text};
 use crate::program::load_program;
 use crate::status::Status;
 use crate::tell::{tell, tell_fault, tell_made};
@@ -24,6 +23,8 @@ use mill_base::{MAX_TRIANGLES, Move, WantOfMemory};
 use mill_dexel::{Row, cut_rows, uncut_rows};
 use mill_io::{Failed, Shelf, Sink, store};
 use mill_job::Job;
+use mill_line::Word::{Number, Text};
+use mill_line::line_of;
 use mill_stl::write_stl;
 use mill_surface::{SurfaceFault, surface, triangle_count};
 use std::alloc::Global;
@@ -171,12 +172,7 @@ fn rows_after(alloc: Global, job: &Job, moves: &[Move]) -> Result<Vec<Row>, Want
 
 /// The line of so many triangles, with this word before them.
 fn line_of_triangles(alloc: Global, word: &[u8], count: u64) -> Result<Vec<u8>, WantOfMemory>
-    ensures { IfOk result (λ line. line.items ≡ triangles_line word.now count) }
+    ensures { IfOk result (λ made. made.items ≡ triangles_line word.now count) }
 {
-    let mut line = Vec::new(alloc);
-    add_text(&mut line, word)?;
-    add_text(&mut line, b" triangles ")?;
-    add_number(&mut line, count)?;
-    add_text(&mut line, b"\n")?;
-    Ok(line)
+    line_of(alloc, &[Text(word)], &[Text(b"triangles"), Number(count)])
 }

@@ -1,22 +1,25 @@
 //! The command `verify`: the verdict on a program.
-ghost use Rattle.std.specs.Prelude.{◌≡◌, ◌-◌, ◌^◌, ◌<◌, ◌++◌, length, OnOk, IfOk};
+ghost use Rattle.std.specs.Prelude.{◌≡◌, ◌-◌, ◌^◌, ◌<◌, [], ◌++◌, length, map, IfOk};
 ghost use Rattle.mill_command.specs.Requests.{verify as asks_verify};
+ghost use Rattle.mill_line.specs.Lines.{line, word_text};
 ghost use Rattle.camtool.specs.Answers.{judged};
 ghost use Rattle.camtool.specs.Calls.{CanCount, call_of};
 ghost use Rattle.camtool.specs.inner.Loads.{Loads, OnlyLoads, AreWorkers, IsReady};
 ghost use Rattle.camtool.specs.Outcomes.{Serves, answered};
 ghost use Rattle.camtool.specs.inner.Prints.{PrintsOr, TriesVerdict};
 ghost use Rattle.camtool.specs.Statuses.{status_code};
-ghost use Rattle.camtool.specs.Verify.{texts_of, verdict_status, verdict_line, rejection_line, triangle_line, leaf_end, column_line, tolerances_end, NamesMove};
+ghost use Rattle.camtool.specs.Verify.{texts_of, verdict_status, verdict_line, reason_words, triangle_words, blocked_words, NamesMove, NamesVerdictMove};
 
 use crate::load::{LoadFault, load_setup};
-use crate::print::{add_column, add_length, add_number, add_text};
+use crate::print::line_of_column;
 use crate::program::load_program;
 use crate::status::Status;
 use crate::tell::{tell, tell_fault};
 use mill_base::{Move, Unit, WantOfMemory};
 use mill_io::{Shelf, Sink};
 use mill_job::Job;
+use mill_line::Word::{Length, Number, Text};
+use mill_line::{Word, line_of};
 use mill_part::Part;
 use mill_sweep::Leaf;
 use mill_verify::{Reason, Verdict, verify};
@@ -104,7 +107,7 @@ fn tell_verdict<R: Threads + Sync, O: Sink>(
 
 /// Prints the line of a verdict.
 fn tell_line_of<O: Sink>(alloc: Global, loaded: &Loaded, verdict: Verdict, out: &mut O) -> Status
-    requires names { NamesMove loaded.now.moves.items verdict }
+    requires names { NamesVerdictMove loaded.now.moves.items verdict }
     requires prints { (O.shows out.old).faults < 2 ^ 64 - 1 }
     ensures { PrintsOr
         (answered (judged loaded.now.job loaded.now.part loaded.now.moves.items verdict))
@@ -133,33 +136,17 @@ fn line_of_verdict(
     moves: &[Move],
     verdict: Verdict,
 ) -> Result<Vec<u8>, WantOfMemory>
-    requires { NamesMove moves.now verdict }
-    ensures { IfOk result (λ line. line.items ≡ verdict_line job.now moves.now verdict) }
+    requires { NamesVerdictMove moves.now verdict }
+    ensures { IfOk result (λ made. made.items ≡ verdict_line job.now moves.now verdict) }
 {
     match verdict {
         Verdict::Accept {
             moves: count,
             columns,
             most_left,
-        } => line_of_acceptance(alloc, job, moves, count, columns, most_left),
-        Verdict::Reject(Reason::Floor { at }) => line_of_floor(alloc, moves, at, job.unit),
-        Verdict::Reject(Reason::Gouge { at, tri, leaf }) => {
-            line_of_triangle(alloc, b"gouge", at, tri, leaf)
-        }
-        Verdict::Reject(Reason::Holder { at, tri, leaf }) => {
-            line_of_triangle(alloc, b"holder", at, tri, leaf)
-        }
-        Verdict::Reject(Reason::Rapid { at, row, col, leaf }) => {
-            line_of_column(alloc, b"rapid", at, row, col, leaf)
-        }
-        Verdict::Reject(Reason::Cut { at, row, col, leaf }) => {
-            line_of_column(alloc, b"cut", at, row, col, leaf)
-        }
-        Verdict::Reject(Reason::HolderStock { at, row, col, leaf }) => {
-            line_of_column(alloc, b"holder-stock", at, row, col, leaf)
-        }
-        Verdict::Reject(Reason::Left { row, col, top }) => {
-            line_of_left(alloc, moves, row, col, top, job.unit)
+        } => line_of_acceptance(alloc, job, count, columns, most_left),
+        Verdict::Reject(reason) => {
+            line_of_reason(alloc, &[Text(b"rejected")], moves, reason, job.unit)
         }
     }
 }
@@ -167,122 +154,145 @@ fn line_of_verdict(
 fn line_of_acceptance(
     alloc: Global,
     job: &Job,
-    moves: &[Move],
     count: u64,
     columns: u64,
     most_left: i32,
 ) -> Result<Vec<u8>, WantOfMemory>
-    ensures { IfOk result (λ line. line.items ≡ verdict_line job.now moves.now (Verdict.Accept count columns most_left)) }
+    ensures { IfOk result (λ made. made.items ≡ verdict_line job.now [] (Verdict.Accept count columns most_left)) }
 {
-    let mut line = Vec::new(alloc);
-    add_text(&mut line, b"accepted moves ")?;
-    add_number(&mut line, count)?;
-    add_text(&mut line, b" columns ")?;
-    add_number(&mut line, columns)?;
-    add_text(&mut line, b" left ")?;
-    add_length(&mut line, most_left, job.unit)?;
-    add_tolerances(&mut line, job)?;
-    Ok(line)
+    line_of(
+        alloc,
+        &[Text(b"accepted")],
+        &[
+            Text(b"moves"),
+            Number(count),
+            Text(b"columns"),
+            Number(columns),
+            Text(b"left"),
+            Length(most_left, job.unit),
+            Text(b"band"),
+            Length(job.band, job.unit),
+            Text(b"allowance"),
+            Length(job.allowance, job.unit),
+        ],
+    )
 }
 
-// The words of the job's band and allowance, and the line's end.
-fn add_tolerances(line: &mut Vec<u8>, job: &Job) -> Result<(), WantOfMemory>
-    ensures { OnOk result (line.new.items ≡ line.old.items ++ tolerances_end job.now) }
+/// The line of the words `start` and then those of a reason, which counts these moves. Lengths are in
+/// this unit.
+pub fn line_of_reason(
+    alloc: Global,
+    start: &[Word<'_>],
+    moves: &[Move],
+    reason: Reason,
+    unit: Unit,
+) -> Result<Vec<u8>, WantOfMemory>
+    requires { NamesMove moves.now reason }
+    ensures { IfOk result (λ made. made.items ≡
+        line (map word_text start.now ++ reason_words unit moves.now reason)) }
 {
-    add_text(line, b" band ")?;
-    add_length(line, job.band, job.unit)?;
-    add_text(line, b" allowance ")?;
-    add_length(line, job.allowance, job.unit)?;
-    add_text(line, b"\n")?;
-    Ok(())
+    match reason {
+        Reason::Floor { at } => line_of_floor(alloc, start, moves, at, unit),
+        Reason::Gouge { at, tri, leaf } => {
+            line_of_triangle(alloc, start, b"gouge", at, tri, leaf)
+        }
+        Reason::Holder { at, tri, leaf } => {
+            line_of_triangle(alloc, start, b"holder", at, tri, leaf)
+        }
+        Reason::Rapid { at, row, col, leaf } => {
+            line_of_blocked(alloc, start, b"rapid", at, row, col, leaf)
+        }
+        Reason::Cut { at, row, col, leaf } => {
+            line_of_blocked(alloc, start, b"cut", at, row, col, leaf)
+        }
+        Reason::HolderStock { at, row, col, leaf } => {
+            line_of_blocked(alloc, start, b"holder-stock", at, row, col, leaf)
+        }
+        Reason::Left { row, col, top } => {
+            line_of_column(alloc, start, b"left", row, col, top, unit)
+        }
+    }
 }
 
 fn line_of_floor(
     alloc: Global,
+    start: &[Word<'_>],
     moves: &[Move],
     at: u64,
     unit: Unit,
 ) -> Result<Vec<u8>, WantOfMemory>
     requires { at < length moves.now }
-    ensures { IfOk result (λ line. line.items ≡ rejection_line unit moves.now (Reason.Floor at)) }
+    ensures { IfOk result (λ made. made.items ≡
+        line (map word_text start.now ++ reason_words unit moves.now (Reason.Floor at))) }
 {
-    let mut line = Vec::new(alloc);
-    add_text(&mut line, b"rejected floor move ")?;
-    add_number(&mut line, at)?;
-    add_text(&mut line, b" z ")?;
-    add_length(&mut line, moves[at as usize].to.z, unit)?;
-    add_text(&mut line, b"\n")?;
-    Ok(line)
+    line_of(
+        alloc,
+        start,
+        &[
+            Text(b"floor"),
+            Text(b"move"),
+            Number(at),
+            Text(b"z"),
+            Length(moves[at as usize].to.z, unit),
+        ],
+    )
 }
 
-// The line of a move on which a triangle stops the cutter or the holder, as this word says.
+// The line of a move on which a triangle stops the cutter or the holder, as `what` says.
 fn line_of_triangle(
     alloc: Global,
-    word: &[u8],
+    start: &[Word<'_>],
+    what: &[u8],
     at: u64,
     tri: u32,
     leaf: Leaf,
 ) -> Result<Vec<u8>, WantOfMemory>
-    ensures { IfOk result (λ line. line.items ≡ triangle_line word.now at tri leaf) }
+    ensures { IfOk result (λ made. made.items ≡
+        line (map word_text start.now ++ triangle_words what.now at tri leaf)) }
 {
-    let mut line = Vec::new(alloc);
-    add_text(&mut line, b"rejected ")?;
-    add_text(&mut line, word)?;
-    add_text(&mut line, b" move ")?;
-    add_number(&mut line, at)?;
-    add_text(&mut line, b" triangle ")?;
-    add_number(&mut line, u64::from(tri))?;
-    add_leaf(&mut line, leaf)?;
-    Ok(line)
+    line_of(
+        alloc,
+        start,
+        &[
+            Text(what),
+            Text(b"move"),
+            Number(at),
+            Text(b"triangle"),
+            Number(u64::from(tri)),
+            Text(b"leaf"),
+            Number(u64::from(leaf.d)),
+            Number(leaf.k),
+        ],
+    )
 }
 
-// The line of a move on which a column stops the cutter or the holder, as this word says.
-fn line_of_column(
+// The line of a move on which a column stops the cutter or the holder, as `what` says.
+fn line_of_blocked(
     alloc: Global,
-    word: &[u8],
+    start: &[Word<'_>],
+    what: &[u8],
     at: u64,
     row: u32,
     col: u32,
     leaf: Leaf,
 ) -> Result<Vec<u8>, WantOfMemory>
-    ensures { IfOk result (λ line. line.items ≡ column_line word.now at row col leaf) }
+    ensures { IfOk result (λ made. made.items ≡
+        line (map word_text start.now ++ blocked_words what.now at row col leaf)) }
 {
-    let mut line = Vec::new(alloc);
-    add_text(&mut line, b"rejected ")?;
-    add_text(&mut line, word)?;
-    add_text(&mut line, b" move ")?;
-    add_number(&mut line, at)?;
-    add_text(&mut line, b" row ")?;
-    add_number(&mut line, u64::from(row))?;
-    add_text(&mut line, b" column ")?;
-    add_number(&mut line, u64::from(col))?;
-    add_leaf(&mut line, leaf)?;
-    Ok(line)
-}
-
-fn line_of_left(
-    alloc: Global,
-    moves: &[Move],
-    row: u32,
-    col: u32,
-    top: i32,
-    unit: Unit,
-) -> Result<Vec<u8>, WantOfMemory>
-    ensures { IfOk result (λ line. line.items ≡ rejection_line unit moves.now (Reason.Left row col top)) }
-{
-    let mut line = Vec::new(alloc);
-    add_text(&mut line, b"rejected left")?;
-    add_column(&mut line, row, col, top, unit)?;
-    Ok(line)
-}
-
-// The words of a segment of a move, and the line's end.
-fn add_leaf(line: &mut Vec<u8>, leaf: Leaf) -> Result<(), WantOfMemory>
-    ensures { OnOk result (line.new.items ≡ line.old.items ++ leaf_end leaf) }
-{
-    add_text(line, b" leaf ")?;
-    add_number(line, u64::from(leaf.d))?;
-    add_text(line, b" ")?;
-    add_number(line, leaf.k)?;
-    add_text(line, b"\n")
+    line_of(
+        alloc,
+        start,
+        &[
+            Text(what),
+            Text(b"move"),
+            Number(at),
+            Text(b"row"),
+            Number(u64::from(row)),
+            Text(b"column"),
+            Number(u64::from(col)),
+            Text(b"leaf"),
+            Number(u64::from(leaf.d)),
+            Number(leaf.k),
+        ],
+    )
 }

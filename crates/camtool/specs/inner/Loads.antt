@@ -1,5 +1,5 @@
 -- What reading a file or a word comes to, and what reading all that a command needs comes to.
-use Rattle.std.specs.Prelude.{◌≡◌, ◌≤◌, ℕ, ℤ, ◌<ℤ◌, List, [], length, take, Option, Some, None, IfSome, Result, Ok, Err}
+use Rattle.std.specs.Prelude.{◌≡◌, ◌≤◌, ℕ, ℤ, ◌<ℤ◌, List, [], length, take, All, Option, Some, None, IfSome, Result, Ok, Err}
 use Rattle.std.specs.Global.{Vec}
 use Rattle.mill_base.specs.declared.limits.TheConstants.{MAX_FILE_BYTES, MAX_MOVES, MAX_WORKERS}
 use Rattle.mill_base.specs.declared.points.Pt3.{Pt3}
@@ -20,19 +20,24 @@ use Rattle.mill_part.specs.declared.part.Part.{Part}
 use Rattle.mill_job.specs.declared.job.Job.{Job}
 use Rattle.mill_job.specs.Columns.{home}
 use Rattle.mill_job.specs.Jobs.{IsJob}
+use Rattle.mill_list.specs.declared.limits.TheConstants.{MAX_STEPS}
+use Rattle.mill_list.specs.declared.step.Step.{Step}
+use Rattle.mill_verify.specs.Files.{IsFileOf}
 use Rattle.camtool.specs.declared.file.File.{File}
-use Rattle.camtool.specs.declared.file.File.TheVariants.{Job as JobFile, Part as PartFile, Program as ProgramFile}
+use Rattle.camtool.specs.declared.file.File.TheVariants.{Job as JobFile, Part as PartFile, List as ListFile}
 use Rattle.camtool.specs.declared.load.LoadFault.{LoadFault}
 use Rattle.camtool.specs.declared.load.LoadFault.TheVariants.{Memory, ReadFault, Unfit}
-use Rattle.camtool.specs.declared.load.Unfit.TheVariants.{TooLong, JobRefused, PartRefused, ProgramRefused, PartTop}
+use Rattle.camtool.specs.declared.load.Unfit.TheVariants.{TooLong, JobRefused, PartRefused, ListRefused, ProgramRefused, PartTop}
 use Rattle.camtool.specs.declared.load.Setup.{Setup}
 use Rattle.camtool.specs.declared.verify.Loaded.{Loaded}
+use Rattle.camtool.specs.declared.rest.Listed.{Listed}
 use Rattle.camtool.specs.declared.stock.Cutting.{Cutting}
 use Rattle.camtool.specs.declared.place.Coordinate.{Coordinate}
 use Rattle.mill_job.specs.declared.job.Place.{Place}
 use Rattle.camtool.specs.declared.place.WordFault.{WordFault}
 use Rattle.camtool.specs.Drop.{ReadsPlace, RefusesWord}
 use Rattle.camtool.specs.Level.{ReadsHeight, RefusesZ}
+use Rattle.camtool.specs.Rest.{RestTexts, ReadsRest, IsListText, IsRefusedList, IsUnfitRest, IsReadBeforeRest}
 use Rattle.camtool.specs.Sample.{sample_job, sample_part}
 use Rattle.camtool.specs.Setup.{SetupTexts, Fits, IsTooLong, IsJobText, IsRefusedJob, IsPartText, IsRefusedPart, ReadsSetup, IsUnfit, IsReadBefore}
 use Rattle.camtool.specs.Stock.{StockTexts, ReadsStock, IsUnfitStock, IsReadBeforeStock}
@@ -67,13 +72,22 @@ LoadsPart job told (Err (Unfit (PartRefused fault))) = IfSome told (λ text. IsR
 LoadsPart job told (Err _) = ⊥
 
 -- the moves of a file, or why there are none
-abbrev pub LoadsProgram : Job → Option (List ℕ) → Result (Vec Move) LoadFault → Type 0
-LoadsProgram job told (Ok moves) = IfSome told (λ text. IsProgramText job text moves.items)
-LoadsProgram job told (Err Memory) = Unit {0}
-LoadsProgram job told (Err (ReadFault ProgramFile)) = Unit {0}
-LoadsProgram job told (Err (Unfit (TooLong ProgramFile))) = IfSome told IsTooLong
-LoadsProgram job told (Err (Unfit (ProgramRefused fault))) = IfSome told (λ text. IsRefusedProgram job text fault)
-LoadsProgram job told (Err _) = ⊥
+abbrev pub LoadsProgram : Job → Option (List ℕ) → File → Result (Vec Move) LoadFault → Type 0
+LoadsProgram job told file (Ok moves) = IfSome told (λ text. IsProgramText job text moves.items)
+LoadsProgram job told file (Err Memory) = Unit {0}
+LoadsProgram job told file (Err (ReadFault f)) = f ≡ file
+LoadsProgram job told file (Err (Unfit (TooLong f))) = (f ≡ file) × IfSome told IsTooLong
+LoadsProgram job told file (Err (Unfit (ProgramRefused f fault))) = (f ≡ file) × IfSome told (λ text. IsRefusedProgram job text fault)
+LoadsProgram job told file (Err _) = ⊥
+
+-- the steps of a list's file, or why there are none
+abbrev pub LoadsList : Job → Option (List ℕ) → Result (Vec Step) LoadFault → Type 0
+LoadsList job told (Ok steps) = IfSome told (λ text. IsListText job text steps.items)
+LoadsList job told (Err Memory) = Unit {0}
+LoadsList job told (Err (ReadFault ListFile)) = Unit {0}
+LoadsList job told (Err (Unfit (TooLong ListFile))) = IfSome told IsTooLong
+LoadsList job told (Err (Unfit (ListRefused fault))) = IfSome told (λ text. IsRefusedList job text fault)
+LoadsList job told (Err _) = ⊥
 
 -- ---- a program's file, in pieces
 
@@ -104,11 +118,11 @@ pub record IsFirst (limit given : ℕ) (end : Option (Result Unit PieceEnd)) : T
   pub going : end ≡ None
 
 -- why a program's file gives no text
-abbrev pub LoadsNone : Option (List ℕ) → LoadFault → Type 0
-LoadsNone told Memory = Unit {0}
-LoadsNone told (ReadFault f) = f ≡ ProgramFile
-LoadsNone told (Unfit (TooLong f)) = (f ≡ ProgramFile) × IfSome told IsTooLong
-LoadsNone told (Unfit _) = ⊥
+abbrev pub LoadsNone : Option (List ℕ) → File → LoadFault → Type 0
+LoadsNone told file Memory = Unit {0}
+LoadsNone told file (ReadFault f) = f ≡ file
+LoadsNone told file (Unfit (TooLong f)) = (f ≡ file) × IfSome told IsTooLong
+LoadsNone told file (Unfit _) = ⊥
 
 -- ---- all that a command needs
 
@@ -148,6 +162,13 @@ LoadsCutting texts (Err Memory) = Unit {0}
 LoadsCutting texts (Err (ReadFault file)) = IsReadBeforeStock texts file
 LoadsCutting texts (Err (Unfit fault)) = IsUnfitStock texts fault
 
+-- job, part and files, or why there are none
+abbrev pub LoadsFiles : RestTexts → Result Listed LoadFault → Type 0
+LoadsFiles texts (Ok l) = (steps : List Step) × ReadsRest texts l.job l.part steps l.files.items
+LoadsFiles texts (Err Memory) = Unit {0}
+LoadsFiles texts (Err (ReadFault file)) = IsReadBeforeRest texts file
+LoadsFiles texts (Err (Unfit fault)) = IsUnfitRest texts fault
+
 -- ---- what reading does to the store
 
 -- the count of failed reads rose where the fault is a read fault, and else stays
@@ -185,6 +206,13 @@ pub record IsReady (l : Loaded) : Type 0 where
 pub record IsCutting (c : Cutting) : Type 0 where
   pub job_ok : IsJob c.job
   pub moves_ok : AreMoves c.job c.moves.items
+
+-- all that the verifier asks for of files in turn
+pub record AreFilesReady (l : Listed) : Type 0 where
+  pub job_ok : IsJob l.job
+  pub under : IsUnder l.part l.job.top
+  pub files_ok : All (IsFileOf l.job) l.files.items
+  pub few : length l.files.items ≤ MAX_STEPS
 
 -- a number of workers that a command may have
 pub record AreWorkers (workers : ℕ) : Type 0 where

@@ -13,18 +13,22 @@ use Rattle.mill_plan.specs.declared.fault.PlanFault.{PlanFault}
 use Rattle.mill_plan.specs.declared.fault.PlanFault.TheVariants as plan_fault
 use Rattle.mill_verify.specs.declared.verdict.Verdict.{Verdict}
 use Rattle.mill_verify.specs.Verdicts.{IsVerdict}
+use Rattle.mill_verify.specs.Lists.{IsListVerdict}
+use Rattle.mill_verify.specs.declared.list.ListVerdict.{ListVerdict}
 use Rattle.camtool.specs.declared.load.LoadFault.{LoadFault}
 use Rattle.camtool.specs.declared.load.LoadFault.TheVariants as load_fault
 use Rattle.camtool.specs.declared.load.Setup.{Setup}
 use Rattle.mill_job.specs.declared.job.Place.{Place}
 use Rattle.mill_job.specs.Jobs.{tool_of}
 use Rattle.camtool.specs.declared.verify.Loaded.{Loaded}
+use Rattle.camtool.specs.declared.rest.Listed.{Listed}
 use Rattle.camtool.specs.declared.stock.Cutting.{Cutting}
-use Rattle.camtool.specs.Answers.{unfit, judged, dropped, leveled, planned, stocked, sampled}
+use Rattle.camtool.specs.Answers.{unfit, judged, judged_files, dropped, leveled, planned, stocked, sampled}
 use Rattle.camtool.specs.Calls.{Call}
 use Rattle.camtool.specs.Level.{LevelAnswer, IsLevelAnswer}
 use Rattle.camtool.specs.Outcomes.{Outcome, help, bad_words, no_memory, read_fault, answered, outcome_status, outcome_line, Shows}
 use Rattle.camtool.specs.Plan.{plan_line, plan_status}
+use Rattle.camtool.specs.Rest.{AreSafe, IsFileNamed}
 use Rattle.camtool.specs.Sample.{Samples}
 use Rattle.camtool.specs.Stock.{StockAnswer, IsStockAnswer}
 use Rattle.camtool.specs.Verify.{IsNamed, IsSafe}
@@ -99,6 +103,17 @@ pub record PrintsVerdict (l : Loaded) (status : ℕ) (sink sink_after : SinkView
 abbrev pub TriesVerdict : Loaded → ℕ → SinkView → SinkView → Type 0
 TriesVerdict l status sink sink_after = PrintsVerdict l status sink sink_after ⊎ PrintsOutcome no_memory status sink sink_after
 
+-- the verdict on the files that were read is printed, or that memory was short
+pub record PrintsListVerdict (l : Listed) (status : ℕ) (sink sink_after : SinkView) : Type 0 where
+  pub verdict : ListVerdict
+  pub is : IsListVerdict l.job l.part l.files.items verdict
+  pub safe : AreSafe l.job l.part l.files.items verdict
+  pub named : IsFileNamed l.job l.part l.files.items verdict
+  pub printed : PrintsOr (answered (judged_files l.job l.part l.files.items verdict)) status sink sink_after
+
+abbrev pub TriesListVerdict : Listed → ℕ → SinkView → SinkView → Type 0
+TriesListVerdict l status sink sink_after = PrintsListVerdict l status sink sink_after ⊎ PrintsOutcome no_memory status sink sink_after
+
 -- the drop height at a place is printed, or that memory was short
 pub record PrintsHeight (s : Setup) (place : Place) (status : ℕ) (sink sink_after : SinkView) : Type 0 where
   pub height : ℤ
@@ -133,10 +148,6 @@ pub record ShowsStock (c : Cutting) (name : List ℕ) (call : Call) : Type 0 whe
 -- so it is, or it is shown that memory was short
 abbrev pub ShowsStockOr : Cutting → List ℕ → Call → Type 0
 ShowsStockOr c name call = ShowsStock c name call ⊎ Shows call no_memory
-
--- the beginning of a sample's line: its size, and how many triangles it has
-abbrev pub sample_start : ℕ → List ℕ
-sample_start n = codes "sample " ++ decimal n ++ codes " triangles " ++ decimal (2 * n * n)
 
 -- the planner's answer to the sample part of a size is printed, or that memory was short
 pub record PrintsSample (n status : ℕ) (sink sink_after : SinkView) : Type 0 where
