@@ -1,6 +1,6 @@
 -- The sample part is in range and under its job's top, and its job is one; and the work on `sample`, put together.
-use Rattle.std.proofs.Common.{◌≡◌, ℕ, ◌+◌, ◌*◌, ◌%◌, ◌/◌, ◌<◌, ◌≤◌, ◌^◌, zero, suc, List, [], ◌∷◌, ◌++◌, length, refl, sym, ap, subst, ◌∙◌, inl, inr, append_assoc, length-append, arith}
-use Rattle.std.specs.Prelude.{ℤ, pos, ◌-ℤ◌, ◌≤ℤ◌, nat_abs, codes, decimal, All, IfOk, Result, Ok}
+use Rattle.std.proofs.Common.{◌≡◌, ℕ, ◌+◌, ◌*◌, ◌%◌, ◌/◌, ◌<◌, ◌≤◌, ◌^◌, zero, suc, List, [], ◌∷◌, length, refl, sym, ap, subst, ◌∙◌, inl, inr, length-append, arith}
+use Rattle.std.specs.Prelude.{ℤ, pos, ◌-ℤ◌, ◌≤ℤ◌, nat_abs, All, IfOk, Result, Ok}
 use Rattle.std.specs.Global.{Vec}
 use Rattle.std.specs.List.{flat_map, range_with_len}
 use Rattle.std.proofs.lemmas.Int.{ints}
@@ -15,7 +15,6 @@ use Rattle.mill_base.specs.declared.motion.Move.{Move}
 use Rattle.mill_base.specs.declared.points.Tri.{Tri}
 use Rattle.mill_base.specs.declared.unit.Unit.TheVariants.{Hundredth}
 use Rattle.mill_base.specs.declared.limits.TheConstants.{MAX_COORDINATE, MAX_TEXT_COORDINATE}
-use Rattle.mill_decimal.specs.Decimals.{canonical}
 use Rattle.mill_job.specs.Columns.{home, positions}
 use Rattle.mill_job.specs.Jobs.{AreLevels, IsJob, IsLevel}
 use Rattle.mill_job.specs.declared.job.Job.{Job}

@@ -1,7 +1,6 @@
 -- The work on `stock`: what was read, stored and printed, put together.
 use Rattle.std.proofs.Common.{◌≡◌, ℕ, List, ◌++◌, length, take, drop, Option, Result, Ok, Err, refl, sym, subst, inl, inr, arith}
 use Rattle.std.proofs.lemmas.List.{append-nil, drop_all, take_all}
-use Rattle.std.specs.Prelude.{IfSome}
 use Rattle.mill_command.specs.Requests.{stock}
 use Rattle.mill_io.specs.Views.{StoreView}
 use Rattle.mill_job.specs.declared.job.Job.{Job}

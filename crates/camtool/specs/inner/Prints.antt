@@ -1,5 +1,5 @@
 -- What printing a line comes to.
-use Rattle.std.specs.Prelude.{◌⊎◌, ◌≡◌, ◌<◌, ◌*◌, ◌++◌, ℕ, ℤ, codes, decimal, List, Result, Ok, Err, string_bytes}
+use Rattle.std.specs.Prelude.{◌⊎◌, ◌≡◌, ◌<◌, ℕ, ℤ, List, Result, Ok, Err, string_bytes}
 use Rattle.std.specs.Global.{Vec}
 use Rattle.mill_base.specs.declared.memory.WantOfMemory.{WantOfMemory}
 use Rattle.mill_base.specs.declared.unit.Unit.{Unit as LengthUnit}

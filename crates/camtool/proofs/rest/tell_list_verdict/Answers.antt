@@ -1,6 +1,6 @@
 use Rattle.std.proofs.Common.{ap, inl}
 use Rattle.std.specs.Prelude.{Ok}
-use Rattle.camtool.proofs.Named.{AreFilesTold, files_told}
+use Rattle.camtool.proofs.Named.{files_told}
 use Rattle.camtool.proofs.rest.tell_list_verdict.Goals as goal
 
 pub verify_list-requires-clause-files_ok : goal.verify_list-requires-clause-files_ok

@@ -1,4 +1,4 @@
-use Rattle.std.specs.Prelude.{List, ◌∷◌, [], ◌++◌, take, drop, ◌+◌, All}
+use Rattle.std.specs.Prelude.{List, ◌++◌, take, drop, ◌+◌, All}
 use Rattle.std.proofs.Common.{◌≡◌, ◌∙◌, length, sym, subst, arith}
 use Rattle.std.proofs.lemmas.List.{take_all, take_more}
 use Rattle.std.proofs.lemmas.List.Elements.{Contains-get_or}
