@@ -50,7 +50,11 @@ each_fault job steps = first (map (step_fault job) steps)
 
 -- the document's first fault: an unknown key, the steps as a whole, a step
 abbrev pub list_fault : Job → Members → Option JobFault
-list_fault job ms = first (option_map Unknown (unknown_but (key.Steps ∷ []) ms) ∷ steps_fault ms ∷ each_fault job (tables_at ms) ∷ [])
+list_fault job ms = first (
+    option_map Unknown (unknown_but (key.Steps ∷ []) ms)
+    ∷ steps_fault ms
+    ∷ each_fault job (tables_at ms)
+    ∷ [])
 
 -- the list of a document with which nothing is wrong
 abbrev pub steps_of : Members → List Step
@@ -62,7 +66,9 @@ list_in job (Some ms) = checked (list_fault job ms) (steps_of ms)
 
 -- what a text means as a list for a job; a text that isn't UTF-8 is no document
 abbrev pub IsListOf : Job → List ℕ → Result (List Step) JobFault → Type 0
-IsListOf job text answer = (IsUtf8 text × (answer ≡ list_in job (parse_document text))) ⊎ ((¬ IsUtf8 text) × (answer ≡ Err Syntax))
+IsListOf job text answer =
+    (IsUtf8 text × (answer ≡ list_in job (parse_document text)))
+    ⊎ ((¬ IsUtf8 text) × (answer ≡ Err Syntax))
 
 -- the answer is what the text means, or there was not enough memory
 abbrev pub GivesList : Job → List ℕ → Result (Vec Step Global) JobFault → Type 0

@@ -28,9 +28,13 @@ program_fault ms = must_be key.Program as_str is_program (get_member (name_of ke
 unfoldable pub program_of : Members → List ℕ
 program_of ms = unwrap_or (option_and_then as_str (get_member (name_of key.Program) ms)) []
 
--- what is wrong with a step for a job, in order: an unknown key, each key's own fault, those between the cutter's keys, those between the cutter and the job
+-- what is wrong with a step for a job, in order: an unknown key, each key's own fault, those
+-- between the cutter's keys, those between the cutter and the job
 abbrev pub step_faults : Job → Members → List (Option JobFault)
-step_faults job ms = option_map Unknown (unknown_but step_keys ms) ∷ program_fault ms ∷ cutter_key_faults ms ++ cutter_faults ms ++ fit_faults job (cutter_of ms)
+step_faults job ms =
+    option_map Unknown (unknown_but step_keys ms)
+    ∷ program_fault ms
+    ∷ cutter_key_faults ms ++ cutter_faults ms ++ fit_faults job (cutter_of ms)
 
 -- the first of them
 abbrev pub step_fault : Job → Members → Option JobFault
