@@ -195,14 +195,7 @@ fn tell_list_verdict<R: Threads + Sync, O: Sink>(
     requires prints { (O.shows out.old).faults < 2 ^ 64 - 1 }
     ensures { TriesListVerdict listed.now (status_code result) (O.shows out.old) (O.shows out.new) }
 {
-    match verify_list(
-        rt,
-        alloc,
-        &listed.job,
-        &listed.part,
-        &listed.files,
-        workers,
-    ) {
+    match verify_list(rt, alloc, &listed.job, &listed.part, &listed.files, workers) {
         Ok(verdict) => tell_line_of_list(alloc, listed, verdict, out),
         Err(WantOfMemory) => tell(out, b"out of memory\n", Status::Memory),
     }

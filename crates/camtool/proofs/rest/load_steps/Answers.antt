@@ -20,7 +20,7 @@ loop-number-preserved g c =
     let was = c.loop-number.invariant in
     let pushed = c.in-Ok-push.ensures.items in
     let read : ReadsStep start.contents job c.index-steps-number.result file =
-        subst (λ (programs : List ℕ → Option (List ℕ)). ReadsStep programs job c.index-steps-number.result file) (contents_stay start here was.only) c.in-Ok.ensures.read in
+    subst (λ (programs : List ℕ → Option (List ℕ)). ReadsStep programs job c.index-steps-number.result file) (contents_stay start here was.only) c.in-Ok.ensures.read in
     record {
       only = reads_on _ _ _ was.only c.in-Ok.ensures.store.only;
       faults = c.in-Ok.ensures.store.reads ∙ was.faults;
