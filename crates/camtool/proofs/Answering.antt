@@ -385,8 +385,7 @@ reads_to texts job j part steps files step k told r h =
     let list : h.steps ≡ steps = same_steps texts job h.steps steps told.list (subst (λ (x : Job). ReadsList texts x h.steps) same h.list_is) r.list_is in
     let there : k < length steps = subst (λ (xs : List Step). k < length xs) list h.there in
     let is : step ≡ step_at steps k = h.step_is ∙ ap (λ (xs : List Step). step_at xs k) list in
-    let read = step_read texts.programs job steps files k r.files_are there in
-    (
+    let read = step_read texts.programs job steps files k r.files_are there in (
       same,
       subst (λ (x : Step). IsSome (texts.programs x.program)) (sym is) (All-get_or (λ x. IsSome (texts.programs x.program)) steps k _ there told.programs),
       (read.0, subst (λ (x : Step). ReadsStep texts.programs job x read.0) (sym is) read.1),

@@ -11,9 +11,6 @@ use Rattle.mill_io.specs.Views.{StoreView, SinkView, ReadsOnly}
 use Rattle.mill_job.specs.declared.job.Job.{Job}
 use Rattle.camtool.specs.declared.load.LoadFault.{LoadFault}
 use Rattle.camtool.specs.declared.load.LoadFault.TheVariants as load_fault
-use Rattle.camtool.specs.declared.file.File.{File}
-use Rattle.camtool.specs.declared.load.Unfit.{Unfit}
-use Rattle.camtool.specs.declared.load.Unfit.TheVariants.{TooLong}
 use Rattle.camtool.specs.declared.load.Setup.{Setup}
 use Rattle.camtool.specs.declared.place.Coordinate.{Coordinate}
 use Rattle.mill_job.specs.declared.job.Place.{Place}
@@ -21,7 +18,6 @@ use Rattle.camtool.specs.declared.verify.Loaded.{Loaded}
 use Rattle.camtool.specs.Answers.{Answer, refused_word, unfit, judged, dropped, leveled, answer_status, answer_line}
 use Rattle.camtool.specs.Calls.{Call, CanCount, NamedText, Stores}
 use Rattle.camtool.specs.Drop.{HasPlace, ReadsPlace, RefusesWord}
-use Rattle.camtool.specs.Faults.{unfit_line}
 use Rattle.camtool.specs.Level.{HasHeight, ReadsHeight, RefusesZ}
 use Rattle.camtool.specs.inner.Loads.{Loads, LoadsUnder, OnlyLoads}
 use Rattle.camtool.specs.Outcomes.{Outcome, help, bad_words, no_memory, read_fault, answered, outcome_file, IsOutcome, IsOutcomeOf, CountsReads, Shows, ShowsOr, Serves, HasOutcome}
@@ -201,12 +197,3 @@ refused_outcome words call r h same p = record {
   shows = printed_shows call (refusal_outcome r) (refusal_file r) (subst (λ (v : StoreView). ReadsOnly call.store v) (sym same) (same_store call.store))
       (refusal_reads r _ _ (ap (λ (v : StoreView). v.read_faults) same)) p;
 }
-
--- ---- a file that is too long
-
-pub long_prints : (f : LoadFault) (u : Unfit) (file : File) (text : List ℕ) (status : ℕ) (sink sink_after : SinkView) → f ≡ load_fault.Unfit u → u ≡ TooLong file → text ≡ unfit_line (TooLong file)
-    → Prints text 4 status sink sink_after → PrintsFault f status sink sink_after
-long_prints f u file text status sink sink_after is file_is same p =
-    subst (λ (x : LoadFault). PrintsFault x status sink sink_after) (sym is)
-    (subst (λ (x : Unfit). PrintsFault (load_fault.Unfit x) status sink sink_after) (sym file_is)
-    (inl (subst (λ (l : List ℕ). Prints l 4 status sink sink_after) same p)))

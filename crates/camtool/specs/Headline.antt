@@ -4,10 +4,11 @@ use Rattle.mill_io.specs.Views.{IsWritten, IsStored}
 use Rattle.mill_base.specs.declared.points.Tri.{Tri}
 use Rattle.mill_base.specs.declared.motion.Move.{Move}
 use Rattle.mill_command.specs.Requests.{Request, is_taken, request}
+use Rattle.mill_dexel.specs.Tops.{uncut}
 use Rattle.mill_job.specs.declared.job.Job.{Job}
 use Rattle.mill_plan.specs.Plans.{done}
 use Rattle.mill_stl.specs.Written.{ReadsBack}
-use Rattle.mill_verify.specs.Verdicts.{IsRejection}
+use Rattle.mill_verify.specs.Verdicts.{IsRejection, NamesLeaf}
 use Rattle.mill_list.specs.declared.step.Step.{Step}
 use Rattle.mill_verify.specs.Claims.{CutsSafely}
 use Rattle.mill_verify.specs.Files.{File as CutFile}
@@ -26,7 +27,7 @@ use Rattle.camtool.specs.Plan.{plan_line}
 use Rattle.camtool.specs.Rest.{RestTexts, rest_texts, AreRestTold, ReadsRest, IsFileNamed, list_status, list_line}
 use Rattle.camtool.specs.Setup.{Fits, setup_texts, AreSetupTold, ReadsSetup}
 use Rattle.camtool.specs.Stock.{stock_texts, AreStockTold, ReadsStock, stock_surface, drawn, stock_line}
-use Rattle.camtool.specs.Verify.{Texts, texts_of, AreTold, Reads, Judges, NamesBlocked, verdict_line}
+use Rattle.camtool.specs.Verify.{Texts, texts_of, AreTold, Reads, Judges, verdict_line}
 use Rattle.camtool.specs.Words.{Files, AsksVerify, PlanFiles, AsksPlan, DropWords, AsksDrop, LevelWords, AsksLevel, StockFiles, AsksStock, RestFiles, AsksRest, AsksSample}
 
 -- ---- from bytes to bytes
@@ -93,7 +94,7 @@ pub record RejectsFirst (call : Call) (texts : Texts) : Type 0 where
   pub reason : Reason
   pub all_read : Reads texts job part moves
   pub first : IsRejection job part moves reason
-  pub named : NamesBlocked job part moves reason
+  pub named : NamesLeaf job part (uncut job) moves reason
   pub printed : IsWritten (verdict_line job moves (Reject reason)) call.sink call.sink_after
 
 -- when `verify` answers 0, at no fraction of any move does a part point lie strictly inside the cutter, no rapid removes a column point left before it,

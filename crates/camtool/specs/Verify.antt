@@ -2,7 +2,6 @@
 use Rattle.std.specs.Prelude.{◌≡◌, ℕ, ◌<◌, codes, decimal, List, [], ◌∷◌, length, Option, IsSome, IfSome, Ok, Err}
 use Rattle.mill_base.specs.declared.points.Tri.{Tri}
 use Rattle.mill_base.specs.declared.motion.Move.{Move}
-use Rattle.mill_base.specs.declared.motion.Kind.TheVariants.{Rapid, Feed}
 use Rattle.mill_base.specs.declared.unit.Unit.{Unit as LengthUnit}
 use Rattle.mill_decimal.specs.Decimals.{canonical}
 use Rattle.mill_sweep.specs.declared.leaf.Leaf.{Leaf}
@@ -10,9 +9,10 @@ use Rattle.mill_ngc.specs.Programs.{program_of}
 use Rattle.mill_ngc.specs.declared.fault.NgcFault.{NgcFault}
 use Rattle.mill_job.specs.declared.job.Job.{Job}
 use Rattle.mill_job.specs.Columns.{home}
+use Rattle.mill_dexel.specs.Tops.{uncut}
 use Rattle.mill_dexel.specs.Turns.{move_at}
 use Rattle.mill_verify.specs.Claims.{CutsSafely}
-use Rattle.mill_verify.specs.Verdicts.{BlocksHolderMove, BlocksMove, IsVerdict, StopsHolderMove, StopsMove}
+use Rattle.mill_verify.specs.Verdicts.{IsVerdict, NamesLeaf}
 use Rattle.mill_verify.specs.declared.verdict.Verdict.{Verdict}
 use Rattle.mill_verify.specs.declared.verdict.Verdict.TheVariants.{Accept, Reject}
 use Rattle.mill_verify.specs.declared.verdict.Reason.{Reason}
@@ -95,18 +95,9 @@ IsSafe job part moves (Accept count columns left) = CutsSafely job part moves
 IsSafe job part moves (Reject reason) = Unit {0}
 
 -- a leaf that a rejection names is one of the last of its move, with a reach of at most 2, and the triangle that is named, or the point at which the column that is named is tested, blocks it, or on it the holder
-abbrev pub NamesBlocked : Job → List Tri → List Move → Reason → Type 0
-NamesBlocked job part moves (Floor k) = Unit {0}
-NamesBlocked job part moves (Gouge k t leaf) = BlocksMove job part moves k t leaf
-NamesBlocked job part moves (Holder k t leaf) = BlocksHolderMove job part moves k t leaf
-NamesBlocked job part moves (RapidCut k j i leaf) = StopsMove job moves Rapid k j i leaf
-NamesBlocked job part moves (Cut k j i leaf) = StopsMove job moves Feed k j i leaf
-NamesBlocked job part moves (HolderStock k j i leaf) = StopsHolderMove job moves k j i leaf
-NamesBlocked job part moves (Left j i top) = Unit {0}
-
 abbrev pub IsNamed : Job → List Tri → List Move → Verdict → Type 0
 IsNamed job part moves (Accept count columns left) = Unit {0}
-IsNamed job part moves (Reject reason) = NamesBlocked job part moves reason
+IsNamed job part moves (Reject reason) = NamesLeaf job part (uncut job) moves reason
 
 -- all is read, this is the verdict on the moves, and if they are accepted they cut safely; what a rejection names blocks the move
 pub record Judges (texts : Texts) (job : Job) (part : List Tri) (moves : List Move) (verdict : Verdict) : Type 0 where

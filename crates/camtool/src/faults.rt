@@ -74,20 +74,12 @@ fn line_of_long(alloc: Global, file: File) -> Result<Vec<u8>, WantOfMemory>
     let start = [Text(b"refused"), Text(b"too-long")];
     match words_of_file(file) {
         (name, None) => line_of(alloc, &start, &[Text(name)]),
-        (name, Some(number)) => line_of(
-            alloc,
-            &start,
-            &[Text(name), Number(u64::from(number))],
-        ),
+        (name, Some(number)) => line_of(alloc, &start, &[Text(name), Number(u64::from(number))]),
     }
 }
 
 /// The line of the text of a job that is refused, or of a list: `file` is the word that names it.
-fn line_of_job_fault(
-    alloc: Global,
-    file: &[u8],
-    fault: &JobFault,
-) -> Result<Vec<u8>, WantOfMemory>
+fn line_of_job_fault(alloc: Global, file: &[u8], fault: &JobFault) -> Result<Vec<u8>, WantOfMemory>
     ensures { IfOk result (λ made. made.items ≡
         line (codes "refused" ∷ file.now ∷ job_fault_words fault.now)) }
 {
@@ -98,13 +90,21 @@ fn line_of_job_fault(
             line_of(alloc, &start, &[Text(b"unknown"), Text(name.as_bytes())])
         }
         JobFault::Missing(key) => {
-            line_of(alloc, &start, &[Text(b"missing"), Text(key.name().as_bytes())])
+            line_of(
+                alloc,
+                &start,
+                &[Text(b"missing"), Text(key.name().as_bytes())],
+            )
         }
         JobFault::WrongKind(key) => {
             line_of(alloc, &start, &[Text(b"kind"), Text(key.name().as_bytes())])
         }
         JobFault::Range(key) => {
-            line_of(alloc, &start, &[Text(b"range"), Text(key.name().as_bytes())])
+            line_of(
+                alloc,
+                &start,
+                &[Text(b"range"), Text(key.name().as_bytes())],
+            )
         }
         JobFault::Relation(first, second) => line_of(
             alloc,

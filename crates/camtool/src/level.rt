@@ -136,9 +136,5 @@ fn word_of_closed(closed: bool) -> &'static [u8]
 fn add_point(text: &mut Vec<u8>, point: Pt3, unit: Unit) -> Result<(), WantOfMemory>
     ensures { OnOk result (text.new.items ≡ text.old.items ++ point_line unit point) }
 {
-    add_line(
-        text,
-        &[Length(point.x, unit)],
-        &[Length(point.y, unit)],
-    )
+    add_line(text, &[Length(point.x, unit)], &[Length(point.y, unit)])
 }

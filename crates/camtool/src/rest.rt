@@ -16,6 +16,7 @@ ghost use Rattle.camtool.specs.Statuses.{status_code};
 
 use crate::file::File;
 use crate::load::{LoadFault, Unfit, load_setup, read_file};
+use crate::print::line_of_column;
 use crate::program::load_program;
 use crate::status::Status;
 use crate::tell::{tell, tell_fault, tell_made};
@@ -23,7 +24,8 @@ use crate::verify::line_of_reason;
 use mill_base::WantOfMemory;
 use mill_io::{Shelf, Sink};
 use mill_job::{Job, JobFault};
-use mill_line::{Word, line_of};
+use mill_line::Word::{Length, Number, Text};
+use mill_line::line_of;
 use mill_list::{Step, read_list};
 use mill_part::Part;
 use mill_verify::{CutFile, ListVerdict, verify_list};
@@ -195,14 +197,7 @@ fn tell_list_verdict<R: Threads + Sync, O: Sink>(
     requires prints { (O.shows out.old).faults < 2 ^ 64 - 1 }
     ensures { TriesListVerdict listed.now (status_code result) (O.shows out.old) (O.shows out.new) }
 {
-    match verify_list(
-        rt,
-        alloc,
-        &listed.job,
-        &listed.part,
-        &listed.files,
-        workers,
-    ) {
+    match verify_list(rt, alloc, &listed.job, &listed.part, &listed.files, workers) {
         Ok(verdict) => tell_line_of_list(alloc, listed, verdict, out),
         Err(WantOfMemory) => tell(out, b"out of memory\n", Status::Memory),
     }
@@ -243,7 +238,7 @@ fn line_of_list_verdict(
     verdict: ListVerdict,
 ) -> Result<Vec<u8>, WantOfMemory>
     requires { NamesFileMove files.now verdict }
-    ensures { IfOk result (λ line. line.items ≡ list_line job.now files.now verdict) }
+    ensures { IfOk result (λ made. made.items ≡ list_line job.now files.now verdict) }
 {
     match verdict {
         ListVerdict::Accept {
@@ -251,43 +246,34 @@ fn line_of_list_verdict(
             moves,
             columns,
             most_left,
-        } => line_of(
-            alloc,
-            &[
-                Word::Text(b"accepted"),
-                Word::Text(b"files"),
-                Word::Number(u64::from(count)),
-                Word::Text(b"moves"),
-                Word::Number(moves),
-                Word::Text(b"columns"),
-                Word::Number(columns),
-                Word::Text(b"left"),
-                Word::Length(most_left, job.unit),
-            ],
-            &[],
-        ),
-        ListVerdict::Reject { file, reason } => {
-            let start = [
-                Word::Text(b"rejected"),
-                Word::Text(b"file"),
-                Word::Number(u64::from(file)),
+        } => {
+            let words = [
+                Text(b"files"),
+                Number(u64::from(count)),
+                Text(b"moves"),
+                Number(moves),
+                Text(b"columns"),
+                Number(columns),
+                Text(b"left"),
+                Length(most_left, job.unit),
             ];
+            line_of(alloc, &[Text(b"accepted")], &words)
+        }
+        ListVerdict::Reject { file, reason } => {
+            let start = [Text(b"rejected"), Text(b"file"), Number(u64::from(file))];
             let rejected = &files[file as usize];
             line_of_reason(alloc, &start, &rejected.moves, reason, job.unit)
         }
-        ListVerdict::Left { row, col, top } => line_of(
-            alloc,
-            &[
-                Word::Text(b"rejected"),
-                Word::Text(b"left"),
-                Word::Text(b"row"),
-                Word::Number(u64::from(row)),
-                Word::Text(b"column"),
-                Word::Number(u64::from(col)),
-                Word::Text(b"top"),
-                Word::Length(top, job.unit),
-            ],
-            &[],
-        ),
+        ListVerdict::Left { row, col, top } => {
+            line_of_column(
+                alloc,
+                &[Text(b"rejected")],
+                b"left",
+                row,
+                col,
+                top,
+                job.unit,
+            )
+        }
     }
 }

@@ -1,6 +1,7 @@
 mod Mounted
 mod ReadLemmas
 mod StockLemmas
+mod Shown
 mod Turned
 mod Ranges
 mod Depths
@@ -22,4 +23,4 @@ mod SafeFiles
 mod Listing
 mod UniqueFiles
 mod Tested
-pub mod Named
+mod Named

@@ -9,9 +9,8 @@ use Rattle.mill_base.specs.declared.motion.Kind.{Kind}
 use Rattle.mill_base.specs.declared.motion.Kind.TheVariants.{Rapid, Feed}
 use Rattle.mill_base.specs.declared.motion.Move.{Move}
 use Rattle.mill_base.specs.declared.tool.Holder.{Holder as OneHolder}
-use Rattle.mill_sweep.specs.Halving.{Blocks, FailsAt, PassesPoint}
+use Rattle.mill_sweep.specs.Halving.{FailsAt, PassesPoint}
 use Rattle.mill_sweep.specs.Holders.{HolderFailsAt, HolderPassesPoint}
-use Rattle.mill_sweep.specs.Leaves.{span_of}
 use Rattle.mill_sweep.specs.declared.leaf.Leaf.{Leaf}
 use Rattle.mill_job.specs.declared.job.Job.{Job}
 use Rattle.mill_job.specs.Columns.{IsColumn, column_x, column_y}
@@ -21,11 +20,11 @@ use Rattle.mill_dexel.specs.Tops.{Stock, stock_after, tested_height, tested_poin
 use Rattle.mill_dexel.specs.Turns.{move_at}
 use Rattle.mill_dexel.proofs.SameStocks.{same_after, same_back, shown_same, shows_same}
 use Rattle.mill_verify.specs.Tests.{ClearsStockOn, GoodBeforeOn, HolderClearsStockOn, IsCutOn, IsGoodOn, stock_met}
-use Rattle.mill_verify.specs.Verdicts.{FailsHolderStockOn, FailsStockOn, IsFirstUncut, IsLeftOverOn}
+use Rattle.mill_verify.specs.Verdicts.{BlocksHolder, BlocksLeaf, FailsHolderStockOn, FailsStockOn, IsFirstUncut, IsLeftOverOn, StopsMoveOn}
 use Rattle.mill_verify.specs.declared.left.Uncut.{Uncut}
 use Rattle.mill_verify.specs.declared.verdict.Reason.{Reason}
 use Rattle.mill_verify.specs.declared.verdict.Reason.TheVariants.{Floor, Gouge, Holder, Rapid as RapidCut, Cut, HolderStock, Left}
-use Rattle.mill_verify.specs.inner.Firsts.{ArePassed, BlocksHeld, IsStockLeft, IsStopped, StopsAt}
+use Rattle.mill_verify.specs.inner.Firsts.{ArePassed, IsStockLeft, IsStopped}
 use Rattle.mill_verify.proofs.Mounted.{each_some}
 
 -- test (iv)
@@ -117,8 +116,8 @@ module _ (job : Job) (part : List Tri) (a b : Stock) (moves : List Move) (same :
     fails = subst (λ (p : Pt3). FailsAt job.cutter (move_at moves k) (point_tri p) leaf) (same_tested kind k j i h.column) h.fails;
   }
 
-  same_stops : (kind : Kind) (k j i : ℕ) (leaf : Leaf) → IsColumn job j i → StopsAt job a moves kind k j i leaf → StopsAt job b moves kind k j i leaf
-  same_stops kind k j i leaf column = subst (λ (p : Pt3). Blocks job.cutter (span_of (move_at moves k) leaf.d leaf.k) (point_tri p)) (same_tested kind k j i column)
+  same_stops : (kind : Kind) (k j i : ℕ) (leaf : Leaf) → IsColumn job j i → StopsMoveOn job a moves kind k j i leaf → StopsMoveOn job b moves kind k j i leaf
+  same_stops kind k j i leaf column = subst (λ (p : Pt3). BlocksLeaf job.cutter (move_at moves k) leaf (point_tri p)) (same_tested kind k j i column)
 
   same_holder_fails : (k j i : ℕ) (leaf : Leaf) → FailsHolderStockOn job part a moves k j i leaf → FailsHolderStockOn job part b moves k j i leaf
   same_holder_fails k j i leaf h = record {
@@ -137,11 +136,11 @@ module _ (job : Job) (part : List Tri) (a b : Stock) (moves : List Move) (same :
 
   -- a move that fails first on the one does on the other
   pub same_stopped : (reason : Reason) → IsStopped job part a moves reason → IsStopped job part b moves reason
-  same_stopped (Floor k) h = record { of_move = tt; rejects = record { there = h.rejects.there; before = same_before k h.rejects.before; fails = h.rejects.fails }; shown = tt }
+  same_stopped (Floor k) h = record { of_move = tt; rejects = record { there = h.rejects.there; before = same_before k h.rejects.before; fails = h.rejects.fails }; names = tt }
   same_stopped (Gouge k t leaf) h = record {
     of_move = tt;
     rejects = record { there = h.rejects.there; before = same_before k h.rejects.before; floor = h.rejects.floor; tri = h.rejects.tri; first = h.rejects.first; fails = h.rejects.fails };
-    shown = h.shown;
+    names = h.names;
   }
   same_stopped (Holder k t leaf) h = record {
     of_move = tt;
@@ -156,14 +155,14 @@ module _ (job : Job) (part : List Tri) (a b : Stock) (moves : List Move) (same :
       first = h.rejects.first;
       fails = h.rejects.fails;
     };
-    shown = h.shown;
+    names = h.names;
   }
-  same_stopped (RapidCut k j i leaf) h = record { of_move = tt; rejects = same_fails Rapid k j i leaf h.rejects; shown = same_stops Rapid k j i leaf h.rejects.column h.shown }
-  same_stopped (Cut k j i leaf) h = record { of_move = tt; rejects = same_fails Feed k j i leaf h.rejects; shown = same_stops Feed k j i leaf h.rejects.column h.shown }
+  same_stopped (RapidCut k j i leaf) h = record { of_move = tt; rejects = same_fails Rapid k j i leaf h.rejects; names = same_stops Rapid k j i leaf h.rejects.column h.names }
+  same_stopped (Cut k j i leaf) h = record { of_move = tt; rejects = same_fails Feed k j i leaf h.rejects; names = same_stops Feed k j i leaf h.rejects.column h.names }
   same_stopped (HolderStock k j i leaf) h = record {
     of_move = tt;
     rejects = same_holder_fails k j i leaf h.rejects;
-    shown = subst (λ (p : Pt3). BlocksHeld job moves k leaf (point_tri p)) (same_top k j i h.rejects.column) h.shown;
+    names = subst (λ (p : Pt3). BlocksHolder job moves k leaf (point_tri p)) (same_top k j i h.rejects.column) h.names;
   }
   same_stopped (Left j i top) h = absurd h.of_move
 

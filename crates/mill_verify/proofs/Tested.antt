@@ -34,7 +34,7 @@ use Rattle.mill_verify.specs.declared.verdict.Reason.TheVariants.{Floor, HolderS
 use Rattle.mill_verify.specs.declared.piece.Piece.{Piece}
 use Rattle.mill_verify.specs.declared.piece.Piece.TheVariants.{Block, Stock}
 use Rattle.mill_verify.specs.inner.Failures.{HasFailed, HasFailedBy, IsFirstFailed, IsReasonOf, NoneFailed, NoneFailedBy, cut_reason, is_held_row, is_holder_test, is_of_holder, part_reason, stock_reason}
-use Rattle.mill_verify.specs.inner.Firsts.{ArePassed, IsFloorEnd, IsStopped, StopsAt}
+use Rattle.mill_verify.specs.inner.Firsts.{ArePassed, IsFloorEnd}
 use Rattle.mill_verify.specs.inner.Pieces.{AreTested, IsPieceAt, IsPieceFailed, PassesTest, TestsShown, blocks_of, first_turn, piece_count, row_in, tests, turn_limit}
 use Rattle.mill_verify.specs.inner.Readiness.{start_stock}
 use Rattle.mill_verify.proofs.Failed.{failed_or_not, in_one_way}
@@ -42,6 +42,7 @@ use Rattle.mill_verify.proofs.Gathered.{gathered}
 use Rattle.mill_verify.proofs.Mounted.{for_some, of_some}
 use Rattle.mill_verify.proofs.Ranges.{rows_few}
 use Rattle.mill_verify.proofs.ReadLemmas.{move_read}
+use Rattle.mill_verify.proofs.Shown.{IsShown, StopsAt}
 use Rattle.mill_verify.proofs.Sharing.{first_of_block, first_of_row, limit_of_block, limit_of_row, spans}
 use Rattle.mill_verify.proofs.Turned.{HolderPassesTops, RowClears, RowHolderClears, holder_clears_all, row_clears, row_cut_clears, row_holder_clears, row_holder_stops, row_stops}
 
@@ -211,7 +212,7 @@ module _ (job : Job) (part : List Tri) (start : Option (List RowState)) (moves :
 
     -- which is the program's
     abbrev Rejects : Reason → Type 0
-    Rejects reason = IsStopped job part stock moves reason
+    Rejects reason = IsShown job part stock moves reason
 
     part_rejects : (found : PartFail) → IsPartFail job part (move_at moves least) found → Rejects (part_reason least found)
     part_rejects (fail.Cutter g) f = record {
@@ -353,7 +354,7 @@ module _ (job : Job) (part : List Tri) (start : Option (List RowState)) (moves :
         let d = done t.0 t.1 in let f = fails_least tests w least t.0 d.0 d.2 t.2 in absurd (none t.0 d.0 (in_list hs t.0 d.0 d.1) d.1 (f.failed, f.next))) closed.failure
 
     -- the first move that fails test (i) is then the program's failure
-    pub floor_rejects : turns < length moves → IsStopped job part stock moves (Floor turns)
+    pub floor_rejects : turns < length moves → IsShown job part stock moves (Floor turns)
     floor_rejects there = record {
       of_move = tt;
       rejects = record { there = there; before = good_to turns (let e = all_turns in omega (e, arith)); fails = floor.fails there };

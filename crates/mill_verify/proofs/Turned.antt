@@ -19,7 +19,7 @@ use Rattle.mill_dexel.specs.Rows.{HolderPassesRow, IsFirstHolderStop, RowState, 
 use Rattle.mill_dexel.specs.Turns.{ClearsRow, CutClearsRow, CutStopsAt, move_at, tops_after, row_before}
 use Rattle.mill_dexel.proofs.RowLaws.{row_tops-at, row_tops_more}
 use Rattle.mill_verify.specs.Tests.{HolderClearsStockOn, PassesColumnOn, stock_met}
-use Rattle.mill_verify.specs.inner.Firsts.{BlocksHeld, StopsAt}
+use Rattle.mill_verify.proofs.Shown.{BlocksHeld, StopsAt}
 use Rattle.mill_verify.proofs.Mounted.{each_some, for_some, if_some, of_some}
 
 module _ (job : Job) (start : Stock) (j : ℕ) where

@@ -2,6 +2,7 @@ ghost use Rattle.std.specs.Prelude.{◌≡◌, ◌≤◌, All, length};
 ghost use Rattle.mill_job.specs.Jobs.{IsJob};
 ghost use Rattle.mill_verify.specs.Files.{HasFewMoves, IsFileOf, job_of};
 ghost use Rattle.mill_verify.specs.Lists.{moves_in};
+ghost use Rattle.mill_verify.specs.declared.list.TheConstants.{MAX_FILES};
 
 use mill_base::{Cutter, Move};
 use mill_job::Job;
@@ -48,9 +49,9 @@ pub(crate) fn job_with(job: &Job, file: &CutFile) -> Job
     job.with_cutter(file.cutter())
 }
 
-/// How many moves there are in all files, at most 16.
+/// How many moves there are in all files.
 pub(crate) fn moves_of(files: &[CutFile]) -> u64
-    requires few { length files.now ≤ 16 }
+    requires few { length files.now ≤ MAX_FILES }
     requires few_moves { All HasFewMoves files.now }
     ensures { result ≡ moves_in files.now }
 {

@@ -1,17 +1,20 @@
-//! The verdict on a program: the first written test that fails, or acceptance.
+//! The verdict on a program, or on several in turn on one stock, each with its own cutter: the first
+//! written test that fails, or acceptance.
 //!
 //! It stands on `mill_part`, `mill_cells`, `mill_gouge`, `mill_dexel`, `mill_board` and `mill_job`. It promises that the
 //! answer is the verdict, for any number of workers, that there is at most one, that an accepted program
 //! cuts safely at every fraction of every move, and that a rejected move is blocked at the leaf that is
 //! named. Definitions: `specs/Tests` are the tests, `specs/Verdicts` the verdict, `specs/Claims`
-//! what an accepted program does, `specs/Blocks` what becomes of a block of moves that is tested
-//! against the part; what stands in `specs/inner` serves the functions within.
+//! what an accepted program does; `specs/Files`, `specs/Lists` and `specs/ListClaims` say the same of
+//! programs in turn; `specs/Blocks` is what becomes of a block of moves that is tested against the part;
+//! what stands in `specs/inner` serves the functions within.
 //!
 //! The tests stand in `floor`, `block`, mill_dexel's rows, and `left`; those of the holder beside those of
 //! the cutter. The moves before the first
 //! that fails test (i) are tested by blocks against the part and by rows against the stock. Both are
 //! pieces of one work that threads share (`work`), and the first piece in it that fails at the least
-//! move gives the verdict (`failure`). Test (iv) comes last.
+//! move gives the verdict (`failure`). Test (iv) comes last. `moves` puts this together from any stock on,
+//! `program` and `list` make the verdict of it.
 #![tactic(auto)]
 
 mod block;

@@ -8,6 +8,7 @@ ghost use Rattle.mill_verify.specs.ListClaims.{FilesCutSafely};
 ghost use Rattle.mill_verify.specs.Lists.{IsListVerdict};
 ghost use Rattle.mill_verify.specs.Verdicts.{NamesLeaf};
 ghost use Rattle.mill_verify.specs.inner.Listed.{AreFilesPassed, IsFileStopped};
+ghost use Rattle.mill_verify.specs.declared.list.TheConstants.{MAX_FILES};
 ghost use Rattle.mill_verify.specs.declared.verdict.Reason.{Reason as Why};
 
 use crate::file::{CutFile, job_with, moves_of};
@@ -21,7 +22,6 @@ use mill_cells::Cells;
 use mill_dexel::Row;
 use mill_job::Job;
 use mill_part::{Part, SortedPart};
-use mill_sweep::{failing_is_blocked, holder_failing_is_blocked};
 use std::alloc::Global;
 use std::thread::Threads;
 
@@ -62,9 +62,11 @@ pub enum ListVerdict {
 /// allowance before the end. A file that fails ends the work. Accepted files cut safely, at every fraction
 /// of every move.
 ///
-/// Each file is as `verify` asks of a program, and its cutter as the job asks of its own: the band is at
-/// most its radius, and the job's holder, if it has one, is wider. How the machine comes home between two
-/// files, and its cutter is changed, isn't tested.
+/// Job, part and workers are as `verify` takes them; each file is as it asks of a program, from the job's
+/// home on, and its cutter as the job asks of its own: the band is at most its radius, and the job's holder,
+/// if it has one, is wider. How the machine comes home between two files, and its cutter is changed, isn't
+/// tested. For one file the verdict is that of `verify`; where there is none, only test (iv) is made, of
+/// the uncut stock.
 ///
 /// The only error is want of memory, for the cells of the part, the bands of the moves and the rows of the
 /// stock.
@@ -79,7 +81,7 @@ pub fn verify_list<R: Threads + Sync>(
     requires job_ok { IsJob job.now }
     requires under { IsUnder part.now job.now.top }
     requires files_ok { All (IsFileOf job.now) files.now }
-    requires few { length files.now ≤ 16 }
+    requires few { length files.now ≤ MAX_FILES }
     requires some_workers { 1 ≤ workers }
     requires few_workers { workers ≤ MAX_WORKERS }
     ensures verdict { IfOk result (IsListVerdict job.now part.now files.now) }
@@ -90,9 +92,6 @@ pub fn verify_list<R: Threads + Sync>(
         → result ≡ Ok (ListVerdict.Reject file reason)
         → NamesLeaf (job_of job.now (file_at files.now file)) part.now (stock_before job.now files.now file) (file_at files.now file).moves reason }
 {
-    // Laws without code: a leaf that fails, of the cutter or of the holder, is one of the last of its move.
-    failing_is_blocked();
-    holder_failing_is_blocked();
     let sorted = SortedPart::new(alloc, part)?;
     match rows_after_files(rt, alloc, job, part, sorted.cells(), files, workers)? {
         Ok(rows) => Ok(last_verdict(rt, job, part, sorted.cells(), files, &rows, workers)),
@@ -124,7 +123,7 @@ fn rows_after_files<R: Threads + Sync>(
     requires job_ok { IsJob job.now }
     requires cells_ok { cells.now ≡ sorted_of part.now }
     requires files_ok { All (IsFileOf job.now) files.now }
-    requires few { length files.now ≤ 16 }
+    requires few { length files.now ≤ MAX_FILES }
     requires some_workers { 1 ≤ workers }
     requires few_workers { workers ≤ MAX_WORKERS }
     ensures { IfOk result (λ told. MatchResult
@@ -172,7 +171,7 @@ fn last_verdict<R: Threads + Sync>(
     requires job_ok { IsJob job.now }
     requires cells_ok { cells.now ≡ sorted_of part.now }
     requires files_ok { All (IsFileOf job.now) files.now }
-    requires few { length files.now ≤ 16 }
+    requires few { length files.now ≤ MAX_FILES }
     requires passed { AreFilesPassed job.now part.now files.now rows.now }
     requires few_workers { workers ≤ MAX_WORKERS }
     ensures verdict { IsListVerdict job.now part.now files.now result }

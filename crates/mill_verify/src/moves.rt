@@ -21,6 +21,7 @@ use mill_cells::Cells;
 use mill_dexel::Row;
 use mill_job::Job;
 use mill_part::Part;
+use mill_sweep::{failing_is_blocked, holder_failing_is_blocked};
 use std::alloc::Global;
 use std::thread::Threads;
 
@@ -81,6 +82,9 @@ fn told_by(
         (λ rows. ArePassed job.now part.now (stock_of job.now start.now) moves.now rows.items)
         (IsStopped job.now part.now (stock_of job.now start.now) moves.now)) }
 {
+    // Laws without code: a leaf that fails, of the cutter or of the holder, is one of the last of its move.
+    failing_is_blocked();
+    holder_failing_is_blocked();
     let Closed { least, pieces } = closed;
     if let Some(number) = first_failed(&pieces, least) {
         let kind = moves[least as usize].kind;

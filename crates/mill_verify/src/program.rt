@@ -2,18 +2,16 @@ ghost use Rattle.std.specs.Prelude.{◌≡◌, ℕ, ◌≤◌, ℤ, length, Ok, 
 ghost use Rattle.mill_base.specs.declared.limits.TheConstants.{MAX_MOVES, MAX_WORKERS};
 ghost use Rattle.mill_base.specs.Covers.{IsUnder};
 ghost use Rattle.mill_base.specs.Motion.{Follow};
-ghost use Rattle.mill_base.specs.declared.motion.Kind.TheVariants.{Rapid, Feed};
 ghost use Rattle.mill_base.specs.Ranges.{MovesInRange};
 ghost use Rattle.mill_cells.specs.Sorted.{sorted_of};
 ghost use Rattle.mill_job.specs.Columns.{home};
 ghost use Rattle.mill_job.specs.Jobs.{IsJob};
-ghost use Rattle.mill_sweep.specs.declared.leaf.Leaf.{Leaf};
 ghost use Rattle.mill_verify.specs.Claims.{CutsSafely};
-ghost use Rattle.mill_verify.specs.inner.Firsts.{ShowsBlocks};
 ghost use Rattle.mill_dexel.specs.Stocks.{IsStock};
 ghost use Rattle.mill_dexel.specs.Tops.{uncut};
 ghost use Rattle.mill_verify.specs.Tests.{GoodBefore};
-ghost use Rattle.mill_verify.specs.Verdicts.{BlocksHolderMove, BlocksMove, StopsHolderMove, StopsMove, IsVerdict};
+ghost use Rattle.mill_verify.specs.Verdicts.{IsVerdict, NamesLeaf};
+ghost use Rattle.mill_verify.specs.declared.verdict.Reason.{Reason as Why};
 
 use crate::left::stock_left;
 use crate::moves::rows_after;
@@ -25,7 +23,6 @@ use mill_cells::Cells;
 use mill_dexel::Row;
 use mill_job::Job;
 use mill_part::{Part, SortedPart};
-use mill_sweep::{failing_is_blocked, holder_failing_is_blocked};
 use std::alloc::Global;
 use std::thread::Threads;
 
@@ -71,21 +68,9 @@ pub fn verify<R: Threads + Sync>(
     ensures safe { (count columns : ℕ) (left : ℤ)
         → result ≡ Ok (Verdict.Accept count columns left)
         → CutsSafely job.now part.now moves.now }
-    ensures blocked { (number tri : ℕ) (leaf : Leaf)
-        → result ≡ Ok (Verdict.Reject (Reason.Gouge number tri leaf))
-        → BlocksMove job.now part.now moves.now number tri leaf }
-    ensures stopped { (number row col : ℕ) (leaf : Leaf)
-        → result ≡ Ok (Verdict.Reject (Reason.Rapid number row col leaf))
-        → StopsMove job.now moves.now Rapid number row col leaf }
-    ensures too_deep { (number row col : ℕ) (leaf : Leaf)
-        → result ≡ Ok (Verdict.Reject (Reason.Cut number row col leaf))
-        → StopsMove job.now moves.now Feed number row col leaf }
-    ensures held { (number tri : ℕ) (leaf : Leaf)
-        → result ≡ Ok (Verdict.Reject (Reason.Holder number tri leaf))
-        → BlocksHolderMove job.now part.now moves.now number tri leaf }
-    ensures held_stock { (number row col : ℕ) (leaf : Leaf)
-        → result ≡ Ok (Verdict.Reject (Reason.HolderStock number row col leaf))
-        → StopsHolderMove job.now moves.now number row col leaf }
+    ensures blocked { (reason : Why)
+        → result ≡ Ok (Verdict.Reject reason)
+        → NamesLeaf job.now part.now (uncut job.now) moves.now reason }
 {
     verify_with(rt, alloc, NoGate, job, part, moves, workers)
 }
@@ -116,21 +101,9 @@ pub fn verify_with<R: Threads + Sync, G: Gate>(
     ensures safe { (count columns : ℕ) (left : ℤ)
         → result ≡ Ok (Verdict.Accept count columns left)
         → CutsSafely job.now part.now moves.now }
-    ensures blocked { (number tri : ℕ) (leaf : Leaf)
-        → result ≡ Ok (Verdict.Reject (Reason.Gouge number tri leaf))
-        → BlocksMove job.now part.now moves.now number tri leaf }
-    ensures stopped { (number row col : ℕ) (leaf : Leaf)
-        → result ≡ Ok (Verdict.Reject (Reason.Rapid number row col leaf))
-        → StopsMove job.now moves.now Rapid number row col leaf }
-    ensures too_deep { (number row col : ℕ) (leaf : Leaf)
-        → result ≡ Ok (Verdict.Reject (Reason.Cut number row col leaf))
-        → StopsMove job.now moves.now Feed number row col leaf }
-    ensures held { (number tri : ℕ) (leaf : Leaf)
-        → result ≡ Ok (Verdict.Reject (Reason.Holder number tri leaf))
-        → BlocksHolderMove job.now part.now moves.now number tri leaf }
-    ensures held_stock { (number row col : ℕ) (leaf : Leaf)
-        → result ≡ Ok (Verdict.Reject (Reason.HolderStock number row col leaf))
-        → StopsHolderMove job.now moves.now number row col leaf }
+    ensures blocked { (reason : Why)
+        → result ≡ Ok (Verdict.Reject reason)
+        → NamesLeaf job.now part.now (uncut job.now) moves.now reason }
 {
     let sorted = SortedPart::new(alloc, part)?;
     tested(rt, alloc, gate, job, part, sorted.cells(), moves, workers)
@@ -158,21 +131,9 @@ pub fn verify_with_cells<R: Threads + Sync>(
     ensures safe { (count columns : ℕ) (left : ℤ)
         → result ≡ Ok (Verdict.Accept count columns left)
         → CutsSafely job.now part.now moves.now }
-    ensures blocked { (number tri : ℕ) (leaf : Leaf)
-        → result ≡ Ok (Verdict.Reject (Reason.Gouge number tri leaf))
-        → BlocksMove job.now part.now moves.now number tri leaf }
-    ensures stopped { (number row col : ℕ) (leaf : Leaf)
-        → result ≡ Ok (Verdict.Reject (Reason.Rapid number row col leaf))
-        → StopsMove job.now moves.now Rapid number row col leaf }
-    ensures too_deep { (number row col : ℕ) (leaf : Leaf)
-        → result ≡ Ok (Verdict.Reject (Reason.Cut number row col leaf))
-        → StopsMove job.now moves.now Feed number row col leaf }
-    ensures held { (number tri : ℕ) (leaf : Leaf)
-        → result ≡ Ok (Verdict.Reject (Reason.Holder number tri leaf))
-        → BlocksHolderMove job.now part.now moves.now number tri leaf }
-    ensures held_stock { (number row col : ℕ) (leaf : Leaf)
-        → result ≡ Ok (Verdict.Reject (Reason.HolderStock number row col leaf))
-        → StopsHolderMove job.now moves.now number row col leaf }
+    ensures blocked { (reason : Why)
+        → result ≡ Ok (Verdict.Reject reason)
+        → NamesLeaf job.now part.now (uncut job.now) moves.now reason }
 {
     tested(rt, alloc, NoGate, job, part, cells, moves, workers)
 }
@@ -235,47 +196,9 @@ fn tested<R: Threads + Sync, G: Gate>(
     ensures safe { (count columns : ℕ) (left : ℤ)
         → result ≡ Ok (Verdict.Accept count columns left)
         → CutsSafely job.now part.now moves.now }
-    ensures blocked { (number tri : ℕ) (leaf : Leaf)
-        → result ≡ Ok (Verdict.Reject (Reason.Gouge number tri leaf))
-        → BlocksMove job.now part.now moves.now number tri leaf }
-    ensures stopped { (number row col : ℕ) (leaf : Leaf)
-        → result ≡ Ok (Verdict.Reject (Reason.Rapid number row col leaf))
-        → StopsMove job.now moves.now Rapid number row col leaf }
-    ensures too_deep { (number row col : ℕ) (leaf : Leaf)
-        → result ≡ Ok (Verdict.Reject (Reason.Cut number row col leaf))
-        → StopsMove job.now moves.now Feed number row col leaf }
-    ensures held { (number tri : ℕ) (leaf : Leaf)
-        → result ≡ Ok (Verdict.Reject (Reason.Holder number tri leaf))
-        → BlocksHolderMove job.now part.now moves.now number tri leaf }
-    ensures held_stock { (number row col : ℕ) (leaf : Leaf)
-        → result ≡ Ok (Verdict.Reject (Reason.HolderStock number row col leaf))
-        → StopsHolderMove job.now moves.now number row col leaf }
-{
-    // Laws without code: a leaf that fails, of the cutter or of the holder, is one of the last of its move.
-    failing_is_blocked();
-    holder_failing_is_blocked();
-    verdict_of(rt, alloc, gate, job, part, cells, moves, workers)
-}
-
-/// The verdict, with what is shown of a leaf that it names.
-fn verdict_of<R: Threads + Sync, G: Gate>(
-    rt: &R,
-    alloc: Global,
-    gate: G,
-    job: &Job,
-    part: &Part,
-    cells: &Cells,
-    moves: &[Move],
-    workers: u32,
-) -> Result<Verdict, WantOfMemory>
-    requires job_ok { IsJob job.now }
-    requires cells_ok { cells.now ≡ sorted_of part.now }
-    requires moves_ok { MovesInRange moves.now }
-    requires few { length moves.now ≤ MAX_MOVES }
-    requires some_workers { 1 ≤ workers }
-    requires few_workers { workers ≤ MAX_WORKERS }
-    ensures verdict { IfOk result (IsVerdict job.now part.now moves.now) }
-    ensures shown { IfOk result (ShowsBlocks job.now part.now (uncut job.now) moves.now) }
+    ensures blocked { (reason : Why)
+        → result ≡ Ok (Verdict.Reject reason)
+        → NamesLeaf job.now part.now (uncut job.now) moves.now reason }
 {
     match rows_after(
         rt,
@@ -309,7 +232,9 @@ fn last_verdict<R: Threads + Sync>(
     requires rows_ok { IsStock job.now moves.now rows.now }
     requires few_workers { workers ≤ MAX_WORKERS }
     ensures verdict { IsVerdict job.now part.now moves.now result }
-    ensures shown { ShowsBlocks job.now part.now (uncut job.now) moves.now result }
+    ensures blocked { (reason : Why)
+        → result ≡ Verdict.Reject reason
+        → NamesLeaf job.now part.now (uncut job.now) moves.now reason }
 {
     match stock_left(rt, job, part, cells, rows, workers) {
         Ok(most_left) => Verdict::Accept {

@@ -2,8 +2,7 @@ ghost use Rattle.std.specs.Prelude.{◌≡◌, ◌<◌, ◌≤◌, length, IfOk,
 ghost use Rattle.mill_base.specs.Ranges.{MovesInRange};
 ghost use Rattle.mill_job.specs.Jobs.{IsJob};
 ghost use Rattle.mill_job.specs.Columns.{row_count};
-ghost use Rattle.mill_dexel.specs.Rows.{IsRowOf, uncut_row};
-ghost use Rattle.mill_dexel.specs.Turns.{row_before};
+ghost use Rattle.mill_dexel.specs.Rows.{IsRowOf};
 
 use super::THREE_COLUMNS;
 use crate::tables::{any_step, barred, first_word, halves, job, step_fits, told_stop};
@@ -66,13 +65,13 @@ fn told_by_workers<R: Threads + Sync>(
     Ok(told)
 }
 
-/// Lets an uncut row go on from move 0 by `turn`, to the end or to the first move that fails.
+/// Lets a row go on from move 0 by `turn`, to the end or to the first move that fails.
 fn turned(row: &mut Row, job: &Job, moves: &[Move])
     requires job { IsJob job.now }
     requires moves_ok { MovesInRange moves.now }
     requires row { IsRowOf job.now row.old }
     requires unfailed { row.old.failed ≡ None }
-    requires undone { row.old.done ≡ 0 }
+    requires fresh { row.old.done ≡ 0 }
 {
     for t in 0..moves.len() as u64 {
         if !row.turn(job, moves, t) {
@@ -87,7 +86,8 @@ fn turned_on(row: &mut Row, job: &Job, moves: &[Move])
     requires moves_ok { MovesInRange moves.now }
     requires row { IsRowOf job.now row.old }
     requires unfailed { row.old.failed ≡ None }
-    requires from_uncut { row.old ≡ row_before job.now moves.now (uncut_row job.now row.old.row) 0 }
+    requires fresh { row.old.done ≡ 0 }
+    ensures { IsRowOf job.now row.new }
 {
     for t in 0..moves.len() as u64 {
         if !row.turn_on(job, moves, t) {
@@ -191,6 +191,49 @@ holder_radius = 200; stickout = 50 | feed 0 0 down to 249 => \
 #[test]
 fn runs_over_three_columns(rt: HostRuntime) -> Result<(), Fail> {
     each_program(&rt, THREE_COLUMNS, OVER_THREE_COLUMNS)
+}
+
+/// The last row after a program, taken again before the first move of a second one, and after that.
+fn told_in_turn(alloc: Global, job: &Job, first: &[Move], second: &[Move]) -> Result<String, Fail>
+    requires job { IsJob job.now }
+    requires first_ok { MovesInRange first.now }
+    requires second_ok { MovesInRange second.now }
+{
+    let mut row = Row::new(alloc, job, u64::from(job.rows() - 1))?;
+    turned_on(&mut row, job, first);
+    let mut again = row.again(alloc)?;
+    let taken = told_row(alloc, &again)?;
+    turned_on(&mut again, job, second);
+    let (before, after) = (told_row(alloc, &row)?, told_row(alloc, &again)?);
+    Ok(format!(in alloc; "{before}; {taken}; {after}")?)
+}
+
+// A feed may cut 50 deep. The second program cuts what the first one left, also where that one failed, and
+// the move that fails in it is counted from its own first one.
+const PROGRAMS_IN_TURN: &str = "\
+feed 0 0 down to 250; feed 0 0 down to 200 | feed 200 0 down to 250 => \
+    [200, 200, 300] after 2; [200, 200, 300] after 0; [200, 200, 250] after 1
+feed 0 0 down to 250; feed 0 0 down to 199 | feed 0 0 down to 200; feed 200 0 down to 250 => \
+    [250, 250, 300] after 1, Cut in 1 by column 0 at 8 254; [250, 250, 300] after 0; \
+    [200, 200, 250] after 2
+feed 0 0 down to 250 | feed 0 0 down to 200; feed 0 0 down to 149; feed 200 0 down to 250 => \
+    [250, 250, 300] after 1; [250, 250, 300] after 0; [200, 200, 300] after 1, Cut in 1 by column 0 at 8 254";
+
+#[test]
+fn goes_through_a_program_again(rt: HostRuntime) -> Result<(), Fail> {
+    let alloc = rt.alloc();
+    let job = job(alloc, THREE_COLUMNS, "max_cut = 50")?;
+    for text in PROGRAMS_IN_TURN.lines() {
+        let (programs, wanted) = halves(text)?;
+        let (first, second) = barred(programs);
+        let (first, second) = (moves_of(alloc, first)?, moves_of(alloc, second)?);
+        assert_eq!(rt;
+            told_in_turn(alloc, &job, &first, &second)?.as_str(),
+            wanted,
+            "{text}"
+        );
+    }
+    Ok(())
 }
 
 /// Five rows, at y = 0, 100, 200, 300 and 400, of three columns each, from 0 to 300.

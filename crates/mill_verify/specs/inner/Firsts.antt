@@ -1,63 +1,30 @@
 -- Where each test fails first, apart from the tests before it.
-use Rattle.std.specs.Prelude.{◌≡◌, ◌⊎◌, ℕ, ◌<◌, ◌≤◌, ℤ, pos, ◌-ℤ◌, ◌<ℤ◌, ◌≤ℤ◌, List, length, IfSome, Result, Ok, Err, MatchResult}
+use Rattle.std.specs.Prelude.{◌≡◌, ◌⊎◌, ℕ, ◌<◌, ◌≤◌, ℤ, pos, ◌-ℤ◌, ◌<ℤ◌, ◌≤ℤ◌, List, length, Result, Ok, Err, MatchResult}
 use Rattle.std.specs.Int.{int_max}
 use Rattle.mill_base.specs.declared.points.Tri.{Tri}
 use Rattle.mill_base.specs.declared.motion.Move.{Move}
-use Rattle.mill_base.specs.declared.motion.Kind.{Kind}
-use Rattle.mill_base.specs.declared.motion.Kind.TheVariants.{Rapid, Feed}
-use Rattle.mill_base.specs.Points.{point_tri, tri_at}
 use Rattle.mill_base.specs.Covers.{Covered, IsHighestCovered}
-use Rattle.mill_sweep.specs.Halving.{Blocks}
-use Rattle.mill_sweep.specs.Holders.{HolderIsBlocked}
-use Rattle.mill_sweep.specs.Leaves.{span_of}
-use Rattle.mill_sweep.specs.declared.leaf.Leaf.{Leaf}
 use Rattle.mill_job.specs.declared.job.Job.{Job}
 use Rattle.mill_job.specs.Columns.{IsColumn, column_count}
-use Rattle.mill_dexel.specs.Tops.{Stock, stock_after, tested_point_on, top_point_on}
+use Rattle.mill_dexel.specs.Tops.{Stock, stock_after}
 use Rattle.mill_dexel.specs.Rows.{RowState}
 use Rattle.mill_dexel.specs.Stocks.{ShowsStock}
 use Rattle.mill_verify.specs.Blocks.{BlockState}
-use Rattle.mill_verify.specs.Tests.{GoodBeforeOn, IsCutOn, IsOverFloor, stock_met}
-use Rattle.mill_dexel.specs.Turns.{move_at}
-use Rattle.mill_verify.specs.Verdicts.{IsLeftOverOn, IsMostLeftOn, IsOfMove, IsRejectionOn}
-use Rattle.mill_verify.specs.declared.verdict.Verdict.{Verdict}
-use Rattle.mill_verify.specs.declared.verdict.Verdict.TheVariants.{Accept, Reject}
+use Rattle.mill_verify.specs.Tests.{GoodBeforeOn, IsCutOn, IsOverFloor}
+use Rattle.mill_verify.specs.Verdicts.{IsLeftOverOn, IsMostLeftOn, IsOfMove, IsRejectionOn, NamesLeaf}
 use Rattle.mill_verify.specs.declared.verdict.Reason.{Reason}
-use Rattle.mill_verify.specs.declared.verdict.Reason.TheVariants.{Floor, Gouge, Holder, Rapid as RapidCut, Cut, HolderStock, Left}
 use Rattle.mill_verify.specs.declared.left.Uncut.{Uncut}
-
--- the point of column (j, i) at which a move of this kind is tested after the moves before move k blocks this leaf of that move
-abbrev pub StopsAt : Job → Stock → List Move → Kind → ℕ → ℕ → ℕ → Leaf → Type 0
-StopsAt job start moves kind k j i leaf = Blocks job.cutter (span_of (move_at moves k) leaf.d leaf.k) (point_tri (tested_point_on job kind (stock_met job start moves k) j i))
-
--- this triangle blocks the job's holder on this leaf of move k
-abbrev pub BlocksHeld : Job → List Move → ℕ → Leaf → Tri → Type 0
-BlocksHeld job moves k leaf tri = IfSome job.holder (λ holder. HolderIsBlocked holder (move_at moves k) tri leaf)
-
--- a rejection by tests (ii) to (iii h) names a leaf that is blocked
-abbrev pub ShowsBlock : Job → List Tri → Stock → List Move → Reason → Type 0
-ShowsBlock job part start moves (Floor k) = Unit {0}
-ShowsBlock job part start moves (Gouge k t leaf) = Blocks job.cutter (span_of (move_at moves k) leaf.d leaf.k) (tri_at part t)
-ShowsBlock job part start moves (Holder k t leaf) = BlocksHeld job moves k leaf (tri_at part t)
-ShowsBlock job part start moves (RapidCut k j i leaf) = StopsAt job start moves Rapid k j i leaf
-ShowsBlock job part start moves (Cut k j i leaf) = StopsAt job start moves Feed k j i leaf
-ShowsBlock job part start moves (HolderStock k j i leaf) = BlocksHeld job moves k leaf (point_tri (top_point_on job (stock_met job start moves k) j i))
-ShowsBlock job part start moves (Left j i top) = Unit {0}
-
-abbrev pub ShowsBlocks : Job → List Tri → Stock → List Move → Verdict → Type 0
-ShowsBlocks job part start moves (Accept count columns left) = Unit {0}
-ShowsBlocks job part start moves (Reject reason) = ShowsBlock job part start moves reason
 
 -- every move is good, and the rows are the stock that all of them leave
 pub record ArePassed (job : Job) (part : List Tri) (start : Stock) (moves : List Move) (rows : List RowState) : Type 0 where
   pub good : GoodBeforeOn job part start moves (length moves)
   pub shows : ShowsStock job (stock_after job start moves) rows
 
--- a move fails a test, this is the first, and it shows the leaf that it names
+-- a move fails a test, this is the first, and the leaf that it names is one of the last, and blocked
 pub record IsStopped (job : Job) (part : List Tri) (start : Stock) (moves : List Move) (reason : Reason) : Type 0 where
   pub of_move : IsOfMove reason
   pub rejects : IsRejectionOn job part start moves reason
-  pub shown : ShowsBlock job part start moves reason
+  pub names : NamesLeaf job part start moves reason
 
 -- a block as move k meets it: all its moves before that have had their turn, and cleared the part
 abbrev pub block_before : BlockState → ℕ → BlockState

@@ -20,8 +20,11 @@ pub returns : goal.returns
 returns g c =
     let other : (c.finish.result ≢ Err WantOfMemory) = search rules in
     record {
-      told = (refl, file_fault c.args.job.now c.home.result c.args.job.now.unit ((g.S.Shelf.shows c.args.shelf.now).contents c.args.name.now) c.in-Ok.reader c.take_file.new.moves.items c.in-Err-finish.fault
-          c.home.ensures.value refl c.in-Ok.ensures.takes (sym c.in-Err-finish.is ∙ c.finish.ensures.answer other));
+      told = (
+        refl,
+        file_fault c.args.job.now c.home.result c.args.job.now.unit ((g.S.Shelf.shows c.args.shelf.now).contents c.args.name.now) c.in-Ok.reader c.take_file.new.moves.items c.in-Err-finish.fault
+            c.home.ensures.value refl c.in-Ok.ensures.takes (sym c.in-Err-finish.is ∙ c.finish.ensures.answer other),
+      );
       ready = tt;
       store = record { only = c.in-Ok.ensures.store.only; reads = c.in-Ok.ensures.store.reads };
     }

@@ -17,7 +17,7 @@ returns-in-Err-load_steps-clause-told g c =
     let steps = c.in-Ok-load_list.steps.items in
     let fault = c.in-Err-load_steps.fault in
     let list : ReadsList texts job steps =
-        subst (λ (told : Option (List ℕ)). IfSome told (λ text. IsListText job text steps)) (c.in-Ok.ensures.store.only.contents c.args.list.now) c.in-Ok-load_list.ensures.told in
+    subst (λ (told : Option (List ℕ)). IfSome told (λ text. IsListText job text steps)) (c.in-Ok.ensures.store.only.contents c.args.list.now) c.in-Ok-load_list.ensures.told in
     let stops : StopsAtStep later.contents job steps fault = subst (λ (xs : List Step). StopsAtStep later.contents job xs fault) c.deref.ensures.value c.in-Err-load_steps.ensures.fault in
     no_step texts job c.in-Ok.setup.part steps fault c.in-Ok.ensures.told list
     (subst (λ (programs : List ℕ → Option (List ℕ)). StopsAtStep programs job steps fault)
@@ -32,9 +32,8 @@ returns-clause-told g c =
     let steps = c.in-Ok-load_list.steps.items in
     let files : List CutFile = c.in-Ok-load_steps.files.items in
     let list : ReadsList texts job steps =
-        subst (λ (told : Option (List ℕ)). IfSome told (λ text. IsListText job text steps)) (c.in-Ok.ensures.store.only.contents c.args.list.now) c.in-Ok-load_list.ensures.told in
-    let read : ReadsSteps later.contents job steps files = subst (λ (xs : List Step). ReadsSteps later.contents job xs files) c.deref.ensures.value c.in-Ok-load_steps.ensures.read in
-    (
+    subst (λ (told : Option (List ℕ)). IfSome told (λ text. IsListText job text steps)) (c.in-Ok.ensures.store.only.contents c.args.list.now) c.in-Ok-load_list.ensures.told in
+    let read : ReadsSteps later.contents job steps files = subst (λ (xs : List Step). ReadsSteps later.contents job xs files) c.deref.ensures.value c.in-Ok-load_steps.ensures.read in (
       steps,
       record {
         setup_is = c.in-Ok.ensures.told;

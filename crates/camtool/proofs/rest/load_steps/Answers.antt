@@ -1,4 +1,4 @@
-use Rattle.std.proofs.Common.{ℕ, ◌≤◌, ◌∙◌, List, Option, ap, length, subst, sym, take}
+use Rattle.std.proofs.Common.{ℕ, ◌≤◌, ◌∙◌, List, [], ◌∷◌, ◌++◌, Option, ap, length, subst, sym, take}
 use Rattle.std.proofs.lemmas.List.{take_all}
 use Rattle.std.proofs.lemmas.List.Elements.{All-push, All-same}
 use Rattle.mill_io.proofs.Read.{reads_on}
@@ -20,12 +20,12 @@ loop-number-preserved g c =
     let was = c.loop-number.invariant in
     let pushed = c.in-Ok-push.ensures.items in
     let read : ReadsStep start.contents job c.index-steps-number.result file =
-        subst (λ (programs : List ℕ → Option (List ℕ)). ReadsStep programs job c.index-steps-number.result file) (contents_stay start here was.only) c.in-Ok.ensures.read in
+    subst (λ (programs : List ℕ → Option (List ℕ)). ReadsStep programs job c.index-steps-number.result file) (contents_stay start here was.only) c.in-Ok.ensures.read in
     record {
       only = reads_on _ _ _ was.only c.in-Ok.ensures.store.only;
       faults = c.in-Ok.ensures.store.reads ∙ was.faults;
       read = reads_more start.contents job steps c.loop-number.files.items n c.index-steps-number.result c.loop-number-test.true c.index-steps-number.is was.read file files pushed read;
-      ready = All-same (IsFileOf job) files _ pushed (All-push (IsFileOf job) c.loop-number.files.items file was.ready c.in-Ok.ensures.ready);
+      ready = All-same (IsFileOf job) files (c.loop-number.files.items ++ file ∷ []) pushed (All-push (IsFileOf job) c.loop-number.files.items file was.ready c.in-Ok.ensures.ready);
     }
 
 pub returns-clause-few : goal.returns-clause-few

@@ -10,7 +10,5 @@ verify-requires-clause-moves_ok g c κs within = rw c.deref.ensures.value (moves
 pub returns-in-Ok : goal.returns-in-Ok
 returns-in-Ok g c =
     let t = told c.args.loaded.now.job c.args.loaded.now.part c.args.loaded.now.moves.items c.deref.result.now c.in-Ok.verdict c.deref.ensures.value c.in-Ok.ensures.verdict
-    (λ count columns left e. c.in-Ok.ensures.safe count columns left (ap Ok e)) (λ k t leaf e. c.in-Ok.ensures.blocked k t leaf (ap Ok e))
-    (λ k j i leaf e. c.in-Ok.ensures.stopped k j i leaf (ap Ok e)) (λ k j i leaf e. c.in-Ok.ensures.too_deep k j i leaf (ap Ok e))
-    (λ k t leaf e. c.in-Ok.ensures.held k t leaf (ap Ok e)) (λ k j i leaf e. c.in-Ok.ensures.held_stock k j i leaf (ap Ok e)) in
+    (λ count columns left e. c.in-Ok.ensures.safe count columns left (ap Ok e)) (λ reason e. c.in-Ok.ensures.blocked reason (ap Ok e)) in
     inl (record { verdict = c.in-Ok.verdict; is = t.is; safe = t.safe; named = t.named; printed = c.tell_line_of.ensures })

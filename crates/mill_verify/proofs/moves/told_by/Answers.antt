@@ -2,9 +2,11 @@ use Rattle.std.proofs.Common.{List, length, sym, subst, arith}
 use Rattle.mill_board.specs.declared.work.Held.{Held}
 use Rattle.mill_dexel.specs.Rows.{RowState}
 use Rattle.mill_verify.specs.declared.piece.Piece.{Piece}
+use Rattle.mill_verify.specs.declared.verdict.Reason.TheVariants.{Floor}
 use Rattle.mill_verify.specs.inner.Failures.{IsFirstFailed, NoneFailed}
 use Rattle.mill_verify.specs.inner.Firsts.{ArePassed}
 use Rattle.mill_verify.specs.inner.Readiness.{rows_at, stock_of}
+use Rattle.mill_verify.proofs.Named.{named}
 use Rattle.mill_verify.proofs.Tested.{all_passed, floor_rejects, in_list, move_there, reason_there, rejected}
 use Rattle.mill_verify.proofs.moves.told_by.Goals as goal
 
@@ -31,14 +33,16 @@ pub returns-in-Some : goal.returns-in-Some
 returns-in-Some c =
     let q = c.requires in
     let first = subst (λ (hs : List (Held Piece)). IsFirstFailed c.args.closed.least hs c.in-Some.number) c.deref.ensures.value c.in-Some.ensures in
-    rejected c.args.job.now c.args.part.now (rows_at c.args.start.now) c.args.moves.now c.args.turns c.args.closed.least c.args.closed.pieces.items q.ready.within q.floor q.tested c.in-Some.number first
-    _ c.count.result c.count.ensures c.index.result.now c.reason_of.result c.index.ensures c.reason_of.ensures
+    named c.failing_is_blocked.ensures c.holder_failing_is_blocked.ensures c.args.job.now c.args.part.now (stock_of c.args.job.now c.args.start.now) c.args.moves.now q.ready.job_ok q.ready.moves_ok c.reason_of.result
+    (rejected c.args.job.now c.args.part.now (rows_at c.args.start.now) c.args.moves.now c.args.turns c.args.closed.least c.args.closed.pieces.items q.ready.within q.floor q.tested c.in-Some.number first
+    _ c.count.result c.count.ensures c.index.result.now c.reason_of.result c.index.ensures c.reason_of.ensures)
 
 pub returns-then-turns-moves : goal.returns-then-turns-moves
 returns-then-turns-moves c =
     let q = c.requires in
     let none = subst (λ (hs : List (Held Piece)). NoneFailed c.args.closed.least hs (length hs)) c.deref.ensures.value c.in_default.ensures in
-    floor_rejects c.args.job.now c.args.part.now (rows_at c.args.start.now) c.args.moves.now c.args.turns c.args.closed.least c.args.closed.pieces.items q.ready.within q.floor q.tested none c.if-turns-moves.true
+    named c.failing_is_blocked.ensures c.holder_failing_is_blocked.ensures c.args.job.now c.args.part.now (stock_of c.args.job.now c.args.start.now) c.args.moves.now q.ready.job_ok q.ready.moves_ok (Floor c.args.turns)
+    (floor_rejects c.args.job.now c.args.part.now (rows_at c.args.start.now) c.args.moves.now c.args.turns c.args.closed.least c.args.closed.pieces.items q.ready.within q.floor q.tested none c.if-turns-moves.true)
 
 pub returns : goal.returns
 returns c =
