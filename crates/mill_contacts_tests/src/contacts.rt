@@ -71,9 +71,12 @@ fn look<R: Abort>(rt: &R, tri: &Tri, cutter: Cutter, tip: Pt3, wanted: &str, row
     requires tip_ok { IsCentre tip }
 {
     let (along_x, along_y) = wanted.split_once(' ').unwrap_or((wanted, wanted));
-    assert_eq!(rt; word(lies(tri, cutter, tip, Axis::X)), along_x, "{row}");
-    assert_eq!(rt; word(lies(tri, cutter, tip, Axis::Y)), along_y, "{row}");
-    assert_eq!(rt; is_inside(tri, cutter, tip), wanted == "inside", "{row}");
+    let lies_so = (
+        word(lies(tri, cutter, tip, Axis::X)),
+        word(lies(tri, cutter, tip, Axis::Y)),
+        is_inside(tri, cutter, tip),
+    );
+    assert_eq!(rt; lies_so, (along_x, along_y, wanted == "inside"), "{row}");
 }
 
 /// Looks at the triangle from each of its corners.

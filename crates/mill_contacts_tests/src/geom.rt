@@ -1,5 +1,7 @@
 ghost use Rattle.std.specs.Prelude.{IfOk};
 ghost use Rattle.mill_base.specs.Numbers.{Within};
+ghost use Rattle.mill_base.specs.Sizes.{HasRadius};
+ghost use Rattle.mill_base.specs.declared.limits.TheConstants.{MAX_WIDE_RADIUS};
 ghost use Rattle.mill_geom.specs.Offsets.{OffsetInRange};
 ghost use Rattle.mill_geom.specs.Widths.{farthest};
 
@@ -30,20 +32,30 @@ fn offset(text: &str) -> Result<Offset, Fail>
     Ok(Offset { x, y, z })
 }
 
-/// Looks at triangles, each from each of its corners: a row has one, a radius, and whether the cylinder
-/// of that radius over the level touches it.
-fn each_touches<R: Abort>(rt: &R, table: &str) -> Result<(), Fail> {
-    for row in table.lines() {
-        let (text, wanted) = halves(row)?;
-        let (text, by) = text.split_once(" by ").ok_or("a row without a radius")?;
-        let (a, b, c) = corners(text);
-        let (a, b, c) = (offset(a)?, offset(b)?, offset(c)?);
-        let by = i64::from(radius(by)?);
-        let touches = wanted == "true";
-        assert_eq!(rt; touches_triangle(a, b, c, by), touches, "{row}");
-        assert_eq!(rt; touches_triangle(b, c, a, by), touches, "{row}");
-        assert_eq!(rt; touches_triangle(c, a, b, by), touches, "{row}");
-    }
+/// What `touches_triangle` says of a triangle from each of its corners.
+fn touches_from_each(a: Offset, b: Offset, c: Offset, by: i32) -> (bool, bool, bool)
+    requires a_ok { OffsetInRange a }
+    requires b_ok { OffsetInRange b }
+    requires c_ok { OffsetInRange c }
+    requires by_ok { HasRadius by MAX_WIDE_RADIUS }
+{
+    let by = i64::from(by);
+    (
+        touches_triangle(a, b, c, by),
+        touches_triangle(b, c, a, by),
+        touches_triangle(c, a, b, by),
+    )
+}
+
+/// Looks at a triangle, from each of its corners: a row has one, a radius, and whether the cylinder of
+/// that radius over the level touches it.
+fn look_at_touches<R: Abort>(rt: &R, row: &str) -> Result<(), Fail> {
+    let (text, wanted) = halves(row)?;
+    let (text, by) = text.split_once(" by ").ok_or("a row without a radius")?;
+    let (a, b, c) = corners(text);
+    let found = touches_from_each(offset(a)?, offset(b)?, offset(c)?, radius(by)?);
+    let touches = wanted == "true";
+    assert_eq!(rt; found, (touches, touches, touches), "{row}");
     Ok(())
 }
 
@@ -76,7 +88,10 @@ const TOUCHES: &str = "\
 
 #[test]
 fn touches(rt: HostRuntime) -> Result<(), Fail> {
-    each_touches(&rt, TOUCHES)
+    for row in TOUCHES.lines() {
+        look_at_touches(&rt, row)?;
+    }
+    Ok(())
 }
 
 // How near to the axis the box of the corners comes, squared, and how high.
@@ -88,16 +103,32 @@ const GAPS: &str = "\
 30 0 5, 0 -40 6, -30 0 6 => 0 6
 0 0 1 => 0 1";
 
+/// How near the box comes and how high, from two of the corners.
+fn gaps_from_two(a: Offset, b: Offset, c: Offset) -> ((i64, i64), (i64, i64))
+    requires a_ok { OffsetInRange a }
+    requires b_ok { OffsetInRange b }
+    requires c_ok { OffsetInRange c }
+{
+    (
+        (box_gap(a, b, c), highest(a, b, c)),
+        (box_gap(b, c, a), highest(c, a, b)),
+    )
+}
+
+fn look_at_gaps<R: Abort>(rt: &R, row: &str) -> Result<(), Fail> {
+    let (text, wanted) = halves(row)?;
+    let (a, b, c) = corners(text);
+    let found = gaps_from_two(offset(a)?, offset(b)?, offset(c)?);
+    let (gap, top) = first_word(wanted)?;
+    let wanted: (i64, i64) = (gap.parse()?, top.parse()?);
+    assert_eq!(rt; found, (wanted, wanted), "{row}");
+    Ok(())
+}
+
 #[test]
 fn gaps_of_boxes(rt: HostRuntime) -> Result<(), Fail> {
     for row in GAPS.lines() {
-        let (text, wanted) = halves(row)?;
-        let (a, b, c) = corners(text);
-        let (a, b, c) = (offset(a)?, offset(b)?, offset(c)?);
-        let (gap, top) = first_word(wanted)?;
-        let wanted: (i64, i64) = (gap.parse()?, top.parse()?);
-        assert_eq!(rt; (box_gap(a, b, c), highest(a, b, c)), wanted, "{row}");
-        assert_eq!(rt; (box_gap(b, c, a), highest(c, a, b)), wanted, "{row}");
+        look_at_gaps(&rt, row)?;
     }
     Ok(())
 }
@@ -127,15 +158,19 @@ fn shown(a: Offset, b: Offset, c: Offset) -> &'static str
     }
 }
 
+fn look_at_sides<R: Abort>(rt: &R, row: &str) -> Result<(), Fail> {
+    let (text, wanted) = halves(row)?;
+    let (a, b, _) = corners(text);
+    let (a, b) = (offset(a)?, offset(b)?);
+    let found = (shown(a, a, b), shown(a, b, a), shown(b, a, a));
+    assert_eq!(rt; found, (wanted, wanted, wanted), "{row}");
+    Ok(())
+}
+
 #[test]
 fn sides_of_boxes(rt: HostRuntime) -> Result<(), Fail> {
     for row in SIDES.lines() {
-        let (text, wanted) = halves(row)?;
-        let (a, b, _) = corners(text);
-        let (a, b) = (offset(a)?, offset(b)?);
-        assert_eq!(rt; shown(a, a, b), wanted, "{row}");
-        assert_eq!(rt; shown(a, b, a), wanted, "{row}");
-        assert_eq!(rt; shown(b, a, a), wanted, "{row}");
+        look_at_sides(&rt, row)?;
     }
     Ok(())
 }
@@ -153,13 +188,16 @@ fn spots(rt: HostRuntime) -> Result<(), Fail> {
         y: 700,
         n: 1,
     };
-    assert_eq!(rt; spot_below(a, b, c, 701), Some(corner));
     let crossing = Spot {
         x: 30_000,
         y: -30_000,
         n: 300,
     };
-    assert_eq!(rt; spot_below(a, b, c, 700), Some(crossing));
-    assert_eq!(rt; spot_below(a, b, c, -100), None);
+    let found = (
+        spot_below(a, b, c, 701),
+        spot_below(a, b, c, 700),
+        spot_below(a, b, c, -100),
+    );
+    assert_eq!(rt; found, (Some(corner), Some(crossing), None));
     Ok(())
 }

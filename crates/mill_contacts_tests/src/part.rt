@@ -5,7 +5,8 @@ ghost use Rattle.mill_base.specs.declared.limits.TheConstants.{MAX_COORDINATE, M
 use crate::tables::{coordinate, first_word, halves, part_of, placed};
 use mill_base::MAX_RADIUS;
 use mill_cells::Cells;
-use mill_part::{SortedPart, covered_below};
+use mill_part::{Part, SortedPart, covered_below};
+use std::alloc::Global;
 use std::process::Abort;
 use std::test::Fail;
 
@@ -20,18 +21,11 @@ fn band_of(text: &str) -> Result<i32, Fail>
     Ok(band)
 }
 
-/// Looks at the column (x, y): it's covered up to `height` and no higher, by all triangles and by those
-/// near it.
-fn look<R: Abort>(
-    rt: &R,
-    shape: &SortedPart<'_>,
-    floor: i32,
-    x: i32,
-    y: i32,
-    band: i32,
-    height: i32,
-    row: &str,
-)
+/// The height up to which a column is covered, and whether it's covered up to `height` and up to one more.
+type Cover = (i32, bool, bool);
+
+/// By all triangles.
+fn cover(part: &Part, floor: i32, x: i32, y: i32, band: i32, height: i32) -> Cover
     requires floor_ok { Within MAX_COORDINATE floor }
     requires x_ok { Within MAX_COORDINATE x }
     requires y_ok { Within MAX_COORDINATE y }
@@ -39,27 +33,32 @@ fn look<R: Abort>(
     requires band_most { band ≤ℤ MAX_RADIUS }
     requires height_ok { Within MAX_COORDINATE height }
 {
-    let part = shape.part();
-    assert_eq!(rt; part.covered_height(floor, x, y, band), height, "{row}");
-    assert!(rt; part.covered(floor, x, y, height, band), "{row}");
-    assert!(rt; !part.covered(floor, x, y, height + 1, band), "{row}");
-    let cells = shape.cells();
-    assert_eq!(rt;
-        part.covered_height_near(cells, floor, x, y, band),
-        height,
-        "{row}"
-    );
-    assert!(rt;
-        part.covered_near(cells, floor, x, y, height, band),
-        "{row}"
-    );
-    assert!(rt;
-        !part.covered_near(cells, floor, x, y, height + 1, band),
-        "{row}"
-    );
+    (
+        part.covered_height(floor, x, y, band),
+        part.covered(floor, x, y, height, band),
+        part.covered(floor, x, y, height + 1, band),
+    )
 }
 
-/// Looks at the column of a row's text: its x and y, and the band.
+/// By those near it.
+fn cover_near(shape: &SortedPart<'_>, floor: i32, x: i32, y: i32, band: i32, height: i32) -> Cover
+    requires floor_ok { Within MAX_COORDINATE floor }
+    requires x_ok { Within MAX_COORDINATE x }
+    requires y_ok { Within MAX_COORDINATE y }
+    requires band_least { pos 0 ≤ℤ band }
+    requires band_most { band ≤ℤ MAX_RADIUS }
+    requires height_ok { Within MAX_COORDINATE height }
+{
+    let (part, cells) = (shape.part(), shape.cells());
+    (
+        part.covered_height_near(cells, floor, x, y, band),
+        part.covered_near(cells, floor, x, y, height, band),
+        part.covered_near(cells, floor, x, y, height + 1, band),
+    )
+}
+
+/// Looks at the column of a row's text, its x and y, and the band: it's covered up to a height and no
+/// higher, by all triangles and by those near it.
 fn look_at<R: Abort>(
     rt: &R,
     shape: &SortedPart<'_>,
@@ -73,12 +72,34 @@ fn look_at<R: Abort>(
     let (x, others) = first_word(column)?;
     let (y, band) = first_word(others)?;
     let (x, y, band) = (coordinate(x)?, coordinate(y)?, band_of(band)?);
-    look(rt, shape, floor, x, y, band, coordinate(wanted)?, row);
+    let height = coordinate(wanted)?;
+    let found = (
+        cover(shape.part(), floor, x, y, band, height),
+        cover_near(shape, floor, x, y, band, height),
+    );
+    let wanted = (height, true, false);
+    assert_eq!(rt; found, (wanted, wanted), "{row}");
     Ok(())
 }
 
-/// Looks at many columns of one part: each row has x, y and the band, and the height up to which that
-/// column is covered.
+/// Looks at many columns: each row has x, y and the band, and the height up to which that column is
+/// covered.
+fn look_at_each<R: Abort>(
+    rt: &R,
+    shape: &SortedPart<'_>,
+    floor: i32,
+    table: &str,
+) -> Result<(), Fail>
+    requires { Within MAX_COORDINATE floor }
+{
+    for row in table.lines() {
+        let (column, wanted) = halves(row)?;
+        look_at(rt, shape, floor, column, wanted, row)?;
+    }
+    Ok(())
+}
+
+/// The same of the columns of a part by its triangles.
 fn each_column<R: Abort + AllocGlobal>(
     rt: &R,
     floor: i32,
@@ -89,22 +110,22 @@ fn each_column<R: Abort + AllocGlobal>(
 {
     let part = part_of(rt.alloc(), part)?;
     let shape = SortedPart::new(rt.alloc(), &part)?;
-    for row in table.lines() {
-        let (column, wanted) = halves(row)?;
-        look_at(rt, &shape, floor, column, wanted, row)?;
-    }
-    Ok(())
+    look_at_each(rt, &shape, floor, table)
 }
 
-/// Looks at a column of many parts of one triangle, over a floor at -50: each row has the triangle, the
-/// column and the height.
+/// Looks at a column of a part of one triangle, over a floor at -50.
+fn look_at_triangle<R: Abort + AllocGlobal>(rt: &R, row: &str) -> Result<(), Fail> {
+    let (text, wanted) = halves(row)?;
+    let (corners, column) = placed(text);
+    let part = part_of(rt.alloc(), corners)?;
+    let shape = SortedPart::new(rt.alloc(), &part)?;
+    look_at(rt, &shape, -50, column, wanted, row)
+}
+
+/// The same of many parts: each row has the triangle, the column and the height.
 fn each_triangle<R: Abort + AllocGlobal>(rt: &R, table: &str) -> Result<(), Fail> {
     for row in table.lines() {
-        let (text, wanted) = halves(row)?;
-        let (corners, column) = placed(text);
-        let part = part_of(rt.alloc(), corners)?;
-        let shape = SortedPart::new(rt.alloc(), &part)?;
-        look_at(rt, &shape, -50, column, wanted, row)?;
+        look_at_triangle(rt, row)?;
     }
     Ok(())
 }
@@ -141,10 +162,14 @@ fn covers_columns(rt: HostRuntime) -> Result<(), Fail> {
 fn covers_up_to_any_height(rt: HostRuntime) -> Result<(), Fail> {
     let part = part_of(rt.alloc(), PLATE)?;
     let shape = SortedPart::new(rt.alloc(), &part)?;
-    assert!(rt; part.covered(0, 100, 100, i32::MIN, 10));
-    assert!(rt; !part.covered(0, 100, 100, i32::MAX, 10));
-    assert!(rt; part.covered_near(shape.cells(), 0, 100, 100, i32::MIN, 10));
-    assert!(rt; !part.covered_near(shape.cells(), 0, 100, 100, i32::MAX, 10));
+    let cells = shape.cells();
+    let found = (
+        part.covered(0, 100, 100, i32::MIN, 10),
+        part.covered(0, 100, 100, i32::MAX, 10),
+        part.covered_near(cells, 0, 100, 100, i32::MIN, 10),
+        part.covered_near(cells, 0, 100, 100, i32::MAX, 10),
+    );
+    assert_eq!(rt; found, (true, false, true, false));
     Ok(())
 }
 
@@ -208,18 +233,26 @@ const PLATES_COLUMNS: &str = "\
 100000 5 10000 => 0
 -524287 524287 10000 => 0";
 
+fn cell_size(alloc: Global, part: &str) -> Result<i32, Fail> {
+    Ok(Cells::size_for(part_of(alloc, part)?.tris()))
+}
+
 #[test]
 fn covers_by_near_triangles(rt: HostRuntime) -> Result<(), Fail> {
-    let plates = part_of(rt.alloc(), PLATES)?;
-    assert_eq!(rt; Cells::size_for(plates.tris()), 512);
+    assert_eq!(rt; cell_size(rt.alloc(), PLATES)?, 512);
     each_column(&rt, 0, PLATES, PLATES_COLUMNS)
+}
+
+/// The top of a part, and how many triangles it has.
+fn top_of(alloc: Global, part: &str) -> Result<(Option<i32>, usize), Fail> {
+    let part = part_of(alloc, part)?;
+    Ok((part.top(), part.tris().len()))
 }
 
 #[test]
 fn has_a_top(rt: HostRuntime) -> Result<(), Fail> {
-    assert_eq!(rt; part_of(rt.alloc(), "")?.top(), None);
-    let roof = part_of(rt.alloc(), "0 0 3, 4 0 9, 0 4 -5")?;
-    assert_eq!(rt; roof.top(), Some(9));
-    assert_eq!(rt; roof.tris().len(), 1);
+    let alloc = rt.alloc();
+    let found = (top_of(alloc, "")?, top_of(alloc, "0 0 3, 4 0 9, 0 4 -5")?);
+    assert_eq!(rt; found, ((None, 0), (Some(9), 1)));
     Ok(())
 }

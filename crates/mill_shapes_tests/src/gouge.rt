@@ -2,6 +2,7 @@ use crate::tables::{feed, halves, part_of};
 use mill_base::Cutter;
 use mill_gouge::{clears, first_gouge};
 use mill_part::SortedPart;
+use std::process::Abort;
 use std::test::Fail;
 
 // Posts of no width: the first is at (0, 0) and 300 high, and the second at (1000, 0) and 200 high.
@@ -26,18 +27,28 @@ fn number(word: &str) -> Result<Option<u32>, Fail> {
     Ok(Some(word.parse()?))
 }
 
+/// Looks at a move: the post that a flat cutter gouges along it, and whether it is clear.
+fn look<R: Abort>(rt: &R, shape: &SortedPart<'_>, row: &str) -> Result<(), Fail> {
+    let (along, wanted) = halves(row)?;
+    let (along, post) = (feed(along)?, number(wanted)?);
+    let flat = Cutter::Flat { radius: 100 };
+    let gouge = first_gouge(flat, shape.part(), shape.cells(), &along);
+    let is_clear = clears(flat, shape.part(), shape.cells(), &along);
+    let found = (gouge.map(|gouge| gouge.tri), is_clear);
+    assert_eq!(rt; found, (post, post.is_none()), "{row}");
+    Ok(())
+}
+
+fn look_at_each<R: Abort>(rt: &R, shape: &SortedPart<'_>, table: &str) -> Result<(), Fail> {
+    for row in table.lines() {
+        look(rt, shape, row)?;
+    }
+    Ok(())
+}
+
 #[test]
 fn posts_are_passed_over_and_beside(rt: HostRuntime) -> Result<(), Fail> {
     let part = part_of(rt.alloc(), POSTS)?;
     let shape = SortedPart::new(rt.alloc(), &part)?;
-    let flat = Cutter::Flat { radius: 100 };
-    for row in MOVES.lines() {
-        let (along, wanted) = halves(row)?;
-        let (along, post) = (feed(along)?, number(wanted)?);
-        let gouge = first_gouge(flat, shape.part(), shape.cells(), &along);
-        assert_eq!(rt; gouge.map(|gouge| gouge.tri), post, "{row}");
-        let is_clear = clears(flat, shape.part(), shape.cells(), &along);
-        assert_eq!(rt; is_clear, post.is_none(), "{row}");
-    }
-    Ok(())
+    look_at_each(&rt, &shape, MOVES)
 }

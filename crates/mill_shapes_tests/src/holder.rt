@@ -21,22 +21,27 @@ const POINTS: &str = "\
 200 50 from 0 0 1000 to 0 0 0: 0 0 51 => false
 10000 524287 from 0 0 524287 to 524287 0 524287: 0 0 524287 => true";
 
-#[test]
-fn holder_stops_beside_and_under(rt: HostRuntime) -> Result<(), Fail> {
-    for row in POINTS.lines() {
-        let (text, wanted) = halves(row)?;
-        let (held, along, place) = parts(text)?;
-        let passes = holder_passes_point(&holder(held)?, &feed(along)?, point(place)?);
-        assert_eq!(rt; passes, wanted == "true", "{row}");
-    }
-    Ok(())
-}
-
 /// The holder, the move and the corners of a row.
 fn parts(text: &str) -> Result<(&str, &str, &str), Fail> {
     let (held, text) = text.split_once(" from ").ok_or("a row without a move")?;
     let (along, corners) = text.split_once(": ").ok_or("a row without a corner")?;
     Ok((held, along, corners))
+}
+
+fn look_at_point<R: Abort>(rt: &R, row: &str) -> Result<(), Fail> {
+    let (text, wanted) = halves(row)?;
+    let (held, along, place) = parts(text)?;
+    let passes = holder_passes_point(&holder(held)?, &feed(along)?, point(place)?);
+    assert_eq!(rt; passes, wanted == "true", "{row}");
+    Ok(())
+}
+
+#[test]
+fn holder_stops_beside_and_under(rt: HostRuntime) -> Result<(), Fail> {
+    for row in POINTS.lines() {
+        look_at_point(&rt, row)?;
+    }
+    Ok(())
 }
 
 const TRIANGLES: &str = "\
@@ -46,28 +51,33 @@ const TRIANGLES: &str = "\
 10000 524287 from 0 0 524287 to 524287 0 524287: \
     0 0 524287, 0 524287 524287, 524287 0 524287 => none";
 
-/// Looks where a triangle stops the holder. A sweep of the holder tells what the call does.
-fn look<R: Abort>(rt: &R, held: &Holder, step: &Move, tri: &Tri, stop: Option<Leaf>, row: &str)
+/// Where a triangle stops the holder, by the call and by a sweep of the holder, and whether it passes.
+fn stops(held: &Holder, step: &Move, tri: &Tri) -> (Option<Leaf>, Option<Leaf>, bool)
     requires holder_ok { IsHolder held.now }
     requires move_ok { MoveInRange step.now }
     requires tri_ok { TriInRange tri.now }
 {
-    assert_eq!(rt; holder_passes_tri(held, step, tri), stop.is_none(), "{row}");
-    assert_eq!(rt; holder_block(held, step, tri), stop, "{row}");
-    assert_eq!(rt;
+    (
+        holder_block(held, step, tri),
         Sweep::of_holder(held, step).first_block(tri),
-        stop,
-        "{row}"
-    );
+        holder_passes_tri(held, step, tri),
+    )
+}
+
+fn look<R: Abort>(rt: &R, row: &str) -> Result<(), Fail> {
+    let (text, wanted) = halves(row)?;
+    let (held, along, corners) = parts(text)?;
+    let (held, along, tri) = (holder(held)?, feed(along)?, triangle(corners)?);
+    let stop = leaf(wanted)?;
+    let found = stops(&held, &along, &tri);
+    assert_eq!(rt; found, (stop, stop, stop.is_none()), "{row}");
+    Ok(())
 }
 
 #[test]
 fn holder_stops_at_a_triangle(rt: HostRuntime) -> Result<(), Fail> {
     for row in TRIANGLES.lines() {
-        let (text, wanted) = halves(row)?;
-        let (held, along, corners) = parts(text)?;
-        let (held, along, tri) = (holder(held)?, feed(along)?, triangle(corners)?);
-        look(&rt, &held, &along, &tri, leaf(wanted)?, row);
+        look(&rt, row)?;
     }
     Ok(())
 }

@@ -54,11 +54,17 @@ fn told_of(alloc: Global, text: &str) -> Result<String, Fail> {
     }
 }
 
+fn look<R: Abort + AllocGlobal>(rt: &R, row: &str) -> Result<(), Fail> {
+    let (text, wanted) = halves(row)?;
+    let found = told_of(rt.alloc(), text)?;
+    assert_eq!(rt; found.as_str(), wanted, "{row}");
+    Ok(())
+}
+
 /// Looks at many waterlines: each row has what it asks for, and what that comes to.
 fn each_waterline<R: Abort + AllocGlobal>(rt: &R, table: &str) -> Result<(), Fail> {
     for row in table.lines() {
-        let (text, wanted) = halves(row)?;
-        assert_eq!(rt; told_of(rt.alloc(), text)?.as_str(), wanted, "{row}");
+        look(rt, row)?;
     }
     Ok(())
 }

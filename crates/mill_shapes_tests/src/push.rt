@@ -82,6 +82,34 @@ fn told_of(alloc: Global, tool: &Tool, part: &Part, text: &str) -> Result<String
     told(alloc, &runs)
 }
 
+fn look_at_fiber<R: Abort + AllocGlobal>(
+    rt: &R,
+    tool: &Tool,
+    part: &Part,
+    row: &str,
+) -> Result<(), Fail>
+    requires { IsTool tool.now }
+{
+    let (fiber, wanted) = halves(row)?;
+    let found = told_of(rt.alloc(), tool, part, fiber)?;
+    assert_eq!(rt; found.as_str(), wanted, "{row}");
+    Ok(())
+}
+
+fn look_at_fibers<R: Abort + AllocGlobal>(
+    rt: &R,
+    tool: &Tool,
+    part: &Part,
+    table: &str,
+) -> Result<(), Fail>
+    requires { IsTool tool.now }
+{
+    for row in table.lines() {
+        look_at_fiber(rt, tool, part, row)?;
+    }
+    Ok(())
+}
+
 /// Looks at the runs of a tool over a part: each row has a fiber, and what they come to.
 fn each_fiber<R: Abort + AllocGlobal>(
     rt: &R,
@@ -92,15 +120,7 @@ fn each_fiber<R: Abort + AllocGlobal>(
     let alloc = rt.alloc();
     let held = tool(held)?;
     let part = part_of(alloc, part)?;
-    for row in table.lines() {
-        let (fiber, wanted) = halves(row)?;
-        assert_eq!(rt;
-            told_of(alloc, &held, &part, fiber)?.as_str(),
-            wanted,
-            "{row}"
-        );
-    }
-    Ok(())
+    look_at_fibers(rt, &held, &part, table)
 }
 
 const POINT: &str = "500 0 300";
@@ -211,19 +231,20 @@ fn holder_near_a_point(rt: HostRuntime) -> Result<(), Fail> {
     each_fiber(&rt, "flat 100 in 200 50", POINT, HELD)
 }
 
+fn look_at_part<R: Abort + AllocGlobal>(rt: &R, row: &str) -> Result<(), Fail> {
+    let (part, wanted) = halves(row)?;
+    let flat = Tool::bare(Cutter::Flat { radius: 100 });
+    let part = part_of(rt.alloc(), part)?;
+    let found = told_of(rt.alloc(), &flat, &part, "x 0 0")?;
+    assert_eq!(rt; found.as_str(), wanted, "{row}");
+    Ok(())
+}
+
 /// Looks at the runs of the flat cutter along one fiber over many parts: each row has a part, and what
 /// they come to.
 fn each_part<R: Abort + AllocGlobal>(rt: &R, table: &str) -> Result<(), Fail> {
-    let alloc = rt.alloc();
-    let flat = Tool::bare(Cutter::Flat { radius: 100 });
     for row in table.lines() {
-        let (part, wanted) = halves(row)?;
-        let part = part_of(alloc, part)?;
-        assert_eq!(rt;
-            told_of(alloc, &flat, &part, "x 0 0")?.as_str(),
-            wanted,
-            "{row}"
-        );
+        look_at_part(rt, row)?;
     }
     Ok(())
 }

@@ -9,51 +9,63 @@ use std::test::Fail;
 
 mod leaves;
 
-/// Looks where a triangle stops the cutter.
-fn look<R: Abort>(rt: &R, cutter: Cutter, step: &Move, tri: &Tri, stop: Option<Leaf>, row: &str)
+/// Where something stops the cutter, and whether the cutter passes it.
+type Stop = (Option<Leaf>, bool);
+
+fn stop_at(cutter: Cutter, step: &Move, tri: &Tri) -> Stop
     requires cutter_ok { IsCutter cutter }
     requires move_ok { MoveInRange step.now }
     requires tri_ok { TriInRange tri.now }
 {
-    assert_eq!(rt; first_block(cutter, step, tri), stop, "{row}");
-    assert_eq!(rt; passes_tri(cutter, step, tri), stop.is_none(), "{row}");
+    (
+        first_block(cutter, step, tri),
+        passes_tri(cutter, step, tri),
+    )
 }
 
-/// Looks where a point stops the cutter, also as a triangle of three equal corners.
-fn look_at_point<R: Abort>(
-    rt: &R,
-    cutter: Cutter,
-    step: &Move,
-    point: Pt3,
-    stop: Option<Leaf>,
-    row: &str,
-)
+/// Where a point stops it, also as a triangle of three equal corners.
+fn stops_at_point(cutter: Cutter, step: &Move, point: Pt3) -> (Stop, Stop)
     requires cutter_ok { IsCutter cutter }
     requires move_ok { MoveInRange step.now }
     requires point_ok { IsInRange point }
 {
-    assert_eq!(rt; first_block_point(cutter, step, point), stop, "{row}");
-    assert_eq!(rt; passes_point(cutter, step, point), stop.is_none(), "{row}");
     let tri = Tri {
         a: point,
         b: point,
         c: point,
     };
-    look(rt, cutter, step, &tri, stop, row);
+    let by_point = first_block_point(cutter, step, point);
+    let passes = passes_point(cutter, step, point);
+    ((by_point, passes), stop_at(cutter, step, &tri))
+}
+
+/// Where a triangle by its corners stops it, or a point, in both ways.
+fn stops(cutter: Cutter, step: &Move, corners: &str) -> Result<(Stop, Stop), Fail>
+    requires cutter_ok { IsCutter cutter }
+    requires move_ok { MoveInRange step.now }
+{
+    if !corners.contains(',') {
+        return Ok(stops_at_point(cutter, step, point(corners)?));
+    }
+    let stop = stop_at(cutter, step, &triangle(corners)?);
+    Ok((stop, stop))
+}
+
+fn look<R: Abort>(rt: &R, row: &str) -> Result<(), Fail> {
+    let (text, wanted) = halves(row)?;
+    let (held, text) = text.split_once(" from ").ok_or("a row without a move")?;
+    let (along, corners) = text.split_once(": ").ok_or("a row without a triangle")?;
+    let found = stops(cutter(held)?, &feed(along)?, corners)?;
+    let leaf = leaf(wanted)?;
+    let wanted = (leaf, leaf.is_none());
+    assert_eq!(rt; found, (wanted, wanted), "{row}");
+    Ok(())
 }
 
 /// Looks at many moves: each row has the cutter, the move, a triangle or a point, and where that stops it.
 fn each_move<R: Abort>(rt: &R, table: &str) -> Result<(), Fail> {
     for row in table.lines() {
-        let (text, wanted) = halves(row)?;
-        let (held, text) = text.split_once(" from ").ok_or("a row without a move")?;
-        let (along, corners) = text.split_once(": ").ok_or("a row without a triangle")?;
-        let (held, along, stop) = (cutter(held)?, feed(along)?, leaf(wanted)?);
-        if corners.contains(',') {
-            look(rt, held, &along, &triangle(corners)?, stop, row);
-        } else {
-            look_at_point(rt, held, &along, point(corners)?, stop, row);
-        }
+        look(rt, row)?;
     }
     Ok(())
 }

@@ -1,5 +1,6 @@
 use crate::tables::{halves, placed, radius, tip, triangle};
 use mill_geom::reaches_cylinder;
+use std::process::Abort;
 use std::test::Fail;
 
 // Points on the level count: of a level triangle, of an edge and of a corner.
@@ -16,14 +17,19 @@ const REACHES: &str = "\
 0 0 0, 1000 0 0, 0 1000 200 by 50 at 30 1040 200 => false
 0 0 0, 1000 0 0, 0 1000 200 by 50 at 0 1000 201 => false";
 
+fn look<R: Abort>(rt: &R, row: &str) -> Result<(), Fail> {
+    let (text, wanted) = halves(row)?;
+    let (text, centre) = placed(text);
+    let (text, by) = text.split_once(" by ").ok_or("a row without a radius")?;
+    let reaches = reaches_cylinder(&triangle(text)?, radius(by)?, tip(centre)?);
+    assert_eq!(rt; reaches, wanted == "true", "{row}");
+    Ok(())
+}
+
 #[test]
 fn reaches_the_level(rt: HostRuntime) -> Result<(), Fail> {
     for row in REACHES.lines() {
-        let (text, wanted) = halves(row)?;
-        let (text, centre) = placed(text);
-        let (text, by) = text.split_once(" by ").ok_or("a row without a radius")?;
-        let reaches = reaches_cylinder(&triangle(text)?, radius(by)?, tip(centre)?);
-        assert_eq!(rt; reaches, wanted == "true", "{row}");
+        look(&rt, row)?;
     }
     Ok(())
 }

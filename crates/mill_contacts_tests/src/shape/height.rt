@@ -5,21 +5,23 @@ use mill_shape::cut_height;
 fn heights_over_the_origin(rt: HostRuntime) {
     let tip = Pt3 { x: 0, y: 0, z: 0 };
     let ball = Cutter::Ball { radius: 100 };
-    assert_eq!(rt; cut_height(ball, tip, 60, 0), Some(20));
-    assert_eq!(rt; cut_height(ball, tip, 61, 0), Some(20));
-    assert_eq!(rt; cut_height(ball, tip, 100, 0), None);
-
     let cone = Cutter::Cone {
         radius: 100,
         rise: 1,
         run: 2,
     };
-    assert_eq!(rt; cut_height(cone, tip, 3, 0), Some(1));
-    assert_eq!(rt; cut_height(cone, tip, 99, 0), Some(49));
-
     let flat = Cutter::Flat { radius: 100 };
-    assert_eq!(rt; cut_height(flat, tip, 99, 0), Some(0));
-    assert_eq!(rt; cut_height(flat, tip, 100, 0), None);
+    let found = [
+        cut_height(ball, tip, 60, 0),
+        cut_height(ball, tip, 61, 0),
+        cut_height(ball, tip, 100, 0),
+        cut_height(cone, tip, 3, 0),
+        cut_height(cone, tip, 99, 0),
+        cut_height(flat, tip, 99, 0),
+        cut_height(flat, tip, 100, 0),
+    ];
+    let wanted = [Some(20), Some(20), None, Some(1), Some(49), Some(0), None];
+    assert_eq!(rt; found, wanted);
 }
 
 // 11024 is 13 * 848, and 5, 12 and 13 are the sides of a right triangle.
@@ -31,10 +33,6 @@ fn heights_at_the_limits(rt: HostRuntime) {
         z: -545000,
     };
     let ball = Cutter::Ball { radius: 11024 };
-    let near = 5 * 848 - 524287;
-    assert_eq!(rt; cut_height(ball, lowest, near, -524287), Some(-544152));
-    assert_eq!(rt; cut_height(ball, lowest, 524287, 524287), None);
-
     let highest = Pt3 {
         x: 524287,
         y: 524287,
@@ -45,7 +43,11 @@ fn heights_at_the_limits(rt: HostRuntime) {
         rise: 100,
         run: 7,
     };
-    let near = 524287 - 7 * 1574;
-    assert_eq!(rt; cut_height(cone, highest, 524287, near), Some(681703));
-    assert_eq!(rt; cut_height(cone, highest, 524287, -524287), None);
+    let found = [
+        cut_height(ball, lowest, 5 * 848 - 524287, -524287),
+        cut_height(ball, lowest, 524287, 524287),
+        cut_height(cone, highest, 524287, 524287 - 7 * 1574),
+        cut_height(cone, highest, 524287, -524287),
+    ];
+    assert_eq!(rt; found, [Some(-544152), None, Some(681703), None]);
 }

@@ -4,6 +4,7 @@ ghost use Rattle.std.specs.Prelude.{◌≤◌, ◌<◌, ◌^◌};
 use crate::tables::{feed, first_word, halves, leaf};
 use mill_base::{Kind, Move, Pt3, power_of_two};
 use mill_sweep::{Span, depth, span};
+use std::process::Abort;
 use std::test::Fail;
 
 /// A span by its middle in x and in y, its reach and its lower end.
@@ -28,16 +29,21 @@ const SPANS: &str = "\
 0 100 200 to 1000 100 200 at 10 497 => 486 100 1 200
 0 100 200 to 1000 100 200 at 10 409 => 400 100 1 200";
 
+fn look_at_span<R: Abort>(rt: &R, row: &str) -> Result<(), Fail> {
+    let (text, wanted) = halves(row)?;
+    let (along, part) = text.split_once(" at ").ok_or("a row without a leaf")?;
+    let (along, part) = (feed(along)?, leaf(part)?.ok_or("a row without a leaf")?);
+    if part.d > depth(&along) || part.k >= power_of_two(part.d) {
+        return Err(Fail::from("no leaf of the move"));
+    }
+    assert_eq!(rt; span(&along, part), span_of(wanted)?, "{row}");
+    Ok(())
+}
+
 #[test]
 fn spans_of_leaves(rt: HostRuntime) -> Result<(), Fail> {
     for row in SPANS.lines() {
-        let (text, wanted) = halves(row)?;
-        let (along, part) = text.split_once(" at ").ok_or("a row without a leaf")?;
-        let (along, part) = (feed(along)?, leaf(part)?.ok_or("a row without a leaf")?);
-        if part.d > depth(&along) || part.k >= power_of_two(part.d) {
-            return Err(Fail::from("no leaf of the move"));
-        }
-        assert_eq!(rt; span(&along, part), span_of(wanted)?, "{row}");
+        look_at_span(&rt, row)?;
     }
     Ok(())
 }
@@ -68,17 +74,22 @@ const DEPTHS: &str = "\
 -131071 -131071 0 to 131071 131071 0 => 18
 -524287 -524287 0 to 524287 524287 0 => 20";
 
+fn look_at_depth<R: Abort>(rt: &R, row: &str) -> Result<(), Fail> {
+    let (ends, wanted) = halves(row)?;
+    let (from, to) = ends.split_once(" to ").ok_or("a row without an end")?;
+    let step = Move {
+        kind: Kind::Feed,
+        from: place(from)?,
+        to: place(to)?,
+    };
+    assert_eq!(rt; depth(&step), wanted.parse()?, "{row}");
+    Ok(())
+}
+
 #[test]
 fn depths_by_the_length(rt: HostRuntime) -> Result<(), Fail> {
     for row in DEPTHS.lines() {
-        let (ends, wanted) = halves(row)?;
-        let (from, to) = ends.split_once(" to ").ok_or("a row without an end")?;
-        let step = Move {
-            kind: Kind::Feed,
-            from: place(from)?,
-            to: place(to)?,
-        };
-        assert_eq!(rt; depth(&step), wanted.parse()?, "{row}");
+        look_at_depth(&rt, row)?;
     }
     Ok(())
 }
