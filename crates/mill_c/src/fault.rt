@@ -1,0 +1,55 @@
+ghost use Rattle.std.specs.Prelude.{◌≡◌};
+ghost use Rattle.mill_c.specs.declared.fault.Fault.TheVariants as fault;
+
+use mill_base::WantOfMemory;
+
+/// Why a call answers nothing.
+#[derive(Clone, Copy, Debug, PartialEq, Eq)]
+pub enum Fault {
+    /// There was not enough memory.
+    Memory,
+    /// The cutter is of no kind, or its radius or its slope is out of range.
+    Cutter,
+    /// The holder's radius or its stickout is out of range.
+    Holder,
+    /// A coordinate of a triangle is out of range.
+    Triangle,
+    /// There are more triangles than 32 bits number.
+    TooManyTriangles,
+    /// A coordinate of a place is out of range.
+    Place,
+    /// The floor is out of range.
+    Floor,
+    /// The array for the results is not as long as they are many.
+    Room,
+}
+
+impl Fault {
+    ghost use Rattle.std.specs.Prelude.{◌<ℤ◌, pos};
+    ghost use Rattle.mill_c.specs.Faults.{fault_code};
+
+    /// The status that tells it, which is over 0.
+    pub fn code(self) -> i32
+        ensures value { result ≡ fault_code self }
+        ensures some { pos 0 <ℤ result }
+    {
+        match self {
+            Fault::Memory => 1,
+            Fault::Cutter => 2,
+            Fault::Holder => 3,
+            Fault::Triangle => 4,
+            Fault::TooManyTriangles => 5,
+            Fault::Place => 6,
+            Fault::Floor => 7,
+            Fault::Room => 8,
+        }
+    }
+}
+
+impl From<WantOfMemory> for Fault {
+    ghost from_gives = { λ _ told. told ≡ fault.Memory };
+
+    fn from(_: WantOfMemory) -> Self {
+        Fault::Memory
+    }
+}
