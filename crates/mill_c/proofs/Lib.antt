@@ -1,2 +1,2 @@
-pub mod Drops
 pub mod Parts
+pub mod Written

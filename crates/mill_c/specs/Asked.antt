@@ -37,6 +37,7 @@ IsCause triangles tool places floor room fault.TooManyTriangles = 2 ^ 32 ≤ len
 IsCause triangles tool places floor room fault.Place = ¬ All IsPlace places
 IsCause triangles tool places floor room fault.Floor = ¬ Within MAX_COORDINATE floor
 IsCause triangles tool places floor room fault.Room = room ≢ length places
+IsCause triangles tool places floor room _ = ⊥
 
 -- the status is that of a fault that has such a cause
 pub record IsToldFor (IsCauseOf : Fault → Type 0) (status : ℤ) : Type 0 where

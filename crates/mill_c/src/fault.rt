@@ -22,6 +22,18 @@ pub enum Fault {
     Floor,
     /// The array for the results is not as long as they are many.
     Room,
+    /// The number of the unit is that of none.
+    Unit,
+    /// The number that says how a coordinate between two units is read says nothing.
+    Snap,
+    /// A word of a part's text is another one than the form has there.
+    Word,
+    /// A word in a coordinate's place of a part's text is refused as a decimal.
+    Coordinate,
+    /// A part's text has more than 200,000 triangles.
+    LongText,
+    /// A part's text ends before its first solid, or within a solid.
+    CutShort,
 }
 
 impl Fault {
@@ -42,6 +54,12 @@ impl Fault {
             Fault::Place => 6,
             Fault::Floor => 7,
             Fault::Room => 8,
+            Fault::Unit => 9,
+            Fault::Snap => 10,
+            Fault::Word => 11,
+            Fault::Coordinate => 12,
+            Fault::LongText => 13,
+            Fault::CutShort => 14,
         }
     }
 }

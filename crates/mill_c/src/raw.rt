@@ -42,3 +42,15 @@ pub struct RawTool {
     /// How far the holder's lower face is over the cutter's tip, from 1 to 524,287.
     pub stickout: i32,
 }
+
+/// What a reading of a part's text came to. What isn't told is 0.
+#[repr(C)]
+#[derive(Clone, Copy, Debug, PartialEq, Eq)]
+pub struct RawReading {
+    /// How many triangles the part has.
+    pub triangles: u64,
+    /// How many of their coordinates were rounded.
+    pub rounded: u64,
+    /// The line of the text's first fault, counted from 1; each LF ends one.
+    pub line: u64,
+}
