@@ -4,7 +4,8 @@
  * texts. A coordinate's magnitude is at most CAMTOOL_MAX_COORDINATE.
  *
  * Each call tests its arguments, answers a status, and keeps nothing for the next call. With status
- * CAMTOOL_OK the array that the caller has lent has the results; with any other it is as it was.
+ * CAMTOOL_OK the array that the caller has lent has the results; with any other it is as it was, and
+ * what else is told is said at the call.
  * What is proved of a call is what is said here, for callers that keep to these, which no call can
  * test:
  *
@@ -48,7 +49,19 @@ enum camtool_status {
     /* The floor is out of range. */
     CAMTOOL_FLOOR = 7,
     /* The array for the results is not as long as they are many. */
-    CAMTOOL_ROOM = 8
+    CAMTOOL_ROOM = 8,
+    /* The number of the unit is that of none. */
+    CAMTOOL_UNIT = 9,
+    /* The number that says how a coordinate between two units is read says nothing. */
+    CAMTOOL_SNAP = 10,
+    /* A word of a part's text is another one than the form has there. */
+    CAMTOOL_WORD = 11,
+    /* A word in a coordinate's place of a part's text is refused as a decimal. */
+    CAMTOOL_COORDINATE = 12,
+    /* A part's text has more than 200,000 triangles. */
+    CAMTOOL_LONG_TEXT = 13,
+    /* A part's text ends before its first solid, or within a solid. */
+    CAMTOOL_CUT_SHORT = 14
 };
 
 /* What a cutter is. */
@@ -92,6 +105,25 @@ typedef struct camtool_tool {
     /* How far the holder's lower face is over the cutter's tip, from 1 to 524287. */
     int32_t stickout;
 } camtool_tool;
+
+/* What a reading of a part's text came to. What isn't told is 0. */
+typedef struct camtool_reading {
+    /* How many triangles the part has. */
+    uint64_t triangles;
+    /* How many of their coordinates were rounded. */
+    uint64_t rounded;
+    /* The line of the text's first fault, counted from 1; each LF ends one. */
+    uint64_t line;
+} camtool_reading;
+
+/* Reads a part from a text of ASCII STL: its triangles, in the order of the text. The unit says how
+ * many decimals of a millimetre stand for whole units: 2 for 0.01 mm, 3 for 0.001 mm. The snap says
+ * how a coordinate between two units is read: 0 refuses it, 1 rounds it to the nearest. The array is
+ * as long as the part has triangles: with another length, as 0, the status is CAMTOOL_ROOM and told
+ * has their count. told is written with every status. */
+int32_t camtool_read_part(const uint8_t *text, size_t text_count, int32_t unit, int32_t snap,
+                          camtool_triangle *triangles, size_t triangles_count,
+                          camtool_reading *told);
 
 /* Drop heights: for each place the least whole height, from the floor on, at which the tool with
  * its tip there doesn't gouge the part of these triangles, neither by its cutter nor by its holder,

@@ -102,5 +102,46 @@ class DropHeights(unittest.TestCase):
         self.assertEqual(list(self.places), [100, 100, -150, 100, -149, 100])
 
 
+class ReadPart(unittest.TestCase):
+    FACET = b"facet normal 0 0 1 outer loop vertex 0 0 2 vertex 2 0 2 vertex 2 2.005 2 endloop endfacet\n"
+
+    def test_is_what_the_text_of_each_example_says(self):
+        for name in ("plate", "hill", "ball", "pin"):
+            folder = os.path.join(ROOT, "examples", name)
+            with open(os.path.join(folder, "part.stl"), "rb") as file:
+                text = file.read()
+            for given in (text, bytearray(text), memoryview(text)):
+                part = camtool.read_part(given, snap=1)
+                self.assertEqual(part.triangles, corners_of(folder), name)
+                self.assertEqual(part.rounded, 0)
+
+    def test_rounds_or_refuses_by_the_snap_and_the_unit(self):
+        text = b"solid\n" + self.FACET + b"endsolid"
+        self.assertEqual(camtool.read_part(text, snap=1), (array.array("i", [0, 0, 200, 200, 0, 200, 200, 201, 200]), 1))
+        self.assertEqual(camtool.read_part(text, unit=3).triangles[7], 2005)
+        with self.assertRaises(camtool.BadCoordinate) as raised:
+            camtool.read_part(text)
+        self.assertEqual(raised.exception.line, 2)
+
+    def test_of_no_triangles(self):
+        self.assertEqual(camtool.read_part(b"solid\nendsolid"), (array.array("i"), 0))
+
+    def test_names_what_is_wrong(self):
+        facets = self.FACET * 200_001
+        for text, error, line in ((b"", camtool.CutShort, 1), (b"solid\nface", camtool.BadWord, 2),
+                                  (b"solid\n\nfacet", camtool.CutShort, 3), (b"solid\n" + facets, camtool.LongText, 200_002)):
+            with self.assertRaises(error) as raised:
+                camtool.read_part(text, snap=1)
+            self.assertEqual(raised.exception.line, line)
+        for unit in (1, 4, 1 << 40):
+            with self.assertRaises(camtool.BadUnit):
+                camtool.read_part(b"solid\nendsolid", unit=unit)
+        for snap in (-1, 2):
+            with self.assertRaises(camtool.BadSnap):
+                camtool.read_part(b"solid\nendsolid", snap=snap)
+        with self.assertRaises(camtool.BadArray):
+            camtool.read_part(array.array("i", [1]))
+
+
 if __name__ == "__main__":
     unittest.main()

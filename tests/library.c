@@ -98,9 +98,61 @@ static void test_refusals(void) {
     refused("a long array", CAMTOOL_ROOM, PLATE, FLAT, PLACES, 0, COUNT(PLACES) + 1);
 }
 
+static int32_t read_part(const char *text, int32_t unit, int32_t snap, camtool_triangle *triangles,
+                         size_t count, camtool_reading *told) {
+    return camtool_read_part((const uint8_t *)text, strlen(text), unit, snap, triangles, count, told);
+}
+
+#define ONE_FACET                                                                                   \
+    "facet normal 0 0 1\nouter loop\nvertex 0 0 2\nvertex 2 0 2\nvertex 2 2.005 2\nendloop\n"       \
+    "endfacet\n"
+
+static void test_parts(void) {
+    camtool_triangle one;
+    camtool_reading told;
+    const char *text = "solid s\n" ONE_FACET "endsolid s\n";
+    expect("a part", CAMTOOL_OK, read_part(text, 2, 1, &one, 1, &told));
+    const camtool_triangle wanted = {{0, 0, 200}, {200, 0, 200}, {200, 201, 200}};
+    expect("a part", 0, memcmp(&wanted, &one, sizeof one));
+    expect("its count", 1, (int32_t)told.triangles);
+    expect("its rounded", 1, (int32_t)told.rounded);
+    expect("a finer part", CAMTOOL_OK, read_part(text, 3, 0, &one, 1, &told));
+    expect("a finer part", 2005, one.c.y);
+    expect("its rounded", 0, (int32_t)told.rounded);
+}
+
+static void refused_part(const char *what, int32_t status, const char *text, int32_t unit,
+                         int32_t snap, size_t room, camtool_reading wanted) {
+    camtool_triangle lent[3];
+    memset(lent, UNTOUCHED, sizeof lent);
+    camtool_reading told = {UNTOUCHED, UNTOUCHED, UNTOUCHED};
+    expect(what, status, read_part(text, unit, snap, lent, room, &told));
+    expect(what, (int32_t)wanted.triangles, (int32_t)told.triangles);
+    expect(what, (int32_t)wanted.rounded, (int32_t)told.rounded);
+    expect(what, (int32_t)wanted.line, (int32_t)told.line);
+    for (size_t i = 0; i < sizeof lent; i++)
+        expect(what, UNTOUCHED, ((const uint8_t *)lent)[i]);
+}
+
+static void test_part_refusals(void) {
+    const char *text = "solid s\n" ONE_FACET ONE_FACET "endsolid s\n";
+    const camtool_reading nothing = {0, 0, 0}, two = {2, 2, 0};
+    refused_part("no unit", CAMTOOL_UNIT, text, 1, 1, 2, nothing);
+    refused_part("no snap", CAMTOOL_SNAP, text, 2, 2, 2, nothing);
+    refused_part("no room", CAMTOOL_ROOM, text, 2, 1, 0, two);
+    refused_part("little room", CAMTOOL_ROOM, text, 2, 1, 1, two);
+    refused_part("much room", CAMTOOL_ROOM, text, 2, 1, 3, two);
+    refused_part("a fine coordinate", CAMTOOL_COORDINATE, text, 2, 0, 2, (camtool_reading){0, 0, 6});
+    refused_part("another word", CAMTOOL_WORD, "solid s\nface", 2, 1, 2, (camtool_reading){0, 0, 2});
+    refused_part("no end", CAMTOOL_CUT_SHORT, "solid s\n\n", 2, 1, 2, (camtool_reading){0, 0, 3});
+    refused_part("nothing", CAMTOOL_CUT_SHORT, "", 2, 1, 2, (camtool_reading){0, 0, 1});
+}
+
 int main(void) {
     test_drops();
     test_nothing();
     test_refusals();
+    test_parts();
+    test_part_refusals();
     return failed != 0;
 }

@@ -18,11 +18,12 @@ import array
 import ctypes
 import operator
 import os
+import typing
 
 __all__ = [
-    "MAX_COORDINATE", "BadArray", "BadCutter", "BadFloor", "BadHolder", "BadPlace", "BadTriangle",
-    "CamtoolError", "NoMemory", "TooManyTriangles", "Tool", "WrongRoom", "ball", "cone",
-    "drop_heights", "flat",
+    "MAX_COORDINATE", "BadArray", "BadCoordinate", "BadCutter", "BadFloor", "BadHolder", "BadPlace", "BadSnap",
+    "BadText", "BadTriangle", "BadUnit", "BadWord", "CamtoolError", "CutShort", "LongText", "NoMemory", "Part",
+    "TooManyTriangles", "Tool", "WrongRoom", "ball", "cone", "drop_heights", "flat", "read_part",
 ]
 
 # The greatest magnitude of a coordinate, and of a floor.
@@ -87,8 +88,51 @@ class WrongRoom(CamtoolError, ValueError):
     status = 8
 
 
+class BadUnit(CamtoolError, ValueError):
+    """The number of the unit is that of none."""
+
+    status = 9
+
+
+class BadSnap(CamtoolError, ValueError):
+    """The number that says how a coordinate between two units is read says nothing."""
+
+    status = 10
+
+
+class BadText(CamtoolError, ValueError):
+    """A part's text is refused. `line` is that of its first fault, counted from 1."""
+
+    line = None
+
+
+class BadWord(BadText):
+    """A word of a part's text is another one than the form has there."""
+
+    status = 11
+
+
+class BadCoordinate(BadText):
+    """A word in a coordinate's place of a part's text is refused as a decimal."""
+
+    status = 12
+
+
+class LongText(BadText):
+    """A part's text has more than 200,000 triangles."""
+
+    status = 13
+
+
+class CutShort(BadText):
+    """A part's text ends before its first solid, or within a solid."""
+
+    status = 14
+
+
 _ERRORS = {error.status: error for error in (
-    NoMemory, BadCutter, BadHolder, BadTriangle, TooManyTriangles, BadPlace, BadFloor, WrongRoom)}
+    NoMemory, BadCutter, BadHolder, BadTriangle, TooManyTriangles, BadPlace, BadFloor, WrongRoom, BadUnit, BadSnap,
+    BadWord, BadCoordinate, LongText, CutShort)}
 
 
 class _Triangle(ctypes.Structure):
@@ -102,6 +146,17 @@ class _Place(ctypes.Structure):
 class _Tool(ctypes.Structure):
     _fields_ = [(name, ctypes.c_int32) for name in (
         "kind", "radius", "rise", "run", "holder_radius", "stickout")]
+
+
+class _Reading(ctypes.Structure):
+    _fields_ = [(name, ctypes.c_uint64) for name in ("triangles", "rounded", "line")]
+
+
+class Part(typing.NamedTuple):
+    """What a part's text means: its triangles, and how many of their coordinates were rounded."""
+
+    triangles: array.array
+    rounded: int
 
 
 class Tool:
@@ -139,6 +194,35 @@ def cone(radius, rise, run, holder=None):
     return Tool(3, radius, rise, run, holder=holder)
 
 
+def read_part(text, unit=2, snap=0):
+    """Reads a part from a text of ASCII STL.
+
+    text   bytes, or another array of bytes
+    unit   how many decimals of a millimetre stand for whole units: 2 for 0.01 mm, 3 for 0.001 mm
+    snap   how a coordinate between two units is read: 0 refuses it, 1 rounds it to the nearest
+
+    It returns a Part; its triangles are an array.array('i') of 9 numbers for each, in the order of the
+    text: x, y and z of each corner.
+    """
+    view = memoryview(text)
+    if view.itemsize != 1 or not view.c_contiguous:
+        raise BadArray("text: no bytes in a row")
+    count = view.nbytes
+    if count == 0:
+        letters = (ctypes.c_uint8 * 1)()
+    else:
+        letters = ((ctypes.c_uint8 * count).from_buffer_copy if view.readonly else (ctypes.c_uint8 * count).from_buffer)(view)
+    numbers, told = (_number(unit, BadUnit), _number(snap, BadSnap)), _Reading()
+    # The first call finds the count: it has no room for any triangle. It is the whole of a part of none.
+    status = _library.camtool_read_part(letters, count, *numbers, (_Triangle * 1)(), 0, told)
+    corners = array.array("i", bytes(36 * told.triangles))
+    if status == WrongRoom.status:
+        room = (_Triangle * told.triangles).from_buffer(corners)
+        status = _library.camtool_read_part(letters, count, *numbers, room, told.triangles, told)
+    _tell(status, told.line or None)
+    return Part(corners, told.rounded)
+
+
 def drop_heights(triangles, tool, places, floor, out=None):
     """Drop heights: for each place the least whole height, from the floor on, at which the tool with its
     tip there doesn't gouge the part, neither by its cutter nor by its holder, exactly.
@@ -162,11 +246,14 @@ def drop_heights(triangles, tool, places, floor, out=None):
     return heights
 
 
-def _tell(status):
-    """Raises the exception of a status other than 0."""
+def _tell(status, line=None):
+    """Raises the exception of a status other than 0, with the line of a text's fault."""
     if status:
         error = _ERRORS[status]
-        raise error(error.__doc__)
+        raised = error(error.__doc__ if line is None else f"line {line}: {error.__doc__}")
+        if line is not None:
+            raised.line = line
+        raise raised
 
 
 def _number(value, error):
@@ -237,11 +324,14 @@ def _loaded():
     root = os.path.dirname(os.path.dirname(os.path.dirname(os.path.abspath(__file__))))
     built = os.path.join(root, "crates", "mill_c", "out", "libcamtool.so")
     library = ctypes.CDLL(os.environ.get("CAMTOOL_LIBRARY", built))
-    numbers, size = ctypes.POINTER(ctypes.c_int32), ctypes.c_size_t
-    library.camtool_drop_heights.restype = ctypes.c_int32
+    number, numbers, size = ctypes.c_int32, ctypes.POINTER(ctypes.c_int32), ctypes.c_size_t
+    library.camtool_read_part.restype = number
+    library.camtool_read_part.argtypes = [
+        ctypes.POINTER(ctypes.c_uint8), size, number, number, ctypes.POINTER(_Triangle), size, ctypes.POINTER(_Reading)]
+    library.camtool_drop_heights.restype = number
     library.camtool_drop_heights.argtypes = [
         ctypes.POINTER(_Triangle), size, ctypes.POINTER(_Tool), ctypes.POINTER(_Place), size,
-        ctypes.c_int32, numbers, size]
+        number, numbers, size]
     return library
 
 
