@@ -1,0 +1,21 @@
+-- The statuses of a call.
+use Rattle.std.specs.Prelude.{ℤ, pos}
+use Rattle.mill_c.specs.declared.fault.Fault.{Fault}
+use Rattle.mill_c.specs.declared.fault.Fault.TheVariants as fault
+
+-- the status that tells a fault
+abbrev pub fault_code : Fault → ℤ
+fault_code fault.Memory = pos 1
+fault_code fault.Cutter = pos 2
+fault_code fault.Holder = pos 3
+fault_code fault.Triangle = pos 4
+fault_code fault.TooManyTriangles = pos 5
+fault_code fault.Place = pos 6
+fault_code fault.Floor = pos 7
+fault_code fault.Room = pos 8
+fault_code fault.Unit = pos 9
+fault_code fault.Snap = pos 10
+fault_code fault.Word = pos 11
+fault_code fault.Coordinate = pos 12
+fault_code fault.LongText = pos 13
+fault_code fault.CutShort = pos 14

@@ -1,0 +1,5 @@
+pub mod Asked
+pub mod Faults
+pub mod Raw
+pub mod Texts
+pub mod inner

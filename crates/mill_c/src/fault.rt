@@ -1,0 +1,73 @@
+ghost use Rattle.std.specs.Prelude.{◌≡◌};
+ghost use Rattle.mill_c.specs.declared.fault.Fault.TheVariants as fault;
+
+use mill_base::WantOfMemory;
+
+/// Why a call answers nothing.
+#[derive(Clone, Copy, Debug, PartialEq, Eq)]
+pub enum Fault {
+    /// There was not enough memory.
+    Memory,
+    /// The cutter is of no kind, or its radius or its slope is out of range.
+    Cutter,
+    /// The holder's radius or its stickout is out of range.
+    Holder,
+    /// A coordinate of a triangle is out of range.
+    Triangle,
+    /// There are more triangles than 32 bits number.
+    TooManyTriangles,
+    /// A coordinate of a place is out of range.
+    Place,
+    /// The floor is out of range.
+    Floor,
+    /// The array for the results is not as long as they are many.
+    Room,
+    /// The number of the unit is that of none.
+    Unit,
+    /// The number that says how a coordinate between two units is read says nothing.
+    Snap,
+    /// A word of a part's text is another one than the form has there.
+    Word,
+    /// A word in a coordinate's place of a part's text is refused as a decimal.
+    Coordinate,
+    /// A part's text has more than 200,000 triangles.
+    LongText,
+    /// A part's text ends before its first solid, or within a solid.
+    CutShort,
+}
+
+impl Fault {
+    ghost use Rattle.std.specs.Prelude.{◌<ℤ◌, pos};
+    ghost use Rattle.mill_c.specs.Faults.{fault_code};
+
+    /// The status that tells it, which is over 0.
+    pub fn code(self) -> i32
+        ensures value { result ≡ fault_code self }
+        ensures some { pos 0 <ℤ result }
+    {
+        match self {
+            Fault::Memory => 1,
+            Fault::Cutter => 2,
+            Fault::Holder => 3,
+            Fault::Triangle => 4,
+            Fault::TooManyTriangles => 5,
+            Fault::Place => 6,
+            Fault::Floor => 7,
+            Fault::Room => 8,
+            Fault::Unit => 9,
+            Fault::Snap => 10,
+            Fault::Word => 11,
+            Fault::Coordinate => 12,
+            Fault::LongText => 13,
+            Fault::CutShort => 14,
+        }
+    }
+}
+
+impl From<WantOfMemory> for Fault {
+    ghost from_gives = { λ _ told. told ≡ fault.Memory };
+
+    fn from(_: WantOfMemory) -> Self {
+        Fault::Memory
+    }
+}

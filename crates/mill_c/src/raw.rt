@@ -1,0 +1,56 @@
+/// A point, in units, as the caller gives it: its coordinates may be any.
+#[repr(C)]
+#[derive(Clone, Copy, Debug, PartialEq, Eq)]
+pub struct RawPoint {
+    pub x: i32,
+    pub y: i32,
+    pub z: i32,
+}
+
+/// A triangle by its three corners, nine numbers in a row.
+#[repr(C)]
+#[derive(Clone, Copy, Debug, PartialEq, Eq)]
+pub struct RawTriangle {
+    pub a: RawPoint,
+    pub b: RawPoint,
+    pub c: RawPoint,
+}
+
+/// A place seen from above, in units.
+#[repr(C)]
+#[derive(Clone, Copy, Debug, PartialEq, Eq)]
+pub struct RawPlace {
+    pub x: i32,
+    pub y: i32,
+}
+
+/// A tool in numbers: a cutter, and its holder if it has one. Lengths are in units.
+#[repr(C)]
+#[derive(Clone, Copy, Debug, PartialEq, Eq)]
+pub struct RawTool {
+    /// What the cutter is: 1 a flat end mill, 2 a ball end mill, 3 a cone.
+    pub kind: i32,
+    /// The radius of its shank, from 1 to 10,000.
+    pub radius: i32,
+    /// How far a cone rises over each `run`, from 1 to 100, and at most 16 times the run. It is not
+    /// looked at for other cutters, and neither is `run`.
+    pub rise: i32,
+    /// The run of a cone, from 1 to 100.
+    pub run: i32,
+    /// The radius of the holder, from 1 to 10,000; 0, and a `stickout` of 0, for no holder.
+    pub holder_radius: i32,
+    /// How far the holder's lower face is over the cutter's tip, from 1 to 524,287.
+    pub stickout: i32,
+}
+
+/// What a reading of a part's text came to. What isn't told is 0.
+#[repr(C)]
+#[derive(Clone, Copy, Debug, PartialEq, Eq)]
+pub struct RawReading {
+    /// How many triangles the part has.
+    pub triangles: u64,
+    /// How many of their coordinates were rounded.
+    pub rounded: u64,
+    /// The line of the text's first fault, counted from 1; each LF ends one.
+    pub line: u64,
+}

@@ -1,0 +1,140 @@
+/* The library of camtool: its proved calls, for C.
+ *
+ * Lengths are whole units of the caller's choice: 0.01 mm or 0.001 mm are those of camtool's own
+ * texts. A coordinate's magnitude is at most CAMTOOL_MAX_COORDINATE.
+ *
+ * Each call tests its arguments, answers a status, and keeps nothing for the next call. With status
+ * CAMTOOL_OK the array that the caller has lent has the results; with any other it is as it was, and
+ * what else is told is said at the call.
+ * What is proved of a call is what is said here, for callers that keep to these, which no call can
+ * test:
+ *
+ * - A pointer is never null, not even where the count that follows it is 0, is aligned as its type
+ *   wants, and leads to as many elements as the count says.
+ * - No array that a call writes overlaps another of its arguments.
+ * - Nothing else writes an argument while the call runs, nor reads what it writes. Calls on
+ *   arguments of their own may run at the same time.
+ * - malloc, realloc and free are those of one allocator. A call comes from no signal handler, and
+ *   not from the child of a fork of a process with threads.
+ */
+#ifndef CAMTOOL_H
+#define CAMTOOL_H
+
+#include <stddef.h>
+#include <stdint.h>
+
+#ifdef __cplusplus
+extern "C" {
+#endif
+
+/* The greatest magnitude of a coordinate, and of a floor. */
+#define CAMTOOL_MAX_COORDINATE 524287
+
+/* How a call ends. Where several arguments are wrong, the status tells of one of them. */
+enum camtool_status {
+    /* The results are written. */
+    CAMTOOL_OK = 0,
+    /* There was not enough memory. */
+    CAMTOOL_MEMORY = 1,
+    /* The cutter is of no kind, or its radius or its slope is out of range. */
+    CAMTOOL_CUTTER = 2,
+    /* The holder's radius or its stickout is out of range. */
+    CAMTOOL_HOLDER = 3,
+    /* A coordinate of a triangle is out of range. */
+    CAMTOOL_TRIANGLE = 4,
+    /* There are more triangles than 32 bits number. */
+    CAMTOOL_TOO_MANY_TRIANGLES = 5,
+    /* A coordinate of a place is out of range. */
+    CAMTOOL_PLACE = 6,
+    /* The floor is out of range. */
+    CAMTOOL_FLOOR = 7,
+    /* The array for the results is not as long as they are many. */
+    CAMTOOL_ROOM = 8,
+    /* The number of the unit is that of none. */
+    CAMTOOL_UNIT = 9,
+    /* The number that says how a coordinate between two units is read says nothing. */
+    CAMTOOL_SNAP = 10,
+    /* A word of a part's text is another one than the form has there. */
+    CAMTOOL_WORD = 11,
+    /* A word in a coordinate's place of a part's text is refused as a decimal. */
+    CAMTOOL_COORDINATE = 12,
+    /* A part's text has more than 200,000 triangles. */
+    CAMTOOL_LONG_TEXT = 13,
+    /* A part's text ends before its first solid, or within a solid. */
+    CAMTOOL_CUT_SHORT = 14
+};
+
+/* What a cutter is. */
+enum camtool_kind { CAMTOOL_FLAT = 1, CAMTOOL_BALL = 2, CAMTOOL_CONE = 3 };
+
+/* A corner. */
+typedef struct camtool_point {
+    int32_t x;
+    int32_t y;
+    int32_t z;
+} camtool_point;
+
+/* A triangle of a part: nine numbers in a row, so that an array of corner coordinates, nine for
+ * each triangle, may be given by a cast. Equal or collinear corners are allowed: such a triangle
+ * stands for its point or its edges. */
+typedef struct camtool_triangle {
+    camtool_point a;
+    camtool_point b;
+    camtool_point c;
+} camtool_triangle;
+
+/* A place seen from above: two numbers. */
+typedef struct camtool_place {
+    int32_t x;
+    int32_t y;
+} camtool_place;
+
+/* A tool, located by the tip of its cutter: the cutter, and its holder if it has one. */
+typedef struct camtool_tool {
+    /* One of camtool_kind. */
+    int32_t kind;
+    /* The radius of the cutter's shank, from 1 to 10000. */
+    int32_t radius;
+    /* How far a cone rises over each run, from 1 to 100, and at most 16 times the run. Only a cone's
+     * rise and run are looked at. */
+    int32_t rise;
+    /* The run of a cone, from 1 to 100. */
+    int32_t run;
+    /* The radius of the holder, a cylinder, from 1 to 10000; 0, with a stickout of 0, for none. */
+    int32_t holder_radius;
+    /* How far the holder's lower face is over the cutter's tip, from 1 to 524287. */
+    int32_t stickout;
+} camtool_tool;
+
+/* What a reading of a part's text came to. What isn't told is 0. */
+typedef struct camtool_reading {
+    /* How many triangles the part has. */
+    uint64_t triangles;
+    /* How many of their coordinates were rounded. */
+    uint64_t rounded;
+    /* The line of the text's first fault, counted from 1; each LF ends one. */
+    uint64_t line;
+} camtool_reading;
+
+/* Reads a part from a text of ASCII STL: its triangles, in the order of the text. The unit says how
+ * many decimals of a millimetre stand for whole units: 2 for 0.01 mm, 3 for 0.001 mm. The snap says
+ * how a coordinate between two units is read: 0 refuses it, 1 rounds it to the nearest. The array is
+ * as long as the part has triangles: with another length, as 0, the status is CAMTOOL_ROOM and told
+ * has their count. told is written with every status. */
+int32_t camtool_read_part(const uint8_t *text, size_t text_count, int32_t unit, int32_t snap,
+                          camtool_triangle *triangles, size_t triangles_count,
+                          camtool_reading *told);
+
+/* Drop heights: for each place the least whole height, from the floor on, at which the tool with
+ * its tip there doesn't gouge the part of these triangles, neither by its cutter nor by its holder,
+ * exactly. They are written to heights in the order of the places, whose count is that of heights. */
+int32_t camtool_drop_heights(const camtool_triangle *triangles, size_t triangles_count,
+                             const camtool_tool *tool, const camtool_place *places,
+                             size_t places_count, int32_t floor, int32_t *heights,
+                             size_t heights_count);
+
+#ifdef __cplusplus
+}
+#endif
+
+#endif

@@ -1,0 +1,338 @@
+"""camtool's proved calls, from Python.
+
+Lengths are whole units of the caller's choice: 0.01 mm or 0.001 mm are those of camtool's own texts.
+A coordinate's magnitude is at most MAX_COORDINATE.
+
+An array is anything with the buffer protocol whose elements are whole numbers of 32 bits, in C's
+order: array.array('i', ..), a memoryview, a ctypes array, a numpy array of int32. Its shape may be
+any, so long as it has as many numbers as are asked for. One that may be written is passed as it
+stands, and one that may only be read is copied first.
+
+Each call tests its arguments and raises an exception of one class for each cause; an array for
+results is then as it was. No call keeps anything for the next one. A call lets other threads run
+meanwhile, which must not write the arrays that it was given, nor read those that it writes.
+
+The shared library is that of tools/library, or the one that the environment's CAMTOOL_LIBRARY names.
+"""
+import array
+import ctypes
+import operator
+import os
+import typing
+
+__all__ = [
+    "MAX_COORDINATE", "BadArray", "BadCoordinate", "BadCutter", "BadFloor", "BadHolder", "BadPlace", "BadSnap",
+    "BadText", "BadTriangle", "BadUnit", "BadWord", "CamtoolError", "CutShort", "LongText", "NoMemory", "Part",
+    "TooManyTriangles", "Tool", "WrongRoom", "ball", "cone", "drop_heights", "flat", "read_part",
+]
+
+# The greatest magnitude of a coordinate, and of a floor.
+MAX_COORDINATE = 524_287
+
+
+class CamtoolError(Exception):
+    """Why a call answers nothing. `status` is that of include/camtool.h; None where the library wasn't called."""
+
+    status = None
+
+
+class BadArray(CamtoolError, TypeError):
+    """An array isn't one of whole numbers of 32 bits, has a number too many, can't be written, or overlaps another."""
+
+
+class NoMemory(CamtoolError, MemoryError):
+    """There was not enough memory."""
+
+    status = 1
+
+
+class BadCutter(CamtoolError, ValueError):
+    """The cutter is of no kind, or its radius or its slope is out of range."""
+
+    status = 2
+
+
+class BadHolder(CamtoolError, ValueError):
+    """The holder's radius or its stickout is out of range."""
+
+    status = 3
+
+
+class BadTriangle(CamtoolError, ValueError):
+    """A coordinate of a triangle is out of range."""
+
+    status = 4
+
+
+class TooManyTriangles(CamtoolError, ValueError):
+    """There are more triangles than 32 bits number."""
+
+    status = 5
+
+
+class BadPlace(CamtoolError, ValueError):
+    """A coordinate of a place is out of range."""
+
+    status = 6
+
+
+class BadFloor(CamtoolError, ValueError):
+    """The floor is out of range."""
+
+    status = 7
+
+
+class WrongRoom(CamtoolError, ValueError):
+    """The array for the results is not as long as they are many."""
+
+    status = 8
+
+
+class BadUnit(CamtoolError, ValueError):
+    """The number of the unit is that of none."""
+
+    status = 9
+
+
+class BadSnap(CamtoolError, ValueError):
+    """The number that says how a coordinate between two units is read says nothing."""
+
+    status = 10
+
+
+class BadText(CamtoolError, ValueError):
+    """A part's text is refused. `line` is that of its first fault, counted from 1."""
+
+    line = None
+
+
+class BadWord(BadText):
+    """A word of a part's text is another one than the form has there."""
+
+    status = 11
+
+
+class BadCoordinate(BadText):
+    """A word in a coordinate's place of a part's text is refused as a decimal."""
+
+    status = 12
+
+
+class LongText(BadText):
+    """A part's text has more than 200,000 triangles."""
+
+    status = 13
+
+
+class CutShort(BadText):
+    """A part's text ends before its first solid, or within a solid."""
+
+    status = 14
+
+
+_ERRORS = {error.status: error for error in (
+    NoMemory, BadCutter, BadHolder, BadTriangle, TooManyTriangles, BadPlace, BadFloor, WrongRoom, BadUnit, BadSnap,
+    BadWord, BadCoordinate, LongText, CutShort)}
+
+
+class _Triangle(ctypes.Structure):
+    _fields_ = [("corners", ctypes.c_int32 * 9)]
+
+
+class _Place(ctypes.Structure):
+    _fields_ = [("x", ctypes.c_int32), ("y", ctypes.c_int32)]
+
+
+class _Tool(ctypes.Structure):
+    _fields_ = [(name, ctypes.c_int32) for name in (
+        "kind", "radius", "rise", "run", "holder_radius", "stickout")]
+
+
+class _Reading(ctypes.Structure):
+    _fields_ = [(name, ctypes.c_uint64) for name in ("triangles", "rounded", "line")]
+
+
+class Part(typing.NamedTuple):
+    """What a part's text means: its triangles, and how many of their coordinates were rounded."""
+
+    triangles: array.array
+    rounded: int
+
+
+class Tool:
+    """A cutter, located by its tip, and its holder if it has one. `flat`, `ball` and `cone` make one.
+
+    `holder` is None, or a pair: the radius of a cylinder, from 1 to 10,000, and how far its lower face
+    is over the cutter's tip, from 1 to MAX_COORDINATE.
+    """
+
+    __slots__ = ("kind", "radius", "rise", "run", "holder")
+
+    def __init__(self, kind, radius, rise=0, run=0, holder=None):
+        self.kind, self.radius, self.rise, self.run = kind, radius, rise, run
+        self.holder = holder
+
+    def __repr__(self):
+        words = [repr(self.radius)] + [repr(self.rise), repr(self.run)] * (self.kind == 3)
+        words += [f"holder={self.holder!r}"] * (self.holder is not None)
+        return f"{ {1: 'flat', 2: 'ball', 3: 'cone'}.get(self.kind, 'Tool') }({', '.join(words)})"
+
+
+def flat(radius, holder=None):
+    """A flat end mill; its radius is from 1 to 10,000."""
+    return Tool(1, radius, holder=holder)
+
+
+def ball(radius, holder=None):
+    """A ball end mill; its radius is from 1 to 10,000."""
+    return Tool(2, radius, holder=holder)
+
+
+def cone(radius, rise, run, holder=None):
+    """A cone that rises by `rise` over each `run`, both from 1 to 100 and the rise at most 16 times the
+    run, until it reaches its radius, from 1 to 10,000, and then goes straight up."""
+    return Tool(3, radius, rise, run, holder=holder)
+
+
+def read_part(text, unit=2, snap=0):
+    """Reads a part from a text of ASCII STL.
+
+    text   bytes, or another array of bytes
+    unit   how many decimals of a millimetre stand for whole units: 2 for 0.01 mm, 3 for 0.001 mm
+    snap   how a coordinate between two units is read: 0 refuses it, 1 rounds it to the nearest
+
+    It returns a Part; its triangles are an array.array('i') of 9 numbers for each, in the order of the
+    text: x, y and z of each corner.
+    """
+    view = memoryview(text)
+    if view.itemsize != 1 or not view.c_contiguous:
+        raise BadArray("text: no bytes in a row")
+    count = view.nbytes
+    if count == 0:
+        letters = (ctypes.c_uint8 * 1)()
+    else:
+        letters = ((ctypes.c_uint8 * count).from_buffer_copy if view.readonly else (ctypes.c_uint8 * count).from_buffer)(view)
+    numbers, told = (_number(unit, BadUnit), _number(snap, BadSnap)), _Reading()
+    # The first call finds the count: it has no room for any triangle. It is the whole of a part of none.
+    status = _library.camtool_read_part(letters, count, *numbers, (_Triangle * 1)(), 0, told)
+    corners = array.array("i", bytes(36 * told.triangles))
+    if status == WrongRoom.status:
+        room = (_Triangle * told.triangles).from_buffer(corners)
+        status = _library.camtool_read_part(letters, count, *numbers, room, told.triangles, told)
+    _tell(status, told.line or None)
+    return Part(corners, told.rounded)
+
+
+def drop_heights(triangles, tool, places, floor, out=None):
+    """Drop heights: for each place the least whole height, from the floor on, at which the tool with its
+    tip there doesn't gouge the part, neither by its cutter nor by its holder, exactly.
+
+    triangles  an array of shape (n, 3, 3), or of 9 n numbers in that order: x, y and z of each corner
+    tool       a Tool
+    places     an array of shape (m, 2), or of 2 m numbers in that order: x and y of each place
+    floor      a whole number, of at most MAX_COORDINATE in magnitude
+    out        an array of m numbers that may be written, to which the heights go; with none, a new
+               array.array('i') of m numbers
+
+    It returns the array with the heights, in the order of the places.
+    """
+    corners, triangles_count = _read("triangles", triangles, _Triangle)
+    spots, places_count = _read("places", places, _Place)
+    heights = array.array("i", bytes(4 * places_count)) if out is None else out
+    room, heights_count = _written("out", heights, (corners, spots))
+    _tell(_library.camtool_drop_heights(
+        corners, triangles_count, _numbers_of(tool), spots, places_count,
+        _number(floor, BadFloor), room, heights_count))
+    return heights
+
+
+def _tell(status, line=None):
+    """Raises the exception of a status other than 0, with the line of a text's fault."""
+    if status:
+        error = _ERRORS[status]
+        raised = error(error.__doc__ if line is None else f"line {line}: {error.__doc__}")
+        if line is not None:
+            raised.line = line
+        raise raised
+
+
+def _number(value, error):
+    """A whole number that 32 bits hold; one that they don't is out of every range."""
+    value = operator.index(value)
+    if not -(1 << 31) <= value < 1 << 31:
+        raise error(error.__doc__)
+    return value
+
+
+def _numbers_of(tool):
+    if not isinstance(tool, Tool):
+        raise BadCutter("the tool is no Tool: flat, ball and cone make one")
+    cutter = [_number(value, BadCutter) for value in (tool.kind, tool.radius, tool.rise, tool.run)]
+    if tool.holder is None:
+        return _Tool(*cutter, 0, 0)
+    radius, stickout = (_number(value, BadHolder) for value in tool.holder)
+    if radius == 0 and stickout == 0:
+        raise BadHolder(BadHolder.__doc__)
+    return _Tool(*cutter, radius, stickout)
+
+
+def _seen(name, value):
+    """An array's numbers, where they stand in a row and have 32 bits."""
+    try:
+        view = memoryview(value)
+    except TypeError:
+        raise BadArray(f"{name}: no array of whole numbers of 32 bits") from None
+    if view.itemsize != 4 or view.format.lstrip("@=<") not in ("i", "l"):
+        raise BadArray(f"{name}: an array of format {view.format}, and not of whole numbers of 32 bits")
+    if not view.c_contiguous:
+        raise BadArray(f"{name}: the numbers don't stand in C's order")
+    return view
+
+
+def _read(name, value, kind):
+    """An array of C's elements of this kind, of at least one, and how many were given."""
+    view = _seen(name, value)
+    count, over = divmod(view.nbytes, ctypes.sizeof(kind))
+    if over:
+        raise BadArray(f"{name}: {view.nbytes // 4} numbers, which is no multiple of {ctypes.sizeof(kind) // 4}")
+    if count == 0:
+        return (kind * 1)(), 0
+    kinds = kind * count
+    return (kinds.from_buffer_copy if view.readonly else kinds.from_buffer)(view), count
+
+
+def _written(name, value, others):
+    """An array of C's numbers that may be written, of at least one, and how many were given."""
+    view = _seen(name, value)
+    if view.readonly:
+        raise BadArray(f"{name}: it can't be written")
+    count = view.nbytes // 4
+    if count == 0:
+        return (ctypes.c_int32 * 1)(), 0
+    room = (ctypes.c_int32 * count).from_buffer(view)
+    if any(_overlap(room, other) for other in others):
+        raise BadArray(f"{name}: it overlaps another array of the call")
+    return room, count
+
+
+def _overlap(one, other):
+    start, other_start = ctypes.addressof(one), ctypes.addressof(other)
+    return start < other_start + ctypes.sizeof(other) and other_start < start + ctypes.sizeof(one)
+
+
+def _loaded():
+    root = os.path.dirname(os.path.dirname(os.path.dirname(os.path.abspath(__file__))))
+    built = os.path.join(root, "crates", "mill_c", "out", "libcamtool.so")
+    library = ctypes.CDLL(os.environ.get("CAMTOOL_LIBRARY", built))
+    number, numbers, size = ctypes.c_int32, ctypes.POINTER(ctypes.c_int32), ctypes.c_size_t
+    library.camtool_read_part.restype = number
+    library.camtool_read_part.argtypes = [
+        ctypes.POINTER(ctypes.c_uint8), size, number, number, ctypes.POINTER(_Triangle), size, ctypes.POINTER(_Reading)]
+    library.camtool_drop_heights.restype = number
+    library.camtool_drop_heights.argtypes = [
+        ctypes.POINTER(_Triangle), size, ctypes.POINTER(_Tool), ctypes.POINTER(_Place), size,
+        number, numbers, size]
+    return library
+
+
+_library = _loaded()

@@ -1,0 +1,147 @@
+"""Tests of the module: each call against the program, and each exception. CAMTOOL_PROGRAM names another program.
+
+From the root: python3 -m unittest discover -s python
+"""
+import array
+import os
+import random
+import subprocess
+import unittest
+
+import camtool
+
+ROOT = os.path.dirname(os.path.dirname(os.path.abspath(__file__)))
+PROGRAM = os.environ.get("CAMTOOL_PROGRAM", os.path.join(ROOT, "camtool"))
+PLATE = os.path.join(ROOT, "examples", "plate")
+
+
+def corners_of(folder):
+    """The corner coordinates of an example's part, in hundredths of a millimetre."""
+    with open(os.path.join(folder, "part.stl"), encoding="ascii") as text:
+        words = [line.split() for line in text]
+    return array.array("i", [round(float(word) * 100) for line in words if line[:1] == ["vertex"] for word in line[1:]])
+
+
+def dropped(folder, x, y):
+    """The drop height that the program prints, in hundredths of a millimetre."""
+    place = [f"--x={x / 100:.2f}", f"--y={y / 100:.2f}"]
+    files = [os.path.join(folder, name) for name in ("job.toml", "part.stl")]
+    line = subprocess.run([PROGRAM, "drop", *files, *place], check=True, capture_output=True, text=True).stdout
+    return round(float(line.split()[1]) * 100)
+
+
+class DropHeights(unittest.TestCase):
+    def setUp(self):
+        self.corners = corners_of(PLATE)
+        self.tool = camtool.flat(150)
+        self.places = array.array("i", [100, 100, -150, 100, -149, 100])
+
+    def test_are_those_of_the_program(self):
+        chosen = random.Random(1)
+        places = [chosen.randint(-300, 500) for _ in range(40)] + [-150, 100, -149, 100]
+        wanted = [dropped(PLATE, x, y) for x, y in zip(places[::2], places[1::2])]
+        heights = camtool.drop_heights(self.corners, self.tool, array.array("i", places), 0)
+        self.assertEqual(list(heights), wanted)
+        self.assertEqual(set(wanted), {0, 200})
+
+    def test_takes_anything_with_the_buffer_protocol(self):
+        wanted = camtool.drop_heights(self.corners, self.tool, self.places, 0)
+        shaped = memoryview(self.corners).cast("B").cast("i", [2, 3, 3])
+        read_only = memoryview(self.places.tobytes()).cast("i", [3, 2])
+        self.assertEqual(camtool.drop_heights(shaped, self.tool, read_only, 0), wanted)
+
+    def test_writes_to_an_array_that_is_lent(self):
+        lent = array.array("i", [7] * 5)
+        got = camtool.drop_heights(self.corners, self.tool, self.places, 0, out=memoryview(lent)[1:4])
+        self.assertEqual(list(lent), [7, 200, 0, 200, 7])
+        self.assertEqual(list(got), [200, 0, 200])
+
+    def test_of_no_places_and_of_no_triangles(self):
+        nothing = array.array("i")
+        self.assertEqual(list(camtool.drop_heights(self.corners, self.tool, nothing, 0)), [])
+        self.assertEqual(list(camtool.drop_heights(nothing, self.tool, self.places, -5)), [-5] * 3)
+
+    def test_with_a_holder(self):
+        tool = camtool.flat(150, holder=(200, 120))
+        self.assertEqual(list(camtool.drop_heights(self.corners, tool, self.places, 0)), [200, 80, 200])
+
+    def refused(self, error, triangles=None, tool=None, places=None, floor=0, room=3):
+        lent = array.array("i", [7] * room)
+        with self.assertRaises(error):
+            camtool.drop_heights(
+                self.corners if triangles is None else triangles, tool or self.tool,
+                self.places if places is None else places, floor, out=lent)
+        self.assertEqual(list(lent), [7] * room)
+
+    def test_name_what_is_wrong_with_a_tool(self):
+        for tool in (camtool.flat(0), camtool.ball(10_001), camtool.ball(1 << 40), camtool.cone(150, 17, 1),
+                     camtool.cone(150, 1, 0), camtool.Tool(4, 150)):
+            self.refused(camtool.BadCutter, tool=tool)
+        for holder in ((0, 120), (200, 0), (0, 0), (10_001, 120), (200, camtool.MAX_COORDINATE + 1)):
+            self.refused(camtool.BadHolder, tool=camtool.flat(150, holder=holder))
+
+    def test_name_what_is_out_of_range(self):
+        for far in (camtool.MAX_COORDINATE + 1, -camtool.MAX_COORDINATE - 1, -(1 << 31)):
+            self.refused(camtool.BadTriangle, triangles=array.array("i", list(self.corners[:17]) + [far]))
+            self.refused(camtool.BadPlace, places=array.array("i", list(self.places[:5]) + [far]))
+            self.refused(camtool.BadFloor, floor=far)
+        self.refused(camtool.BadFloor, floor=1 << 40)
+        self.refused(camtool.WrongRoom, room=2)
+        self.refused(camtool.WrongRoom, room=4)
+
+    def test_name_what_is_wrong_with_an_array(self):
+        self.refused(camtool.BadArray, triangles=self.corners[:17])
+        self.refused(camtool.BadArray, triangles=[0] * 18)
+        self.refused(camtool.BadArray, places=self.places[:5])
+        self.refused(camtool.BadArray, places=array.array("f", [1.0] * 6))
+        self.refused(camtool.BadArray, places=array.array("q", [1] * 6))
+        self.refused(camtool.BadArray, places=memoryview(self.places)[::-1])
+        for room in (bytes(12), memoryview(self.places)[:3]):
+            with self.assertRaises(camtool.BadArray):
+                camtool.drop_heights(self.corners, self.tool, self.places, 0, out=room)
+        self.assertEqual(list(self.places), [100, 100, -150, 100, -149, 100])
+
+
+class ReadPart(unittest.TestCase):
+    FACET = b"facet normal 0 0 1 outer loop vertex 0 0 2 vertex 2 0 2 vertex 2 2.005 2 endloop endfacet\n"
+
+    def test_is_what_the_text_of_each_example_says(self):
+        for name in ("plate", "hill", "ball", "pin"):
+            folder = os.path.join(ROOT, "examples", name)
+            with open(os.path.join(folder, "part.stl"), "rb") as file:
+                text = file.read()
+            for given in (text, bytearray(text), memoryview(text)):
+                part = camtool.read_part(given, snap=1)
+                self.assertEqual(part.triangles, corners_of(folder), name)
+                self.assertEqual(part.rounded, 0)
+
+    def test_rounds_or_refuses_by_the_snap_and_the_unit(self):
+        text = b"solid\n" + self.FACET + b"endsolid"
+        self.assertEqual(camtool.read_part(text, snap=1), (array.array("i", [0, 0, 200, 200, 0, 200, 200, 201, 200]), 1))
+        self.assertEqual(camtool.read_part(text, unit=3).triangles[7], 2005)
+        with self.assertRaises(camtool.BadCoordinate) as raised:
+            camtool.read_part(text)
+        self.assertEqual(raised.exception.line, 2)
+
+    def test_of_no_triangles(self):
+        self.assertEqual(camtool.read_part(b"solid\nendsolid"), (array.array("i"), 0))
+
+    def test_names_what_is_wrong(self):
+        facets = self.FACET * 200_001
+        for text, error, line in ((b"", camtool.CutShort, 1), (b"solid\nface", camtool.BadWord, 2),
+                                  (b"solid\n\nfacet", camtool.CutShort, 3), (b"solid\n" + facets, camtool.LongText, 200_002)):
+            with self.assertRaises(error) as raised:
+                camtool.read_part(text, snap=1)
+            self.assertEqual(raised.exception.line, line)
+        for unit in (1, 4, 1 << 40):
+            with self.assertRaises(camtool.BadUnit):
+                camtool.read_part(b"solid\nendsolid", unit=unit)
+        for snap in (-1, 2):
+            with self.assertRaises(camtool.BadSnap):
+                camtool.read_part(b"solid\nendsolid", snap=snap)
+        with self.assertRaises(camtool.BadArray):
+            camtool.read_part(array.array("i", [1]))
+
+
+if __name__ == "__main__":
+    unittest.main()

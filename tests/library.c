@@ -1,0 +1,158 @@
+/* Calls each function of the library from C, on a plate of two triangles, and with each argument
+ * wrong in turn. It prints what fails, and ends with 0 where nothing does. */
+#include "camtool.h"
+
+#include <stdio.h>
+#include <string.h>
+
+#define COUNT(array) (sizeof(array) / sizeof((array)[0]))
+#define UNTOUCHED 77
+
+static int failed = 0;
+
+static void expect(const char *what, int32_t wanted, int32_t got) {
+    if (wanted != got) {
+        failed++;
+        printf("%s: wanted %d, got %d\n", what, (int)wanted, (int)got);
+    }
+}
+
+/* The plate of examples/plate: 2 mm high, in hundredths of a millimetre. */
+static const camtool_triangle PLATE[] = {
+    {{0, 0, 200}, {200, 0, 200}, {200, 200, 200}},
+    {{0, 0, 200}, {200, 200, 200}, {0, 200, 200}},
+};
+static const camtool_tool FLAT = {CAMTOOL_FLAT, 150, 0, 0, 0, 0};
+static const camtool_place PLACES[] = {{100, 100}, {-150, 100}, {-149, 100}, {100, -150}};
+
+static void drops(const char *what, camtool_tool tool, const int32_t *wanted) {
+    int32_t heights[COUNT(PLACES)];
+    expect(what, CAMTOOL_OK,
+           camtool_drop_heights(PLATE, COUNT(PLATE), &tool, PLACES, COUNT(PLACES), 0, heights,
+                                COUNT(heights)));
+    for (size_t i = 0; i < COUNT(PLACES); i++)
+        expect(what, wanted[i], heights[i]);
+}
+
+static void test_drops(void) {
+    const camtool_tool ball = {CAMTOOL_BALL, 150, 0, 0, 0, 0};
+    const camtool_tool held = {CAMTOOL_FLAT, 150, 0, 0, 200, 120};
+    const camtool_tool cone = {CAMTOOL_CONE, 150, 1, 1, 0, 0};
+    drops("flat", FLAT, (const int32_t[]){200, 0, 200, 0});
+    drops("ball", ball, (const int32_t[]){200, 0, 68, 0});
+    drops("with a holder", held, (const int32_t[]){200, 80, 200, 80});
+    drops("cone", cone, (const int32_t[]){200, 0, 51, 0});
+}
+
+static void test_nothing(void) {
+    int32_t none[1] = {UNTOUCHED};
+    expect("no places", CAMTOOL_OK,
+           camtool_drop_heights(PLATE, COUNT(PLATE), &FLAT, PLACES, 0, 0, none, 0));
+    expect("no places", UNTOUCHED, none[0]);
+    int32_t heights[COUNT(PLACES)];
+    expect("no triangles", CAMTOOL_OK,
+           camtool_drop_heights(PLATE, 0, &FLAT, PLACES, COUNT(PLACES), -3, heights,
+                                COUNT(heights)));
+    expect("no triangles", -3, heights[0]);
+}
+
+static void refused(const char *what, int32_t status, const camtool_triangle *triangles,
+                    camtool_tool tool, const camtool_place *places, int32_t floor, size_t room) {
+    int32_t heights[COUNT(PLACES) + 1];
+    for (size_t i = 0; i < COUNT(heights); i++)
+        heights[i] = UNTOUCHED;
+    expect(what, status,
+           camtool_drop_heights(triangles, COUNT(PLATE), &tool, places, COUNT(PLACES), floor,
+                                heights, room));
+    for (size_t i = 0; i < COUNT(heights); i++)
+        expect(what, UNTOUCHED, heights[i]);
+}
+
+static void refused_tool(const char *what, int32_t status, camtool_tool tool) {
+    refused(what, status, PLATE, tool, PLACES, 0, COUNT(PLACES));
+}
+
+static void test_refusals(void) {
+    refused_tool("no kind", CAMTOOL_CUTTER, (camtool_tool){0, 150, 1, 1, 0, 0});
+    refused_tool("a kind too many", CAMTOOL_CUTTER, (camtool_tool){4, 150, 1, 1, 0, 0});
+    refused_tool("no radius", CAMTOOL_CUTTER, (camtool_tool){CAMTOOL_FLAT, 0, 0, 0, 0, 0});
+    refused_tool("a wide cutter", CAMTOOL_CUTTER, (camtool_tool){CAMTOOL_BALL, 10001, 0, 0, 0, 0});
+    refused_tool("a steep cone", CAMTOOL_CUTTER, (camtool_tool){CAMTOOL_CONE, 150, 17, 1, 0, 0});
+    refused_tool("no run", CAMTOOL_CUTTER, (camtool_tool){CAMTOOL_CONE, 150, 1, 0, 0, 0});
+    refused_tool("no stickout", CAMTOOL_HOLDER, (camtool_tool){CAMTOOL_FLAT, 150, 0, 0, 200, 0});
+    refused_tool("no holder", CAMTOOL_HOLDER, (camtool_tool){CAMTOOL_FLAT, 150, 0, 0, 0, 120});
+    refused_tool("a long stickout", CAMTOOL_HOLDER,
+                 (camtool_tool){CAMTOOL_FLAT, 150, 0, 0, 200, CAMTOOL_MAX_COORDINATE + 1});
+
+    camtool_triangle far[COUNT(PLATE)];
+    memcpy(far, PLATE, sizeof PLATE);
+    far[1].c.z = INT32_MIN;
+    refused("a corner far away", CAMTOOL_TRIANGLE, far, FLAT, PLACES, 0, COUNT(PLACES));
+    camtool_place outside[COUNT(PLACES)];
+    memcpy(outside, PLACES, sizeof PLACES);
+    outside[3].y = CAMTOOL_MAX_COORDINATE + 1;
+    refused("a place far away", CAMTOOL_PLACE, PLATE, FLAT, outside, 0, COUNT(PLACES));
+    refused("a deep floor", CAMTOOL_FLOOR, PLATE, FLAT, PLACES, -CAMTOOL_MAX_COORDINATE - 1,
+            COUNT(PLACES));
+    refused("a short array", CAMTOOL_ROOM, PLATE, FLAT, PLACES, 0, COUNT(PLACES) - 1);
+    refused("a long array", CAMTOOL_ROOM, PLATE, FLAT, PLACES, 0, COUNT(PLACES) + 1);
+}
+
+static int32_t read_part(const char *text, int32_t unit, int32_t snap, camtool_triangle *triangles,
+                         size_t count, camtool_reading *told) {
+    return camtool_read_part((const uint8_t *)text, strlen(text), unit, snap, triangles, count, told);
+}
+
+#define ONE_FACET                                                                                   \
+    "facet normal 0 0 1\nouter loop\nvertex 0 0 2\nvertex 2 0 2\nvertex 2 2.005 2\nendloop\n"       \
+    "endfacet\n"
+
+static void test_parts(void) {
+    camtool_triangle one;
+    camtool_reading told;
+    const char *text = "solid s\n" ONE_FACET "endsolid s\n";
+    expect("a part", CAMTOOL_OK, read_part(text, 2, 1, &one, 1, &told));
+    const camtool_triangle wanted = {{0, 0, 200}, {200, 0, 200}, {200, 201, 200}};
+    expect("a part", 0, memcmp(&wanted, &one, sizeof one));
+    expect("its count", 1, (int32_t)told.triangles);
+    expect("its rounded", 1, (int32_t)told.rounded);
+    expect("a finer part", CAMTOOL_OK, read_part(text, 3, 0, &one, 1, &told));
+    expect("a finer part", 2005, one.c.y);
+    expect("its rounded", 0, (int32_t)told.rounded);
+}
+
+static void refused_part(const char *what, int32_t status, const char *text, int32_t unit,
+                         int32_t snap, size_t room, camtool_reading wanted) {
+    camtool_triangle lent[3];
+    memset(lent, UNTOUCHED, sizeof lent);
+    camtool_reading told = {UNTOUCHED, UNTOUCHED, UNTOUCHED};
+    expect(what, status, read_part(text, unit, snap, lent, room, &told));
+    expect(what, (int32_t)wanted.triangles, (int32_t)told.triangles);
+    expect(what, (int32_t)wanted.rounded, (int32_t)told.rounded);
+    expect(what, (int32_t)wanted.line, (int32_t)told.line);
+    for (size_t i = 0; i < sizeof lent; i++)
+        expect(what, UNTOUCHED, ((const uint8_t *)lent)[i]);
+}
+
+static void test_part_refusals(void) {
+    const char *text = "solid s\n" ONE_FACET ONE_FACET "endsolid s\n";
+    const camtool_reading nothing = {0, 0, 0}, two = {2, 2, 0};
+    refused_part("no unit", CAMTOOL_UNIT, text, 1, 1, 2, nothing);
+    refused_part("no snap", CAMTOOL_SNAP, text, 2, 2, 2, nothing);
+    refused_part("no room", CAMTOOL_ROOM, text, 2, 1, 0, two);
+    refused_part("little room", CAMTOOL_ROOM, text, 2, 1, 1, two);
+    refused_part("much room", CAMTOOL_ROOM, text, 2, 1, 3, two);
+    refused_part("a fine coordinate", CAMTOOL_COORDINATE, text, 2, 0, 2, (camtool_reading){0, 0, 6});
+    refused_part("another word", CAMTOOL_WORD, "solid s\nface", 2, 1, 2, (camtool_reading){0, 0, 2});
+    refused_part("no end", CAMTOOL_CUT_SHORT, "solid s\n\n", 2, 1, 2, (camtool_reading){0, 0, 3});
+    refused_part("nothing", CAMTOOL_CUT_SHORT, "", 2, 1, 2, (camtool_reading){0, 0, 1});
+}
+
+int main(void) {
+    test_drops();
+    test_nothing();
+    test_refusals();
+    test_parts();
+    test_part_refusals();
+    return failed != 0;
+}
