@@ -34,8 +34,9 @@ fn reads_to_the_nearest(rt: HostRuntime) {
         (b"", Err(DecFault::Spelling), false),
     ];
     for (text, want, rounded) in table {
-        assert_eq!(rt; read_decimal(text, Snap::Nearest, Unit::Hundredth), want);
-        assert_eq!(rt; was_rounded(text, Unit::Hundredth), rounded);
+        let read = read_decimal(text, Snap::Nearest, Unit::Hundredth);
+        let found = (read, was_rounded(text, Unit::Hundredth));
+        assert_eq!(rt; found, (want, rounded));
     }
 }
 
@@ -73,8 +74,9 @@ fn reads_thousandths_to_the_nearest(rt: HostRuntime) {
         (b"1e", Err(DecFault::Spelling), false),
     ];
     for (text, want, rounded) in table {
-        assert_eq!(rt; read_decimal(text, Snap::Nearest, Unit::Thousandth), want);
-        assert_eq!(rt; was_rounded(text, Unit::Thousandth), rounded);
+        let read = read_decimal(text, Snap::Nearest, Unit::Thousandth);
+        let found = (read, was_rounded(text, Unit::Thousandth));
+        assert_eq!(rt; found, (want, rounded));
     }
 }
 
