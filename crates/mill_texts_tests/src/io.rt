@@ -23,12 +23,17 @@ fn file(alloc: Global, name: &str, bytes: &[u8]) -> Result<MemFile, AllocError> 
 
 // Two files of one name, one that is empty and one more. The file that can be written has room for
 // 3 bytes.
-fn shelf(alloc: Global, out_name: &str, fails: &[u64]) -> Result<MemShelf, Fail> {
+fn files(alloc: Global) -> Result<Vec<MemFile>, Fail> {
     let mut files = Vec::new(alloc);
     files.push(file(alloc, "a", b"one")?)?;
     files.push(file(alloc, "a", b"two")?)?;
     files.push(file(alloc, "b", b"")?)?;
     files.push(file(alloc, "d", b"old")?)?;
+    Ok(files)
+}
+
+fn shelf(alloc: Global, out_name: &str, fails: &[u64]) -> Result<MemShelf, Fail> {
+    let files = files(alloc)?;
     Ok(MemShelf::new(alloc, files, out_name, 3, fails)?)
 }
 
@@ -95,14 +100,23 @@ fn change<S: Shelf>(
 fn told<S: Shelf>(alloc: Global, shelf: &mut S, folder: &str, acts: &str) -> Result<String, Fail> {
     let mut told = String::new(alloc);
     for each in acts.split(", ") {
-        let (name, doing) = each.split_once(' ').ok_or("an act without a name")?;
-        let name = format!(in alloc; "{folder}{name}")?;
         if !told.is_empty() {
             told.push_str(", ")?;
         }
-        told.push_str(&act(alloc, shelf, &name, doing)?)?;
+        told.push_str(&told_of_one(alloc, shelf, folder, each)?)?;
     }
     Ok(told)
+}
+
+fn told_of_one<S: Shelf>(
+    alloc: Global,
+    shelf: &mut S,
+    folder: &str,
+    text: &str,
+) -> Result<String, Fail> {
+    let (name, doing) = text.split_once(' ').ok_or("an act without a name")?;
+    let name = format!(in alloc; "{folder}{name}")?;
+    act(alloc, shelf, &name, doing)
 }
 
 // Does the acts of each row on a shelf of its own, in which a call may fail and one file may be
@@ -225,14 +239,22 @@ fn remove(rt: &HostRuntime, folder: &str, name: &str) -> Result<(), Fail> {
     Ok(fs::remove_file(rt, path.as_str())?)
 }
 
-// What a real file gives for which 70000 bytes are stored.
-fn told_of_a_long_file(rt: &HostRuntime, folder: &str) -> Result<String, Fail> {
-    let long = String::from_utf8(vec![in rt.alloc(); b'7'; 70000]?)?;
+fn long_text(alloc: Global) -> Result<String, Fail> {
+    Ok(String::from_utf8(vec![in alloc; b'7'; 70000]?)?)
+}
+
+fn told_of_text(rt: &HostRuntime, folder: &str, text: &str) -> Result<String, Fail> {
     let acts = format!(in rt.alloc();
-        "long reads 9, long stores what goes, long stores {long}, long reads 69999, long reads 70000"
+        "long reads 9, long stores what goes, long stores {text}, long reads 69999, long reads 70000"
     )?;
     let mut shelf = FileShelf::new(rt.alloc(), rt);
-    let told = told(rt.alloc(), &mut shelf, folder, &acts)?;
+    told(rt.alloc(), &mut shelf, folder, &acts)
+}
+
+// What a real file gives for which 70000 bytes are stored.
+fn told_of_a_long_file(rt: &HostRuntime, folder: &str) -> Result<String, Fail> {
+    let long = long_text(rt.alloc())?;
+    let told = told_of_text(rt, folder, &long)?;
     Ok(told.replace(rt.alloc(), long.as_str(), "LONG")?)
 }
 
