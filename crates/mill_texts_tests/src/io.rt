@@ -21,8 +21,7 @@ fn file(alloc: Global, name: &str, bytes: &[u8]) -> Result<MemFile, AllocError> 
     })
 }
 
-// Two files of one name, one that is empty and one more. The file that can be written has room for
-// 3 bytes.
+// Two files of one name, one that is empty and one more.
 fn files(alloc: Global) -> Result<Vec<MemFile>, Fail> {
     let mut files = Vec::new(alloc);
     files.push(file(alloc, "a", b"one")?)?;
@@ -32,6 +31,7 @@ fn files(alloc: Global) -> Result<Vec<MemFile>, Fail> {
     Ok(files)
 }
 
+// A shelf with these, in which the file that can be written has room for 3 bytes.
 fn shelf(alloc: Global, out_name: &str, fails: &[u64]) -> Result<MemShelf, Fail> {
     let files = files(alloc)?;
     Ok(MemShelf::new(alloc, files, out_name, 3, fails)?)
@@ -137,11 +137,16 @@ fn agrees<R: Abort>(rt: &R, alloc: Global, row: &str) -> Result<(), Fail> {
 fn told_in_memory(alloc: Global, row: &str) -> Result<String, Fail> {
     let (call, row) = row.split_once(' ').ok_or("a row without a call")?;
     let (name, acts) = row.split_once(": ").ok_or("a row without a colon")?;
-    let mut shelf = match call.parse() {
-        Ok(call) => shelf(alloc, name, &[call])?,
-        Err(_) => shelf(alloc, name, &[])?,
-    };
+    let mut shelf = shelf_in_which(alloc, name, call)?;
     told(alloc, &mut shelf, "", acts)
+}
+
+// A shelf in which this call fails, or none if it isn't a number.
+fn shelf_in_which(alloc: Global, out_name: &str, call: &str) -> Result<MemShelf, Fail> {
+    match call.parse() {
+        Ok(call) => shelf(alloc, out_name, &[call]),
+        Err(_) => shelf(alloc, out_name, &[]),
+    }
 }
 
 #[test]

@@ -152,31 +152,25 @@ fn keys_have_names(rt: HostRuntime) {
     assert_eq!(rt; names, ("steps", "program"));
 }
 
-/// Whether the job may have this cutter.
-fn fits(alloc: Global, cutter: &Cutter) -> Result<bool, Fail> {
-    let job = read_job(alloc, JOB.as_bytes())?;
-    Ok(job.cutter_fault(cutter).is_none())
-}
-
-const BALL: Cutter = Cutter::Ball { radius: 120 };
-
 #[test]
-fn a_job_fits_some_cutters(rt: HostRuntime) -> Result<(), Fail> {
+fn a_job_has_a_fault_with_a_narrow_cutter(rt: HostRuntime) -> Result<(), Fail> {
+    let job = read_job(rt.alloc(), JOB.as_bytes())?;
     let narrow = Cutter::Ball { radius: 99 };
-    let found = (fits(rt.alloc(), &narrow)?, fits(rt.alloc(), &BALL)?);
-    assert_eq!(rt; found, (false, true));
+    assert!(rt; job.cutter_fault(&narrow).is_some());
     Ok(())
 }
 
 #[test]
 fn a_job_takes_a_steps_cutter(rt: HostRuntime) -> Result<(), Fail> {
     let job = read_job(rt.alloc(), JOB.as_bytes())?;
+    let ball = Cutter::Ball { radius: 120 };
+    assert!(rt; job.cutter_fault(&ball).is_none());
     let other = JOB.replace(
         rt.alloc(),
         "\"flat\"\nradius = 150",
         "\"ball\"\nradius = 120",
     )?;
     let other = read_job(rt.alloc(), other.as_bytes())?;
-    assert_eq!(rt; job.with_cutter(BALL), other);
+    assert_eq!(rt; job.with_cutter(ball), other);
     Ok(())
 }

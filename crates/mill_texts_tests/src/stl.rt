@@ -149,12 +149,13 @@ fn names_the_first_bad_place(rt: HostRuntime) -> Result<(), Fail> {
 }
 
 // The line of a fault, or for other faults 0, which no line has.
-fn line_of(fault: StlFault) -> u64 {
+fn line_of(fault: Option<StlFault>) -> Option<u64> {
     match fault {
-        StlFault::Expected { line, .. }
-        | StlFault::Coord { line, .. }
-        | StlFault::CutShort { line } => line,
-        _ => 0,
+        Some(StlFault::Expected { line, .. })
+        | Some(StlFault::Coord { line, .. })
+        | Some(StlFault::CutShort { line }) => Some(line),
+        Some(_) => Some(0),
+        None => None,
     }
 }
 
@@ -173,7 +174,7 @@ fn may_end(text: &[u8]) -> bool {
 
 fn prefix_is_refused<R: Abort>(rt: &R, alloc: Global, prefix: &[u8], last_line: u64) {
     let read = read_stl(alloc, prefix, Snap::Exact, Unit::Hundredth);
-    let line = read.err().map(line_of);
+    let line = line_of(read.err());
     let wanted = if may_end(prefix) {
         None
     } else {
