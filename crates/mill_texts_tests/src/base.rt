@@ -18,37 +18,42 @@ fn roots_are_exact(rt: HostRuntime) -> Result<(), Fail> {
         (u64::MAX, 4294967295, 4294967296),
     ];
     for (n, floor, ceil) in table {
-        assert_eq!(rt; floor_root(n), floor);
-        assert_eq!(rt; ceil_root(n), ceil);
+        assert_eq!(rt; (floor_root(n), ceil_root(n)), (floor, ceil));
     }
     Ok(())
 }
 
 #[test]
 fn products_are_exact(rt: HostRuntime) -> Result<(), Fail> {
-    assert_eq!(rt; offset(-131071, 131071), -262142);
-    assert_eq!(rt; product(262142, -262142), -68718428164);
-    assert_eq!(rt; square(-262142), 68718428164);
-    assert_eq!(rt; square_sum(3, -4), 25);
     let cone = Cutter::Cone {
         radius: 150,
         rise: 1,
         run: 2,
     };
-    assert_eq!(rt; cone.radius(), 150);
+    let found = (
+        offset(-131071, 131071),
+        product(262142, -262142),
+        square(-262142),
+        square_sum(3, -4),
+        cone.radius(),
+    );
+    assert_eq!(rt; found, (-262142, -68718428164, 68718428164, 25, 150));
     Ok(())
 }
 
 #[test]
 fn halves_go_up(rt: HostRuntime) -> Result<(), Fail> {
-    assert_eq!(rt; round_half_up(5, 1), 3);
-    assert_eq!(rt; round_half_up(-5, 1), -2);
-    assert_eq!(rt; round_half_up(-1, 1), 0);
-    assert_eq!(rt; round_half_up(-7, 2), -2);
-    assert_eq!(rt; round_half_up(-9, 0), -9);
-    assert_eq!(rt; round_half_up(4611686018427387904, 63), 1);
-    assert_eq!(rt; round_half_up(-4611686018427387904, 63), 0);
-    assert_eq!(rt; round_half_up(4611686018427387904, 64), 0);
+    let found = [
+        round_half_up(5, 1),
+        round_half_up(-5, 1),
+        round_half_up(-1, 1),
+        round_half_up(-7, 2),
+        round_half_up(-9, 0),
+        round_half_up(4611686018427387904, 63),
+        round_half_up(-4611686018427387904, 63),
+        round_half_up(4611686018427387904, 64),
+    ];
+    assert_eq!(rt; found, [3, -2, 0, -2, -9, 1, 0, 0]);
     Ok(())
 }
 
@@ -60,8 +65,6 @@ fn nodes_are_counted(rt: HostRuntime) -> Result<(), Fail> {
         x1: 0,
         y1: 7,
     };
-    assert_eq!(rt; Lattice { area, step: 75 }.nodes(), 4);
-    assert_eq!(rt; Lattice { area, step: 100 }.nodes(), 3);
     let square = Box2 {
         x0: 0,
         y0: 0,
@@ -72,7 +75,12 @@ fn nodes_are_counted(rt: HostRuntime) -> Result<(), Fail> {
         area: square,
         step: 1,
     };
-    assert_eq!(rt; finest.nodes(), 4004001);
+    let found = [
+        Lattice { area, step: 75 }.nodes(),
+        Lattice { area, step: 100 }.nodes(),
+        finest.nodes(),
+    ];
+    assert_eq!(rt; found, [4, 3, 4004001]);
     Ok(())
 }
 
@@ -106,8 +114,7 @@ fn units_have_places_and_a_greatest_coordinate(rt: HostRuntime) -> Result<(), Fa
         (Unit::Thousandth, 3, 524_287),
     ];
     for (unit, places, greatest) in table {
-        assert_eq!(rt; unit.places(), places);
-        assert_eq!(rt; unit.greatest(), greatest);
+        assert_eq!(rt; (unit.places(), unit.greatest()), (places, greatest));
     }
     Ok(())
 }

@@ -26,14 +26,22 @@ fn answer(alloc: Global, words: &[String]) -> Result<(&'static str, String), Fai
     }
 }
 
-// Whether a row's words get an answer of this kind that says what stands behind `=>`. There `\n`
-// is a line's end.
+fn answer_to(alloc: Global, words: &str) -> Result<(&'static str, String), Fail> {
+    let words = owned(alloc, words)?;
+    answer(alloc, &words)
+}
+
+// Whether a text has this part, in which `\n` is a line's end.
+fn says(alloc: Global, text: &str, part: &str) -> Result<bool, Fail> {
+    let part = part.replace(alloc, "\\n", "\n")?;
+    Ok(text.contains(part.as_str()))
+}
+
+// Whether a row's words get an answer of this kind that says what stands behind `=>`.
 fn holds(alloc: Global, line: &str, kind: &str) -> Result<bool, Fail> {
     let (words, part) = line.split_once("=> ").ok_or("a row without =>")?;
-    let words = owned(alloc, words)?;
-    let part = part.replace(alloc, "\\n", "\n")?;
-    let (told, text) = answer(alloc, &words)?;
-    Ok(told == kind && text.contains(part.as_str()))
+    let (told, text) = answer_to(alloc, words)?;
+    Ok(told == kind && says(alloc, &text, part)?)
 }
 
 fn each_holds<R: Abort>(rt: &R, alloc: Global, table: &str, kind: &str) -> Result<(), Fail> {

@@ -4,6 +4,7 @@
 // row is a line with acts, and behind `=>` what comes of each. An act is a file's name and one of
 // `creates`, `appends TEXT`, `stores TEXT`, `reads LIMIT` of the whole file, `pieces LIMIT` and
 // `from PLACE`. Texts that may be empty have quotes.
+use crate::tables::{halves, same};
 use mill_io::{
     Failed, FileShelf, MemFile, MemShelf, MemSink, Pieces, Shelf, StdSink, read_whole, store,
     write_whole,
@@ -20,14 +21,19 @@ fn file(alloc: Global, name: &str, bytes: &[u8]) -> Result<MemFile, AllocError> 
     })
 }
 
-// Two files of one name, one that is empty and one more. The file that can be written has room for
-// 3 bytes.
-fn shelf(alloc: Global, out_name: &str, fails: &[u64]) -> Result<MemShelf, Fail> {
+// Two files of one name, one that is empty and one more.
+fn files(alloc: Global) -> Result<Vec<MemFile>, Fail> {
     let mut files = Vec::new(alloc);
     files.push(file(alloc, "a", b"one")?)?;
     files.push(file(alloc, "a", b"two")?)?;
     files.push(file(alloc, "b", b"")?)?;
     files.push(file(alloc, "d", b"old")?)?;
+    Ok(files)
+}
+
+// A shelf with these, in which the file that can be written has room for 3 bytes.
+fn shelf(alloc: Global, out_name: &str, fails: &[u64]) -> Result<MemShelf, Fail> {
+    let files = files(alloc)?;
     Ok(MemShelf::new(alloc, files, out_name, 3, fails)?)
 }
 
@@ -94,34 +100,53 @@ fn change<S: Shelf>(
 fn told<S: Shelf>(alloc: Global, shelf: &mut S, folder: &str, acts: &str) -> Result<String, Fail> {
     let mut told = String::new(alloc);
     for each in acts.split(", ") {
-        let (name, doing) = each.split_once(' ').ok_or("an act without a name")?;
-        let name = format!(in alloc; "{folder}{name}")?;
         if !told.is_empty() {
             told.push_str(", ")?;
         }
-        told.push_str(&act(alloc, shelf, &name, doing)?)?;
+        told.push_str(&told_of_one(alloc, shelf, folder, each)?)?;
     }
     Ok(told)
+}
+
+fn told_of_one<S: Shelf>(
+    alloc: Global,
+    shelf: &mut S,
+    folder: &str,
+    text: &str,
+) -> Result<String, Fail> {
+    let (name, doing) = text.split_once(' ').ok_or("an act without a name")?;
+    let name = format!(in alloc; "{folder}{name}")?;
+    act(alloc, shelf, &name, doing)
 }
 
 // Does the acts of each row on a shelf of its own, in which a call may fail and one file may be
 // written: a row begins with the call's number or `-`, and the file's name and a colon.
 fn each_agrees<R: Abort>(rt: &R, alloc: Global, table: &str) -> Result<(), Fail> {
     for row in table.lines() {
-        let (acts, wanted) = row.split_once(" => ").ok_or("a row without =>")?;
-        assert_eq!(rt; told_in_memory(alloc, acts)?.as_str(), wanted, "{row}");
+        agrees(rt, alloc, row)?;
     }
+    Ok(())
+}
+
+fn agrees<R: Abort>(rt: &R, alloc: Global, row: &str) -> Result<(), Fail> {
+    let (acts, wanted) = halves(row)?;
+    same(rt, &told_in_memory(alloc, acts)?, wanted, row);
     Ok(())
 }
 
 fn told_in_memory(alloc: Global, row: &str) -> Result<String, Fail> {
     let (call, row) = row.split_once(' ').ok_or("a row without a call")?;
     let (name, acts) = row.split_once(": ").ok_or("a row without a colon")?;
-    let mut shelf = match call.parse() {
-        Ok(call) => shelf(alloc, name, &[call])?,
-        Err(_) => shelf(alloc, name, &[])?,
-    };
+    let mut shelf = shelf_in_which(alloc, name, call)?;
     told(alloc, &mut shelf, "", acts)
+}
+
+// A shelf in which this call fails, or none if it isn't a number.
+fn shelf_in_which(alloc: Global, out_name: &str, call: &str) -> Result<MemShelf, Fail> {
+    match call.parse() {
+        Ok(call) => shelf(alloc, out_name, &[call]),
+        Err(_) => shelf(alloc, out_name, &[]),
+    }
 }
 
 #[test]
@@ -181,37 +206,60 @@ fn stores_a_file_in_memory(rt: HostRuntime) -> Result<(), Fail> {
     )
 }
 
+fn hello_is_written<R: Abort>(
+    rt: &R,
+    mut sink: MemSink,
+    wanted: Result<(), Failed>,
+    written: &[u8],
+) {
+    let told = write_whole(&mut sink, b"hello");
+    assert_eq!(rt; (told, sink.written()), (wanted, written));
+}
+
 #[test]
 fn writes_to_memory(rt: HostRuntime) -> Result<(), Fail> {
-    let rows: [(usize, &[u64], Result<(), Failed>, &[u8]); 3] = [
-        (5, &[1], Ok(()), b"hello"),
-        (3, &[], Err(Failed), b"hel"),
-        (5, &[0], Err(Failed), b""),
-    ];
-    for (capacity, fails, want, written) in rows {
-        let mut sink = MemSink::new(rt.alloc(), capacity, fails)?;
-        assert_eq!(rt; write_whole(&mut sink, b"hello"), want);
-        assert_eq!(rt; sink.written(), written);
-    }
+    let sink = MemSink::new(rt.alloc(), 5, &[1])?;
+    hello_is_written(&rt, sink, Ok(()), b"hello");
+    let sink = MemSink::new(rt.alloc(), 3, &[])?;
+    hello_is_written(&rt, sink, Err(Failed), b"hel");
+    let sink = MemSink::new(rt.alloc(), 5, &[0])?;
+    hello_is_written(&rt, sink, Err(Failed), b"");
     Ok(())
 }
 
 // How the names of files begin that are this process's alone, among the files that pass.
 fn folder(rt: &HostRuntime) -> Result<String, Fail> {
     let name = format!(in rt.alloc(); "mill-io-{}-", process::id(rt.process()))?;
-    let path = env::temp_dir(rt)?.join(rt.alloc(), name.as_str())?;
+    passing(rt, &name)
+}
+
+fn passing(rt: &HostRuntime, name: &str) -> Result<String, Fail> {
+    let path = env::temp_dir(rt)?.join(rt.alloc(), name)?;
     let path = path.to_str().ok_or("a path that is not text")?;
     Ok(String::from_str(rt.alloc(), path)?)
 }
 
-// What a real file gives for which 70000 bytes are stored.
-fn told_of_a_long_file(rt: &HostRuntime, folder: &str) -> Result<String, Fail> {
-    let long = String::from_utf8(vec![in rt.alloc(); b'7'; 70000]?)?;
+fn remove(rt: &HostRuntime, folder: &str, name: &str) -> Result<(), Fail> {
+    let path = format!(in rt.alloc(); "{folder}{name}")?;
+    Ok(fs::remove_file(rt, path.as_str())?)
+}
+
+fn long_text(alloc: Global) -> Result<String, Fail> {
+    Ok(String::from_utf8(vec![in alloc; b'7'; 70000]?)?)
+}
+
+fn told_of_text(rt: &HostRuntime, folder: &str, text: &str) -> Result<String, Fail> {
     let acts = format!(in rt.alloc();
-        "long reads 9, long stores what goes, long stores {long}, long reads 69999, long reads 70000"
+        "long reads 9, long stores what goes, long stores {text}, long reads 69999, long reads 70000"
     )?;
     let mut shelf = FileShelf::new(rt.alloc(), rt);
-    let told = told(rt.alloc(), &mut shelf, folder, &acts)?;
+    told(rt.alloc(), &mut shelf, folder, &acts)
+}
+
+// What a real file gives for which 70000 bytes are stored.
+fn told_of_a_long_file(rt: &HostRuntime, folder: &str) -> Result<String, Fail> {
+    let long = long_text(rt.alloc())?;
+    let told = told_of_text(rt, folder, &long)?;
     Ok(told.replace(rt.alloc(), long.as_str(), "LONG")?)
 }
 
@@ -219,7 +267,7 @@ fn told_of_a_long_file(rt: &HostRuntime, folder: &str) -> Result<String, Fail> {
 fn stores_and_reads_a_real_file(rt: HostRuntime) -> Result<(), Fail> {
     let folder = folder(&rt)?;
     let told = told_of_a_long_file(&rt, &folder)?;
-    fs::remove_file(&rt, format!(in rt.alloc(); "{folder}long")?.as_str())?;
+    remove(&rt, &folder, "long")?;
     assert_eq!(rt;
         told.as_str(),
         r#"ReadFault, Ok(9), Ok(70000), TooLong, "LONG""#
@@ -227,18 +275,22 @@ fn stores_and_reads_a_real_file(rt: HostRuntime) -> Result<(), Fail> {
     Ok(())
 }
 
-// What reads give around a rename, by which the file `second` comes in place of `first`.
+// The file `second` comes in place of `first`.
+fn rename_second(rt: &HostRuntime, folder: &str) -> Result<(), Fail> {
+    let first = format!(in rt.alloc(); "{folder}first")?;
+    let second = format!(in rt.alloc(); "{folder}second")?;
+    Ok(fs::rename(rt, &second, &first)?)
+}
+
+// What reads give around that rename.
 fn told_around_a_rename(rt: &HostRuntime, folder: &str) -> Result<String, Fail> {
     let mut shelf = FileShelf::new(rt.alloc(), rt);
     let acts = "first stores first, second stores other, first from 0";
     let before = told(rt.alloc(), &mut shelf, folder, acts)?;
-    let first = format!(in rt.alloc(); "{folder}first")?;
-    let second = format!(in rt.alloc(); "{folder}second")?;
-    fs::rename(rt, &second, &first)?;
+    rename_second(rt, folder)?;
     let acts =
         "first from 3, first from 1, second from 0, first from 2, first stores more, first from 2";
     let behind = told(rt.alloc(), &mut shelf, folder, acts)?;
-    fs::remove_file(rt, &first)?;
     Ok(format!(in rt.alloc(); "{before}, {behind}")?)
 }
 
@@ -246,7 +298,9 @@ fn told_around_a_rename(rt: &HostRuntime, folder: &str) -> Result<String, Fail> 
 // closes it.
 #[test]
 fn reads_a_replaced_file_as_it_was(rt: HostRuntime) -> Result<(), Fail> {
-    let told = told_around_a_rename(&rt, &folder(&rt)?)?;
+    let folder = folder(&rt)?;
+    let told = told_around_a_rename(&rt, &folder)?;
+    remove(&rt, &folder, "first")?;
     let wanted = r#"Ok(5), Ok(5), 3 "fir", 2 "st\0", 3 "irs", Failed, 3 "her", Ok(4), 2 "re\0""#;
     assert_eq!(rt; told.as_str(), wanted);
     Ok(())

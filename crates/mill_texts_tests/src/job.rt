@@ -3,6 +3,7 @@
 // Each table is one text: the proof of a test then costs the same however many rows there are. A row
 // is a line `OLD => NEW => SAYS`: EXAMPLE with NEW in the place of OLD, and what is said of it. There
 // `\n` is a line's end.
+use crate::tables::{halves, same, text_of_row};
 use mill_base::{Box2, Cutter, Holder, Pt3, Tool, Unit};
 use mill_decimal::Snap;
 use mill_job::{Job, JobFault, Key, Levels, Name, Place, read_job};
@@ -88,47 +89,61 @@ fn answer(alloc: Global, text: &str) -> Result<String, Fail> {
     }
 }
 
-/// A row's text, and what is said of it.
-pub fn text_of_row<'a>(alloc: Global, from: &str, row: &'a str) -> Result<(String, &'a str), Fail> {
-    let (old, rest) = row.split_once(" => ").ok_or("a row without =>")?;
-    let (new, says) = rest.split_once(" => ").ok_or("a row with one =>")?;
-    let new = new.replace(alloc, "\\n", "\n")?;
-    Ok((from.replace(alloc, old, new.as_str())?, says))
+fn is_refused<R: Abort>(rt: &R, alloc: Global, from: &str, row: &str) -> Result<(), Fail> {
+    let (text, says) = text_of_row(alloc, from, row)?;
+    same(rt, &answer(alloc, &text)?, says, row);
+    Ok(())
 }
 
 fn each_is_refused<R: Abort>(rt: &R, alloc: Global, from: &str, table: &str) -> Result<(), Fail> {
     for row in table.lines() {
-        let (text, says) = text_of_row(alloc, from, row)?;
-        assert_eq!(rt; answer(alloc, text.as_str())?.as_str(), says, "{row}");
+        is_refused(rt, alloc, from, row)?;
     }
     Ok(())
 }
 
-/// Each row's job has this among its values.
+/// The row's job has this among its values.
+fn is_read<R: Abort>(rt: &R, alloc: Global, from: &str, row: &str) -> Result<(), Fail> {
+    let (text, says) = text_of_row(alloc, from, row)?;
+    let told = answer(alloc, &text)?;
+    assert!(rt; told.contains(says), "{row}: {told}");
+    Ok(())
+}
+
 fn each_is_read<R: Abort>(rt: &R, alloc: Global, from: &str, table: &str) -> Result<(), Fail> {
     for row in table.lines() {
-        let (text, says) = text_of_row(alloc, from, row)?;
-        let told = answer(alloc, text.as_str())?;
-        assert!(rt; told.contains(says), "{row}: {told}");
+        is_read(rt, alloc, from, row)?;
     }
     Ok(())
 }
 
 #[test]
 fn reads_a_job(rt: HostRuntime) -> Result<(), Fail> {
-    let alloc = rt.alloc();
-    let job = read_job(alloc, EXAMPLE.as_bytes())?;
+    let job = read_job(rt.alloc(), EXAMPLE.as_bytes())?;
     assert_eq!(rt; job, JOB);
-    assert_eq!(rt; (job.rows(), job.columns(), job.column_total()), (3, 3, 9));
+    Ok(())
+}
+
+#[test]
+fn a_job_has_columns(rt: HostRuntime) -> Result<(), Fail> {
+    let job = read_job(rt.alloc(), EXAMPLE.as_bytes())?;
+    let counts = (job.rows(), job.columns(), job.column_total());
+    assert_eq!(rt; counts, (3, 3, 9));
+    assert!(rt; 2 < job.columns() && 1 < job.rows());
+    assert_eq!(rt; (job.column_x(2), job.row_y(1)), (200, 100));
+    Ok(())
+}
+
+#[test]
+fn a_job_has_a_home_and_a_tool(rt: HostRuntime) -> Result<(), Fail> {
+    let job = read_job(rt.alloc(), EXAMPLE.as_bytes())?;
     let home = Pt3 {
         x: 100,
         y: 90,
         z: 400,
     };
-    assert_eq!(rt; job.home(), home);
-    assert!(rt; 2 < job.columns() && 1 < job.rows());
-    assert_eq!(rt; (job.column_x(2), job.row_y(1)), (200, 100));
-    assert_eq!(rt; job.tool(), Tool::bare(JOB.cutter));
+    let found = (job.home(), job.tool());
+    assert_eq!(rt; found, (home, Tool::bare(JOB.cutter)));
     Ok(())
 }
 
@@ -236,31 +251,56 @@ floor = 0 => floor = -701\nlayer = 1 => layer doesn't fit top"#;
 
 #[test]
 fn refuses_other_texts(rt: HostRuntime) -> Result<(), Fail> {
-    let alloc = rt.alloc();
-    each_is_refused(&rt, alloc, EXAMPLE, REFUSED)?;
+    each_is_refused(&rt, rt.alloc(), EXAMPLE, REFUSED)
+}
+
+/// EXAMPLE with another area and pitch.
+fn fine_and_wide(alloc: Global) -> Result<String, Fail> {
     let wide = EXAMPLE.replace(alloc, "[0, 0, 200, 200]", "[0, 0, 131071, 131071]")?;
-    let fine = wide.replace(alloc, "pitch = 100", "pitch = 1")?;
-    assert_eq!(rt;
-        answer(alloc, fine.as_str())?.as_str(),
-        "area doesn't fit pitch"
+    Ok(wide.replace(alloc, "pitch = 100", "pitch = 1")?)
+}
+
+#[test]
+fn refuses_too_many_columns(rt: HostRuntime) -> Result<(), Fail> {
+    let text = fine_and_wide(rt.alloc())?;
+    same(
+        &rt,
+        &answer(rt.alloc(), &text)?,
+        "area doesn't fit pitch",
+        "",
     );
-    assert!(rt; matches!(read_job(alloc, &[0xFF]), Err(JobFault::Syntax)));
     Ok(())
 }
 
 #[test]
-fn takes_64_levels(rt: HostRuntime) -> Result<(), Fail> {
-    let alloc = rt.alloc();
-    let most = format!(in alloc; "{EXAMPLE}levels = [{LADDER}]\n")?;
-    let job = read_job(alloc, most.as_bytes())?;
+fn refuses_bytes_that_are_no_text(rt: HostRuntime) {
+    let read = read_job(rt.alloc(), &[0xFF]);
+    assert!(rt; matches!(read, Err(JobFault::Syntax)));
+}
+
+/// The first and the last of a text's levels, and how many they are.
+fn levels_of(alloc: Global, text: &str) -> Result<(Option<i32>, Option<i32>, usize), Fail> {
+    let job = read_job(alloc, text.as_bytes())?;
     let heights = job.levels.as_slice();
-    assert_eq!(rt; heights.len(), 64);
-    assert_eq!(rt; (heights.first(), heights.last()), (Some(&63), Some(&0)));
-    let more = format!(in alloc; "{EXAMPLE}levels = [64, {LADDER}]\n")?;
-    assert_eq!(rt;
-        answer(alloc, more.as_str())?.as_str(),
-        "levels out of range"
-    );
+    Ok((
+        heights.first().copied(),
+        heights.last().copied(),
+        heights.len(),
+    ))
+}
+
+#[test]
+fn takes_64_levels(rt: HostRuntime) -> Result<(), Fail> {
+    let most = format!(in rt.alloc(); "{EXAMPLE}levels = [{LADDER}]\n")?;
+    let found = levels_of(rt.alloc(), &most)?;
+    assert_eq!(rt; found, (Some(63), Some(0), 64));
+    Ok(())
+}
+
+#[test]
+fn refuses_65_levels(rt: HostRuntime) -> Result<(), Fail> {
+    let more = format!(in rt.alloc(); "{EXAMPLE}levels = [64, {LADDER}]\n")?;
+    same(&rt, &answer(rt.alloc(), &more)?, "levels out of range", "");
     Ok(())
 }
 
@@ -294,20 +334,30 @@ layer doesn't fit top => floor = -701 => floor = -700
 levels doesn't fit top => [300, 1] => [299, 1]
 radius doesn't fit holder_radius => holder_radius = 150 => holder_radius = 151"#;
 
-#[test]
-fn first_fault_decides(rt: HostRuntime) -> Result<(), Fail> {
-    let alloc = rt.alloc();
+/// Looks at the first fault of a text, and mends it.
+fn mended<R: Abort>(rt: &R, alloc: Global, text: &str, row: &str) -> Result<String, Fail> {
+    let (fault, repair) = halves(row)?;
+    same(rt, &answer(alloc, text)?, fault, row);
+    let repair = format!(in alloc; "{repair} => ")?;
+    let (text, _) = text_of_row(alloc, text, &repair)?;
+    Ok(text)
+}
+
+/// FAULTY without its faults.
+fn mended_at_all<R: Abort>(rt: &R, alloc: Global) -> Result<String, Fail> {
     let mut text = FAULTY.to_string(alloc)?;
     for row in REPAIRS.lines() {
-        let (fault, repair) = row.split_once(" => ").ok_or("a row without =>")?;
-        assert_eq!(rt; answer(alloc, text.as_str())?.as_str(), fault);
-        let repair = format!(in alloc; "{repair} => ")?;
-        text = text_of_row(alloc, text.as_str(), repair.as_str())?.0;
+        text = mended(rt, alloc, &text, row)?;
     }
+    Ok(text)
+}
+
+/// The job of the text that is left.
+fn mended_job() -> Job {
     let mut levels = Levels::NONE;
     levels.push(299);
     levels.push(1);
-    let want = Job {
+    Job {
         cutter: Cutter::Cone {
             radius: 150,
             rise: 16,
@@ -328,8 +378,14 @@ fn first_fault_decides(rt: HostRuntime) -> Result<(), Fail> {
         }),
         path_tol: Some(0),
         ..JOB
-    };
-    assert_eq!(rt; read_job(alloc, text.as_bytes())?, want);
+    }
+}
+
+#[test]
+fn first_fault_decides(rt: HostRuntime) -> Result<(), Fail> {
+    let text = mended_at_all(&rt, rt.alloc())?;
+    let job = read_job(rt.alloc(), text.as_bytes())?;
+    assert_eq!(rt; job, mended_job());
     Ok(())
 }
 
@@ -338,8 +394,12 @@ fn names_keep_their_bytes(rt: HostRuntime) -> Result<(), Fail> {
     let name = Name::new(String::from_str(rt.alloc(), "depth")?);
     assert_eq!(rt; name.as_bytes(), b"depth".as_slice());
     assert_eq!(rt; name.into_bytes().as_slice(), b"depth".as_slice());
-    assert_eq!(rt; Key::Home.name(), "home");
     Ok(())
+}
+
+#[test]
+fn keys_have_names(rt: HostRuntime) {
+    assert_eq!(rt; Key::Home.name(), "home");
 }
 
 /// Of EXAMPLE in thousandths.
@@ -359,19 +419,41 @@ band = 0 => band = 0\nmax_cut = 524288 => max_cut out of range
 band = 0 => band = 0\nholder_radius = 151\nstickout = 524288 => stickout out of range
 unit = "thousandth" => clears = 131072 => unknown clears"#;
 
+/// EXAMPLE in thousandths.
+fn fine(alloc: Global) -> Result<String, Fail> {
+    Ok(format!(in alloc; "{EXAMPLE}unit = \"thousandth\"\n")?)
+}
+
 #[test]
 fn reads_thousandths(rt: HostRuntime) -> Result<(), Fail> {
-    let alloc = rt.alloc();
-    let fine = format!(in alloc; "{EXAMPLE}unit = \"thousandth\"\n")?;
+    let text = fine(rt.alloc())?;
+    let job = read_job(rt.alloc(), text.as_bytes())?;
     let want = Job {
         unit: Unit::Thousandth,
         ..JOB
     };
-    assert_eq!(rt; read_job(alloc, fine.as_bytes())?, want);
-    each_is_read(&rt, alloc, fine.as_str(), FINE)?;
-    each_is_refused(&rt, alloc, fine.as_str(), NOT_FINE)?;
-    let first = fine.replace(alloc, "\"flat\"", "\"disc\"")?;
-    let both = first.replace(alloc, "\"thousandth\"", "\"inch\"")?;
-    assert_eq!(rt; answer(alloc, both.as_str())?.as_str(), "unit out of range");
+    assert_eq!(rt; job, want);
     Ok(())
+}
+
+#[test]
+fn reads_other_values_in_thousandths(rt: HostRuntime) -> Result<(), Fail> {
+    let text = fine(rt.alloc())?;
+    each_is_read(&rt, rt.alloc(), &text, FINE)
+}
+
+#[test]
+fn refuses_other_texts_in_thousandths(rt: HostRuntime) -> Result<(), Fail> {
+    let text = fine(rt.alloc())?;
+    each_is_refused(&rt, rt.alloc(), &text, NOT_FINE)
+}
+
+/// A row of texts in thousandths with two faults, of which the unit's comes first.
+const NO_DISC: &str = "\"flat\" => \"disc\" => ";
+
+#[test]
+fn the_unit_is_read_first(rt: HostRuntime) -> Result<(), Fail> {
+    let (text, _) = text_of_row(rt.alloc(), &fine(rt.alloc())?, NO_DISC)?;
+    let row = "\"thousandth\" => \"inch\" => unit out of range";
+    is_refused(&rt, rt.alloc(), &text, row)
 }

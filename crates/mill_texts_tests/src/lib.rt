@@ -23,4 +23,6 @@ mod post;
 #[cfg(test)]
 mod stl;
 #[cfg(test)]
+mod tables;
+#[cfg(test)]
 mod words;

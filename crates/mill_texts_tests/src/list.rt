@@ -1,10 +1,10 @@
 // Lists of steps that are read, and the faults for which others are refused.
 //
 // Each table is one text, as in job.rt: a row is `OLD => NEW => SAYS`, and is tried on EXAMPLE.
-use crate::job::text_of_row;
+use crate::tables::{same, text_of_row};
 use mill_base::Cutter;
-use mill_job::{Job, Key, read_job};
-use mill_list::{MAX_STEPS, read_list};
+use mill_job::{Key, read_job};
+use mill_list::{MAX_STEPS, Step, read_list};
 use std::alloc::Global;
 use std::process::Abort;
 use std::test::Fail;
@@ -27,29 +27,32 @@ stickout = 50
 const EXAMPLE: &str =
     r#"steps = [{ program = "rough.ngc", cutter = "ball", radius = 150 }, { program = "b/2.ngc", cutter = "cone", radius = 100, rise = 16, run = 1 }]"#;
 
-/// What is said of a list: each step's program and cutter, or the fault.
-fn answer(alloc: Global, text: &[u8], job: &Job) -> Result<String, Fail> {
-    let steps = match read_list(alloc, text, job) {
-        Ok(steps) => steps,
-        Err(fault) => return Ok(format!(in alloc; "{fault}")?),
-    };
+/// Each step's program and cutter.
+fn told(alloc: Global, steps: &[Step]) -> Result<String, Fail> {
     let mut told = String::new(alloc);
-    for step in &steps {
+    for step in steps {
         told.push_str(format!(in alloc; "{} by {:?};", step.program, step.cutter)?.as_str())?;
     }
     Ok(told)
 }
 
-fn each_is_answered<R: Abort>(rt: &R, alloc: Global, table: &str) -> Result<(), Fail> {
+/// What is said of a list: its steps, or the fault.
+fn answer(alloc: Global, text: &[u8]) -> Result<String, Fail> {
     let job = read_job(alloc, JOB.as_bytes())?;
-    for row in table.lines() {
-        let (text, says) = text_of_row(alloc, EXAMPLE, row)?;
-        assert_eq!(rt;
-            answer(alloc, text.as_bytes(), &job)?.as_str(),
-            says,
-            "{row}"
-        );
+    match read_list(alloc, text, &job) {
+        Ok(steps) => told(alloc, &steps),
+        Err(fault) => Ok(format!(in alloc; "{fault}")?),
     }
+}
+
+fn is_answered<R: Abort>(rt: &R, alloc: Global, text: &[u8], says: &str) -> Result<(), Fail> {
+    same(rt, &answer(alloc, text)?, says, says);
+    Ok(())
+}
+
+fn row_is_answered<R: Abort>(rt: &R, alloc: Global, row: &str) -> Result<(), Fail> {
+    let (text, says) = text_of_row(alloc, EXAMPLE, row)?;
+    same(rt, &answer(alloc, text.as_bytes())?, says, row);
     Ok(())
 }
 
@@ -104,7 +107,10 @@ radius = 150 }, { => radius = 150 }, { depth = 1, => unknown depth"#;
 
 #[test]
 fn answers_lists(rt: HostRuntime) -> Result<(), Fail> {
-    each_is_answered(&rt, rt.alloc(), ROWS)
+    for row in ROWS.lines() {
+        row_is_answered(&rt, rt.alloc(), row)?;
+    }
+    Ok(())
 }
 
 /// A list of so many steps.
@@ -116,34 +122,55 @@ fn list_of(alloc: Global, count: usize) -> Result<String, Fail> {
     Ok(text)
 }
 
+fn count_of(alloc: Global, text: &[u8]) -> Result<usize, Fail> {
+    let job = read_job(alloc, JOB.as_bytes())?;
+    Ok(read_list(alloc, text, &job)?.len())
+}
+
 #[test]
 fn takes_16_steps(rt: HostRuntime) -> Result<(), Fail> {
-    let alloc = rt.alloc();
-    let job = read_job(alloc, JOB.as_bytes())?;
-    let steps = read_list(alloc, list_of(alloc, MAX_STEPS)?.as_bytes(), &job)?;
-    assert_eq!(rt; steps.len(), 16);
-    let more = list_of(alloc, MAX_STEPS + 1)?;
-    assert_eq!(rt;
-        answer(alloc, more.as_bytes(), &job)?.as_str(),
-        "steps out of range"
-    );
-    assert_eq!(rt; answer(alloc, &[b'#', 0xFF], &job)?.as_str(), "syntax");
-    assert_eq!(rt;
-        (Key::Steps.name(), Key::Program.name()),
-        ("steps", "program")
-    );
+    let most = list_of(rt.alloc(), MAX_STEPS)?;
+    assert_eq!(rt; count_of(rt.alloc(), most.as_bytes())?, 16);
+    Ok(())
+}
+
+#[test]
+fn refuses_17_steps(rt: HostRuntime) -> Result<(), Fail> {
+    let more = list_of(rt.alloc(), MAX_STEPS + 1)?;
+    is_answered(&rt, rt.alloc(), more.as_bytes(), "steps out of range")
+}
+
+#[test]
+fn refuses_an_empty_text_and_other_bytes(rt: HostRuntime) -> Result<(), Fail> {
+    is_answered(&rt, rt.alloc(), &[], "missing steps")?;
+    is_answered(&rt, rt.alloc(), &[b'#', 0xFF], "syntax")
+}
+
+#[test]
+fn keys_have_names(rt: HostRuntime) {
+    let names = (Key::Steps.name(), Key::Program.name());
+    assert_eq!(rt; names, ("steps", "program"));
+}
+
+#[test]
+fn a_job_has_a_fault_with_a_narrow_cutter(rt: HostRuntime) -> Result<(), Fail> {
+    let job = read_job(rt.alloc(), JOB.as_bytes())?;
+    let narrow = Cutter::Ball { radius: 99 };
+    assert!(rt; job.cutter_fault(&narrow).is_some());
     Ok(())
 }
 
 #[test]
 fn a_job_takes_a_steps_cutter(rt: HostRuntime) -> Result<(), Fail> {
-    let alloc = rt.alloc();
-    let job = read_job(alloc, JOB.as_bytes())?;
-    let narrow = Cutter::Ball { radius: 99 };
-    assert!(rt; job.cutter_fault(&narrow).is_some());
+    let job = read_job(rt.alloc(), JOB.as_bytes())?;
     let ball = Cutter::Ball { radius: 120 };
     assert!(rt; job.cutter_fault(&ball).is_none());
-    let other = JOB.replace(alloc, "\"flat\"\nradius = 150", "\"ball\"\nradius = 120")?;
-    assert_eq!(rt; job.with_cutter(ball), read_job(alloc, other.as_bytes())?);
+    let other = JOB.replace(
+        rt.alloc(),
+        "\"flat\"\nradius = 150",
+        "\"ball\"\nradius = 120",
+    )?;
+    let other = read_job(rt.alloc(), other.as_bytes())?;
+    assert_eq!(rt; job.with_cutter(ball), other);
     Ok(())
 }

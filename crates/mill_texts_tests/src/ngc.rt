@@ -4,10 +4,10 @@ ghost use Rattle.mill_base.specs.declared.unit.Unit.TheVariants.{Hundredth};
 
 mod pieces;
 
+use crate::tables::{halves, same, with_blanks, with_bytes};
 use mill_base::{Kind, Move, Pt3, Unit};
 use mill_ngc::{NgcFault, Reader};
-use mill_words::WordFault;
-use std::alloc::{AllocError, Global};
+use std::alloc::Global;
 use std::process::Abort;
 use std::test::Fail;
 
@@ -39,11 +39,6 @@ fn moves_in(alloc: Global, text: &str, start: Pt3, unit: Unit) -> Result<Vec<Mov
     reader.feed(text.as_bytes(), &mut moves)?;
     reader.finish(&mut moves)?;
     Ok(moves)
-}
-
-// The fault of a text, if it has one.
-fn fault_of(alloc: Global, text: &str) -> Option<NgcFault> {
-    moves_of(alloc, text, ORIGIN).err()
 }
 
 // Where the text stands in a program whose second line it is.
@@ -84,9 +79,20 @@ fn told_fault(alloc: Global, fault: NgcFault) -> Result<String, Fail> {
     }
 }
 
-// Each row of a table has a text, which is put into a frame, and behind `=>` what that comes to.
-// In the text `\n` is a line's end. The table is one text: a test's proof then costs the same
-// however many rows there are.
+// A row has a text, which is put into a frame, and behind `=>` what that comes to.
+fn tells<R: Abort>(rt: &R, alloc: Global, unit: Unit, frame: &str, row: &str) -> Result<(), Fail> {
+    let (text, wanted) = halves(row)?;
+    let text = framed(alloc, frame, text)?;
+    same(rt, &told(alloc, unit, &text)?, wanted, row);
+    Ok(())
+}
+
+fn framed(alloc: Global, frame: &str, text: &str) -> Result<String, Fail> {
+    let text = with_bytes(alloc, text)?;
+    Ok(frame.replace(alloc, '@', &text)?)
+}
+
+// The table is one text: a test's proof then costs the same however many rows there are.
 fn each_tells<R: Abort>(
     rt: &R,
     alloc: Global,
@@ -95,10 +101,7 @@ fn each_tells<R: Abort>(
     table: &str,
 ) -> Result<(), Fail> {
     for row in table.lines() {
-        let (text, wanted) = row.split_once(" => ").ok_or("a row without =>")?;
-        let text = text.replace(alloc, "\\n", "\n")?;
-        let text = frame.replace(alloc, '@', &text)?;
-        assert_eq!(rt; told(alloc, unit, &text)?.as_str(), wanted, "{row}");
+        tells(rt, alloc, unit, frame, row)?;
     }
     Ok(())
 }
@@ -140,9 +143,8 @@ F0\nf100.5\nF-1\nS0\ns12000\nS.5\nT0\nt12\nT3.5\nT1 M6\n(a)\nN1\n ;b\n
 G0 X1\nG00 X2\nG-0 X3\nG1 Y1\ng01 Y2\nG1.0 Y3\nX4\nx5\nX+6.\nY-1\ny-2\nY 3 1\nZ1\nz-.5\nZ0.25 M30 ; end";
     let moves = moves_of(rt.alloc(), text, ORIGIN)?;
     assert_eq!(rt; moves.len(), 15);
-    assert_eq!(rt; moves[2].kind, Kind::Rapid);
-    assert_eq!(rt; moves[3].kind, Kind::Feed);
-    assert_eq!(rt; moves[14].to, point(600, 3100, 25));
+    let found = (moves[2].kind, moves[3].kind, moves[14].to);
+    assert_eq!(rt; found, (Kind::Rapid, Kind::Feed, point(600, 3100, 25)));
     Ok(())
 }
 
@@ -311,23 +313,21 @@ fn tells_the_first_fault_of_a_text(rt: HostRuntime) -> Result<(), Fail> {
 }
 
 // A line of 256 bytes with its CR, and one of 257.
+const LONG_LINES: &str = r"___G17            \r\n_M2 => 0 moves
+N1\n(a)\n___*             \r\r => Word { line: 3, fault: BadByte(240) }
+N1\n(a)\n___*              \r\r => LongLine { line: 3 }";
+
+fn long_line_tells<R: Abort>(rt: &R, alloc: Global, row: &str) -> Result<(), Fail> {
+    let (text, wanted) = halves(row)?;
+    let text = with_blanks(alloc, text)?;
+    same(rt, &told(alloc, Unit::Hundredth, &text)?, wanted, row);
+    Ok(())
+}
+
 #[test]
-fn reads_lines_up_to_256_bytes(rt: HostRuntime) -> Result<(), AllocError> {
-    let blanks = "                                                                                ";
-    let most = format!(in rt.alloc(); "{blanks}{blanks}{blanks}G17            \r\n{blanks}M2")?;
-    assert_eq!(rt; fault_of(rt.alloc(), most.as_str()), None);
-    let long = format!(in rt.alloc(); "N1\n(a)\n{blanks}{blanks}{blanks}*             \r\r")?;
-    assert_eq!(rt;
-        fault_of(rt.alloc(), long.as_str()),
-        Some(NgcFault::Word {
-            line: 3,
-            fault: WordFault::BadByte(240)
-        })
-    );
-    let longer = format!(in rt.alloc(); "N1\n(a)\n{blanks}{blanks}{blanks}*              \r\r")?;
-    assert_eq!(rt;
-        fault_of(rt.alloc(), longer.as_str()),
-        Some(NgcFault::LongLine { line: 3 })
-    );
+fn reads_lines_up_to_256_bytes(rt: HostRuntime) -> Result<(), Fail> {
+    for row in LONG_LINES.lines() {
+        long_line_tells(&rt, rt.alloc(), row)?;
+    }
     Ok(())
 }

@@ -5,6 +5,7 @@ use mill_base::{Kind, Move, Pt3, Unit};
 use mill_ngc::{NgcFault, Reader};
 use mill_post::write_program;
 use std::alloc::Global;
+use std::process::Abort;
 use std::test::Fail;
 
 const HOME: Pt3 = Pt3 {
@@ -50,27 +51,61 @@ fn read_back(alloc: Global, text: &[u8], start: Pt3, unit: Unit) -> Result<Vec<M
     Ok(moves)
 }
 
+fn is_written<R: Abort>(
+    rt: &R,
+    alloc: Global,
+    moves: &[Move],
+    unit: Unit,
+    text: &[u8],
+) -> Result<(), Fail> {
+    let written = write_program(alloc, moves, unit)?;
+    assert_eq!(rt; written.as_slice(), text);
+    Ok(())
+}
+
+fn is_read_back<R: Abort>(
+    rt: &R,
+    alloc: Global,
+    text: &[u8],
+    start: Pt3,
+    unit: Unit,
+    moves: &[Move],
+) -> Result<(), Fail>
+    requires { IsInUnitRange unit start }
+{
+    let again = read_back(alloc, text, start, unit)?;
+    assert_eq!(rt; again.as_slice(), moves);
+    Ok(())
+}
+
+// The moves are written as this text, and read back from it.
+fn agree<R: Abort>(
+    rt: &R,
+    alloc: Global,
+    moves: &[Move],
+    unit: Unit,
+    text: &[u8],
+    start: Pt3,
+) -> Result<(), Fail>
+    requires { IsInUnitRange unit start }
+{
+    is_written(rt, alloc, moves, unit, text)?;
+    is_read_back(rt, alloc, text, start, unit, moves)
+}
+
 #[test]
 fn writes_moves(rt: HostRuntime) -> Result<(), Fail> {
     let near = point(0, 0, 200);
     let far = point(200, 200, 400);
     let moves = [feed(HOME, near), rapid(near, far)];
-    let text = write_program(rt.alloc(), moves.as_slice(), Unit::Hundredth)?;
-    let want: &[u8] = b"%\nG17 G21 G90\nG1 X0.00 Y0.00 Z2.00\nG0 X2.00 Y2.00 Z4.00\nM2\n%\n";
-    assert_eq!(rt; text.as_slice(), want);
-    let again = read_back(rt.alloc(), text.as_slice(), HOME, Unit::Hundredth)?;
-    assert_eq!(rt; again.as_slice(), moves.as_slice());
-    Ok(())
+    let text: &[u8] = b"%\nG17 G21 G90\nG1 X0.00 Y0.00 Z2.00\nG0 X2.00 Y2.00 Z4.00\nM2\n%\n";
+    agree(&rt, rt.alloc(), &moves, Unit::Hundredth, text, HOME)
 }
 
 #[test]
 fn writes_no_move(rt: HostRuntime) -> Result<(), Fail> {
-    let text = write_program(rt.alloc(), &[], Unit::Hundredth)?;
-    let want: &[u8] = b"%\nG17 G21 G90\nM2\n%\n";
-    assert_eq!(rt; text.as_slice(), want);
-    let again = read_back(rt.alloc(), text.as_slice(), HOME, Unit::Hundredth)?;
-    assert_eq!(rt; again.len(), 0);
-    Ok(())
+    let text: &[u8] = b"%\nG17 G21 G90\nM2\n%\n";
+    agree(&rt, rt.alloc(), &[], Unit::Hundredth, text, HOME)
 }
 
 // Coordinates at both ends of their range and about 0, and a move that stays where it is.
@@ -78,13 +113,9 @@ fn writes_no_move(rt: HostRuntime) -> Result<(), Fail> {
 fn writes_extreme_coordinates(rt: HostRuntime) -> Result<(), Fail> {
     let high = point(131_071, -5, -100);
     let moves = [rapid(LOWEST, LOWEST), feed(LOWEST, high), feed(high, HOME)];
-    let text = write_program(rt.alloc(), moves.as_slice(), Unit::Hundredth)?;
-    let want: &[u8] =
+    let text: &[u8] =
         b"%\nG17 G21 G90\nG0 X-1310.71 Y-1310.71 Z-1310.71\nG1 X1310.71 Y-0.05 Z-1.00\nG1 X1.00 Y1.00 Z4.00\nM2\n%\n";
-    assert_eq!(rt; text.as_slice(), want);
-    let again = read_back(rt.alloc(), text.as_slice(), LOWEST, Unit::Hundredth)?;
-    assert_eq!(rt; again.as_slice(), moves.as_slice());
-    Ok(())
+    agree(&rt, rt.alloc(), &moves, Unit::Hundredth, text, LOWEST)
 }
 
 #[test]
@@ -92,11 +123,7 @@ fn writes_thousandths(rt: HostRuntime) -> Result<(), Fail> {
     let low = point(-524_287, -5, 0);
     let high = point(524_287, 12_345, -2_000);
     let moves = [feed(HOME, low), rapid(low, high)];
-    let text = write_program(rt.alloc(), moves.as_slice(), Unit::Thousandth)?;
-    let want: &[u8] =
+    let text: &[u8] =
         b"%\nG17 G21 G90\nG1 X-524.287 Y-0.005 Z0.000\nG0 X524.287 Y12.345 Z-2.000\nM2\n%\n";
-    assert_eq!(rt; text.as_slice(), want);
-    let again = read_back(rt.alloc(), text.as_slice(), HOME, Unit::Thousandth)?;
-    assert_eq!(rt; again.as_slice(), moves.as_slice());
-    Ok(())
+    agree(&rt, rt.alloc(), &moves, Unit::Thousandth, text, HOME)
 }

@@ -1,6 +1,10 @@
+use crate::tables::{halves, same, with_bytes};
 use mill_base::{Pt3, Tri, Unit};
-use mill_decimal::{DecFault, Snap};
-use mill_stl::{StlFault, StlRead, What, read_stl};
+use mill_decimal::Snap;
+use mill_stl::{StlFault, read_stl};
+use std::alloc::Global;
+use std::process::Abort;
+use std::test::Fail;
 
 mod writing;
 
@@ -22,31 +26,34 @@ fn point(x: i32, y: i32, z: i32) -> Pt3 {
     Pt3 { x, y, z }
 }
 
-fn expected(line: u64, what: What) -> StlFault {
-    StlFault::Expected { line, what }
+// A text reads as these triangles, with so many coordinates that are rounded.
+fn is_read<R: Abort>(
+    rt: &R,
+    alloc: Global,
+    text: &str,
+    snap: Snap,
+    unit: Unit,
+    tris: &[Tri],
+    rounded: u64,
+) -> Result<(), StlFault> {
+    let read = read_stl(alloc, text.as_bytes(), snap, unit)?;
+    assert_eq!(rt; (read.tris.as_slice(), read.rounded), (tris, rounded));
+    Ok(())
 }
 
 #[test]
 fn reads_two_solids(rt: HostRuntime) -> Result<(), StlFault> {
-    let read = read_stl(
-        rt.alloc(),
-        TWO_SOLIDS.as_bytes(),
-        Snap::Exact,
-        Unit::Hundredth,
-    )?;
     let want = Tri {
         a: point(0, 0, 200),
         b: point(1000, 0, 200),
         c: point(0, 1000, 200),
     };
-    assert_eq!(rt; read.tris.as_slice(), [want].as_slice());
-    assert_eq!(rt; read.rounded, 0);
-    Ok(())
+    let unit = Unit::Hundredth;
+    is_read(&rt, rt.alloc(), TWO_SOLIDS, Snap::Exact, unit, &[want], 0)
 }
 
 #[test]
 fn counts_what_it_rounds(rt: HostRuntime) -> Result<(), StlFault> {
-    let read = read_stl(rt.alloc(), PLATE.as_bytes(), Snap::Nearest, Unit::Hundredth)?;
     let want = [
         Tri {
             a: point(0, 0, 200),
@@ -59,19 +66,12 @@ fn counts_what_it_rounds(rt: HostRuntime) -> Result<(), StlFault> {
             c: point(0, 2000, 200),
         },
     ];
-    assert_eq!(rt; read.tris.as_slice(), want.as_slice());
-    assert_eq!(rt; read.rounded, 2);
-    Ok(())
+    let unit = Unit::Hundredth;
+    is_read(&rt, rt.alloc(), PLATE, Snap::Nearest, unit, &want, 2)
 }
 
 #[test]
 fn reads_thousandths(rt: HostRuntime) -> Result<(), StlFault> {
-    let read = read_stl(
-        rt.alloc(),
-        PLATE.as_bytes(),
-        Snap::Nearest,
-        Unit::Thousandth,
-    )?;
     let want = [
         Tri {
             a: point(0, 0, 2000),
@@ -84,9 +84,8 @@ fn reads_thousandths(rt: HostRuntime) -> Result<(), StlFault> {
             c: point(0, 20000, 2000),
         },
     ];
-    assert_eq!(rt; read.tris.as_slice(), want.as_slice());
-    assert_eq!(rt; read.rounded, 1);
-    Ok(())
+    let unit = Unit::Thousandth;
+    is_read(&rt, rt.alloc(), PLATE, Snap::Nearest, unit, &want, 1)
 }
 
 // Words and white space that are longer than what is looked at together, with bytes below a blank.
@@ -97,90 +96,101 @@ fn reads_long_words(rt: HostRuntime) -> Result<(), StlFault> {
                   outer\u{c}loop\tvertex 0000000000000000000000.5 -00.10 +5.0e-1
         vertex 1 0 0\u{b}vertex 0\r1 0000000000000000 endloop endfacet
     endsolid of_more_than_sixteen_bytes\u{1}\u{1f}";
-    let read = read_stl(rt.alloc(), text.as_bytes(), Snap::Exact, Unit::Hundredth)?;
     let want = Tri {
         a: point(50, -10, 50),
         b: point(100, 0, 0),
         c: point(0, 100, 0),
     };
-    assert_eq!(rt; read.tris.as_slice(), [want].as_slice());
+    is_read(
+        &rt,
+        rt.alloc(),
+        text,
+        Snap::Exact,
+        Unit::Hundredth,
+        &[want],
+        0,
+    )
+}
+
+// What is said of a text that isn't read.
+fn told_fault(alloc: Global, text: &str) -> Result<String, Fail> {
+    let read = read_stl(alloc, text.as_bytes(), Snap::Exact, Unit::Hundredth);
+    let fault = read.err().ok_or("a text without a fault")?;
+    Ok(format!(in alloc; "{fault:?}")?)
+}
+
+fn has_fault<R: Abort>(rt: &R, alloc: Global, row: &str) -> Result<(), Fail> {
+    let (text, wanted) = halves(row)?;
+    let text = with_bytes(alloc, text)?;
+    same(rt, &told_fault(alloc, &text)?, wanted, row);
     Ok(())
 }
 
+const FAULTS: &str = " => CutShort { line: 1 }
+solid endsolid\\n => CutShort { line: 2 }
+solid\\nendsolid a\\nsolid b => CutShort { line: 3 }
+\\nsolids\\nendsolid => Expected { line: 2, what: Solid }
+solid\\r\\nface => Expected { line: 2, what: FacetOrEnd }
+solid\\nfacet\\n\\nnormals => Expected { line: 4, what: Normal }
+solid\\nfacet normal 0 0\\n1\\nloop => Expected { line: 4, what: Outer }
+solid\\nfacet normal 0 0 1 outer loop vertex 1 2\\n3e => Coord { line: 3, fault: Spelling }
+solid\\nfacet normal 0 0 1 outer loop vertex 1 .005 => Coord { line: 2, fault: OffGrid }
+SOLID\\r\\nFACET NORMAL 0 0 1\\r\\nOUTER LOOP\\r\\nVERTEX 0 0 2\\r\\nVERTEX 1e1 0 2\\r\\nVERTEX 0 10.000 2\\r\\nENDLOOP => CutShort { line: 7 }
+solid\\nendsolid a\\nfacet => Expected { line: 3, what: SolidOrEnd }
+solid\\n\\n                    \\r\\n                         facet\u{1} normal => Expected { line: 4, what: FacetOrEnd }
+solid of_more_than_sixteen_bytes\\nfacetfacetfacetfacetfacet => Expected { line: 2, what: FacetOrEnd }";
+
 #[test]
-fn names_the_first_bad_place(rt: HostRuntime) {
-    let spelling = StlFault::Coord {
-        line: 3,
-        fault: DecFault::Spelling,
-    };
-    let off_grid = StlFault::Coord {
-        line: 2,
-        fault: DecFault::OffGrid,
-    };
-    for (text, fault) in [
-        ("", StlFault::CutShort { line: 1 }),
-        ("solid endsolid\n", StlFault::CutShort { line: 2 }),
-        ("solid\nendsolid a\nsolid b", StlFault::CutShort { line: 3 }),
-        ("\nsolids\nendsolid", expected(2, What::Solid)),
-        ("solid\r\nface", expected(2, What::FacetOrEnd)),
-        ("solid\nfacet\n\nnormals", expected(4, What::Normal)),
-        ("solid\nfacet normal 0 0\n1\nloop", expected(4, What::Outer)),
-        (
-            "solid\nfacet normal 0 0 1 outer loop vertex 1 2\n3e",
-            spelling,
-        ),
-        (
-            "solid\nfacet normal 0 0 1 outer loop vertex 1 .005",
-            off_grid,
-        ),
-        (
-            "SOLID\r\nFACET NORMAL 0 0 1\r\nOUTER LOOP\r\nVERTEX 0 0 2\r\nVERTEX 1e1 0 2\r\nVERTEX 0 10.000 2\r\nENDLOOP",
-            StlFault::CutShort { line: 7 },
-        ),
-        ("solid\nendsolid a\nfacet", expected(3, What::SolidOrEnd)),
-        (
-            "solid\n\n                    \r\n                         facet\u{1} normal",
-            expected(4, What::FacetOrEnd),
-        ),
-        (
-            "solid of_more_than_sixteen_bytes\nfacetfacetfacetfacetfacet",
-            expected(2, What::FacetOrEnd),
-        ),
-    ] {
-        assert_eq!(rt;
-            read_stl(rt.alloc(), text.as_bytes(), Snap::Exact, Unit::Hundredth).err(),
-            Some(fault),
-            "at {text}"
-        );
+fn names_the_first_bad_place(rt: HostRuntime) -> Result<(), Fail> {
+    for row in FAULTS.lines() {
+        has_fault(&rt, rt.alloc(), row)?;
+    }
+    Ok(())
+}
+
+// The line of a fault, or for other faults 0, which no line has.
+fn line_of(fault: Option<StlFault>) -> Option<u64> {
+    match fault {
+        Some(StlFault::Expected { line, .. })
+        | Some(StlFault::Coord { line, .. })
+        | Some(StlFault::CutShort { line }) => Some(line),
+        Some(_) => Some(0),
+        None => None,
     }
 }
 
-// A text that is cut off reads only right behind an `endsolid` line, or between solids; else the
-// fault is on its last line.
+// Right behind an `endsolid` line, or between solids.
+fn may_end(text: &[u8]) -> bool {
+    text.ends_with(b"ENDSOLID")
+        || text.ends_with(b"ENDSOLID ")
+        || text.ends_with(b"ENDSOLID a")
+        || text.ends_with(b"ENDSOLID a\r")
+        || text.ends_with(b"ENDSOLID a\r\n")
+        || text.ends_with(b"endsolid")
+        || text.ends_with(b"endsolid ")
+        || text.ends_with(b"endsolid b")
+        || text.ends_with(b"endsolid b\r")
+}
+
+fn prefix_is_refused<R: Abort>(rt: &R, alloc: Global, prefix: &[u8], last_line: u64) {
+    let read = read_stl(alloc, prefix, Snap::Exact, Unit::Hundredth);
+    let line = line_of(read.err());
+    let wanted = if may_end(prefix) {
+        None
+    } else {
+        Some(last_line)
+    };
+    assert_eq!(rt; line, wanted, "at {}", prefix.len());
+}
+
+// A text that is cut off reads only where it may end; else the fault is on its last line.
 #[test]
 fn no_prefix_reads(rt: HostRuntime) {
     let text = TWO_SOLIDS.as_bytes();
     let mut line: u64 = 1;
     for length in 0..text.len() {
         let (prefix, _) = text.split_at(length);
-        let ended = prefix.ends_with(b"ENDSOLID")
-            || prefix.ends_with(b"ENDSOLID ")
-            || prefix.ends_with(b"ENDSOLID a")
-            || prefix.ends_with(b"ENDSOLID a\r")
-            || prefix.ends_with(b"ENDSOLID a\r\n")
-            || prefix.ends_with(b"endsolid")
-            || prefix.ends_with(b"endsolid ")
-            || prefix.ends_with(b"endsolid b")
-            || prefix.ends_with(b"endsolid b\r");
-        let fault = read_stl(rt.alloc(), prefix, Snap::Exact, Unit::Hundredth).err();
-        assert_eq!(rt; fault.is_none(), ended, "at {length}");
-        match fault {
-            Some(StlFault::Expected { line: at, .. })
-            | Some(StlFault::Coord { line: at, .. })
-            | Some(StlFault::CutShort { line: at }) => assert_eq!(rt; at, line, "at {length}"),
-            Some(_) => assert!(rt; false, "at {length}"),
-            None => {}
-        }
+        prefix_is_refused(&rt, rt.alloc(), prefix, line);
         if text[length] == b'\n' {
             line = line.saturating_add(1);
         }

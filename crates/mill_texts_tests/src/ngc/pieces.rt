@@ -2,6 +2,7 @@
 ghost use Rattle.std.specs.Prelude.{◌<◌};
 
 use super::HOME;
+use crate::tables::{halves, same, with_blanks, with_bytes};
 use mill_base::{Move, Unit};
 use mill_ngc::{NgcFault, Reader};
 use std::alloc::{AllocError, Global};
@@ -13,6 +14,10 @@ use std::test::Fail;
 struct Told {
     moves: Vec<Move>,
     fault: Option<NgcFault>,
+}
+
+fn is_same(told: &Told, other: &Told) -> bool {
+    told.fault == other.fault && told.moves.as_slice() == other.moves.as_slice()
 }
 
 // Numbers that look like random ones.
@@ -48,8 +53,20 @@ fn read_halves(alloc: Global, text: &[u8], cut: usize) -> Told {
     }
 }
 
-// Reads a text in pieces of at most this many bytes. Each call behind a fault has to answer it
-// again, and to add nothing.
+// Looks at a call behind a fault, which has to answer it again, and to add nothing.
+fn look_behind<R: Abort>(
+    rt: &R,
+    fault: Option<NgcFault>,
+    told: Option<NgcFault>,
+    before: usize,
+    behind: usize,
+) {
+    if fault.is_some() {
+        assert_eq!(rt; (told, behind), (fault, before));
+    }
+}
+
+// Reads a text in pieces of at most this many bytes.
 fn read_pieces<R: Abort>(rt: &R, alloc: Global, text: &[u8], most: usize, dice: &mut Dice) -> Told
     requires { 0 < most }
 {
@@ -62,33 +79,38 @@ fn read_pieces<R: Abort>(rt: &R, alloc: Global, text: &[u8], most: usize, dice: 
         let (piece, more) = rest.split_at(count);
         let before = moves.len();
         let told = reader.feed(piece, &mut moves).err();
-        if fault.is_some() {
-            assert_eq!(rt; told, fault);
-            assert_eq!(rt; moves.len(), before);
-        }
+        look_behind(rt, fault, told, before, moves.len());
         fault = told;
         rest = more;
     }
     let before = moves.len();
     let told = reader.finish(&mut moves).err();
-    if fault.is_some() {
-        assert_eq!(rt; told, fault);
-        assert_eq!(rt; moves.len(), before);
-    }
+    look_behind(rt, fault, told, before, moves.len());
     Told { moves, fault: told }
 }
 
-// Each cut of a text into two reads the same as the whole.
+// A cut of a text into two reads the same as the whole.
+fn cut_agrees<R: Abort>(rt: &R, alloc: Global, text: &str, cut: usize, whole: &Told) {
+    let told = read_halves(alloc, text.as_bytes(), cut);
+    assert!(rt; is_same(&told, whole), "{text} cut at {cut}");
+}
+
 fn cuts_agree<R: Abort>(rt: &R, alloc: Global, text: &str, whole: &Told) {
     for cut in 0..text.len() {
-        let told = read_halves(alloc, text.as_bytes(), cut + 1);
-        let is_same = told.fault == whole.fault && told.moves.as_slice() == whole.moves.as_slice();
-        assert!(rt; is_same, "{text} cut at {cut}");
+        cut_agrees(rt, alloc, text, cut + 1, whole);
     }
 }
 
-// Small programs, how many moves they make, and their fault: each cut into two. `\n`, `\r` and `\t`
-// stand for the byte.
+// How many moves a text makes, and its fault, however it is cut into two.
+fn every_cut_tells<R: Abort>(rt: &R, alloc: Global, text: &str, wanted: &str) -> Result<(), Fail> {
+    let whole = read_halves(alloc, text.as_bytes(), 0);
+    cuts_agree(rt, alloc, text, &whole);
+    let told = format!(in alloc; "{} {:?}", whole.moves.len(), whole.fault)?;
+    same(rt, &told, wanted, text);
+    Ok(())
+}
+
+// Small programs, how many moves they make, and their fault: each cut into two.
 const PROGRAMS: &str = r"G21 G90\nG1 Z2\nG0 Z4\nM2 => 2 None
 G21 G90\nG1 Z2\nG0 Z4\nM2\n?\n => 2 None
  \r\n%\r\nG21 G90\n(a\tb) g1 x 1 . 2 5;c\nY1\n% \nG64 => 2 None
@@ -98,40 +120,35 @@ G21 G90\nG1 X1\n => 1 Some(NoEnd { line: 3 })
 G21 G90\nG1 X1 M2 G1 => 0 Some(Group { line: 2, group: 1 })
  => 0 Some(NoEnd { line: 1 })";
 
+fn row_tells<R: Abort>(rt: &R, alloc: Global, row: &str) -> Result<(), Fail> {
+    let (text, wanted) = halves(row)?;
+    let text = with_bytes(alloc, text)?;
+    every_cut_tells(rt, alloc, &text, wanted)
+}
+
 #[test]
 fn every_cut_reads_the_same(rt: HostRuntime) -> Result<(), Fail> {
     for row in PROGRAMS.lines() {
-        let (text, wanted) = row.split_once(" => ").ok_or("a row without =>")?;
-        let text = with_bytes(rt.alloc(), text)?;
-        let whole = read_halves(rt.alloc(), text.as_bytes(), 0);
-        let told = format!(in rt.alloc(); "{} {:?}", whole.moves.len(), whole.fault)?;
-        assert_eq!(rt; told.as_str(), wanted, "{row}");
-        cuts_agree(&rt, rt.alloc(), &text, &whole);
+        row_tells(&rt, rt.alloc(), row)?;
     }
     Ok(())
 }
 
-fn with_bytes(alloc: Global, text: &str) -> Result<String, Fail> {
-    let text = text.replace(alloc, "\\n", "\n")?;
-    let text = text.replace(alloc, "\\r", "\r")?;
-    Ok(text.replace(alloc, "\\t", "\t")?)
+// Long lines: the last byte that a line may have, and one more, in each piece.
+const LONG_LINES: &str = r"___G17            \r\nM2 => 0 None
+___G17            \r\r\nM2 => 0 Some(LongLine { line: 1 })
+M6\n___G17               => 0 Some(LongLine { line: 2 })";
+
+fn long_row_tells<R: Abort>(rt: &R, alloc: Global, row: &str) -> Result<(), Fail> {
+    let (text, wanted) = halves(row)?;
+    let text = with_blanks(alloc, text)?;
+    every_cut_tells(rt, alloc, &text, wanted)
 }
 
-// Long lines: the last byte that a line may have, and one more, in each piece.
 #[test]
 fn long_lines_are_cut(rt: HostRuntime) -> Result<(), Fail> {
-    let blanks = "                                                                                ";
-    let most = format!(in rt.alloc(); "{blanks}{blanks}{blanks}G17            \r\nM2")?;
-    let more = format!(in rt.alloc(); "{blanks}{blanks}{blanks}G17            \r\r\nM2")?;
-    let open = format!(in rt.alloc(); "M6\n{blanks}{blanks}{blanks}G17              ")?;
-    for (text, fault) in [
-        (most.as_str(), None),
-        (more.as_str(), Some(NgcFault::LongLine { line: 1 })),
-        (open.as_str(), Some(NgcFault::LongLine { line: 2 })),
-    ] {
-        let whole = read_halves(rt.alloc(), text.as_bytes(), 0);
-        assert_eq!(rt; whole.fault, fault, "{text}");
-        cuts_agree(&rt, rt.alloc(), text, &whole);
+    for row in LONG_LINES.lines() {
+        long_row_tells(&rt, rt.alloc(), row)?;
     }
     Ok(())
 }
@@ -187,32 +204,44 @@ fn program(alloc: Global, dice: &mut Dice) -> Result<String, AllocError> {
     Ok(text)
 }
 
-// Long programs, in pieces of several sizes.
+fn pieces_agree<R: Abort>(
+    rt: &R,
+    alloc: Global,
+    text: &[u8],
+    whole: &Told,
+    most: usize,
+    dice: &mut Dice,
+)
+    requires { 0 < most }
+{
+    let told = read_pieces(rt, alloc, text, most, dice);
+    assert!(rt; is_same(&told, whole), "pieces of {most}");
+}
+
+// Pieces of several sizes.
+fn sizes_agree<R: Abort>(rt: &R, alloc: Global, text: &[u8], whole: &Told, dice: &mut Dice) {
+    for most in [1, 7, 40, 400] {
+        pieces_agree(rt, alloc, text, whole, most, dice);
+    }
+}
+
+// Reads a long program in pieces of several sizes. It may have a fault.
+fn has_fault<R: Abort>(rt: &R, alloc: Global, dice: &mut Dice) -> Result<bool, AllocError> {
+    let text = program(alloc, dice)?;
+    let whole = read_halves(alloc, text.as_bytes(), 0);
+    sizes_agree(rt, alloc, text.as_bytes(), &whole, dice);
+    Ok(whole.fault.is_some())
+}
+
 #[test]
-fn random_cuts_read_the_same(rt: HostRuntime) -> Result<(), Fail> {
+fn random_cuts_read_the_same(rt: HostRuntime) -> Result<(), AllocError> {
     let mut dice = Dice { state: 1 };
-    let mut faults = Vec::new(rt.alloc());
+    let mut faults: u32 = 0;
     for _ in 0..60 {
-        let text = program(rt.alloc(), &mut dice)?;
-        let bytes = text.as_bytes();
-        let whole = read_halves(rt.alloc(), bytes, 0);
-        if let Some(fault) = whole.fault {
-            faults.push(fault)?;
-        }
-        for most in [1, 7, 40, 400] {
-            let told = read_pieces(&rt, rt.alloc(), bytes, most, &mut dice);
-            assert_eq!(rt; told.fault, whole.fault, "pieces of {most}");
-            assert_eq!(rt;
-                told.moves.as_slice(),
-                whole.moves.as_slice(),
-                "pieces of {most}"
-            );
+        if has_fault(&rt, rt.alloc(), &mut dice)? {
+            faults = faults.saturating_add(1);
         }
     }
-    assert!(rt;
-        faults.len() > 9 && faults.len() < 50,
-        "{} faults",
-        faults.len()
-    );
+    assert!(rt; faults > 9 && faults < 50, "{faults} faults");
     Ok(())
 }

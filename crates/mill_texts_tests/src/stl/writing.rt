@@ -2,6 +2,8 @@
 use mill_base::Unit;
 use mill_decimal::Snap;
 use mill_stl::{read_stl, write_stl};
+use std::alloc::Global;
+use std::process::Abort;
 use std::test::Fail;
 
 const NO_TRIANGLE: &str = "solid stock
@@ -48,30 +50,45 @@ endfacet
 endsolid stock
 ";
 
-// What is written is written again as it is.
-#[test]
-fn writes_what_it_reads(rt: HostRuntime) -> Result<(), Fail> {
-    for (text, unit) in [
-        (NO_TRIANGLE, Unit::Hundredth),
-        (NO_TRIANGLE, Unit::Thousandth),
-        (SQUARE, Unit::Hundredth),
-        (FARTHEST, Unit::Hundredth),
-        (FARTHEST_THOUSANDTHS, Unit::Thousandth),
-    ] {
-        let read = read_stl(rt.alloc(), text.as_bytes(), Snap::Exact, unit)?;
-        let written = write_stl(rt.alloc(), read.tris.as_slice(), unit)?;
-        assert_eq!(rt; written.as_slice(), text.as_bytes(), "{text}");
-    }
+// What a part's text is written as.
+fn written(alloc: Global, text: &str, snap: Snap, unit: Unit) -> Result<Vec<u8>, Fail> {
+    let read = read_stl(alloc, text.as_bytes(), snap, unit)?;
+    Ok(write_stl(alloc, read.tris.as_slice(), unit)?)
+}
+
+fn is_written<R: Abort>(
+    rt: &R,
+    alloc: Global,
+    text: &str,
+    snap: Snap,
+    unit: Unit,
+    wanted: &str,
+) -> Result<(), Fail> {
+    let written = written(alloc, text, snap, unit)?;
+    assert_eq!(rt; written.as_slice(), wanted.as_bytes(), "{text}");
     Ok(())
 }
 
-// A part that came with other normals, words and line ends, and finer than the unit.
+fn is_written_again<R: Abort>(rt: &R, alloc: Global, text: &str, unit: Unit) -> Result<(), Fail> {
+    is_written(rt, alloc, text, Snap::Exact, unit, text)
+}
+
+// What is written is written again as it is.
 #[test]
-fn writes_in_one_form(rt: HostRuntime) -> Result<(), Fail> {
-    let given =
-        "SOLID a\r\nFACET NORMAL nan 1 -1e3 outer loop\r\n\tvertex 0 .001 2\r\n\tvertex 1e0 -0.0 1.999
+fn writes_what_it_reads(rt: HostRuntime) -> Result<(), Fail> {
+    is_written_again(&rt, rt.alloc(), NO_TRIANGLE, Unit::Hundredth)?;
+    is_written_again(&rt, rt.alloc(), NO_TRIANGLE, Unit::Thousandth)?;
+    is_written_again(&rt, rt.alloc(), SQUARE, Unit::Hundredth)?;
+    is_written_again(&rt, rt.alloc(), FARTHEST, Unit::Hundredth)?;
+    is_written_again(&rt, rt.alloc(), FARTHEST_THOUSANDTHS, Unit::Thousandth)
+}
+
+// A part that came with other normals, words and line ends, and finer than the unit.
+const GIVEN: &str =
+    "SOLID a\r\nFACET NORMAL nan 1 -1e3 outer loop\r\n\tvertex 0 .001 2\r\n\tvertex 1e0 -0.0 1.999
 vertex +1 001 2 endloop endfacet\r\nendsolid b\r\nsolid c\r\nendsolid";
-    let want = "solid stock
+
+const IN_ONE_FORM: &str = "solid stock
 facet normal 0 0 1
 outer loop
 vertex 0.00 0.00 2.00
@@ -81,12 +98,19 @@ endloop
 endfacet
 endsolid stock
 ";
+
+#[test]
+fn writes_in_one_form(rt: HostRuntime) -> Result<(), Fail> {
     let unit = Unit::Hundredth;
-    let read = read_stl(rt.alloc(), given.as_bytes(), Snap::Nearest, unit)?;
-    let written = write_stl(rt.alloc(), read.tris.as_slice(), unit)?;
-    assert_eq!(rt; written.as_slice(), want.as_bytes());
-    let again = read_stl(rt.alloc(), written.as_slice(), Snap::Exact, unit)?;
-    assert_eq!(rt; again.tris.as_slice(), read.tris.as_slice());
-    assert_eq!(rt; again.rounded, 0);
+    is_written(&rt, rt.alloc(), GIVEN, Snap::Nearest, unit, IN_ONE_FORM)
+}
+
+#[test]
+fn reads_the_same_from_one_form(rt: HostRuntime) -> Result<(), Fail> {
+    let unit = Unit::Hundredth;
+    let given = read_stl(rt.alloc(), GIVEN.as_bytes(), Snap::Nearest, unit)?;
+    let again = read_stl(rt.alloc(), IN_ONE_FORM.as_bytes(), Snap::Exact, unit)?;
+    let found = (again.tris.as_slice(), again.rounded);
+    assert_eq!(rt; found, (given.tris.as_slice(), 0));
     Ok(())
 }
