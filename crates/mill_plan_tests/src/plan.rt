@@ -256,10 +256,20 @@ fn follows_the_waterline_round_a_point(rt: HostRuntime) -> Result<(), Fail> {
 // the gap between two triangles, in which the second column stands.
 #[test]
 fn names_the_stock_that_stays_uncut(rt: HostRuntime) {
-    for (east, west, lift, col, top) in [(0, 300, 10, 0, 210), (150, 50, 0, 1, 200)] {
-        let planned = plan_plate(&rt, &block_job(0, lift), east, west);
-        same_fault(&rt, planned, PlanFault::Uncut { row: 0, col, top });
-    }
+    let lifted = plan_plate(&rt, &block_job(0, 10), 0, 300);
+    let over_plate = PlanFault::Uncut {
+        row: 0,
+        col: 0,
+        top: 210,
+    };
+    same_fault(&rt, lifted, over_plate);
+    let parted = plan_plate(&rt, &block_job(0, 0), 150, 50);
+    let in_gap = PlanFault::Uncut {
+        row: 0,
+        col: 1,
+        top: 200,
+    };
+    same_fault(&rt, parted, in_gap);
 }
 
 // Of two lattices that are too large the finishing one is named.
