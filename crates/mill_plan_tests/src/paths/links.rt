@@ -95,7 +95,27 @@ fn same_moves<R: Abort>(rt: &R, moves: &[Move], wanted: &[Move]) {
     assert_eq!(rt; moves, wanted);
 }
 
-/// The moves of the link past a post of no width at the origin, 300 high.
+/// Adds the moves of the link past a post of no width at the origin, 300 high.
+fn add_link(
+    alloc: Global,
+    job: &Job,
+    rows: &mut [Row],
+    from: Pt3,
+    to: Visit,
+    out: &mut Vec<Move>,
+) -> Result<(), WantOfMemory>
+    requires job_ok { IsJob job.now }
+    requires rows_ok { All (IsRowOf job.now) rows.old }
+    requires from_ok { IsInRange from }
+    requires to_ok { IsInRange to.at }
+    ensures rows_ok { All (IsRowOf job.now) rows.new }
+{
+    let post = peak(alloc, 0, 0)?;
+    let sorted = SortedPart::new(alloc, &post)?;
+    link(job, &post, sorted.cells(), rows, from, to, out)
+}
+
+/// The moves of that link.
 fn link_of(
     alloc: Global,
     job: &Job,
@@ -109,10 +129,8 @@ fn link_of(
     requires to_ok { IsInRange to.at }
     ensures rows_ok { All (IsRowOf job.now) rows.new }
 {
-    let post = peak(alloc, 0, 0)?;
-    let sorted = SortedPart::new(alloc, &post)?;
     let mut out = Vec::new(alloc);
-    link(job, &post, sorted.cells(), rows, from, to, &mut out)?;
+    add_link(alloc, job, rows, from, to, &mut out)?;
     Ok(out)
 }
 
@@ -124,18 +142,21 @@ fn free_link(alloc: Global, from: Pt3, to: Visit) -> Result<Vec<Move>, WantOfMem
     link_of(alloc, &job(0, None), &mut [], from, to)
 }
 
-// The first visit is near the start and is fed to straight.
-#[test]
-fn near_visits_are_fed_to(rt: HostRuntime) -> Result<(), Fail> {
-    let moves = free_link(rt.alloc(), at(-300, 0, 500), visit(-200, 0, 100))?;
-    same_moves(&rt, &moves, &[feed(at(-300, 0, 500), at(-200, 0, 200))]);
-    Ok(())
+/// The moves of the link to a visit, and then of the link from there to the same visit.
+fn links_twice(alloc: Global, from: Pt3, to: Visit) -> Result<Vec<Move>, WantOfMemory>
+    requires from_ok { IsInRange from }
+    requires to_ok { IsInRange to.at }
+{
+    let mut out = free_link(alloc, from, to)?;
+    add_link(alloc, &job(0, None), &mut [], to.at, to, &mut out)?;
+    Ok(out)
 }
 
+// The first visit is near the start and is fed to straight; at the second time the cutter is there.
 #[test]
-fn no_move_to_where_the_cutter_is(rt: HostRuntime) -> Result<(), Fail> {
-    let moves = free_link(rt.alloc(), at(-200, 0, 200), visit(-200, 0, 100))?;
-    same_moves(&rt, &moves, &[]);
+fn near_visits_are_fed_to(rt: HostRuntime) -> Result<(), Fail> {
+    let moves = links_twice(rt.alloc(), at(-300, 0, 500), visit(-200, 0, 100))?;
+    same_moves(&rt, &moves, &[feed(at(-300, 0, 500), at(-200, 0, 200))]);
     Ok(())
 }
 
@@ -226,18 +247,13 @@ fn goes_down_by_pecks(rt: HostRuntime) -> Result<(), Fail> {
     look_at_pecks(&rt, 150, &two)
 }
 
-/// How many moves there are from home to the first visit.
-fn cut_first(alloc: Global, job: &Job, rows: &mut [Row]) -> Result<usize, WantOfMemory>
-    requires job_ok { IsJob job.now }
-    requires rows_ok { All (IsRowOf job.now) rows.old }
-    ensures rows_ok { All (IsRowOf job.now) rows.new }
-{
-    let moves = link_of(alloc, job, rows, job.home(), visit(-200, 0, 100))?;
-    Ok(moves.len())
-}
-
-/// The moves from the first visit to 50 under it.
-fn cut_lower(alloc: Global, job: &Job, rows: &mut [Row]) -> Result<Vec<Move>, WantOfMemory>
+/// Adds the moves from the first visit to 50 under it.
+fn add_lower(
+    alloc: Global,
+    job: &Job,
+    rows: &mut [Row],
+    out: &mut Vec<Move>,
+) -> Result<(), WantOfMemory>
     requires job_ok { IsJob job.now }
     requires rows_ok { All (IsRowOf job.now) rows.old }
 {
@@ -245,27 +261,31 @@ fn cut_lower(alloc: Global, job: &Job, rows: &mut [Row]) -> Result<Vec<Move>, Wa
         at: at(-200, 0, 150),
         step: 100,
     };
-    link_of(alloc, job, rows, at(-200, 0, 200), lower)
+    add_link(alloc, job, rows, at(-200, 0, 200), lower, out)
 }
 
-/// What two links in one stock come to: how many moves the first has, those of the second, and the rows.
+/// What two links in one stock come to: their moves, how many of them the first link has, and the rows.
 #[derive(Drop)]
 struct Links {
+    moves: Vec<Move>,
     first: usize,
-    second: Vec<Move>,
     rows: Vec<Row>,
 }
 
 fn two_links(alloc: Global) -> Result<Links, WantOfMemory> {
     let job = job(50, None);
     let mut rows = uncut_rows(alloc, &job)?;
-    let first = cut_first(alloc, &job, &mut rows)?;
-    let second = cut_lower(alloc, &job, &mut rows)?;
-    Ok(Links {
-        first,
-        second,
-        rows,
-    })
+    let mut moves = link_of(alloc, &job, &mut rows, job.home(), visit(-200, 0, 100))?;
+    let first = moves.len();
+    add_lower(alloc, &job, &mut rows, &mut moves)?;
+    Ok(Links { moves, first, rows })
+}
+
+/// Looks at seven moves, of which six lead to the first visit.
+fn look_at_seven<R: Abort>(rt: &R, moves: &[Move], first: usize) {
+    let down = feed(at(-200, 0, 200), at(-200, 0, 150));
+    let found = (first, moves.len(), moves.last());
+    assert_eq!(rt; found, (6, 7, Some(&down)));
 }
 
 fn look_at_tops<R: Abort>(rt: &R, row: Option<&Row>, tops: &[i32]) {
@@ -277,12 +297,7 @@ fn look_at_tops<R: Abort>(rt: &R, row: Option<&Row>, tops: &[i32]) {
 #[test]
 fn feeds_no_deeper_than_the_limit(rt: HostRuntime) -> Result<(), Fail> {
     let links = two_links(rt.alloc())?;
-    assert_eq!(rt; links.first, 6);
-    same_moves(
-        &rt,
-        &links.second,
-        &[feed(at(-200, 0, 200), at(-200, 0, 150))],
-    );
+    look_at_seven(&rt, &links.moves, links.first);
     look_at_tops(&rt, links.rows.get(3), &[400, 150, 400, 400, 400, 400, 400]);
     Ok(())
 }
