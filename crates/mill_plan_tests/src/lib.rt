@@ -4,6 +4,10 @@
 #![tactic(auto)]
 
 #[cfg(test)]
+mod jobs;
+#[cfg(test)]
+mod parts;
+#[cfg(test)]
 mod paths;
 #[cfg(test)]
 mod plan;

@@ -1,12 +1,19 @@
-ghost use Rattle.std.specs.Prelude.{◌≤ℤ◌, ◌<ℤ◌, pos};
+ghost use Rattle.std.specs.Prelude.{◌≤ℤ◌, pos};
+ghost use Rattle.mill_base.specs.Numbers.{Within};
+ghost use Rattle.mill_base.specs.declared.limits.TheConstants.{MAX_TEXT_COORDINATE};
 ghost use Rattle.mill_job.specs.Jobs.{AreLevels, IsJob};
 
-use super::shapes::{Shape, at, shape_of};
-use mill_base::{Box2, Cutter, Pt3, Tri, Unit};
+use super::{OVER, same_fault, same_visits, visit};
+use crate::jobs::{level, two_levels};
+use crate::parts::peak;
+use mill_base::{Box2, Cutter, Unit};
 use mill_decimal::Snap;
 use mill_job::{Job, Levels, Place};
+use mill_part::{Part, SortedPart};
 use mill_paths::{PathFault, Visit, level_visits};
+use std::process::Abort;
 use std::test::Fail;
+use std::thread::Threads;
 
 /// A block from 0 to 400 over a square of 2,000, and a flat cutter.
 fn job(radius: i32, raster: i32, levels: Levels) -> Job
@@ -47,56 +54,37 @@ fn job(radius: i32, raster: i32, levels: Levels) -> Job
     }
 }
 
-/// One level.
-fn level(z: i32) -> Levels
-    requires least { pos 0 ≤ℤ z }
-    requires most { z <ℤ pos 400 }
-    ensures { AreLevels (pos 0) (pos 400) result }
+/// The visits round one point at this place.
+fn visits_round<R: Threads + Sync + AllocGlobal>(
+    rt: &R,
+    job: &Job,
+    x: i32,
+    y: i32,
+) -> Result<Vec<Visit>, PathFault>
+    requires job_ok { IsJob job.now }
+    requires x_ok { Within MAX_TEXT_COORDINATE x }
+    requires y_ok { Within MAX_TEXT_COORDINATE y }
 {
-    let mut levels = Levels::NONE;
-    levels.push(z);
-    levels
+    let part = peak(rt.alloc(), x, y)?;
+    let sorted = SortedPart::new(rt.alloc(), &part)?;
+    level_visits(rt, rt.alloc(), job, &part, sorted.cells())
 }
 
-/// Two levels.
-fn two_levels(high: i32, low: i32) -> Levels
-    requires least { pos 0 ≤ℤ low }
-    requires falling { low <ℤ high }
-    requires most { high <ℤ pos 400 }
-    ensures { AreLevels (pos 0) (pos 400) result }
+fn visits_round_nothing<R: Threads + Sync + AllocGlobal>(
+    rt: &R,
+    job: &Job,
+) -> Result<Vec<Visit>, PathFault>
+    requires { IsJob job.now }
 {
-    let mut levels = Levels::NONE;
-    levels.push(high);
-    levels.push(low);
-    levels
-}
-
-/// The part of one point at this place, at the height 300.
-fn point<R: AllocGlobal>(rt: &R, x: i16, y: i16) -> Result<Shape, Fail> {
-    let place = at(x, y, 300);
-    let mut tris = Vec::new(rt.alloc());
-    tris.push(Tri {
-        a: place,
-        b: place,
-        c: place,
-    })?;
-    shape_of(rt, tris)
-}
-
-fn visit(x: i32, y: i32, z: i32) -> Visit {
-    Visit {
-        at: Pt3 { x, y, z },
-        step: 100,
-    }
+    let part = Part::new(Vec::new(rt.alloc()));
+    let sorted = SortedPart::new(rt.alloc(), &part)?;
+    level_visits(rt, rt.alloc(), job, &part, sorted.cells())
 }
 
 // The cutter touches the point from its four neighbour nodes, and gouges it from the node there: the
-// way round is closed, on the higher level first. At a corner it is open.
+// way round is closed, on the higher level first.
 #[test]
 fn round_a_point(rt: HostRuntime) -> Result<(), Fail> {
-    let inside = point(&rt, 500, 500)?;
-    let both = job(100, 100, two_levels(100, 0));
-    let visits = level_visits(&rt, rt.alloc(), &both, &inside.part, &inside.cells)?;
     let want = [
         visit(400, 500, 100),
         visit(500, 400, 100),
@@ -109,48 +97,47 @@ fn round_a_point(rt: HostRuntime) -> Result<(), Fail> {
         visit(500, 600, 0),
         visit(400, 500, 0),
     ];
-    assert_eq!(rt; visits.as_slice(), want.as_slice());
-    let corner = point(&rt, 0, 0)?;
-    let one = job(100, 100, level(0));
-    let visits = level_visits(&rt, rt.alloc(), &one, &corner.part, &corner.cells)?;
-    assert_eq!(rt;
-        visits.as_slice(),
-        [visit(100, 0, 0), visit(0, 100, 0)].as_slice()
-    );
+    let visits = visits_round(&rt, &job(100, 100, two_levels(100, 0)), 500, 500)?;
+    same_visits(&rt, &visits, &want);
     Ok(())
 }
 
-// Without levels, over the point, where all nodes are blocked, and round no part.
+// At a corner the way is open.
+#[test]
+fn round_a_corner(rt: HostRuntime) -> Result<(), Fail> {
+    let visits = visits_round(&rt, &job(100, 100, level(0)), 0, 0)?;
+    same_visits(&rt, &visits, &[visit(100, 0, 0), visit(0, 100, 0)]);
+    Ok(())
+}
+
+/// Looks at a job without visits round a point in the middle.
+fn look_at_none<R: Threads + Sync + AllocGlobal + Abort>(rt: &R, job: &Job) -> Result<(), Fail>
+    requires { IsJob job.now }
+{
+    let visits = visits_round(rt, job, 1000, 1000)?;
+    same_visits(rt, &visits, &[]);
+    Ok(())
+}
+
+// Without levels, on a fine lattice too, over the point, and where all nodes are blocked.
+#[test]
+fn nowhere_to_go_round(rt: HostRuntime) -> Result<(), Fail> {
+    look_at_none(&rt, &job(100, 100, Levels::NONE))?;
+    look_at_none(&rt, &job(100, 1, Levels::NONE))?;
+    look_at_none(&rt, &job(100, 100, level(300)))?;
+    look_at_none(&rt, &job(1500, 100, level(0)))
+}
+
 #[test]
 fn nothing_to_go_round(rt: HostRuntime) -> Result<(), Fail> {
-    let shape = point(&rt, 1000, 1000)?;
-    let empty = shape_of(&rt, Vec::new(rt.alloc()))?;
-    let none = job(100, 100, Levels::NONE);
-    let visits = level_visits(&rt, rt.alloc(), &none, &shape.part, &shape.cells)?;
-    assert!(rt; visits.is_empty());
-    let high = job(100, 100, level(300));
-    let visits = level_visits(&rt, rt.alloc(), &high, &shape.part, &shape.cells)?;
-    assert!(rt; visits.is_empty());
-    let wide = job(1500, 100, level(0));
-    let visits = level_visits(&rt, rt.alloc(), &wide, &shape.part, &shape.cells)?;
-    assert!(rt; visits.is_empty());
-    let visits = level_visits(&rt, rt.alloc(), &wide, &empty.part, &empty.cells)?;
-    assert!(rt; visits.is_empty());
+    let visits = visits_round_nothing(&rt, &job(1500, 100, level(0)))?;
+    same_visits(&rt, &visits, &[]);
     Ok(())
 }
 
-// A fine lattice counts where there is a level, and only there.
+// A fine lattice counts where there is a level.
 #[test]
-fn too_many_nodes(rt: HostRuntime) -> Result<(), Fail> {
-    let shape = point(&rt, 1000, 1000)?;
-    let none = job(100, 1, Levels::NONE);
-    let visits = level_visits(&rt, rt.alloc(), &none, &shape.part, &shape.cells)?;
-    assert!(rt; visits.is_empty());
-    let one = job(100, 1, level(0));
-    let visits = level_visits(&rt, rt.alloc(), &one, &shape.part, &shape.cells);
-    assert_eq!(rt;
-        visits.err(),
-        Some(PathFault::TooManyNodes { nodes: 4_004_001 })
-    );
-    Ok(())
+fn too_many_nodes(rt: HostRuntime) {
+    let visits = visits_round(&rt, &job(100, 1, level(0)), 1000, 1000);
+    same_fault(&rt, visits, OVER);
 }

@@ -2,7 +2,7 @@ use Rattle.std.specs.Prelude.{pos}
 use Rattle.std.proofs.Common.{w32}
 use Rattle.std.proofs.lemmas.Int.{to_z-of_z}
 use Rattle.mill_plan_tests.proofs.SampleLevels.{two_levels}
-use Rattle.mill_plan_tests.proofs.paths.levels.two_levels.Goals as goal
+use Rattle.mill_plan_tests.proofs.jobs.two_levels.Goals as goal
 
 pub returns : goal.returns
 returns c =
