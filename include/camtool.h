@@ -4,8 +4,8 @@
  * texts. A coordinate's magnitude is at most CAMTOOL_MAX_COORDINATE.
  *
  * Each call tests its arguments, answers a status, and keeps nothing for the next call. With status
- * CAMTOOL_OK the array that the caller has lent has the results; with any other it is as it was, and
- * what else is told is said at the call.
+ * CAMTOOL_OK the arrays that the caller has lent have the results; with any other they are as they
+ * were, and what else is told is said at the call.
  * What is proved of a call is what is said here, for callers that keep to these, which no call can
  * test:
  *
@@ -61,7 +61,11 @@ enum camtool_status {
     /* A part's text has more than 200,000 triangles. */
     CAMTOOL_LONG_TEXT = 13,
     /* A part's text ends before its first solid, or within a solid. */
-    CAMTOOL_CUT_SHORT = 14
+    CAMTOOL_CUT_SHORT = 14,
+    /* A number of a fiber is out of range, or its first position is after its last. */
+    CAMTOOL_FIBER = 15,
+    /* The array for the counts is not as long as the fibers are many. */
+    CAMTOOL_COUNTS_ROOM = 16
 };
 
 /* What a cutter is. */
@@ -132,6 +136,36 @@ int32_t camtool_drop_heights(const camtool_triangle *triangles, size_t triangles
                              const camtool_tool *tool, const camtool_place *places,
                              size_t places_count, int32_t floor, int32_t *heights,
                              size_t heights_count);
+
+/* A line along an axis, at one height, and a stretch of it: where the tip of a tool is pushed. Its
+ * positions are the coordinates along the axis. */
+typedef struct camtool_fiber {
+    /* 1 for a line along x, 2 for one along y. */
+    int32_t axis;
+    /* The other one of the coordinates x and y. */
+    int32_t at;
+    int32_t z;
+    /* The first position of the stretch. */
+    int32_t first;
+    /* The last one, which isn't before the first. */
+    int32_t last;
+} camtool_fiber;
+
+/* The positions from first to last, with both of them. */
+typedef struct camtool_run {
+    int32_t first;
+    int32_t last;
+} camtool_run;
+
+/* Runs along fibers: for each fiber the maximal runs of whole positions from its first to its last
+ * at which the tool, with its tip there, gouges the part of these triangles, ascending. counts has
+ * how many runs each fiber has, and runs all of them, fiber after fiber. counts is as long as
+ * fibers, and runs as the runs are many: with another length, as 0, the status is CAMTOOL_ROOM and
+ * told has their number. told is written with every status. */
+int32_t camtool_runs(const camtool_triangle *triangles, size_t triangles_count,
+                     const camtool_tool *tool, const camtool_fiber *fibers, size_t fibers_count,
+                     uint64_t *counts, size_t counts_count, camtool_run *runs, size_t runs_count,
+                     uint64_t *told);
 
 #ifdef __cplusplus
 }

@@ -102,6 +102,41 @@ class DropHeights(unittest.TestCase):
         self.assertEqual(list(self.places), [100, 100, -150, 100, -149, 100])
 
 
+class Runs(unittest.TestCase):
+    def setUp(self):
+        self.corners = corners_of(PLATE)
+        self.tool = camtool.flat(150)
+
+    def test_are_the_places_at_which_the_tool_cannot_drop_so_low(self):
+        hill = corners_of(os.path.join(ROOT, "examples", "hill"))
+        z, first, last = 150, -300, 1500
+        for tool in (self.tool, camtool.ball(150), camtool.cone(150, 3, 2), camtool.ball(60, holder=(200, 100))):
+            for axis, at in ((1, 300), (1, 401), (2, 650), (2, -2000)):
+                got = camtool.runs(hill, tool, array.array("i", [axis, at, z, first, last]))
+                along = range(first, last + 1)
+                places = [coordinate for v in along for coordinate in ((v, at) if axis == 1 else (at, v))]
+                heights = camtool.drop_heights(hill, tool, array.array("i", places), -500_000)
+                wanted = [v for v, height in zip(along, heights) if height > z]
+                found = [v for a, b in zip(got.runs[::2], got.runs[1::2]) for v in range(a, b + 1)]
+                self.assertEqual(found, wanted)
+                self.assertEqual(list(got.counts), [len(got.runs) // 2])
+
+    def test_of_several_fibers_and_of_none(self):
+        fibers = array.array("i", [1, 100, 100, -1000, 1000, 1, 100, 200, -1000, 1000, 2, 100, 100, 0, 1000])
+        got = camtool.runs(self.corners, self.tool, fibers)
+        self.assertEqual((list(got.counts), list(got.runs)), ([1, 0, 1], [-149, 349, 0, 349]))
+        self.assertEqual(camtool.runs(self.corners, self.tool, array.array("i")), (array.array("Q"), array.array("i")))
+
+    def test_name_what_is_wrong(self):
+        for fiber in ([3, 0, 0, 0, 1], [1, 1 << 20, 0, 0, 1], [1, 0, 0, 1, 0]):
+            with self.assertRaises(camtool.BadFiber):
+                camtool.runs(self.corners, self.tool, array.array("i", fiber))
+        with self.assertRaises(camtool.BadCutter):
+            camtool.runs(self.corners, camtool.flat(0), array.array("i"))
+        with self.assertRaises(camtool.BadArray):
+            camtool.runs(self.corners, self.tool, array.array("i", [1, 0, 0, 0]))
+
+
 class ReadPart(unittest.TestCase):
     FACET = b"facet normal 0 0 1 outer loop vertex 0 0 2 vertex 2 0 2 vertex 2 2.005 2 endloop endfacet\n"
 

@@ -148,11 +148,55 @@ static void test_part_refusals(void) {
     refused_part("nothing", CAMTOOL_CUT_SHORT, "", 2, 1, 2, (camtool_reading){0, 0, 1});
 }
 
+static void test_runs(void) {
+    const camtool_fiber fibers[] = {
+        {1, 100, 100, -1000, 1000}, {2, 100, 100, 0, 1000}, {1, 100, 200, -1000, 1000}};
+    uint64_t counts[3], told;
+    camtool_run runs[2];
+    expect("runs", CAMTOOL_OK,
+           camtool_runs(PLATE, COUNT(PLATE), &FLAT, fibers, 3, counts, 3, runs, 2, &told));
+    expect("runs along x", 1, (int32_t)counts[0]);
+    expect("runs along y", 1, (int32_t)counts[1]);
+    expect("runs over the plate", 0, (int32_t)counts[2]);
+    expect("runs", 2, (int32_t)told);
+    expect("runs along x", -149, runs[0].first);
+    expect("runs along x", 349, runs[0].last);
+    expect("runs along y", 0, runs[1].first);
+    expect("runs along y", 349, runs[1].last);
+}
+
+static void refused_runs(const char *what, int32_t status, camtool_fiber fiber, size_t counts_room,
+                         size_t room, uint64_t wanted) {
+    uint64_t counts[2] = {UNTOUCHED, UNTOUCHED}, told = UNTOUCHED;
+    camtool_run runs[2] = {{UNTOUCHED, UNTOUCHED}, {UNTOUCHED, UNTOUCHED}};
+    expect(what, status,
+           camtool_runs(PLATE, COUNT(PLATE), &FLAT, &fiber, 1, counts, counts_room, runs, room,
+                        &told));
+    expect(what, (int32_t)wanted, (int32_t)told);
+    expect(what, UNTOUCHED, (int32_t)counts[0]);
+    expect(what, UNTOUCHED, runs[0].first);
+}
+
+static void test_run_refusals(void) {
+    const int32_t far = CAMTOOL_MAX_COORDINATE + 1;
+    refused_runs("no room", CAMTOOL_ROOM, (camtool_fiber){1, 100, 100, -1000, 1000}, 1, 0, 1);
+    refused_runs("much room", CAMTOOL_ROOM, (camtool_fiber){1, 100, 100, -1000, 1000}, 1, 2, 1);
+    refused_runs("no counts", CAMTOOL_COUNTS_ROOM, (camtool_fiber){1, 100, 100, 0, 9}, 0, 1, 0);
+    refused_runs("no axis", CAMTOOL_FIBER, (camtool_fiber){0, 100, 100, 0, 9}, 1, 1, 0);
+    refused_runs("a third axis", CAMTOOL_FIBER, (camtool_fiber){3, 100, 100, 0, 9}, 1, 1, 0);
+    refused_runs("a far line", CAMTOOL_FIBER, (camtool_fiber){1, far, 100, 0, 9}, 1, 1, 0);
+    refused_runs("a high line", CAMTOOL_FIBER, (camtool_fiber){1, 100, far, 0, 9}, 1, 1, 0);
+    refused_runs("a long stretch", CAMTOOL_FIBER, (camtool_fiber){1, 100, 100, 0, far}, 1, 1, 0);
+    refused_runs("a stretch back", CAMTOOL_FIBER, (camtool_fiber){1, 100, 100, 9, 8}, 1, 1, 0);
+}
+
 int main(void) {
     test_drops();
     test_nothing();
     test_refusals();
     test_parts();
     test_part_refusals();
+    test_runs();
+    test_run_refusals();
     return failed != 0;
 }

@@ -21,9 +21,10 @@ import os
 import typing
 
 __all__ = [
-    "MAX_COORDINATE", "BadArray", "BadCoordinate", "BadCutter", "BadFloor", "BadHolder", "BadPlace", "BadSnap",
+    "MAX_COORDINATE", "BadArray", "BadCoordinate", "BadCutter", "BadFiber", "BadFloor", "BadHolder", "BadPlace", "BadSnap",
     "BadText", "BadTriangle", "BadUnit", "BadWord", "CamtoolError", "CutShort", "LongText", "NoMemory", "Part",
-    "TooManyTriangles", "Tool", "WrongRoom", "ball", "cone", "drop_heights", "flat", "read_part",
+    "Runs", "TooManyTriangles", "Tool", "WrongCountsRoom", "WrongRoom", "ball", "cone", "drop_heights", "flat",
+    "read_part", "runs",
 ]
 
 # The greatest magnitude of a coordinate, and of a floor.
@@ -130,9 +131,21 @@ class CutShort(BadText):
     status = 14
 
 
+class BadFiber(CamtoolError, ValueError):
+    """A number of a fiber is out of range, or its first position is after its last."""
+
+    status = 15
+
+
+class WrongCountsRoom(CamtoolError, ValueError):
+    """The array for the counts is not as long as the fibers are many."""
+
+    status = 16
+
+
 _ERRORS = {error.status: error for error in (
     NoMemory, BadCutter, BadHolder, BadTriangle, TooManyTriangles, BadPlace, BadFloor, WrongRoom, BadUnit, BadSnap,
-    BadWord, BadCoordinate, LongText, CutShort)}
+    BadWord, BadCoordinate, LongText, CutShort, BadFiber, WrongCountsRoom)}
 
 
 class _Triangle(ctypes.Structure):
@@ -150,6 +163,21 @@ class _Tool(ctypes.Structure):
 
 class _Reading(ctypes.Structure):
     _fields_ = [(name, ctypes.c_uint64) for name in ("triangles", "rounded", "line")]
+
+
+class _Fiber(ctypes.Structure):
+    _fields_ = [(name, ctypes.c_int32) for name in ("axis", "at", "z", "first", "last")]
+
+
+class _Run(ctypes.Structure):
+    _fields_ = [("first", ctypes.c_int32), ("last", ctypes.c_int32)]
+
+
+class Runs(typing.NamedTuple):
+    """How many runs each fiber has, and the first and the last position of each, fiber after fiber."""
+
+    counts: array.array
+    runs: array.array
 
 
 class Part(typing.NamedTuple):
@@ -246,6 +274,36 @@ def drop_heights(triangles, tool, places, floor, out=None):
     return heights
 
 
+def runs(triangles, tool, fibers):
+    """Runs along fibers: for each fiber the maximal runs of whole positions from its first to its last at
+    which the tool, with its tip there, gouges the part, by its cutter or by its holder, ascending, exactly.
+
+    triangles  an array of shape (n, 3, 3), or of 9 n numbers in that order: x, y and z of each corner
+    tool       a Tool
+    fibers     an array of shape (m, 5), or of 5 m numbers in that order: the axis, 1 for a line along x
+               and 2 for one along y; the other one of the coordinates x and y; z; the first and the last
+               position along the axis
+
+    It returns Runs: an array.array('Q') of m counts, and an array.array('i') of 2 numbers for each run.
+    """
+    corners, triangles_count = _read("triangles", triangles, _Triangle)
+    lines, fibers_count = _read("fibers", fibers, _Fiber)
+    counts, told = array.array("Q", bytes(8 * fibers_count)), ctypes.c_uint64()
+    counted = (ctypes.c_uint64 * fibers_count).from_buffer(counts) if fibers_count else (ctypes.c_uint64 * 1)()
+
+    def called(room, count):
+        return _library.camtool_runs(
+            corners, triangles_count, _numbers_of(tool), lines, fibers_count, counted, fibers_count, room, count, told)
+
+    # The first call finds how many runs there are: it has no room for any. It is the whole where there are none.
+    status = called((_Run * 1)(), 0)
+    found = array.array("i", bytes(8 * told.value))
+    if status == WrongRoom.status:
+        status = called((_Run * told.value).from_buffer(found), told.value)
+    _tell(status)
+    return Runs(counts, found)
+
+
 def _tell(status, line=None):
     """Raises the exception of a status other than 0, with the line of a text's fault."""
     if status:
@@ -332,6 +390,10 @@ def _loaded():
     library.camtool_drop_heights.argtypes = [
         ctypes.POINTER(_Triangle), size, ctypes.POINTER(_Tool), ctypes.POINTER(_Place), size,
         number, numbers, size]
+    library.camtool_runs.restype = number
+    library.camtool_runs.argtypes = [
+        ctypes.POINTER(_Triangle), size, ctypes.POINTER(_Tool), ctypes.POINTER(_Fiber), size,
+        ctypes.POINTER(ctypes.c_uint64), size, ctypes.POINTER(_Run), size, ctypes.POINTER(ctypes.c_uint64)]
     return library
 
 

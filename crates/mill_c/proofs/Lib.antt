@@ -1,2 +1,3 @@
+pub mod Fibers
 pub mod Parts
 pub mod Written

@@ -19,3 +19,5 @@ fault_code fault.Word = pos 11
 fault_code fault.Coordinate = pos 12
 fault_code fault.LongText = pos 13
 fault_code fault.CutShort = pos 14
+fault_code fault.Fiber = pos 15
+fault_code fault.CountsRoom = pos 16

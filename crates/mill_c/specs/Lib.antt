@@ -1,5 +1,6 @@
 pub mod Asked
 pub mod Faults
+pub mod Fibers
 pub mod Raw
 pub mod Texts
 pub mod inner

@@ -34,6 +34,10 @@ pub enum Fault {
     LongText,
     /// A part's text ends before its first solid, or within a solid.
     CutShort,
+    /// A number of a fiber is out of range, or its first position is after its last.
+    Fiber,
+    /// The array for the counts is not as long as the fibers are many.
+    CountsRoom,
 }
 
 impl Fault {
@@ -60,6 +64,8 @@ impl Fault {
             Fault::Coordinate => 12,
             Fault::LongText => 13,
             Fault::CutShort => 14,
+            Fault::Fiber => 15,
+            Fault::CountsRoom => 16,
         }
     }
 }

@@ -1,13 +1,13 @@
 //! The library for C: the proved calls, on numbers and arrays alone.
 //!
 //! It stands on the part and its cells (mill_part, mill_cells), on the reader of its text (mill_stl)
-//! and on the calls themselves, as mill_drop. Each export tests its arguments itself, so that it has no `requires`, and answers a
+//! and on the calls themselves, as mill_drop and mill_push. Each export tests its arguments itself, so that it has no `requires`, and answers a
 //! status: 0, and what it was asked for is in the array that the caller has lent, or a fault's code,
 //! and that array is as it was. Nothing is kept between two calls.
 //!
 //! `specs/Raw` says what the numbers stand for, `specs/Faults` gives the code of each fault,
-//! `specs/Asked` says when each fault comes of a call for heights and what is answered, and
-//! `specs/Texts` the same of a part's text. What the caller must keep is not
+//! `specs/Asked` says when each fault comes of a call for heights and what is answered, `specs/Fibers`
+//! the same of runs along fibers, and `specs/Texts` of a part's text. What the caller must keep is not
 //! here, since nothing can test it: that each array is there and as long as is said, and that no
 //! lent array overlaps another (include/camtool.h).
 #![tactic(auto)]
@@ -16,10 +16,12 @@ mod drop;
 mod fault;
 mod part;
 mod raw;
+mod runs;
 mod text;
 mod tool;
 
 pub use drop::camtool_drop_heights;
 pub use fault::Fault;
-pub use raw::{RawPlace, RawPoint, RawReading, RawTool, RawTriangle};
+pub use raw::{RawFiber, RawPlace, RawPoint, RawReading, RawRun, RawTool, RawTriangle};
+pub use runs::camtool_runs;
 pub use text::camtool_read_part;

@@ -54,3 +54,27 @@ pub struct RawReading {
     /// The line of the text's first fault, counted from 1; each LF ends one.
     pub line: u64,
 }
+
+/// A line along an axis, at one height, and a stretch of it: where the tip of a cutter is pushed. Its
+/// positions are the coordinates along the axis, in units.
+#[repr(C)]
+#[derive(Clone, Copy, Debug, PartialEq, Eq)]
+pub struct RawFiber {
+    /// 1 for a line along x, 2 for one along y.
+    pub axis: i32,
+    /// The other one of the coordinates x and y.
+    pub at: i32,
+    pub z: i32,
+    /// The first position of the stretch.
+    pub first: i32,
+    /// The last one, which isn't before the first.
+    pub last: i32,
+}
+
+/// The positions from `first` to `last`, with both of them.
+#[repr(C)]
+#[derive(Clone, Copy, Debug, PartialEq, Eq)]
+pub struct RawRun {
+    pub first: i32,
+    pub last: i32,
+}
