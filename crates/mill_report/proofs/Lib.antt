@@ -1,0 +1,3 @@
+mod Listed
+mod Alone
+mod Listings

@@ -1,0 +1,4 @@
+pub mod Listings
+pub mod Findings
+pub mod Columns
+pub mod Laws
