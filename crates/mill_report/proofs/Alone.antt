@@ -1,5 +1,5 @@
 -- A move by itself on a stock, and as one of a program's.
-use Rattle.std.specs.Prelude.{◌≡◌, ℕ, ◌<◌, List, [], ◌∷◌, length, Option, Some, IfSome, unwrap_or, refl}
+use Rattle.std.specs.Prelude.{◌≡◌, ℕ, ◌<◌, List, [], ◌∷◌, length, Option, None, Some, IfSome, unwrap_or, refl}
 use Rattle.std.proofs.Common.{sym, ◌∙◌, ap, subst, inl, inr}
 use Rattle.mill_base.specs.declared.points.Tri.{Tri}
 use Rattle.mill_base.specs.declared.motion.Move.{Move}
@@ -24,8 +24,12 @@ use Rattle.mill_verify.specs.declared.verdict.Reason.TheVariants.{Floor, Gouge, 
 use Rattle.mill_report.specs.Findings.{FailsAlone, IsFinding, move_of, numbered}
 
 -- what holds of the holder that is there
-of_some : (P : OneHolder → Type 0) (o : Option OneHolder) (a : OneHolder) → o ≡ Some a → IfSome o P → P a
+pub of_some : (P : OneHolder → Type 0) (o : Option OneHolder) (a : OneHolder) → o ≡ Some a → IfSome o P → P a
 of_some P o a there holds = subst (λ (x : Option OneHolder). IfSome x P) there holds
+
+pub if_some : (P : OneHolder → Type 0) (o : Option OneHolder) → ((a : OneHolder) → o ≡ Some a → P a) → IfSome o P
+if_some P None holds = tt
+if_some P (Some a) holds = holds a refl
 
 one_some : (o : Option OneHolder) (a b : OneHolder) → o ≡ Some a → o ≡ Some b → a ≡ b
 one_some o a b here there = ap (λ (x : Option OneHolder). unwrap_or x a) (sym here ∙ there)

@@ -1,3 +1,5 @@
 mod Listed
 mod Alone
 mod Listings
+mod Rowwise
+mod Steps

@@ -10,6 +10,9 @@
 
 mod laws;
 mod left;
+mod moves;
+mod rows;
+mod step;
 
 pub use laws::{
     accepted_has_nothing, first_is_verdict, first_left_is_verdict, nothing_is_accepted, one_left,
