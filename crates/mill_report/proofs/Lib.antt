@@ -3,3 +3,4 @@ mod Alone
 mod Listings
 mod Rowwise
 mod Steps
+mod Lefts

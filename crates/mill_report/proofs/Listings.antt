@@ -73,12 +73,17 @@ module _ (job : Job) (part : List Tri) (stock : Stock) where
       cols : a ≡ j → b < i → column_number job a b < column_number job j i
       cols e h = subst (λ (n : ℕ). column_number job a b < column_number job n i) e (omega (h, arith))
 
-  -- so a number is of one column, and a column left too high has one top
+  -- so a number is of one column
+  pub same_place : (j i a b : ℕ) → IsColumn job j i → IsColumn job a b → column_number job j i ≡ column_number job a b → (j ≡ a) × (i ≡ b)
+  same_place j i a b h g e =
+      not_before j i a b
+      (λ before. let less = number_before j i a b h.column before in omega (less, e, arith))
+      (λ before. let less = number_before a b j i g.column before in omega (less, e, arith))
+
+  -- and a column left too high has one top
   one_column : (c d : LeftColumn) → IsLeftColumn job part stock c → IsLeftColumn job part stock d → number c ≡ number d → c ≡ d
   one_column c d h g e =
-      let at = not_before c.row c.col d.row d.col
-      (λ before. let less = number_before c.row c.col d.row d.col h.column.column before in omega (less, e, arith))
-      (λ before. let less = number_before d.row d.col c.row c.col g.column.column before in omega (less, e, arith)) in
+      let at = same_place c.row c.col d.row d.col h.column g.column e in
       let top : c.top ≡ d.top = h.shown ∙ ap (λ (j : ℕ). stock j c.col) at.0 ∙ ap (λ (i : ℕ). stock d.row i) at.1 ∙ sym g.shown in
       ap (λ (j : ℕ). made j c.col c.top) at.0 ∙ ap (λ (i : ℕ). made d.row i c.top) at.1 ∙ ap (λ (t : ℤ). made d.row d.col t) top
     where

@@ -11,6 +11,7 @@
 mod laws;
 mod left;
 mod moves;
+mod report;
 mod rows;
 mod step;
 
@@ -18,4 +19,5 @@ pub use laws::{
     accepted_has_nothing, first_is_verdict, first_left_is_verdict, nothing_is_accepted, one_left,
     one_list, verdict_is_first,
 };
-pub use left::{LeftColumn, MAX_LEFT};
+pub use left::{LeftColumn, LeftColumns, MAX_LEFT};
+pub use report::{Findings, all_findings};
