@@ -1,6 +1,6 @@
 -- The columns left too high, one after another.
 use Rattle.std.specs.Prelude.{◌≡◌, ◌↔◌, ℕ, ◌+◌, ◌*◌, ◌<◌, ◌≤◌, ℤ, pos, nat_abs, ◌-ℤ◌, ◌≤ℤ◌, List, [], ◌∷◌, ◌++◌, length, slice_index_or, All, take, nat_lt, if◌then◌else◌, Bool, true, false, refl}
-use Rattle.std.proofs.Common.{FitsSigned, sym, ◌∙◌, ap, subst, ⊎_elim, arith}
+use Rattle.std.proofs.Common.{sym, ◌∙◌, ap, subst, ⊎_elim, arith}
 use Rattle.std.proofs.lemmas.Int.{ints}
 use Rattle.std.proofs.lemmas.List.{length_push, take-append-le, take_all}
 use Rattle.std.proofs.lemmas.Bool.{cases_lt, cond_above, cond_below}
@@ -52,7 +52,7 @@ top_within {job} {z} ok from = record { within = by job.floor job.top z (within_
 
 -- what is shown after one more
 take_less : {A : Type 0} (n : ℕ) (xs : List A) (x : A) (total : ℕ) (shown : List A) → total ≡ length xs → shown ≡ take n xs → (if nat_lt total n then shown ++ x ∷ [] else shown) ≡ take n (xs ++ x ∷ [])
-take_less n xs x total shown count first = ⊎_elim inside full (cases_lt total n)
+take_less {A} n xs x total shown count first = ⊎_elim inside full (cases_lt total n)
   where
     inside : total < n → (if nat_lt total n then shown ++ x ∷ [] else shown) ≡ take n (xs ++ x ∷ [])
     inside less =

@@ -39,9 +39,9 @@ module _ (Clears : RowState → Type 0) (rows : List RowState) where
   clear_more n row there read before clears j other less =
       ⊎_elim (λ (lt : j < n). before j other lt)
       (λ (le : n ≤ j).
-          let e : n ≡ j = omega (le, less, arith) in
-          let is : row ≡ slice_index_or rows n other = read ∙ get_or_default rows n row other there in
-          subst (λ (k : ℕ). Clears (slice_index_or rows k other)) e (subst Clears is clears))
+      let e : n ≡ j = omega (le, less, arith) in
+      let is : row ≡ slice_index_or rows n other = read ∙ get_or_default rows n row other there in
+      subst (λ (k : ℕ). Clears (slice_index_or rows k other)) e (subst Clears is clears))
       (cases_lt j n)
 
   -- all of them

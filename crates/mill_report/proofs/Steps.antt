@@ -1,13 +1,13 @@
 -- From one move to all of a program's.
-use Rattle.std.specs.Prelude.{◌≡◌, ℕ, ◌+◌, ◌<◌, ◌≤◌, List, [], ◌∷◌, ◌++◌, length, take, Option, None, Some, MatchOption, slice_index_or, refl}
+use Rattle.std.specs.Prelude.{◌≡◌, ℕ, ◌+◌, ◌<◌, List, [], ◌∷◌, ◌++◌, length, take, drop, Option, None, Some, MatchOption}
 use Rattle.std.proofs.Common.{sym, ◌∙◌, subst, arith}
-use Rattle.std.proofs.lemmas.List.{get_or_default, take_all}
+use Rattle.std.proofs.lemmas.List.{take-append-le, take_all}
 use Rattle.mill_base.specs.declared.points.Tri.{Tri}
 use Rattle.mill_base.specs.declared.motion.Move.{Move}
 use Rattle.mill_gouge.specs.Gouges.{ToolPassesPart}
 use Rattle.mill_job.specs.declared.job.Job.{Job}
 use Rattle.mill_job.specs.Jobs.{tool_of}
-use Rattle.mill_dexel.specs.Tops.{Stock, stock_after, uncut}
+use Rattle.mill_dexel.specs.Tops.{Stock, uncut}
 use Rattle.mill_dexel.specs.Turns.{move_at}
 use Rattle.mill_verify.specs.Tests.{IsGood, IsGoodOn, IsOverFloor, stock_met}
 use Rattle.mill_verify.specs.declared.verdict.Reason.{Reason}
@@ -49,3 +49,7 @@ module _ (job : Job) (part : List Tri) (moves : List Move) where
 
     pub found_more : (told : Option Reason) (new : List Reason) (m : Move) → m ≡ move_at moves n → IsToldOf n m told → IsNoted told old new → AreFindingsTo job part moves (n + 1) new
     found_more told new m read is noted = one_more told new (subst (λ (x : Move). IsToldOf n x told) read is) noted
+
+-- a list that was written as a whole is what was written
+pub all_written : {A : Type 0} (n : ℕ) (new old : List A) → n ≡ length new → take n (new ++ drop (length new) old) ≡ new
+all_written {A} n new old count = take-append-le n new (drop (length new) old) (omega (count, arith)) ∙ take_all n new (omega (count, arith))

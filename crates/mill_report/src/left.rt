@@ -81,8 +81,8 @@ fn add_row(
     ensures more { OnOk
         result
         ((stock : Stock) → ShowsStock job.now stock rows.now
-            → IsLeftTo job.now part.now stock (column_number job.now number 0) left.old
-            → IsLeftTo job.now part.now stock (column_number job.now (number + 1) 0) left.new) }
+        → IsLeftTo job.now part.now stock (column_number job.now number 0) left.old
+        → IsLeftTo job.now part.now stock (column_number job.now (number + 1) 0) left.new) }
 {
     for col in 0..job.columns() {
         test_column(job, part, cells, rows, number, col, left)?;
@@ -110,8 +110,8 @@ fn test_column(
     ensures more { OnOk
         result
         ((stock : Stock) → ShowsStock job.now stock rows.now
-            → IsLeftTo job.now part.now stock (column_number job.now number col) left.old
-            → IsLeftTo job.now part.now stock (column_number job.now number (col + 1)) left.new) }
+        → IsLeftTo job.now part.now stock (column_number job.now number col) left.old
+        → IsLeftTo job.now part.now stock (column_number job.now number (col + 1)) left.new) }
 {
     let top = rows[number as usize].tops()[col as usize];
     if is_cut(job, part, cells, job.column_x(col), job.row_y(number), top) {

@@ -44,14 +44,7 @@ pub fn all_findings(
 {
     let sorted = SortedPart::new(alloc, part)?;
     let mut rows = uncut_rows(alloc, job)?;
-    let failing = failing_moves(
-        alloc,
-        job,
-        part,
-        sorted.cells(),
-        rows.as_mut_slice(),
-        moves,
-    )?;
+    let failing = failing_moves(alloc, job, part, sorted.cells(), rows.as_mut_slice(), moves)?;
     let left = columns_left(alloc, job, part, sorted.cells(), &rows)?;
     Ok(Findings { failing, left })
 }

@@ -62,13 +62,7 @@ fn is_over_floor(job: &Job, step: &Move) -> bool
 
 /// The first of the tests against the part that the move fails, the cutter's before the holder's; none where
 /// it passes both.
-fn part_finding(
-    job: &Job,
-    part: &Part,
-    cells: &Cells,
-    step: &Move,
-    number: u64,
-) -> Option<Reason>
+fn part_finding(job: &Job, part: &Part, cells: &Cells, step: &Move, number: u64) -> Option<Reason>
     requires job_ok { IsJob job.now }
     requires cells_ok { cells.now ≡ sorted_of part.now }
     requires step_ok { MoveInRange step.now }
