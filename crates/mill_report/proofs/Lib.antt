@@ -1,0 +1,6 @@
+mod Listed
+mod Alone
+mod Listings
+mod Rowwise
+mod Steps
+mod Lefts

@@ -1,0 +1,12 @@
+use Rattle.std.specs.Prelude.{◌≤◌}
+use Rattle.mill_dexel.specs.Stocks.{ShowsStock}
+use Rattle.mill_dexel.specs.Tops.{Stock}
+use Rattle.mill_report.specs.Columns.{column_number}
+use Rattle.mill_report.specs.inner.Lefts.{IsLeftTo}
+use Rattle.mill_report.proofs.left.add_row.Given as goal
+
+abbrev pub invariant-loop-col : goal.invariant-loop-col
+invariant-loop-col l = record {
+  few : l.left.total ≤ column_number l.job l.number l.col;
+  more : (stock : Stock) → ShowsStock l.job stock l.rows → IsLeftTo l.job l.part stock (column_number l.job l.number 0) l.fn.left → IsLeftTo l.job l.part stock (column_number l.job l.number l.col) l.left;
+}

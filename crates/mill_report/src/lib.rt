@@ -1,0 +1,23 @@
+//! The list of all moves of a program that fail a test, and of the columns left too high.
+//!
+//! It stands on `mill_verify`, whose tests and reasons it tells of. A finding is a move with the first test
+//! that it fails, where the stock is cut by every move before it, failing or not; the findings are all of
+//! these, in order (`specs/Findings`). The columns left too high are those of the stock that all moves leave
+//! (`specs/Columns`). Both are lists of all that there is under some numbers (`specs/Listings`). The laws
+//! of `specs/Laws` say what they have to do with the verdict: its reason is the first of them, and a
+//! program is accepted where there is none.
+#![tactic(auto)]
+
+mod laws;
+mod left;
+mod moves;
+mod report;
+mod rows;
+mod step;
+
+pub use laws::{
+    accepted_has_nothing, first_is_verdict, first_left_is_verdict, nothing_is_accepted, one_left,
+    one_list, verdict_is_first,
+};
+pub use left::{LeftColumn, LeftColumns, MAX_LEFT};
+pub use report::{Findings, all_findings};

@@ -1,0 +1,50 @@
+ghost use Rattle.std.specs.Prelude.{◌≤◌, length, IfOk};
+ghost use Rattle.mill_base.specs.declared.limits.TheConstants.{MAX_MOVES};
+ghost use Rattle.mill_base.specs.Ranges.{MovesInRange};
+ghost use Rattle.mill_job.specs.Jobs.{IsJob};
+ghost use Rattle.mill_report.specs.Columns.{IsLeftAfter};
+ghost use Rattle.mill_report.specs.Findings.{AreFindings};
+
+use crate::left::{LeftColumns, columns_left};
+use crate::moves::failing_moves;
+use mill_base::{Move, WantOfMemory};
+use mill_dexel::uncut_rows;
+use mill_job::Job;
+use mill_part::{Part, SortedPart};
+use mill_verify::Reason;
+use std::alloc::Global;
+
+/// What is wrong with a program: the moves that fail a test, each with the first that it fails, in their
+/// order, and the columns left too high.
+#[derive(Drop)]
+pub struct Findings {
+    pub failing: Vec<Reason>,
+    pub left: LeftColumns,
+}
+
+/// All findings on a program, by the tests of `verify`.
+///
+/// A move is tested on the stock that every move before it has cut, whether that one fails or not. The
+/// reasons are a verdict's: the first is that of the verdict on the program. The columns are
+/// those of the stock that all moves leave; the first 10,000 of them are told of one by one.
+///
+/// Lengths are in units. The program has at most 1,000,000 moves. The only error is want of memory, for the
+/// cells of the part, the rows of the stock and what is found.
+pub fn all_findings(
+    alloc: Global,
+    job: &Job,
+    part: &Part,
+    moves: &[Move],
+) -> Result<Findings, WantOfMemory>
+    requires job_ok { IsJob job.now }
+    requires moves_ok { MovesInRange moves.now }
+    requires few { length moves.now ≤ MAX_MOVES }
+    ensures failing { IfOk result (λ found. AreFindings job.now part.now moves.now found.failing.items) }
+    ensures left { IfOk result (λ found. IsLeftAfter job.now part.now moves.now found.left.shown.items found.left.total) }
+{
+    let sorted = SortedPart::new(alloc, part)?;
+    let mut rows = uncut_rows(alloc, job)?;
+    let failing = failing_moves(alloc, job, part, sorted.cells(), rows.as_mut_slice(), moves)?;
+    let left = columns_left(alloc, job, part, sorted.cells(), &rows)?;
+    Ok(Findings { failing, left })
+}
