@@ -6,6 +6,10 @@
 //! (`specs/Columns`). Both are lists of all that there is under some numbers (`specs/Listings`). The laws
 //! of `specs/Laws` say what they have to do with the verdict: its reason is the first of them, and a
 //! program is accepted where there is none.
+//!
+//! `all_findings` finds both, on one thread: `step` tests one move on the rows of the stock (`rows`), `moves`
+//! goes through the program, and `left` tests the columns. What stands in `specs/inner` serves the
+//! functions within.
 #![tactic(auto)]
 
 mod laws;
