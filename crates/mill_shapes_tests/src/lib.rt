@@ -12,6 +12,8 @@ mod holder;
 #[cfg(test)]
 mod level;
 #[cfg(test)]
+mod lift;
+#[cfg(test)]
 mod push;
 #[cfg(test)]
 mod sweep;

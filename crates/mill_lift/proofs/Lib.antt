@@ -1,0 +1,5 @@
+mod RisingCerts
+mod Rising
+mod Leasts
+mod Rooms
+mod Bisecting

@@ -1,0 +1,74 @@
+-- Where there is room to raise a move over the part, and how high it goes then.
+use Rattle.std.specs.Prelude.{◌≡◌, ◌⊎◌, ◌↔◌, ℕ, ◌<◌, ◌≤◌, nat_abs, ℤ, pos, ◌+ℤ◌, ◌-ℤ◌, ◌≤ℤ◌, List, length, Contains}
+use Rattle.std.proofs.Common.{inl, inr, subst, arith}
+use Rattle.std.proofs.lemmas.Int.{ints}
+use Rattle.mill_base.specs.Covers.{IsUnder}
+use Rattle.mill_base.specs.Numbers.{lesser}
+use Rattle.mill_base.specs.Ranges.{IsInRange, MoveInRange}
+use Rattle.mill_base.specs.declared.limits.TheConstants.{MAX_COORDINATE}
+use Rattle.mill_base.specs.declared.motion.Move.{Move}
+use Rattle.mill_base.specs.declared.points.Pt3.{Pt3}
+use Rattle.mill_base.specs.declared.points.Tri.{Tri}
+use Rattle.mill_part.specs.Tops.{IsTop}
+use Rattle.mill_sweep.specs.Holders.{raised_by}
+use Rattle.mill_sweep.specs.Leaves.{length_z}
+use Rattle.mill_sweep.specs.Reach.{low_end_of}
+use Rattle.mill_lift.specs.Lifts.{HasRoom, raised}
+
+nothing : (k n : ℕ) → k < n → n ≡ 0 → ⊥
+nothing k n h e = omega (h, e, arith)
+
+-- a part without triangles is under each height
+pub empty_under : (part : List Tri) (h : ℤ) → length part ≡ 0 → IsUnder part h
+empty_under part h none tri m = absurd (nothing m.0 (length part) m.1 none)
+
+up : (a b c : ℤ) → a ≤ℤ b → b ≤ℤ c → a ≤ℤ c
+up a b c p q = omega (p, q, arith, ints)
+
+-- a part is under a height exactly where its top isn't over it
+pub top_under : (part : List Tri) (top h : ℤ) → IsTop part top → top ≤ℤ h → IsUnder part h
+top_under part top h is under tri m = let p = is.under tri m in (up _ _ _ p.0 under, up _ _ _ p.1 under, up _ _ _ p.2 under)
+
+pub under_top : (part : List Tri) (top h : ℤ) → IsTop part top → IsUnder part h → top ≤ℤ h
+under_top part top h is under = let p = under is.tri is.member in elim is.corner [
+  | inl a ↦ subst (λ (z : ℤ). z ≤ℤ h) a p.0
+  | inr rest ↦ elim rest [
+    | inl b ↦ subst (λ (z : ℤ). z ≤ℤ h) b p.1
+    | inr c ↦ subst (λ (z : ℤ). z ≤ℤ h) c p.2
+  ]
+]
+
+-- ---- the range of a raised move
+
+-- an end, raised so that the lower of the two comes no higher than the top, or not at all
+end_within : (f t top : ℤ) (n : ℕ) → nat_abs f ≤ MAX_COORDINATE → nat_abs t ≤ MAX_COORDINATE → (n ≡ 0) ⊎ ((lesser f t +ℤ pos n) ≤ℤ top) → top ≤ℤ (pos MAX_COORDINATE -ℤ pos (nat_abs (t -ℤ f)))
+    → (nat_abs (f +ℤ pos n) ≤ MAX_COORDINATE) × (nat_abs (t +ℤ pos n) ≤ MAX_COORDINATE)
+end_within f t top n p q (inl none) room = (omega (p, none, arith, ints), omega (q, none, arith, ints))
+end_within f t top n p q (inr under) room = (grind (p, q, under, room, arith, ints), grind (p, q, under, room, arith, ints))
+
+place_within : (p : Pt3) (n : ℕ) → IsInRange p → nat_abs (p.z +ℤ pos n) ≤ MAX_COORDINATE → IsInRange (raised_by p (pos n))
+place_within p n ok within = record { x_ok = ok.x_ok; y_ok = ok.y_ok; z_ok = record { within = within } }
+
+pub raised_within : (m : Move) (top : ℤ) (n : ℕ) → MoveInRange m → (n ≡ 0) ⊎ ((low_end_of m +ℤ pos n) ≤ℤ top) → top ≤ℤ (pos MAX_COORDINATE -ℤ pos (length_z m)) → MoveInRange (raised n m)
+raised_within m top n ok reaches room =
+    let ends = end_within m.from.z m.to.z top n ok.from_ok.z_ok.within ok.to_ok.z_ok.within reaches room in
+    record { from_ok = place_within m.from n ok.from_ok ends.0; to_ok = place_within m.to n ok.to_ok ends.1 }
+
+pub unraised_within : (m : Move) → MoveInRange m → MoveInRange (raised 0 m)
+unraised_within m ok = record {
+  from_ok = place_within m.from 0 ok.from_ok (same m.from.z ok.from_ok.z_ok.within);
+  to_ok = place_within m.to 0 ok.to_ok (same m.to.z ok.to_ok.z_ok.within);
+}
+  where
+    same : (z : ℤ) → nat_abs z ≤ MAX_COORDINATE → nat_abs (z +ℤ pos 0) ≤ MAX_COORDINATE
+    same z h = omega (h, arith, ints)
+
+-- a move that is raised by less than another lift is in range if it is so with that one
+pub less_within : (m : Move) (k n : ℕ) → k ≤ n → MoveInRange m → MoveInRange (raised n m) → MoveInRange (raised k m)
+less_within m k n less ok high = record {
+  from_ok = place_within m.from k ok.from_ok (between m.from.z ok.from_ok.z_ok.within high.from_ok.z_ok.within);
+  to_ok = place_within m.to k ok.to_ok (between m.to.z ok.to_ok.z_ok.within high.to_ok.z_ok.within);
+}
+  where
+    between : (z : ℤ) → nat_abs z ≤ MAX_COORDINATE → nat_abs (z +ℤ pos n) ≤ MAX_COORDINATE → nat_abs (z +ℤ pos k) ≤ MAX_COORDINATE
+    between z p q = omega (p, q, less, arith, ints)

@@ -1,0 +1,30 @@
+-- What it does to raise a move.
+use Rattle.std.specs.Prelude.{◌≡◌, ◌↔◌, ℕ, ◌≤◌, ℤ, ◌≤ℤ◌, List}
+use Rattle.mill_base.specs.Covers.{IsUnder}
+use Rattle.mill_base.specs.Tools.{IsTool}
+use Rattle.mill_base.specs.declared.motion.Move.{Move}
+use Rattle.mill_base.specs.declared.points.Tri.{Tri}
+use Rattle.mill_base.specs.declared.tool.Tool.{Tool}
+use Rattle.mill_sweep.specs.Reach.{low_end_of}
+use Rattle.mill_gouge.specs.Gouges.{ToolPassesPart}
+use Rattle.mill_lift.specs.Lifts.{raised, IsLeastLift}
+
+-- a tool that passes the part on a move passes it on the raised move
+abbrev pub RaisingKeepsPass : Type 0
+RaisingKeepsPass = (tool : Tool) (part : List Tri) (m : Move) (n : ℕ) → ToolPassesPart tool m part → ToolPassesPart tool (raised n m) part
+
+-- on a move that stays over each corner of the part, or at its height, a tool passes the part
+abbrev pub OverPartPasses : Type 0
+OverPartPasses = (tool : Tool) (part : List Tri) (m : Move) (top : ℤ) → IsTool tool → IsUnder part top → top ≤ℤ low_end_of m → ToolPassesPart tool m part
+
+-- raised by the least lift or by more, the tool passes the part, and by less it doesn't
+abbrev pub PassesFromLift : Type 0
+PassesFromLift = (tool : Tool) (part : List Tri) (m : Move) (n k : ℕ) → IsLeastLift tool part m n → ToolPassesPart tool (raised k m) part ↔ (n ≤ k)
+
+-- a tool passes the part on a move as it stands exactly where the least lift is 0
+abbrev pub PassingNeedsNoLift : Type 0
+PassingNeedsNoLift = (tool : Tool) (part : List Tri) (m : Move) → ToolPassesPart tool m part ↔ IsLeastLift tool part m 0
+
+-- a move has at most one least lift
+abbrev pub OneLift : Type 0
+OneLift = (tool : Tool) (part : List Tri) (m : Move) (n k : ℕ) → IsLeastLift tool part m n → IsLeastLift tool part m k → n ≡ k
