@@ -17,4 +17,3 @@ quotient_rises n q p y z hn hq hyz hp = prove_le_by (n ∷ q ∷ p ∷ y ∷ z �
 -- vars n a l z s; hyp hn: 0 < n; hyp hz: l <= z; goal 1*a - n*(z - s) <= 1*a - n*(l - s); mul hn+ * hz
 pub lower_tip : (n a l z s : ℤ) → (pos 0) <ℤ n → l ≤ℤ z → (((pos 1) *ℤ a) -ℤ (n *ℤ (z -ℤ s))) ≤ℤ (((pos 1) *ℤ a) -ℤ (n *ℤ (l -ℤ s)))
 lower_tip n a l z s hn hz = prove_le_by (n ∷ a ∷ l ∷ z ∷ s ∷ []) (Lt (Num (pos 0)) (Var 0) ∷ Le (Var 2) (Var 3) ∷ []) (Sub (Mul (Num (pos 1)) (Var 1)) (Mul (Var 0) (Sub (Var 3) (Var 4)))) (Sub (Mul (Num (pos 1)) (Var 1)) (Mul (Var 0) (Sub (Var 2) (Var 4)))) (Plus (Hyp 0) (Times (Plus (Hyp 1) (Lit 1)) (Hyp 2))) 0 (hn, (hz, tt)) refl
-

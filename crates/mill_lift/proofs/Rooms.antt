@@ -1,7 +1,8 @@
 -- Where there is room to raise a move over the part, and how high it goes then.
-use Rattle.std.specs.Prelude.{◌≡◌, ◌⊎◌, ◌↔◌, ℕ, ◌<◌, ◌≤◌, nat_abs, ℤ, pos, ◌+ℤ◌, ◌-ℤ◌, ◌≤ℤ◌, List, length, Contains}
-use Rattle.std.proofs.Common.{inl, inr, subst, arith}
+use Rattle.std.specs.Prelude.{◌≡◌, ◌⊎◌, ◌↔◌, ℕ, ◌<◌, ◌≤◌, nat_abs, ℤ, pos, ◌+ℤ◌, ◌-ℤ◌, ◌≤ℤ◌, int_le, true, IsTrue, List, length}
+use Rattle.std.proofs.Common.{inl, inr, [], ◌∷◌, refl, subst, w32, arith}
 use Rattle.std.proofs.lemmas.Int.{ints}
+use Rattle.mill_base.proofs.Machine.{Read, Lit, Diff, exact, stored}
 use Rattle.mill_base.specs.Covers.{IsUnder}
 use Rattle.mill_base.specs.Numbers.{lesser}
 use Rattle.mill_base.specs.Ranges.{IsInRange, MoveInRange}
@@ -13,6 +14,7 @@ use Rattle.mill_part.specs.Tops.{IsTop}
 use Rattle.mill_sweep.specs.Holders.{raised_by}
 use Rattle.mill_sweep.specs.Leaves.{length_z}
 use Rattle.mill_sweep.specs.Reach.{low_end_of}
+use Rattle.mill_sweep.specs.Widths.{longest}
 use Rattle.mill_lift.specs.Lifts.{HasRoom, raised}
 
 nothing : (k n : ℕ) → k < n → n ≡ 0 → ⊥
@@ -37,6 +39,29 @@ under_top part top h is under = let p = under is.tri is.member in elim is.corner
     | inr c ↦ subst (λ (z : ℤ). z ≤ℤ h) c p.2
   ]
 ]
+
+-- the limit, as it is stored
+pub limit_stored : (rise : ℤ) → (pos 0) ≤ℤ rise → rise ≤ℤ pos longest → stored w32 (pos MAX_COORDINATE -ℤ stored w32 rise) ≡ (pos MAX_COORDINATE -ℤ rise)
+limit_stored rise least most = exact (rise ∷ []) (longest ∷ []) (Diff w32 (Lit (pos MAX_COORDINATE)) (Read w32 0)) (within, tt) refl
+  where
+    within : nat_abs rise ≤ longest
+    within = omega (least, most, arith, ints)
+
+-- whether there is room is told by the top and the limit, as they are stored
+pub room_told : (part : List Tri) (m : Move) (top rise stored_top stored_limit : ℤ) → stored_top ≡ top → stored_limit ≡ (pos MAX_COORDINATE -ℤ rise) → rise ≡ pos (length_z m) → IsTop part top → IsTrue (int_le stored_top stored_limit) ↔ HasRoom part m
+room_told part m top rise stored_top stored_limit top_is limit_is long is = (
+  λ told. top_under part top (pos MAX_COORDINATE -ℤ pos (length_z m)) is (not_over (length_z m) long told),
+  λ room. tells (length_z m) long (under_top part top (pos MAX_COORDINATE -ℤ pos (length_z m)) is room),
+)
+  where
+    not_over : (n : ℕ) → rise ≡ pos n → int_le stored_top stored_limit ≡ true → top ≤ℤ (pos MAX_COORDINATE -ℤ pos n)
+    not_over n e told = omega (top_is, limit_is, e, told, arith, ints)
+
+    ordered : (a b : ℤ) → a ≤ℤ b → int_le a b ≡ true
+    ordered a b l = grind (l, arith, ints)
+
+    tells : (n : ℕ) → rise ≡ pos n → top ≤ℤ (pos MAX_COORDINATE -ℤ pos n) → int_le stored_top stored_limit ≡ true
+    tells n e l = ordered stored_top stored_limit (omega (top_is, limit_is, e, l, arith, ints))
 
 -- ---- the range of a raised move
 
@@ -72,3 +97,23 @@ less_within m k n less ok high = record {
   where
     between : (z : ℤ) → nat_abs z ≤ MAX_COORDINATE → nat_abs (z +ℤ pos n) ≤ MAX_COORDINATE → nat_abs (z +ℤ pos k) ≤ MAX_COORDINATE
     between z p q = omega (p, q, less, arith, ints)
+
+-- ---- a lift that brings the lower end up to the top, as it is worked out of the two as they are stored
+
+pub climbs_over : (part : List Tri) (m : Move) (top low stored_top stored_low : ℤ) (n : ℕ) → stored_top ≡ top → stored_low ≡ low → low ≡ low_end_of m → IsTop part top
+    → stored_top ≤ℤ (stored_low +ℤ pos n) → IsUnder part (low_end_of m +ℤ pos n)
+climbs_over part m top low stored_top stored_low n top_is low_is end_is is reaches = top_under part top (low_end_of m +ℤ pos n) is (over (low_end_of m) end_is)
+  where
+    over : (e : ℤ) → low ≡ e → top ≤ℤ (e +ℤ pos n)
+    over e same = omega (top_is, low_is, same, reaches, arith, ints)
+
+pub climbs_within : (part : List Tri) (m : Move) (top low stored_top stored_low : ℤ) (n : ℕ) → stored_top ≡ top → stored_low ≡ low → low ≡ low_end_of m → IsTop part top → MoveInRange m → HasRoom part m
+    → (n ≡ 0) ⊎ ((stored_low +ℤ pos n) ≤ℤ stored_top) → MoveInRange (raised n m)
+climbs_within part m top low stored_top stored_low n top_is low_is end_is is ok room least =
+    raised_within m top n ok (elim least [
+      | inl none ↦ inl none
+      | inr under ↦ inr (no_higher (low_end_of m) end_is under)
+    ]) (under_top part top (pos MAX_COORDINATE -ℤ pos (length_z m)) is room)
+  where
+    no_higher : (e : ℤ) → low ≡ e → (stored_low +ℤ pos n) ≤ℤ stored_top → (e +ℤ pos n) ≤ℤ top
+    no_higher e same under = omega (top_is, low_is, same, under, arith, ints)

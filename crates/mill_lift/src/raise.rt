@@ -1,9 +1,8 @@
-ghost use Rattle.std.specs.Prelude.{◌≡◌, ◌≤◌, pos, ◌+ℤ◌};
+ghost use Rattle.std.specs.Prelude.{◌≡◌, pos, ◌+ℤ◌};
 ghost use Rattle.mill_base.specs.Numbers.{Within};
 ghost use Rattle.mill_base.specs.declared.limits.TheConstants.{MAX_COORDINATE};
 ghost use Rattle.mill_base.specs.Ranges.{MoveInRange};
 ghost use Rattle.mill_sweep.specs.Holders.{raised_by};
-ghost use Rattle.mill_sweep.specs.Widths.{longest};
 ghost use Rattle.mill_lift.specs.Lifts.{raised};
 
 use mill_base::{Move, Pt3};

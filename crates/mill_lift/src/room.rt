@@ -42,9 +42,17 @@ pub fn enough(part: &Part, step: &Move) -> u32
     ensures bound { MoveInRange (raised result step.now) }
 {
     match part.top() {
-        Some(top) => climb(step.from.z.min(step.to.z), top),
+        Some(top) => climb(low_end(step), top),
         None => 0,
     }
+}
+
+/// The height of the move's lower end.
+fn low_end(step: &Move) -> i32
+    requires { MoveInRange step.now }
+    ensures { result ≡ low_end_of step.now }
+{
+    step.from.z.min(step.to.z)
 }
 
 /// How far it is from one height up to another, 0 where that isn't over it.
