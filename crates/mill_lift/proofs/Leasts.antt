@@ -1,5 +1,5 @@
 -- Least lifts: raising keeps what passes, and over the part everything does.
-use Rattle.std.specs.Prelude.{◌≡◌, ◌⊎◌, ◌↔◌, ℕ, zero, suc, ◌+◌, ◌-◌, ◌<◌, ◌≤◌, ℤ, pos, ◌+ℤ◌, ◌≤ℤ◌, List, Option, Some, None, IfSome}
+use Rattle.std.specs.Prelude.{◌≡◌, ℕ, ◌+◌, ◌-◌, ◌<◌, ◌≤◌, ℤ, pos, ◌+ℤ◌, ◌≤ℤ◌, List, Option, Some, None, IfSome}
 use Rattle.std.proofs.Common.{inl, inr, refl, arith}
 use Rattle.std.proofs.lemmas.Bool.{cases_lt}
 use Rattle.std.proofs.lemmas.Int.{ints}
@@ -7,7 +7,7 @@ use Rattle.std.proofs.lemmas.List.Elements.{Contains-get_or}
 use Rattle.mill_base.specs.Covers.{IsUnder}
 use Rattle.mill_base.specs.Numbers.{greater, lesser}
 use Rattle.mill_base.specs.Points.{tri_at}
-use Rattle.mill_base.specs.Tools.{IsHolder, IsTool, solid_of}
+use Rattle.mill_base.specs.Tools.{IsHolder, solid_of}
 use Rattle.mill_base.specs.declared.cutter.Cutter.{Cutter}
 use Rattle.mill_base.specs.declared.motion.Move.{Move}
 use Rattle.mill_base.specs.declared.points.Tri.{Tri}
@@ -15,7 +15,6 @@ use Rattle.mill_base.specs.declared.tool.Holder.{Holder}
 use Rattle.mill_base.specs.declared.tool.Tool.{Tool}
 use Rattle.mill_sweep.proofs.Far.{top_passes}
 use Rattle.mill_sweep.specs.Holders.{lifted}
-use Rattle.mill_sweep.specs.Reach.{low_end_of}
 use Rattle.mill_gouge.specs.Gouges.{HolderPassesPart, PassesPart, ToolPassesPart}
 use Rattle.mill_lift.specs.Laws.{RaisingKeepsPass, OverPartPasses, PassesFromLift, PassingNeedsNoLift, OneLift}
 use Rattle.mill_lift.specs.Lifts.{raised, IsLeastLift}

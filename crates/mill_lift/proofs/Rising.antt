@@ -16,7 +16,6 @@ use Rattle.mill_base.specs.declared.tool.Tool.{Tool}
 use Rattle.mill_sweep.proofs.Lower.{inside_rises}
 use Rattle.mill_sweep.specs.Halving.{Blocks, IsFree, LeafPasses, Passes}
 use Rattle.mill_sweep.specs.Leaves.{depth_of, end_of, length_x, length_y, lower_of}
-use Rattle.mill_sweep.specs.declared.leaf.Span.{Span}
 use Rattle.mill_gouge.specs.Gouges.{HolderPassesPart, PassesPart, ToolPassesPart}
 use Rattle.mill_lift.proofs.RisingCerts.{end_rises, quotient_rises, lower_tip}
 

@@ -1,6 +1,6 @@
 -- Polynomial facts behind a move that is raised.
 -- Written by tools/certificates.py from tools/certificates/mill_lift_rising.spec.
-use Rattle.std.proofs.Common.{◌≡◌, [], ◌∷◌, refl}
+use Rattle.std.proofs.Common.{[], ◌∷◌, refl}
 use lib.IntN.{ℤ, pos, ◌+ℤ◌, ◌-ℤ◌, ◌*ℤ◌}
 use lib.Signed.{◌<ℤ◌, ◌≤ℤ◌}
 use Rattle.mill_base.proofs.Ring.{Var, Num, Add, Sub, Mul}
