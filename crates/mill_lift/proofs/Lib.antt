@@ -1,5 +1,6 @@
 mod RisingCerts
 mod Rising
 mod Leasts
+mod Clear
 mod Rooms
 mod Bisecting

@@ -6,7 +6,7 @@ use Rattle.mill_base.proofs.Machine.{Read, Lit, Diff, exact, stored}
 use Rattle.mill_base.specs.Covers.{IsUnder}
 use Rattle.mill_base.specs.Numbers.{lesser}
 use Rattle.mill_base.specs.Ranges.{IsInRange, MoveInRange}
-use Rattle.mill_base.specs.declared.limits.TheConstants.{MAX_COORDINATE}
+use Rattle.mill_base.specs.declared.limits.TheConstants.{MAX_COORDINATE, MAX_TEXT_COORDINATE}
 use Rattle.mill_base.specs.declared.motion.Move.{Move}
 use Rattle.mill_base.specs.declared.points.Pt3.{Pt3}
 use Rattle.mill_base.specs.declared.points.Tri.{Tri}
@@ -15,6 +15,7 @@ use Rattle.mill_sweep.specs.Holders.{raised_by}
 use Rattle.mill_sweep.specs.Leaves.{length_z}
 use Rattle.mill_sweep.specs.Reach.{low_end_of}
 use Rattle.mill_sweep.specs.Widths.{longest}
+use Rattle.mill_lift.specs.Laws.{HundredthsHaveRoom}
 use Rattle.mill_lift.specs.Lifts.{HasRoom, raised}
 
 nothing : (k n : ℕ) → k < n → n ≡ 0 → ⊥
@@ -62,6 +63,18 @@ room_told part m top rise stored_top stored_limit top_is limit_is long is = (
 
     tells : (n : ℕ) → rise ≡ pos n → top ≤ℤ (pos MAX_COORDINATE -ℤ pos n) → int_le stored_top stored_limit ≡ true
     tells n e l = ordered stored_top stored_limit (omega (top_is, limit_is, e, l, arith, ints))
+
+-- coordinates as texts in hundredths give them leave room
+pub hundredths_have_room : HundredthsHaveRoom
+hundredths_have_room part m tris ok tri member =
+    let corners = tris tri member in
+    (room tri.a.z corners.a_ok.z_ok.within, room tri.b.z corners.b_ok.z_ok.within, room tri.c.z corners.c_ok.z_ok.within)
+  where
+    by : (z f t : ℤ) → nat_abs z ≤ MAX_TEXT_COORDINATE → nat_abs f ≤ MAX_TEXT_COORDINATE → nat_abs t ≤ MAX_TEXT_COORDINATE → z ≤ℤ (pos MAX_COORDINATE -ℤ pos (nat_abs (t -ℤ f)))
+    by z f t p q r = omega (p, q, r, arith, ints)
+
+    room : (z : ℤ) → nat_abs z ≤ MAX_TEXT_COORDINATE → z ≤ℤ (pos MAX_COORDINATE -ℤ pos (length_z m))
+    room z within = by z m.from.z m.to.z within ok.from_ok.z_ok.within ok.to_ok.z_ok.within
 
 -- ---- the range of a raised move
 

@@ -1,4 +1,4 @@
-ghost use Rattle.mill_lift.specs.Laws.{OneLift, OverPartPasses, PassesFromLift, PassingNeedsNoLift, RaisingKeepsPass};
+ghost use Rattle.mill_lift.specs.Laws.{HundredthsHaveRoom, LiftedIsClear, OneLift, OverPartPasses, PassesFromLift, PassingNeedsNoLift, RaisingKeepsPass};
 
 /// A law: a tool that passes the part on a move passes it on the move that is raised.
 ///
@@ -21,6 +21,14 @@ pub fn passes_from_lift()
     ensures { PassesFromLift }
 {}
 
+/// A law: a move that is raised by its least lift or by more has no part point strictly inside its cutter,
+/// or its holder, at any moment.
+///
+/// It has no code, as [`raising_keeps_pass`].
+pub fn lifted_is_clear()
+    ensures { LiftedIsClear }
+{}
+
 /// A law: a move passes as it stands exactly where its least lift is 0.
 ///
 /// It has no code, as [`raising_keeps_pass`].
@@ -33,4 +41,11 @@ pub fn passing_needs_no_lift()
 /// It has no code, as [`raising_keeps_pass`].
 pub fn one_lift()
     ensures { OneLift }
+{}
+
+/// A law: a move and a part that texts in units of 0.01 mm give leave room to raise the move.
+///
+/// It has no code, as [`raising_keeps_pass`].
+pub fn hundredths_have_room()
+    ensures { HundredthsHaveRoom }
 {}

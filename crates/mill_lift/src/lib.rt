@@ -16,6 +16,7 @@ mod room;
 
 pub use bisect::least_lift;
 pub use laws::{
-    one_lift, over_part_passes, passes_from_lift, passing_needs_no_lift, raising_keeps_pass,
+    hundredths_have_room, lifted_is_clear, one_lift, over_part_passes, passes_from_lift,
+    passing_needs_no_lift, raising_keeps_pass,
 };
 pub use room::has_room;

@@ -12,7 +12,7 @@ use mill_part::Part;
 /// Whether the move can be raised over the part within the range of coordinates: the part's highest
 /// corner is at most 524,287 less the move's length in z.
 ///
-/// It is so wherever part and move stay within 131,071, as those that texts in units of 0.01 mm give.
+/// It is so of all that texts in units of 0.01 mm give ([`hundredths_have_room`](crate::hundredths_have_room)).
 pub fn has_room(part: &Part, step: &Move) -> bool
     requires { MoveInRange step.now }
     ensures { IsTrue result ↔ HasRoom part.now step.now }
