@@ -6,40 +6,17 @@
 //! `camtool rest JOB PART LIST [--workers=W]` verifies the programs that a list names, in turn on one
 //! stock, each with its own cutter. `camtool sample N [--workers=W]` plans and verifies a sample part.
 //!
-//! `run` is all that the program does, over any store of files and any sink. Its contract goes
-//! from bytes to bytes: `specs/Answers` says which answer a command has on its files,
-//! `specs/Outcomes` how it is shown and stored, `specs/Headline` what it means. Each command has a
-//! file here and a module in `specs/`.
+//! All that it does is `mill_run::run`, called on the words, the files and the standard output.
 #![tactic(auto)]
-
-mod drop;
-mod faults;
-mod file;
-mod level;
-mod load;
-mod place;
-mod plan;
-mod print;
-mod program;
-mod rest;
-mod run;
-mod sample;
-mod status;
-mod stock;
-mod tell;
-#[cfg(test)]
-mod tests;
-mod verify;
 
 use mill_base::WantOfMemory;
 use mill_io::{FileShelf, StdSink};
-use run::run;
-use status::Status;
+use mill_load::{Status, tell};
+use mill_run::run;
 use std::env;
 use std::env::Env;
 use std::io::ErrorKind;
 use std::process::ExitCode;
-use tell::tell;
 
 fn main(rt: HostRuntime) -> ExitCode {
     let alloc = rt.alloc();

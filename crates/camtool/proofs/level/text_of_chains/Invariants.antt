@@ -1,8 +1,0 @@
-use Rattle.std.proofs.Common.{◌≡◌, take}
-use Rattle.std.specs.List.{flat_map}
-use Rattle.mill_level.specs.Waterlines.{seen}
-use Rattle.camtool.specs.Level.{outline_text}
-use Rattle.camtool.proofs.level.text_of_chains.Given as goal
-
-abbrev pub invariant-loop-chain : goal.invariant-loop-chain
-invariant-loop-chain l = l.text.items ≡ flat_map (λ chain. outline_text l.unit (seen chain)) (take l.chain-index l.chains)

@@ -1,6 +1,0 @@
-use Rattle.camtool.proofs.Reading.{job_told}
-use Rattle.camtool.proofs.load.load_job.Goals as goal
-
-pub returns-in-Ok-clause-told : goal.returns-in-Ok-clause-told
-returns-in-Ok-clause-told g c =
-    job_told ((g.S.Shelf.shows c.args.shelf.now).contents c.args.name.now) c.in-Ok.text.items _ c.in-Ok.ensures.told (rw c.deref.ensures.value at c.job_from.ensures.told)

@@ -1,6 +1,0 @@
-use Rattle.camtool.proofs.Reading.{part_told}
-use Rattle.camtool.proofs.load.load_part.Goals as goal
-
-pub returns-in-Ok-clause-told : goal.returns-in-Ok-clause-told
-returns-in-Ok-clause-told g c =
-    part_told c.args.job.now ((g.S.Shelf.shows c.args.shelf.now).contents c.args.name.now) c.in-Ok.text.items _ c.in-Ok.ensures.told (rw c.deref.ensures.value at c.part_from.ensures.told)

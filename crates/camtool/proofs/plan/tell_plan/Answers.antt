@@ -1,9 +1,0 @@
-use Rattle.std.proofs.Common.{refl}
-use Rattle.camtool.specs.Calls.{Call, call_of}
-use Rattle.camtool.proofs.Planning.{fault_shows}
-use Rattle.camtool.proofs.plan.tell_plan.Goals as goal
-
-pub returns-in-Err : goal.returns-in-Err
-returns-in-Err g c =
-    let call : Call = call_of c.tell_plan_fault.result (g.S.Shelf.shows c.args.shelf.now) (g.S.Shelf.shows c.args.shelf.now) (g.O.Sink.shows c.args.out.now) (g.O.Sink.shows c.tell_plan_fault.new.out) in
-    fault_shows c.args.setup.now c.args.name.now call c.in-Err.fault c.in-Err.ensures.fault refl c.tell_plan_fault.ensures

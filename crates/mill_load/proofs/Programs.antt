@@ -1,0 +1,128 @@
+-- A program's text, taken piece by piece.
+use Rattle.std.proofs.Common.{◌≡◌, ℕ, ◌+◌, ◌≤◌, ◌<◌, List, [], ◌++◌, length, take, Option, Some, None, Ok, Err, refl, ap, ◌∙◌, arith, subst, length-append}
+use Rattle.std.specs.Prelude.{IfSome}
+use Rattle.mill_base.specs.declared.limits.TheConstants.{MAX_FILE_BYTES}
+use Rattle.mill_base.specs.declared.points.Pt3.{Pt3}
+use Rattle.mill_base.specs.declared.motion.Move.{Move}
+use Rattle.mill_base.specs.declared.unit.Unit.{Unit as LengthUnit}
+use Rattle.mill_base.specs.Motion.{Follow}
+use Rattle.mill_base.specs.Ranges.{MovesInUnitRange}
+use Rattle.mill_io.specs.Contents.{GivesFrom}
+use Rattle.mill_io.proofs.Read.{length_more, read_more, read_all}
+use Rattle.mill_ngc.specs.Programs.{program_of}
+use Rattle.mill_ngc.specs.Pieces.{Reading, reading_at, after_lines, fed, at_end, last_answer, lines_read, AreSound, MovesSoFar}
+use Rattle.mill_ngc.specs.declared.fault.NgcFault.{NgcFault}
+use Rattle.mill_ngc.proofs.JoinLemmas.{pieces_join}
+use Rattle.mill_ngc.proofs.WholeText.{last_moves, last_fault}
+use Rattle.mill_job.specs.declared.job.Job.{Job}
+use Rattle.mill_job.specs.Columns.{home}
+use Rattle.mill_load.specs.declared.file.File.{File}
+use Rattle.mill_load.specs.declared.load.LoadFault.{LoadFault}
+use Rattle.mill_load.specs.declared.load.LoadFault.TheVariants.{Memory, ReadFault, Unfit}
+use Rattle.mill_load.specs.declared.load.Unfit.TheVariants.{TooLong, JobRefused, PartRefused, ListRefused, ProgramRefused, PartTop}
+use Rattle.mill_load.specs.Setup.{IsTooLong}
+use Rattle.mill_load.specs.Programs.{IsProgramText, IsRefusedProgram}
+use Rattle.mill_load.specs.inner.Steps.{HasTaken, TakesFile, TakesFront, LoadsNone}
+use Rattle.mill_load.specs.Loads.{LoadsProgram, AreMoves}
+
+no_front : (told : Option (List ℕ)) → IfSome told (λ bytes. [] ≡ take 0 bytes)
+no_front None = tt
+no_front (Some bytes) = refl
+
+-- a reader before the first byte has taken nothing
+pub taken_first : (start : Pt3) (unit : LengthUnit) (reader : Reading) (moves : List Move) → reader ≡ reading_at start unit → MovesSoFar start unit reader [] → moves ≡ [] → HasTaken start unit reader moves []
+unfolding fed after_lines
+taken_first start unit reader moves new_reader moves_ok none = record { all = rw (new_reader, none) refl; lines = rw new_reader (omega arith); moves_ok = rw none moves_ok }
+
+-- and so no front but the empty one
+pub front_first : (start : Pt3) (unit : LengthUnit) (told : Option (List ℕ)) (reader : Reading) (moves : List Move) → reader ≡ reading_at start unit → MovesSoFar start unit reader [] → moves ≡ []
+    → TakesFront start unit told 0 reader moves
+front_first start unit told reader moves new_reader moves_ok none =
+    record { text = []; front = no_front told; size = refl; taken = taken_first start unit reader moves new_reader moves_ok none }
+
+-- the next piece goes on the text
+pub taken_more : (start : Pt3) (unit : LengthUnit) (old new : Reading) (before moves : List Move) (text piece : List ℕ) → HasTaken start unit old before text
+    → (new, moves) ≡ fed (old, before) piece → lines_read new ≤ lines_read old + length piece → MovesSoFar start unit new moves
+    → HasTaken start unit new moves (text ++ piece)
+taken_more start unit old new before moves text piece taken all lines moves_ok = record {
+  all = all ∙ ap (λ (s : Reading × List Move). fed s piece) taken.all ∙ pieces_join (reading_at start unit, []) text piece;
+  lines = omega (arith, lines, taken.lines, length-append text piece);
+  moves_ok = moves_ok;
+}
+
+-- the next piece of a file goes on its front
+pub front_more : (start : Pt3) (unit : LengthUnit) (told now : Option (List ℕ)) (given n : ℕ) (buf : List ℕ) (old new : Reading) (before moves : List Move) → now ≡ told
+    → (f : TakesFront start unit told given old before) → IfSome now (λ bytes. GivesFrom bytes given n buf) → n ≤ length buf
+    → HasTaken start unit new moves (f.text ++ take n buf) → TakesFront start unit told (given + n) new moves
+front_more start unit told now given n buf old new before moves same f gives fits taken =
+    let here : IfSome now (λ bytes. GivesFrom bytes (length f.text) n buf) = rw f.size gives in record {
+      text = f.text ++ take n buf;
+      front = read_more told now f.text buf (f.text ++ take n buf) n same f.front here fits refl;
+      size = omega (arith, length_more f.text buf (f.text ++ take n buf) n fits refl, f.size);
+      taken = taken;
+    }
+
+-- where no bytes come any more, the front is the whole file
+pub front_whole : (start : Pt3) (unit : LengthUnit) (told now : Option (List ℕ)) (given : ℕ) (buf : List ℕ) (reader : Reading) (moves : List Move) → now ≡ told
+    → TakesFront start unit told given reader moves → IfSome now (λ bytes. GivesFrom bytes given 0 buf) → 0 < length buf → given ≤ MAX_FILE_BYTES
+    → TakesFile start unit told reader moves
+front_whole start unit told now given buf reader moves same f gives room fits =
+    let here : IfSome told (λ bytes. GivesFrom bytes (length f.text) 0 buf) = rw (f.size, ← same) gives in record {
+      text = f.text;
+      whole = read_all told f.text buf f.front here room;
+      fits = omega (arith, f.size, fits);
+      taken = f.taken;
+    }
+
+-- ---- how the reading of a file ends
+
+-- it is too long
+pub too_long : (told now : Option (List ℕ)) (file : File) (limit : ℕ) → now ≡ told → limit ≡ MAX_FILE_BYTES → IfSome now (λ bytes. limit < length bytes) → LoadsNone told file (Unfit (TooLong file))
+too_long None now file limit same is h = (refl, tt)
+too_long (Some bytes) now file limit same is h_now =
+    let h : limit < length bytes = rw same at h_now in
+    let long : IsTooLong bytes = omega (arith, is, h) in
+    (refl, long)
+
+-- it gives no text
+pub no_text : (job : Job) (told : Option (List ℕ)) (file : File) (f : LoadFault) → LoadsNone told file f → LoadsProgram job told file (Err f)
+no_text job told file Memory h = tt
+no_text job told file (ReadFault f) h = h
+no_text job told file (Unfit (TooLong f)) h = h
+no_text job told file (Unfit (JobRefused fault)) h = absurd h
+no_text job told file (Unfit (PartRefused fault)) h = absurd h
+no_text job told file (Unfit (ListRefused fault)) h = absurd h
+no_text job told file (Unfit (ProgramRefused f fault)) h = absurd h
+no_text job told file (Unfit (PartTop height top unit)) h = absurd h
+
+-- the moves of a whole file
+pub file_moves : (job : Job) (start : Pt3) (unit : LengthUnit) (told : Option (List ℕ)) (reader : Reading) (moves all : List Move) (u : Unit {0}) → start ≡ home job → unit ≡ job.unit → TakesFile start unit told reader moves
+    → Ok u ≡ last_answer (at_end (reader, moves)).0 → all ≡ (at_end (reader, moves)).1 → IfSome told (λ text. IsProgramText job text all)
+file_moves job start unit None reader moves all u from of_job f e is = tt
+file_moves job start unit (Some bytes) reader moves all u from of_job f e is =
+    let reads : program_of (home job) job.unit f.text ≡ Ok all = rw (← from, ← of_job) (last_moves start unit f.text (reader, moves) u all f.taken.all e is) in
+    subst (λ (t : List ℕ). IsProgramText job t all) f.whole (record { fits = f.fits; reads = reads })
+
+-- the first fault of a whole file
+pub file_fault : (job : Job) (start : Pt3) (unit : LengthUnit) (told : Option (List ℕ)) (reader : Reading) (moves : List Move) (fault : NgcFault) → start ≡ home job → unit ≡ job.unit → TakesFile start unit told reader moves
+    → Err fault ≡ last_answer (at_end (reader, moves)).0 → IfSome told (λ text. IsRefusedProgram job text fault)
+file_fault job start unit None reader moves fault from of_job f e = tt
+file_fault job start unit (Some bytes) reader moves fault from of_job f e =
+    let refused : program_of (home job) job.unit f.text ≡ Err fault = rw (← from, ← of_job) (last_fault start unit f.text (reader, moves) fault f.taken.all e) in
+    subst (λ (t : List ℕ). IsRefusedProgram job t fault) f.whole (record { fits = f.fits; refused = refused })
+
+-- ---- a text that is held whole
+
+-- the moves of a whole text
+pub text_moves : (job : Job) (start : Pt3) (unit : LengthUnit) (text : List ℕ) (reader : Reading) (moves all : List Move) (u : Unit {0}) → start ≡ home job → unit ≡ job.unit → HasTaken start unit reader moves text
+    → Ok u ≡ last_answer (at_end (reader, moves)).0 → all ≡ (at_end (reader, moves)).1 → program_of (home job) job.unit text ≡ Ok all
+text_moves job start unit text reader moves all u from of_job taken e is = rw (← from, ← of_job) (last_moves start unit text (reader, moves) u all taken.all e is)
+
+-- sound moves are moves that the verifier takes
+pub moves_ok : (job : Job) (start : Pt3) (unit : LengthUnit) (moves : List Move) → start ≡ home job → unit ≡ job.unit → AreSound start unit moves → AreMoves job moves
+moves_ok job start unit moves from of_job sound = record { in_range = subst (λ (u : LengthUnit). MovesInUnitRange u moves) of_job sound.in_range; follow = subst (λ (p : Pt3). Follow p moves) from sound.follow; few = sound.few }
+
+-- the first fault of a whole text
+pub text_fault : (job : Job) (start : Pt3) (unit : LengthUnit) (text : List ℕ) (reader : Reading) (moves : List Move) (fault : NgcFault) → start ≡ home job → unit ≡ job.unit → HasTaken start unit reader moves text
+    → Err fault ≡ last_answer (at_end (reader, moves)).0 → program_of (home job) job.unit text ≡ Err fault
+text_fault job start unit text reader moves fault from of_job taken e = rw (← from, ← of_job) (last_fault start unit text (reader, moves) fault taken.all e)

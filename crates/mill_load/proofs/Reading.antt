@@ -1,0 +1,200 @@
+-- What was read from the bytes of a file holds of what the store tells of it.
+use Rattle.std.proofs.Common.{◌≡◌, ℕ, List, Option, Some, None, Result, Ok, Err, refl, sym, subst, arith}
+use Rattle.std.specs.Prelude.{◌<◌, ◌-◌, ◌^◌, ℤ, IfSome}
+use Rattle.mill_base.specs.declared.points.Tri.{Tri}
+use Rattle.mill_base.specs.Covers.{IsUnder}
+use Rattle.mill_io.specs.Causes.{Rose}
+use Rattle.mill_job.specs.declared.job.Job.{Job}
+use Rattle.mill_part.specs.declared.part.Part.{Part}
+use Rattle.mill_load.specs.declared.file.File.TheVariants.{Job as JobFile, Part as PartFile, Program as ProgramFile, List as ListFile, StepProgram}
+use Rattle.mill_load.specs.declared.load.LoadFault.{LoadFault}
+use Rattle.mill_load.specs.declared.load.LoadFault.TheVariants.{Memory, ReadFault, Unfit}
+use Rattle.mill_load.specs.declared.load.Unfit.TheVariants.{TooLong, JobRefused, PartRefused, ListRefused, ProgramRefused, PartTop}
+use Rattle.mill_io.specs.Views.{StoreView}
+use Rattle.mill_io.proofs.Read.{reads_on}
+use Rattle.mill_load.specs.declared.load.Unfit.{Unfit as UnfitFault}
+use Rattle.mill_load.specs.declared.load.Setup.{Setup}
+use Rattle.mill_load.specs.Loads.{LoadsJob, LoadsPart, LoadsUnder, LoadsSetup, JoinsPart, CountsFault, OnlyLoads}
+use Rattle.mill_load.specs.inner.Steps.{IsLow}
+use Rattle.mill_load.specs.Setup.{SetupTexts, ReadsJob, IsPartText, IsUnfitWith, IsReadBeforeWith}
+
+-- ---- nothing is said of a file that isn't told, but which faults may come
+
+untold_job : (items : List ℕ) (r : Result Job LoadFault) → LoadsJob (Some items) r → LoadsJob None r
+untold_job items (Ok job) h = tt
+untold_job items (Err Memory) h = tt
+untold_job items (Err (ReadFault JobFile)) h = tt
+untold_job items (Err (ReadFault PartFile)) h = h
+untold_job items (Err (ReadFault ProgramFile)) h = h
+untold_job items (Err (ReadFault ListFile)) h = h
+untold_job items (Err (ReadFault (StepProgram k))) h = h
+untold_job items (Err (Unfit (TooLong JobFile))) h = tt
+untold_job items (Err (Unfit (TooLong PartFile))) h = h
+untold_job items (Err (Unfit (TooLong ProgramFile))) h = h
+untold_job items (Err (Unfit (TooLong ListFile))) h = h
+untold_job items (Err (Unfit (TooLong (StepProgram k)))) h = h
+untold_job items (Err (Unfit (JobRefused fault))) h = tt
+untold_job items (Err (Unfit (PartRefused fault))) h = h
+untold_job items (Err (Unfit (ListRefused fault))) h = h
+untold_job items (Err (Unfit (ProgramRefused file fault))) h = h
+untold_job items (Err (Unfit (PartTop height top unit))) h = h
+
+untold_part : (job : Job) (items : List ℕ) (r : Result Part LoadFault) → LoadsPart job (Some items) r → LoadsPart job None r
+untold_part job items (Ok part) h = tt
+untold_part job items (Err Memory) h = tt
+untold_part job items (Err (ReadFault JobFile)) h = h
+untold_part job items (Err (ReadFault PartFile)) h = tt
+untold_part job items (Err (ReadFault ProgramFile)) h = h
+untold_part job items (Err (ReadFault ListFile)) h = h
+untold_part job items (Err (ReadFault (StepProgram k))) h = h
+untold_part job items (Err (Unfit (TooLong JobFile))) h = h
+untold_part job items (Err (Unfit (TooLong PartFile))) h = tt
+untold_part job items (Err (Unfit (TooLong ProgramFile))) h = h
+untold_part job items (Err (Unfit (TooLong ListFile))) h = h
+untold_part job items (Err (Unfit (TooLong (StepProgram k)))) h = h
+untold_part job items (Err (Unfit (JobRefused fault))) h = h
+untold_part job items (Err (Unfit (PartRefused fault))) h = tt
+untold_part job items (Err (Unfit (ListRefused fault))) h = h
+untold_part job items (Err (Unfit (ProgramRefused file fault))) h = h
+untold_part job items (Err (Unfit (PartTop height top unit))) h = h
+
+-- ---- the bytes that were read are what is told
+
+pub job_told : (told : Option (List ℕ)) (items : List ℕ) (r : Result Job LoadFault) → IfSome told (λ text. items ≡ text) → LoadsJob (Some items) r → LoadsJob told r
+job_told None items r same h = untold_job items r h
+job_told (Some text) items r same h = subst (λ (t : List ℕ). LoadsJob (Some t) r) same h
+
+pub part_told : (job : Job) (told : Option (List ℕ)) (items : List ℕ) (r : Result Part LoadFault) → IfSome told (λ text. items ≡ text) → LoadsPart job (Some items) r
+    → LoadsPart job told r
+part_told job None items r same h = untold_part job items r h
+part_told job (Some text) items r same h = subst (λ (t : List ℕ). LoadsPart job (Some t) r) same h
+
+-- ---- what kept a command from one of its files
+
+-- there was no job
+pub job_fault : (texts : SetupTexts) (f : LoadFault) → LoadsJob texts.job (Err f) → LoadsSetup texts (Err f)
+job_fault texts Memory h = tt
+job_fault texts (ReadFault JobFile) h = tt
+job_fault texts (ReadFault PartFile) h = absurd h
+job_fault texts (ReadFault ProgramFile) h = absurd h
+job_fault texts (ReadFault ListFile) h = absurd h
+job_fault texts (ReadFault (StepProgram k)) h = absurd h
+job_fault texts (Unfit (TooLong JobFile)) h = h
+job_fault texts (Unfit (TooLong PartFile)) h = absurd h
+job_fault texts (Unfit (TooLong ProgramFile)) h = absurd h
+job_fault texts (Unfit (TooLong ListFile)) h = absurd h
+job_fault texts (Unfit (TooLong (StepProgram k))) h = absurd h
+job_fault texts (Unfit (JobRefused fault)) h = h
+job_fault texts (Unfit (PartRefused fault)) h = absurd h
+job_fault texts (Unfit (ListRefused fault)) h = absurd h
+job_fault texts (Unfit (ProgramRefused file fault)) h = absurd h
+job_fault texts (Unfit (PartTop height top unit)) h = absurd h
+
+-- the job was read, and this is what the part's file came to
+pub under_loads : (texts : SetupTexts) (job : Job) (r : Result Setup LoadFault) → ReadsJob texts job → LoadsUnder job texts.part r → LoadsSetup texts r
+under_loads texts job (Ok s) read h = record {
+  job_is = subst (λ (j : Job). ReadsJob texts j) (sym h.0) read;
+  part_is = subst (λ (j : Job). IfSome texts.part (λ text. IsPartText j text s.part)) (sym h.0) h.1;
+  under = subst (λ (j : Job). IsUnder s.part j.top) (sym h.0) h.2;
+}
+under_loads texts job (Err Memory) read h = tt
+under_loads texts job (Err (ReadFault JobFile)) read h = absurd h
+under_loads texts job (Err (ReadFault PartFile)) read h = (job, read)
+under_loads texts job (Err (ReadFault ProgramFile)) read h = absurd h
+under_loads texts job (Err (ReadFault ListFile)) read h = absurd h
+under_loads texts job (Err (ReadFault (StepProgram k))) read h = absurd h
+under_loads texts job (Err (Unfit (TooLong JobFile))) read h = absurd h
+under_loads texts job (Err (Unfit (TooLong PartFile))) read h = record { job = job; job_is = read; long = h }
+under_loads texts job (Err (Unfit (TooLong ProgramFile))) read h = absurd h
+under_loads texts job (Err (Unfit (TooLong ListFile))) read h = absurd h
+under_loads texts job (Err (Unfit (TooLong (StepProgram k)))) read h = absurd h
+under_loads texts job (Err (Unfit (JobRefused fault))) read h = absurd h
+under_loads texts job (Err (Unfit (PartRefused fault))) read h = record { job = job; job_is = read; refused = h }
+under_loads texts job (Err (Unfit (ListRefused fault))) read h = absurd h
+under_loads texts job (Err (Unfit (ProgramRefused file fault))) read h = absurd h
+under_loads texts job (Err (Unfit (PartTop height top unit))) read h =
+    record { job = job; part = h.part; job_is = read; part_is = h.part_is; greatest = h.greatest; limit = h.limit; unit_is = h.unit_is; over = h.over }
+
+-- what kept a command from the job or the part, where it reads words between the two
+abbrev pub HasFault : Type 0 → SetupTexts → LoadFault → Type 0
+HasFault ReadsWords texts Memory = Unit {0}
+HasFault ReadsWords texts (ReadFault file) = IsReadBeforeWith ReadsWords file
+HasFault ReadsWords texts (Unfit fault) = IsUnfitWith ReadsWords texts fault
+
+-- there was no job
+pub job_fault_with : (ReadsWords : Type 0) (texts : SetupTexts) (f : LoadFault) → LoadsJob texts.job (Err f) → HasFault ReadsWords texts f
+job_fault_with W texts Memory h = tt
+job_fault_with W texts (ReadFault JobFile) h = tt
+job_fault_with W texts (ReadFault PartFile) h = absurd h
+job_fault_with W texts (ReadFault ProgramFile) h = absurd h
+job_fault_with W texts (ReadFault ListFile) h = absurd h
+job_fault_with W texts (ReadFault (StepProgram k)) h = absurd h
+job_fault_with W texts (Unfit (TooLong JobFile)) h = h
+job_fault_with W texts (Unfit (TooLong PartFile)) h = absurd h
+job_fault_with W texts (Unfit (TooLong ProgramFile)) h = absurd h
+job_fault_with W texts (Unfit (TooLong ListFile)) h = absurd h
+job_fault_with W texts (Unfit (TooLong (StepProgram k))) h = absurd h
+job_fault_with W texts (Unfit (JobRefused fault)) h = h
+job_fault_with W texts (Unfit (PartRefused fault)) h = absurd h
+job_fault_with W texts (Unfit (ListRefused fault)) h = absurd h
+job_fault_with W texts (Unfit (ProgramRefused file fault)) h = absurd h
+job_fault_with W texts (Unfit (PartTop height top unit)) h = absurd h
+
+-- job and words were read, and there was no part
+pub part_fault_with : (ReadsWords : Type 0) (texts : SetupTexts) (job : Job) (f : LoadFault) → ReadsWords → ReadsJob texts job → LoadsUnder job texts.part (Err f) → HasFault ReadsWords texts f
+part_fault_with W texts job Memory w read h = tt
+part_fault_with W texts job (ReadFault JobFile) w read h = absurd h
+part_fault_with W texts job (ReadFault PartFile) w read h = w
+part_fault_with W texts job (ReadFault ProgramFile) w read h = absurd h
+part_fault_with W texts job (ReadFault ListFile) w read h = absurd h
+part_fault_with W texts job (ReadFault (StepProgram k)) w read h = absurd h
+part_fault_with W texts job (Unfit (TooLong JobFile)) w read h = absurd h
+part_fault_with W texts job (Unfit (TooLong PartFile)) w read h = (w, under_loads texts job (Err (Unfit (TooLong PartFile))) read h)
+part_fault_with W texts job (Unfit (TooLong ProgramFile)) w read h = absurd h
+part_fault_with W texts job (Unfit (TooLong ListFile)) w read h = absurd h
+part_fault_with W texts job (Unfit (TooLong (StepProgram k))) w read h = absurd h
+part_fault_with W texts job (Unfit (JobRefused fault)) w read h = absurd h
+part_fault_with W texts job (Unfit (PartRefused fault)) w read h = (w, under_loads texts job (Err (Unfit (PartRefused fault))) read h)
+part_fault_with W texts job (Unfit (ListRefused fault)) w read h = absurd h
+part_fault_with W texts job (Unfit (ProgramRefused file fault)) w read h = absurd h
+part_fault_with W texts job (Unfit (PartTop height top unit)) w read h = (w, under_loads texts job (Err (Unfit (PartTop height top unit))) read h)
+
+-- ---- job and part together
+
+-- the part is too high
+pub high_joined : (job : Job) (part : List Tri) (height : ℤ) → IsLow job part (Some height) → JoinsPart job part (Err (Unfit (PartTop height job.top job.unit)))
+high_joined job part height high = (high.0, refl, refl, high.1)
+
+-- the part that was read is put to the job
+pub joined_under : (job : Job) (told : Option (List ℕ)) (part : List Tri) (r : Result Setup LoadFault) → IfSome told (λ text. IsPartText job text part) → JoinsPart job part r
+    → LoadsUnder job told r
+joined_under job told part (Ok s) is h = (h.0, subst (λ (p : List Tri). IfSome told (λ text. IsPartText job text p)) (sym h.1) is, subst (λ (p : List Tri). IsUnder p job.top) (sym h.1) h.2)
+joined_under job told part (Err Memory) is h = absurd h
+joined_under job told part (Err (ReadFault file)) is h = absurd h
+joined_under job told part (Err (Unfit (TooLong file))) is h = absurd h
+joined_under job told part (Err (Unfit (JobRefused fault))) is h = absurd h
+joined_under job told part (Err (Unfit (PartRefused fault))) is h = absurd h
+joined_under job told part (Err (Unfit (ListRefused fault))) is h = absurd h
+joined_under job told part (Err (Unfit (ProgramRefused file fault))) is h = absurd h
+joined_under job told part (Err (Unfit (PartTop height top unit))) is h =
+    record { part = part; part_is = is; greatest = h.0; limit = h.1; unit_is = h.2; over = h.3 }
+
+-- ---- counts
+
+-- a count that can still rise, and rose, is greater
+pub rises : (before now : ℕ) → before < 2 ^ 64 - 1 → Rose before now → before < now
+rises before now room rose = omega (room, rose, arith)
+
+-- ---- one reading after another
+
+-- what was read first left the count of failed reads as it was
+pub loads_on : {T U : Type 0} (a b c : StoreView) (x : T) (r : Result U LoadFault) → (let q : Result T LoadFault = Ok x in OnlyLoads a b q) → OnlyLoads b c r → OnlyLoads a c r
+loads_on a b c x r first next = record { only = reads_on a b c first.only next.only; reads = subst (λ (n : ℕ). CountsFault n c.read_faults r) first.reads next.reads }
+
+-- so it is whatever is made of what was read
+pub loads_as : {T U : Type 0} (a b : StoreView) (x : T) (y : U) → (let q : Result T LoadFault = Ok x in OnlyLoads a b q) → (let r : Result U LoadFault = Ok y in OnlyLoads a b r)
+loads_as a b x y loads = record { only = loads.only; reads = loads.reads }
+
+pub loads_unfit : {T U : Type 0} (a b : StoreView) (x : T) (u : UnfitFault) → (let q : Result T LoadFault = Ok x in OnlyLoads a b q)
+    → (let r : Result U LoadFault = Err (Unfit u) in OnlyLoads a b r)
+loads_unfit a b x u loads = record { only = loads.only; reads = loads.reads }

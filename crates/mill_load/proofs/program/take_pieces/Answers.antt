@@ -1,0 +1,53 @@
+use Rattle.std.proofs.Common.{◌+◌, ◌≤◌, ◌<◌, ◌++◌, length, take, arith, ◌∙◌, rules, refl}
+use Rattle.mill_base.specs.declared.limits.TheConstants.{MAX_FILE_BYTES}
+use Rattle.mill_io.proofs.Read.{reads_on}
+use Rattle.mill_load.specs.inner.Steps.{HasTaken, TakesFront}
+use Rattle.mill_load.proofs.Programs.{front_first, front_more, front_whole}
+use Rattle.mill_load.proofs.program.take_pieces.Goals as goal
+
+pub loop-reader-init : goal.loop-reader-init
+loop-reader-init g c =
+    let pieces = c.args.pieces.now in
+    let told = (g.S.Shelf.shows pieces.shelf.now).contents pieces.name.now in
+    let none = front_first c.args.start c.args.unit told c.new-reader.result c.args.moves.now.items c.new-reader.ensures.reading c.new-reader.ensures.moves c.requires.moves in
+    record {
+      going = c.requires.first.going;
+      name = refl;
+      limit = c.requires.first.limit_is;
+      same = refl;
+      room = c.requires.buf;
+      only = search rules;
+      faults = refl;
+      front = rw c.requires.first.none_given none;
+    }
+
+pub returns-in-Ok-eq0-clause-takes : goal.returns-in-Ok-eq0-clause-takes
+returns-in-Ok-eq0-clause-takes g c =
+    let pieces = c.args.pieces.now in
+    let here = c.loop-reader.pieces in
+    let next = c.in-Ok-eq0.ensures.next c.loop-reader.invariant.going in
+    let room : 0 < length c.next.new.buf = search rules in
+    let fits : here.given ≤ MAX_FILE_BYTES = omega (arith, here.within, c.loop-reader.invariant.limit) in
+    front_whole c.args.start c.args.unit ((g.S.Shelf.shows pieces.shelf.now).contents pieces.name.now) ((g.S.Shelf.shows here.shelf.now).contents here.name.now) here.given c.next.new.buf
+    c.loop-reader.reader c.loop-reader.moves.items (search rules) c.loop-reader.invariant.front (search rules) room fits
+
+pub loop-reader-preserved : goal.loop-reader-preserved
+loop-reader-preserved g c =
+    let pieces = c.args.pieces.now in
+    let here = c.loop-reader.pieces in
+    let next = c.in-Ok.ensures.next c.loop-reader.invariant.going in
+    let text = c.loop-reader.invariant.front.text in
+    let taken : HasTaken c.args.start c.args.unit c.take_piece.new.reader c.take_piece.new.moves.items (text ++ take c.in-Ok.count c.next.new.buf) = c.in_ok-take_piece.ensures c.args.start c.args.unit text c.loop-reader.invariant.front.taken in
+    let front : TakesFront c.args.start c.args.unit ((g.S.Shelf.shows pieces.shelf.now).contents pieces.name.now) (here.given + c.in-Ok.count) c.take_piece.new.reader c.take_piece.new.moves.items =
+    front_more c.args.start c.args.unit ((g.S.Shelf.shows pieces.shelf.now).contents pieces.name.now) ((g.S.Shelf.shows here.shelf.now).contents here.name.now) here.given c.in-Ok.count c.next.new.buf
+    c.loop-reader.reader c.take_piece.new.reader c.loop-reader.moves.items c.take_piece.new.moves.items (search rules) c.loop-reader.invariant.front next.0 c.in-Ok.ensures.within taken in
+    record {
+      going = search rules;
+      name = c.next.ensures.name ∙ c.loop-reader.invariant.name;
+      limit = c.next.ensures.limit ∙ c.loop-reader.invariant.limit;
+      same = c.next.ensures.same_reference ∙ c.loop-reader.invariant.same;
+      room = search rules;
+      only = reads_on _ _ _ c.loop-reader.invariant.only c.next.ensures.only;
+      faults = c.in-Ok.ensures.cause c.loop-reader.invariant.going ∙ c.loop-reader.invariant.faults;
+      front = rw c.in-Ok.ensures.given front;
+    }

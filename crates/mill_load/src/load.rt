@@ -1,0 +1,204 @@
+//! Reading the job and the part of a command, and the bytes of any of its files.
+ghost use Rattle.std.specs.Prelude.{◌≡◌, IfOk, Some};
+ghost use Rattle.mill_job.specs.Jobs.{IsJob};
+ghost use Rattle.mill_load.specs.Loads.{ReadsFile, LoadsJob, LoadsPart, LoadsUnder, LoadsSetup, JoinsPart, OnlyLoads, CountsFault, IsSetup};
+ghost use Rattle.mill_load.specs.inner.Steps.{IsLow};
+ghost use Rattle.mill_load.specs.Setup.{setup_texts, Fits};
+ghost use Rattle.mill_load.specs.declared.load.LoadFault.TheVariants as load_fault;
+
+use crate::file::File;
+use mill_base::{MAX_FILE_BYTES, Unit, WantOfMemory};
+use mill_io::{ReadEnd, Shelf, read_whole};
+use mill_job::{Job, JobFault, read_job};
+use mill_ngc::NgcFault;
+use mill_part::Part;
+use mill_stl::{StlFault, read_stl};
+use std::alloc::{AllocError, Global};
+
+/// Why a command's files give it nothing to work on.
+#[derive(Debug, Drop)]
+pub enum Unfit {
+    /// The file has too many bytes.
+    TooLong(File),
+    /// The job's text is refused.
+    JobRefused(JobFault),
+    /// The part's text is refused.
+    PartRefused(StlFault),
+    /// The list's text is refused.
+    ListRefused(JobFault),
+    /// The text of this file, a program, is refused.
+    ProgramRefused(File, NgcFault),
+    /// The part's greatest height is over the job's top; both are in the job's unit.
+    PartTop { height: i32, top: i32, unit: Unit },
+}
+
+/// What keeps a command from its files.
+#[derive(Debug, Drop)]
+pub enum LoadFault {
+    /// There was not enough memory.
+    Memory,
+    /// The file could not be read.
+    ReadFault(File),
+    /// They give it nothing to work on.
+    Unfit(Unfit),
+}
+
+impl From<AllocError> for LoadFault {
+    ghost from_gives = { λ _ e. e ≡ load_fault.Memory };
+
+    fn from(_: AllocError) -> Self {
+        LoadFault::Memory
+    }
+}
+
+impl From<WantOfMemory> for LoadFault {
+    ghost from_gives = { λ _ e. e ≡ load_fault.Memory };
+
+    fn from(_: WantOfMemory) -> Self {
+        LoadFault::Memory
+    }
+}
+
+/// What every command works on: the job, and a part that isn't over the job's top.
+#[derive(Drop)]
+pub struct Setup {
+    pub job: Job,
+    pub part: Part,
+}
+
+/// Reads the job and then the part, and checks the part's top. The first that fails ends it.
+pub fn load_setup<S: Shelf>(
+    alloc: Global,
+    shelf: &mut S,
+    job: &str,
+    part: &str,
+) -> Result<Setup, LoadFault>
+    ensures told { LoadsSetup (setup_texts (S.shows shelf.old).contents job.now part.now) result }
+    ensures ready { IfOk result IsSetup }
+    ensures store { OnlyLoads (S.shows shelf.old) (S.shows shelf.new) result }
+{
+    match load_job(alloc, shelf, job) {
+        Ok(job) => load_under(alloc, shelf, job, part),
+        Err(fault) => Err(fault),
+    }
+}
+
+/// Reads the part for a job, and checks its top.
+pub fn load_under<S: Shelf>(
+    alloc: Global,
+    shelf: &mut S,
+    job: Job,
+    name: &str,
+) -> Result<Setup, LoadFault>
+    requires { IsJob job }
+    ensures told { LoadsUnder job ((S.shows shelf.old).contents name.now) result }
+    ensures ready { IfOk result IsSetup }
+    ensures store { OnlyLoads (S.shows shelf.old) (S.shows shelf.new) result }
+{
+    match load_part(alloc, shelf, name, &job) {
+        Ok(part) => setup_from(job, part),
+        Err(fault) => Err(fault),
+    }
+}
+
+/// The job with its part, if that isn't over the job's top; else `PartTop`.
+pub fn setup_from(job: Job, part: Part) -> Result<Setup, LoadFault>
+    requires { IsJob job }
+    ensures told { JoinsPart job part result }
+    ensures ready { IfOk result IsSetup }
+    ensures cause { CountsFault 0 0 result }
+{
+    if let Some(height) = height_over(&job, &part) {
+        return Err(LoadFault::Unfit(Unfit::PartTop {
+            height,
+            top: job.top,
+            unit: job.unit,
+        }));
+    }
+    Ok(Setup { job, part })
+}
+
+/// The part's greatest height, where it is over the job's top.
+fn height_over(job: &Job, part: &Part) -> Option<i32>
+    ensures { IsLow job.now part.now result }
+{
+    match part.top() {
+        Some(height) if height > job.top => Some(height),
+        _ => None,
+    }
+}
+
+/// Reads the job.
+pub fn load_job<S: Shelf>(alloc: Global, shelf: &mut S, name: &str) -> Result<Job, LoadFault>
+    ensures told { LoadsJob ((S.shows shelf.old).contents name.now) result }
+    ensures in_range { IfOk result IsJob }
+    ensures store { OnlyLoads (S.shows shelf.old) (S.shows shelf.new) result }
+{
+    match read_file(alloc, shelf, name, File::Job) {
+        Ok(text) => job_from(alloc, &text),
+        Err(fault) => Err(fault),
+    }
+}
+
+fn load_part<S: Shelf>(
+    alloc: Global,
+    shelf: &mut S,
+    name: &str,
+    job: &Job,
+) -> Result<Part, LoadFault>
+    ensures told { LoadsPart job.now ((S.shows shelf.old).contents name.now) result }
+    ensures store { OnlyLoads (S.shows shelf.old) (S.shows shelf.new) result }
+{
+    match read_file(alloc, shelf, name, File::Part) {
+        Ok(text) => part_from(alloc, &text, job),
+        Err(fault) => Err(fault),
+    }
+}
+
+/// All the bytes of one of the files, which are at most `MAX_FILE_BYTES`. A fault is told as that of
+/// `file`.
+pub fn read_file<S: Shelf>(
+    alloc: Global,
+    shelf: &mut S,
+    name: &str,
+    file: File,
+) -> Result<Vec<u8>, LoadFault>
+    ensures told { ReadsFile ((S.shows shelf.old).contents name.now) file result }
+    ensures fits { IfOk result (λ text. Fits text.items) }
+    ensures store { OnlyLoads (S.shows shelf.old) (S.shows shelf.new) result }
+{
+    match read_whole(alloc, shelf, name, MAX_FILE_BYTES) {
+        Ok(bytes) => Ok(bytes),
+        Err(ReadEnd::ReadFault) => Err(LoadFault::ReadFault(file)),
+        Err(ReadEnd::TooLong) => Err(LoadFault::Unfit(Unfit::TooLong(file))),
+        Err(ReadEnd::WantOfMemory) => Err(LoadFault::Memory),
+    }
+}
+
+/// The job that a text within the limit of a file says, or why it is refused.
+pub fn job_from(alloc: Global, text: &[u8]) -> Result<Job, LoadFault>
+    requires { Fits text.now }
+    ensures told { LoadsJob (Some text.now) result }
+    ensures in_range { IfOk result IsJob }
+    ensures cause { CountsFault 0 0 result }
+{
+    match read_job(alloc, text) {
+        Ok(job) => Ok(job),
+        Err(JobFault::WantOfMemory) => Err(LoadFault::Memory),
+        Err(fault) => Err(LoadFault::Unfit(Unfit::JobRefused(fault))),
+    }
+}
+
+/// The part that a text within the limit of a file says for a job, in the job's unit and under its snap,
+/// or why it is refused.
+pub fn part_from(alloc: Global, text: &[u8], job: &Job) -> Result<Part, LoadFault>
+    requires { Fits text.now }
+    ensures told { LoadsPart job.now (Some text.now) result }
+    ensures cause { CountsFault 0 0 result }
+{
+    match read_stl(alloc, text, job.snap, job.unit) {
+        Ok(read) => Ok(Part::new(read.tris)),
+        Err(StlFault::WantOfMemory) => Err(LoadFault::Memory),
+        Err(fault) => Err(LoadFault::Unfit(Unfit::PartRefused(fault))),
+    }
+}

@@ -1,0 +1,15 @@
+pub mod Told
+pub mod Taken
+pub mod Loading
+pub mod Answering
+pub mod Blaming
+pub mod Serving
+pub mod Storing
+pub mod Planning
+pub mod Stocks
+pub mod Rests
+pub mod Samples
+pub mod Lengths
+pub mod Outcomes
+pub mod Headlines
+pub mod Named

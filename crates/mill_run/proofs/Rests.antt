@@ -1,0 +1,176 @@
+-- The work on `rest`: what was read and printed, put together.
+use Rattle.std.proofs.Common.{◌≡◌, ℕ, suc, ◌+◌, ◌<◌, List, [], ◌∷◌, ◌++◌, length, take, Option, Some, None, Result, Ok, Err, refl, sym, ap, subst, ◌∙◌, inl, inr}
+use Rattle.std.proofs.Math.Path.{fun_ext}
+use Rattle.std.proofs.lemmas.List.{get_or_default, take_more}
+use Rattle.std.specs.Prelude.{IfSome, slice_index_or}
+use Rattle.std.specs.Global.{Vec}
+use Rattle.mill_base.specs.declared.points.Tri.{Tri}
+use Rattle.mill_command.specs.Requests.{rest}
+use Rattle.mill_io.specs.Views.{StoreView, ReadsOnly}
+use Rattle.mill_job.specs.declared.job.Job.{Job}
+use Rattle.mill_list.specs.declared.step.Step.{Step}
+use Rattle.mill_verify.specs.Files.{File as CutFile}
+use Rattle.mill_load.specs.declared.file.File.{File}
+use Rattle.mill_load.specs.declared.file.File.TheVariants.{Job as JobFile, Part as PartFile, Program as ProgramFile, List as ListFile, StepProgram}
+use Rattle.mill_load.specs.declared.load.LoadFault.{LoadFault}
+use Rattle.mill_load.specs.declared.load.LoadFault.TheVariants.{Memory, ReadFault, Unfit}
+use Rattle.mill_load.specs.declared.load.Unfit.TheVariants.{TooLong, JobRefused, PartRefused, ListRefused, ProgramRefused, PartTop}
+use Rattle.mill_run.specs.declared.rest.Listed.{Listed}
+use Rattle.mill_run.specs.Answers.{judged_files}
+use Rattle.mill_run.specs.Calls.{Call}
+use Rattle.mill_run.specs.inner.Loads.{LoadsFiles, LoadsList, StopsAtStep}
+use Rattle.mill_load.specs.Loads.{LoadsProgram, LoadsSetup, OnlyLoads}
+use Rattle.mill_run.specs.inner.Prints.{TriesListVerdict, fault_outcome}
+use Rattle.mill_run.specs.Outcomes.{no_memory, IsOutcome, Serves}
+use Rattle.mill_run.specs.Rest.{RestTexts, rest_texts, ReadsList, step_at, ReadsStep, ReadsSteps, ReadsToStep, IsUnfitRest, IsReadBeforeRest}
+use Rattle.mill_load.specs.Setup.{ReadsSetup}
+use Rattle.mill_run.proofs.Serving.{answer_serves, answer_shows, printed_shows}
+
+-- a store that was only read tells the same of every name
+pub contents_stay : (old new : StoreView) → ReadsOnly old new → new.contents ≡ old.contents
+contents_stay old new only = fun_ext (λ (name : List ℕ). only.contents name)
+
+-- ---- the list
+
+-- nothing is said of a list that isn't told, but which faults may come
+untold_list : (job : Job) (items : List ℕ) (r : Result (Vec Step) LoadFault) → LoadsList job (Some items) r → LoadsList job None r
+untold_list job items (Ok steps) h = tt
+untold_list job items (Err Memory) h = tt
+untold_list job items (Err (ReadFault JobFile)) h = h
+untold_list job items (Err (ReadFault PartFile)) h = h
+untold_list job items (Err (ReadFault ProgramFile)) h = h
+untold_list job items (Err (ReadFault ListFile)) h = tt
+untold_list job items (Err (ReadFault (StepProgram k))) h = h
+untold_list job items (Err (Unfit (TooLong JobFile))) h = h
+untold_list job items (Err (Unfit (TooLong PartFile))) h = h
+untold_list job items (Err (Unfit (TooLong ProgramFile))) h = h
+untold_list job items (Err (Unfit (TooLong ListFile))) h = tt
+untold_list job items (Err (Unfit (TooLong (StepProgram k)))) h = h
+untold_list job items (Err (Unfit (JobRefused fault))) h = h
+untold_list job items (Err (Unfit (PartRefused fault))) h = h
+untold_list job items (Err (Unfit (ListRefused fault))) h = tt
+untold_list job items (Err (Unfit (ProgramRefused file fault))) h = h
+untold_list job items (Err (Unfit (PartTop height top unit))) h = h
+
+-- the bytes that were read are what is told
+pub list_told : (job : Job) (told : Option (List ℕ)) (items : List ℕ) (r : Result (Vec Step) LoadFault) → IfSome told (λ text. items ≡ text) → LoadsList job (Some items) r
+    → LoadsList job told r
+list_told job None items r same h = untold_list job items r h
+list_told job (Some text) items r same h = subst (λ (t : List ℕ). LoadsList job (Some t) r) same h
+
+-- ---- its programs, in turn
+
+reads_push : (programs : List ℕ → Option (List ℕ)) (job : Job) (steps : List Step) (files : List CutFile) (step : Step) (file : CutFile) → ReadsSteps programs job steps files
+    → ReadsStep programs job step file → ReadsSteps programs job (steps ++ step ∷ []) (files ++ file ∷ [])
+reads_push programs job [] [] step file r s = (s, tt)
+reads_push programs job [] (f ∷ files) step file r s = absurd r
+reads_push programs job (x ∷ steps) [] step file r s = absurd r
+reads_push programs job (x ∷ steps) (f ∷ files) step file r s = (r.0, reads_push programs job steps files step file r.1 s)
+
+-- there are as many files as steps
+pub as_many : (programs : List ℕ → Option (List ℕ)) (job : Job) (steps : List Step) (files : List CutFile) → ReadsSteps programs job steps files → length files ≡ length steps
+as_many programs job [] [] r = refl
+as_many programs job [] (f ∷ files) r = absurd r
+as_many programs job (x ∷ steps) [] r = absurd r
+as_many programs job (x ∷ steps) (f ∷ files) r = ap suc (as_many programs job steps files r.1)
+
+-- step n, as it is taken from the list
+module _ (programs : List ℕ → Option (List ℕ)) (job : Job) (steps : List Step) (files : List CutFile) (n : ℕ) (step : Step) (there : n < length steps) (is : step ≡ slice_index_or steps n step)
+    (before : ReadsSteps programs job (take n steps) files) where
+  -- it is read too
+  pub reads_more : (file : CutFile) (new : List CutFile) → new ≡ files ++ file ∷ [] → ReadsStep programs job step file → ReadsSteps programs job (take (n + 1) steps) new
+  reads_more file new pushed s =
+      subst (λ (fs : List CutFile). ReadsSteps programs job (take (n + 1) steps) fs) (sym pushed)
+      (subst (λ (xs : List Step). ReadsSteps programs job xs (files ++ file ∷ [])) (sym (take_more steps n step there))
+      (subst (λ (x : Step). ReadsSteps programs job (take n steps ++ x ∷ []) (files ++ file ∷ [])) is (reads_push programs job (take n steps) files step file before s)))
+
+  -- it stops the reading
+  pub stops_at : (f : LoadFault) → LoadsProgram job (programs step.program) (StepProgram n) (Err f) → StopsAtStep programs job steps f
+  stops_at f h = record {
+    number = n;
+    files = files;
+    there = there;
+    before = before;
+    stops = subst (λ (x : Step). LoadsProgram job (programs x.program) (StepProgram n) (Err f)) (is ∙ get_or_default steps n step _ there) h;
+  }
+
+-- ---- what kept it from its files
+
+-- there was no job or no part
+pub no_setup : (texts : RestTexts) (f : LoadFault) → LoadsSetup texts.setup (Err f) → LoadsFiles texts (Err f)
+no_setup texts Memory h = tt
+no_setup texts (ReadFault JobFile) h = h
+no_setup texts (ReadFault PartFile) h = h
+no_setup texts (ReadFault ProgramFile) h = h
+no_setup texts (ReadFault ListFile) h = absurd h
+no_setup texts (ReadFault (StepProgram k)) h = absurd h
+no_setup texts (Unfit (TooLong JobFile)) h = h
+no_setup texts (Unfit (TooLong PartFile)) h = h
+no_setup texts (Unfit (TooLong ProgramFile)) h = h
+no_setup texts (Unfit (TooLong ListFile)) h = absurd h
+no_setup texts (Unfit (TooLong (StepProgram k))) h = absurd h
+no_setup texts (Unfit (JobRefused fault)) h = h
+no_setup texts (Unfit (PartRefused fault)) h = h
+no_setup texts (Unfit (ListRefused fault)) h = absurd h
+no_setup texts (Unfit (ProgramRefused file fault)) h = absurd h
+no_setup texts (Unfit (PartTop height top unit)) h = h
+
+-- job and part were read, and there was no list
+pub no_list : (texts : RestTexts) (job : Job) (part : List Tri) (f : LoadFault) → ReadsSetup texts.setup job part → LoadsList job texts.list (Err f) → LoadsFiles texts (Err f)
+no_list texts job part Memory r h = tt
+no_list texts job part (ReadFault JobFile) r h = absurd h
+no_list texts job part (ReadFault PartFile) r h = absurd h
+no_list texts job part (ReadFault ProgramFile) r h = absurd h
+no_list texts job part (ReadFault ListFile) r h = (job, part, r)
+no_list texts job part (ReadFault (StepProgram k)) r h = absurd h
+no_list texts job part (Unfit (TooLong JobFile)) r h = absurd h
+no_list texts job part (Unfit (TooLong PartFile)) r h = absurd h
+no_list texts job part (Unfit (TooLong ProgramFile)) r h = absurd h
+no_list texts job part (Unfit (TooLong ListFile)) r h = record { job = job; part = part; setup_is = r; long = h }
+no_list texts job part (Unfit (TooLong (StepProgram k))) r h = absurd h
+no_list texts job part (Unfit (JobRefused fault)) r h = absurd h
+no_list texts job part (Unfit (PartRefused fault)) r h = absurd h
+no_list texts job part (Unfit (ListRefused fault)) r h = record { job = job; part = part; setup_is = r; refused = h }
+no_list texts job part (Unfit (ProgramRefused file fault)) r h = absurd h
+no_list texts job part (Unfit (PartTop height top unit)) r h = absurd h
+
+-- so was the list, and there was no program of one of its steps
+pub no_step : (texts : RestTexts) (job : Job) (part : List Tri) (steps : List Step) (f : LoadFault) → ReadsSetup texts.setup job part → ReadsList texts job steps
+    → StopsAtStep texts.programs job steps f → LoadsFiles texts (Err f)
+no_step texts job part steps f r l s = which f s.stops
+  where
+    step : Step
+    step = step_at steps s.number
+
+    before : ReadsToStep texts job step s.number
+    before = record { part = part; steps = steps; files = s.files; setup_is = r; list_is = l; there = s.there; step_is = refl; before = s.before }
+
+    which : (g : LoadFault) → LoadsProgram job (texts.programs step.program) (StepProgram s.number) (Err g) → LoadsFiles texts (Err g)
+    which Memory h = tt
+    which (ReadFault file) h = subst (λ (x : File). IsReadBeforeRest texts x) (sym h) (job, step, before)
+    which (Unfit (TooLong file)) h = subst (λ (x : File). IsUnfitRest texts (TooLong x)) (sym h.0) (record { job = job; step = step; before = before; long = h.1 })
+    which (Unfit (JobRefused fault)) h = absurd h
+    which (Unfit (PartRefused fault)) h = absurd h
+    which (Unfit (ListRefused fault)) h = absurd h
+    which (Unfit (ProgramRefused file fault)) h =
+        subst (λ (x : File). IsUnfitRest texts (ProgramRefused x fault)) (sym h.0) (record { job = job; step = step; before = before; refused = h.1 })
+    which (Unfit (PartTop height top unit)) h = absurd h
+
+pub rest_load_fault : (contents : List ℕ → Option (List ℕ)) (job part list : List ℕ) (workers : ℕ) (f : LoadFault)
+    → LoadsFiles (rest_texts contents (record { job = job; part = part; list = list })) (Err f) → IsOutcome contents (rest job part list workers) (fault_outcome f)
+rest_load_fault contents job part list workers Memory h = tt
+rest_load_fault contents job part list workers (ReadFault file) h = h
+rest_load_fault contents job part list workers (Unfit fault) h = h
+
+-- ---- the answer
+
+-- all was read, and the verdict on it is printed
+pub rest_serves : (job part list : List ℕ) (workers : ℕ) (call : Call) (l : Listed)
+    → LoadsFiles (rest_texts call.store.contents (record { job = job; part = part; list = list })) (Ok l)
+    → (let r : Result Listed LoadFault = Ok l in OnlyLoads call.store call.store_after r) → TriesListVerdict l call.status call.sink call.sink_after → Serves (rest job part list workers) call
+rest_serves job part list workers call l read loads (inl v) =
+    answer_serves (rest job part list workers) call (judged_files l.job l.part l.files.items v.verdict)
+    (record { steps = read.0; all_read = read.1; is = v.is; safe = v.safe; named = v.named })
+    (answer_shows call (judged_files l.job l.part l.files.items v.verdict) refl loads.only loads.reads v.printed)
+rest_serves job part list workers call l read loads (inr m) =
+    record { outcome = no_memory; is = tt; shows = printed_shows call no_memory refl loads.only loads.reads m }

@@ -1,0 +1,202 @@
+-- What was read and what was printed, put together as the work on a request.
+use Rattle.std.proofs.Common.{◌≡◌, ◌⊎◌, ℕ, List, Option, Some, None, Result, Ok, Err, refl, sym, ap, subst, inl, inr}
+use Rattle.std.specs.Prelude.{IfOk, ℤ}
+use Rattle.std.specs.Global.{Vec}
+use Rattle.mill_base.specs.declared.memory.WantOfMemory.{WantOfMemory}
+use Rattle.mill_command.specs.Requests.{ReadsWords, Request, request, verify, drop, level}
+use Rattle.mill_command.specs.declared.refusal.Refusal.{Refusal}
+use Rattle.mill_command.specs.declared.refusal.Refusal.TheVariants as refusal
+use Rattle.mill_decimal.specs.declared.fault.DecFault.{DecFault}
+use Rattle.mill_io.specs.Views.{StoreView, SinkView, ReadsOnly}
+use Rattle.mill_job.specs.declared.job.Job.{Job}
+use Rattle.mill_load.specs.declared.load.LoadFault.{LoadFault}
+use Rattle.mill_load.specs.declared.load.LoadFault.TheVariants as load_fault
+use Rattle.mill_load.specs.declared.load.Setup.{Setup}
+use Rattle.mill_load.specs.declared.place.Coordinate.{Coordinate}
+use Rattle.mill_job.specs.declared.job.Place.{Place}
+use Rattle.mill_run.specs.declared.verify.Loaded.{Loaded}
+use Rattle.mill_run.specs.Answers.{Answer, refused_word, unfit, judged, dropped, leveled, answer_status, answer_line}
+use Rattle.mill_run.specs.Calls.{Call, CanCount, NamedText, Stores}
+use Rattle.mill_run.specs.Drop.{HasPlace}
+use Rattle.mill_load.specs.Places.{ReadsPlace, RefusesWord, ReadsHeight, RefusesZ}
+use Rattle.mill_run.specs.Level.{HasHeight}
+use Rattle.mill_run.specs.inner.Loads.{Loads}
+use Rattle.mill_load.specs.Loads.{LoadsUnder, OnlyLoads}
+use Rattle.mill_run.specs.Outcomes.{Outcome, help, bad_words, no_memory, read_fault, answered, outcome_file, IsOutcome, IsOutcomeOf, CountsReads, Shows, ShowsOr, Serves, HasOutcome}
+use Rattle.mill_load.specs.Prints.{Prints, PrintsMade, PrintsFault}
+use Rattle.mill_run.specs.inner.Prints.{PrintsOutcome, PrintsOr, fault_outcome, refusal_outcome, TriesVerdict, PrintsHeight, TriesLevel}
+use Rattle.mill_load.specs.Setup.{setup_texts, ReadsJob}
+use Rattle.mill_run.specs.Verify.{texts_of}
+use Rattle.mill_load.proofs.Reading.{rises, under_loads, HasFault}
+
+-- ---- where nothing is stored
+
+-- the store is as it was but for failed reads, and what was printed is the outcome's
+pub printed_shows : (call : Call) (o : Outcome) → outcome_file o ≡ None → ReadsOnly call.store call.store_after
+    → CountsReads o call.store.read_faults call.store_after.read_faults → PrintsOutcome o call.status call.sink call.sink_after → Shows call o
+printed_shows call o none only reads (inl p) = record {
+  reads = reads;
+  way = inl (record { status = p.wanted_is; printed = p.written; stored = subst (λ (f : Option NamedText). Stores call f) (sym none) only });
+}
+printed_shows call o none only reads (inr p) = record {
+  reads = reads;
+  way = inr (inr (record { status = p.failed; printed = p.written; risen = p.risen; stored = subst (λ (f : Option NamedText). Stores call f) (sym none) only }));
+}
+
+-- an answer is printed that stores nothing, or memory was short
+pub answer_shows : (call : Call) (a : Answer) → outcome_file (answered a) ≡ None → ReadsOnly call.store call.store_after → call.store_after.read_faults ≡ call.store.read_faults
+    → PrintsOr (answered a) call.status call.sink call.sink_after → ShowsOr (answered a) call
+answer_shows call a none only reads (inl p) = inl (printed_shows call (answered a) none only reads p)
+answer_shows call a none only reads (inr m) = inr (printed_shows call no_memory refl only reads m)
+
+-- so the work on a request is done, if this is its answer
+pub answer_serves : (asked : Request) (call : Call) (a : Answer) → IsOutcome call.store.contents asked (answered a) → ShowsOr (answered a) call → Serves asked call
+answer_serves asked call a is (inl s) = record { outcome = answered a; is = is; shows = s }
+answer_serves asked call a is (inr m) = record { outcome = no_memory; is = tt; shows = m }
+
+-- what kept a command from its files is printed
+pub fault_serves : {T : Type 0} (asked : Request) (call : Call) (f : LoadFault) → IsOutcome call.store.contents asked (fault_outcome f) → CanCount call.store call.sink
+    → (let r : Result T LoadFault = Err f in OnlyLoads call.store call.store_after r) → PrintsFault f call.status call.sink call.sink_after → Serves asked call
+fault_serves asked call load_fault.Memory is room loads p = record { outcome = no_memory; is = tt; shows = printed_shows call no_memory refl loads.only loads.reads p }
+fault_serves asked call (load_fault.ReadFault file) is room loads p =
+    record { outcome = read_fault file; is = is; shows = printed_shows call (read_fault file) refl loads.only (rises _ _ room.reads loads.reads) p }
+fault_serves asked call (load_fault.Unfit fault) is room loads p =
+    answer_serves asked call (unfit fault) is (answer_shows call (unfit fault) refl loads.only loads.reads p)
+
+-- ---- lines
+
+-- the line that was made is this text, or memory was short
+pub text_prints : (line : Result (Vec ℕ) WantOfMemory) (text : List ℕ) (wanted status : ℕ) (sink sink_after : SinkView) → IfOk line (λ v. v.items ≡ text)
+    → PrintsMade line wanted status sink sink_after → Prints text wanted status sink sink_after ⊎ PrintsOutcome no_memory status sink sink_after
+text_prints (Ok v) text wanted status sink sink_after same p = inl (subst (λ (l : List ℕ). Prints l wanted status sink sink_after) same p)
+text_prints (Err f) text wanted status sink sink_after same p = inr p
+
+-- the line that was made is its answer's
+pub made_prints : (line : Result (Vec ℕ) WantOfMemory) (a : Answer) (wanted status : ℕ) (sink sink_after : SinkView)
+    → answer_status a ≡ wanted → IfOk line (λ v. v.items ≡ answer_line a) → PrintsMade line wanted status sink sink_after → PrintsOr (answered a) status sink sink_after
+made_prints (Ok v) a wanted status sink sink_after same_status same p =
+    inl (subst (λ (l : List ℕ). Prints l (answer_status a) status sink sink_after) same
+    (subst (λ (n : ℕ). Prints v.items n status sink sink_after) (sym same_status) p))
+made_prints (Err f) a wanted status sink sink_after same_status same p = inr p
+
+-- ---- `verify`
+
+pub verify_load_fault : (contents : List ℕ → Option (List ℕ)) (job part program : List ℕ) (workers : ℕ) (f : LoadFault)
+    → Loads (texts_of contents (record { job = job; part = part; program = program })) (Err f) → IsOutcome contents (verify job part program workers) (fault_outcome f)
+verify_load_fault contents job part program workers load_fault.Memory h = tt
+verify_load_fault contents job part program workers (load_fault.ReadFault file) h = h
+verify_load_fault contents job part program workers (load_fault.Unfit fault) h = h
+
+pub verdict_serves : (job part program : List ℕ) (workers : ℕ) (call : Call) (l : Loaded)
+    → Loads (texts_of call.store.contents (record { job = job; part = part; program = program })) (Ok l)
+    → (let r : Result Loaded LoadFault = Ok l in OnlyLoads call.store call.store_after r) → TriesVerdict l call.status call.sink call.sink_after → Serves (verify job part program workers) call
+verdict_serves job part program workers call l read loads (inl v) =
+    answer_serves (verify job part program workers) call (judged l.job l.part l.moves.items v.verdict) (record { all_read = read; is = v.is; safe = v.safe; named = v.named })
+    (answer_shows call (judged l.job l.part l.moves.items v.verdict) refl loads.only loads.reads v.printed)
+verdict_serves job part program workers call l read loads (inr m) =
+    record { outcome = no_memory; is = tt; shows = printed_shows call no_memory refl loads.only loads.reads m }
+
+-- ---- `drop`
+
+pub drop_fault : (contents : List ℕ → Option (List ℕ)) (job part x y : List ℕ) (f : LoadFault)
+    → HasFault (HasPlace (setup_texts contents job part) x y) (setup_texts contents job part) f → IsOutcome contents (drop job part x y) (fault_outcome f)
+drop_fault contents job part x y load_fault.Memory h = tt
+drop_fault contents job part x y (load_fault.ReadFault file) h = h
+drop_fault contents job part x y (load_fault.Unfit fault) h = h
+
+-- the job was read, and a word refused
+pub word_serves : (job part x y : List ℕ) (call : Call) (j : Job) (coordinate : Coordinate) (fault : DecFault) → ReadsJob (setup_texts call.store.contents job part) j
+    → RefusesWord j.unit x y coordinate fault → (let r : Result Job LoadFault = Ok j in OnlyLoads call.store call.store_after r)
+    → PrintsOr (answered (refused_word coordinate fault)) call.status call.sink call.sink_after → Serves (drop job part x y) call
+word_serves job part x y call j coordinate fault read refused loads p =
+    answer_serves (drop job part x y) call (refused_word coordinate fault) (record { job = j; job_is = read; refused = refused })
+    (answer_shows call (refused_word coordinate fault) refl loads.only loads.reads p)
+
+pub height_serves : (job part x y : List ℕ) (call : Call) (j : Job) (place : Place) (s : Setup) → ReadsJob (setup_texts call.store.contents job part) j → ReadsPlace j.unit x y place
+    → LoadsUnder j (call.store.contents part) (Ok s) → (let r : Result Setup LoadFault = Ok s in OnlyLoads call.store call.store_after r)
+    → PrintsHeight s place call.status call.sink call.sink_after → Serves (drop job part x y) call
+height_serves job part x y call j place s read words under loads h =
+    answer_serves (drop job part x y) call (dropped s.job.unit h.height)
+    (record {
+      place = place;
+      job = s.job;
+      part = s.part;
+      unit_is = refl;
+      place_is = subst (λ (k : Job). ReadsPlace k.unit x y place) (sym under.0) words;
+      setup_is = under_loads (setup_texts call.store.contents job part) j (Ok s) read under;
+      is = h.is;
+    })
+    (answer_shows call (dropped s.job.unit h.height) refl loads.only loads.reads h.printed)
+
+-- ---- `level`
+
+pub level_fault : (contents : List ℕ → Option (List ℕ)) (job part z : List ℕ) (f : LoadFault)
+    → HasFault (HasHeight (setup_texts contents job part) z) (setup_texts contents job part) f → IsOutcome contents (level job part z) (fault_outcome f)
+level_fault contents job part z load_fault.Memory h = tt
+level_fault contents job part z (load_fault.ReadFault file) h = h
+level_fault contents job part z (load_fault.Unfit fault) h = h
+
+-- the job was read, and the word refused
+pub height_word_serves : (job part z : List ℕ) (call : Call) (j : Job) (coordinate : Coordinate) (fault : DecFault) → ReadsJob (setup_texts call.store.contents job part) j
+    → RefusesZ j.unit z coordinate fault → (let r : Result Job LoadFault = Ok j in OnlyLoads call.store call.store_after r)
+    → PrintsOr (answered (refused_word coordinate fault)) call.status call.sink call.sink_after → Serves (level job part z) call
+height_word_serves job part z call j coordinate fault read refused loads p =
+    answer_serves (level job part z) call (refused_word coordinate fault) (record { job = j; job_is = read; refused = refused })
+    (answer_shows call (refused_word coordinate fault) refl loads.only loads.reads p)
+
+pub level_serves : (job part z : List ℕ) (call : Call) (j : Job) (height : ℤ) (s : Setup) → ReadsJob (setup_texts call.store.contents job part) j → ReadsHeight j.unit z height
+    → LoadsUnder j (call.store.contents part) (Ok s) → (let r : Result Setup LoadFault = Ok s in OnlyLoads call.store call.store_after r)
+    → TriesLevel s height call.status call.sink call.sink_after → Serves (level job part z) call
+level_serves job part z call j height s read words under loads (inl p) =
+    answer_serves (level job part z) call (leveled s.job.unit p.answer)
+    (record {
+      height = height;
+      job = s.job;
+      part = s.part;
+      unit_is = refl;
+      height_is = subst (λ (k : Job). ReadsHeight k.unit z height) (sym under.0) words;
+      setup_is = under_loads (setup_texts call.store.contents job part) j (Ok s) read under;
+      is = p.is;
+    })
+    (answer_shows call (leveled s.job.unit p.answer) refl loads.only loads.reads p.printed)
+level_serves job part z call j height s read words under loads (inr m) =
+    record { outcome = no_memory; is = tt; shows = printed_shows call no_memory refl loads.only loads.reads m }
+
+-- ---- words
+
+pub same_store : (store : StoreView) → ReadsOnly store store
+same_store store = record { contents = λ name. refl; tells = refl; write_faults = refl }
+
+pub served_outcome : (words : List (List ℕ)) (asked : Request) (call : Call) → request words ≡ Some asked → Serves asked call → HasOutcome words call
+served_outcome words asked call taken s = record { outcome = s.outcome; is = of_words s.outcome s.is; shows = s.shows }
+  where
+    of_words : (o : Outcome) → IsOutcome call.store.contents asked o → IsOutcomeOf words call.store.contents o
+    of_words (help text) is = absurd is
+    of_words (bad_words text) is = absurd is
+    of_words no_memory is = tt
+    of_words (read_fault file) is = record { asked = asked; taken = taken; is = is }
+    of_words (answered answer) is = record { asked = asked; taken = taken; is = is }
+
+refusal_is : (words : List (List ℕ)) (contents : List ℕ → Option (List ℕ)) (r : Refusal) → ReadsWords words (Err r) → IsOutcomeOf words contents (refusal_outcome r)
+refusal_is words contents (refusal.Help text) h = record { untaken = h.0; asks = h.1 }
+refusal_is words contents (refusal.NotTaken text) h = record { untaken = h.0; mistaken = h.1 }
+refusal_is words contents refusal.WantOfMemory h = tt
+
+refusal_file : (r : Refusal) → outcome_file (refusal_outcome r) ≡ None
+refusal_file (refusal.Help text) = refl
+refusal_file (refusal.NotTaken text) = refl
+refusal_file refusal.WantOfMemory = refl
+
+refusal_reads : (r : Refusal) (a b : ℕ) → b ≡ a → CountsReads (refusal_outcome r) a b
+refusal_reads (refusal.Help text) a b e = e
+refusal_reads (refusal.NotTaken text) a b e = e
+refusal_reads refusal.WantOfMemory a b e = e
+
+pub refused_outcome : (words : List (List ℕ)) (call : Call) (r : Refusal) → ReadsWords words (Err r) → call.store_after ≡ call.store
+    → PrintsOutcome (refusal_outcome r) call.status call.sink call.sink_after → HasOutcome words call
+refused_outcome words call r h same p = record {
+  outcome = refusal_outcome r;
+  is = refusal_is words call.store.contents r h;
+  shows = printed_shows call (refusal_outcome r) (refusal_file r) (subst (λ (v : StoreView). ReadsOnly call.store v) (sym same) (same_store call.store))
+      (refusal_reads r _ _ (ap (λ (v : StoreView). v.read_faults) same)) p;
+}

@@ -1,0 +1,71 @@
+-- The work of a command that stores a text: the store before it, and what is stored and printed.
+use Rattle.std.proofs.Common.{◌≡◌, ℕ, List, Option, Some, refl, sym, ap, subst, ◌∙◌, inl, inr}
+use Rattle.std.proofs.Math.Path.{fun_ext}
+use Rattle.mill_io.specs.Contents.{AppendedPart}
+use Rattle.mill_io.specs.Views.{StoreView, ReadsOnly, IsStored, IsPartStored, IsWritten}
+use Rattle.mill_run.specs.Answers.{Answer, answer_file, answer_line, answer_status}
+use Rattle.mill_run.specs.Calls.{Call, CanCount, NamedText, Stores}
+use Rattle.mill_run.specs.Outcomes.{no_memory, answered, Shows}
+use Rattle.mill_load.specs.Prints.{Prints}
+use Rattle.mill_run.specs.inner.Prints.{PrintsOutcome}
+use Rattle.mill_load.proofs.Reading.{rises}
+use Rattle.mill_run.proofs.Serving.{same_store, printed_shows}
+
+-- ---- the store is as it was
+
+-- where no read failed, a store that was only read shows what it did before
+pub same_view : (old new : StoreView) → ReadsOnly old new → new.read_faults ≡ old.read_faults → new ≡ old
+same_view old new only reads = λ i. record {
+  tells = only.tells i;
+  contents = fun_ext (λ (name : List ℕ). only.contents name) i;
+  read_faults = reads i;
+  write_faults = only.write_faults i;
+}
+
+-- the call from a later view of the store on
+abbrev pub from : Call → StoreView → Call
+from call store = record { status = call.status; store = store; store_after = call.store_after; sink = call.sink; sink_after = call.sink_after }
+
+pub untouched : (call : Call) → call.store_after ≡ call.store → ReadsOnly call.store call.store_after
+untouched call same = subst (λ (v : StoreView). ReadsOnly call.store v) (sym same) (same_store call.store)
+
+pub unread : (call : Call) → call.store_after ≡ call.store → call.store_after.read_faults ≡ call.store.read_faults
+unread call same = ap (λ (v : StoreView). v.read_faults) same
+
+pub short_shows : (call : Call) → call.store_after ≡ call.store → PrintsOutcome no_memory call.status call.sink call.sink_after → Shows call no_memory
+short_shows call same p = printed_shows call no_memory refl (untouched call same) (unread call same) p
+
+-- ---- storing and printing
+
+-- the answer's text is stored, and then its line printed
+pub stored_shows : (call : Call) (a : Answer) (name text line : List ℕ) → answer_file a ≡ Some (record { name = name; text = text }) → answer_status a ≡ 0 → line ≡ answer_line a
+    → IsStored name text call.store call.store_after → Prints line 0 call.status call.sink call.sink_after → Shows call (answered a)
+stored_shows call a name text line file_is done same stored p = which p
+  where
+    held : Stores call (answer_file a)
+    held = subst (λ (f : Option NamedText). Stores call f) (sym file_is) stored
+
+    which : Prints line 0 call.status call.sink call.sink_after → Shows call (answered a)
+    which (inl w) = record {
+      reads = stored.only.read_faults;
+      way = inl (record { status = w.wanted_is ∙ sym done; printed = subst (λ (l : List ℕ). IsWritten l call.sink call.sink_after) same w.written; stored = held });
+    }
+    which (inr f) = record {
+      reads = stored.only.read_faults;
+      way = inr (inr (record { status = f.failed; printed = subst (λ (l : List ℕ). AppendedPart l call.sink.written call.sink_after.written) same f.written; risen = f.risen; stored = held }));
+    }
+
+-- the storing failed, and nothing is printed
+pub unstored_shows : (call : Call) (a : Answer) (name text : List ℕ) → answer_file a ≡ Some (record { name = name; text = text }) → call.status ≡ 7 → call.sink_after ≡ call.sink
+    → CanCount call.store call.sink → IsPartStored name text call.store call.store_after → Shows call (answered a)
+unstored_shows call a name text file_is status silent room stored = record {
+  reads = stored.only.read_faults;
+  way = inr (inl (record {
+    file = record { name = name; text = text };
+    text_is = file_is;
+    status = status;
+    silent = silent;
+    stored = stored;
+    risen = rises _ _ room.writes stored.write_faults;
+  }));
+}

@@ -1,0 +1,34 @@
+use Rattle.mill_run.proofs.Blaming.{blames_writes, blames_reads, keeps}
+use Rattle.mill_run.proofs.Outcomes.{answers_of, completes_of, untaken_of}
+use Rattle.mill_run.proofs.Headlines.{headline_of, plan_headline_of, stock_headline_of, rest_headline_of}
+use Rattle.mill_run.proofs.commands.run.Goals as goal
+
+pub returns-clause-write : goal.returns-clause-write
+returns-clause-write g c = blames_writes _ c.work.ensures.outcome.outcome c.work.ensures.outcome.shows
+
+pub returns-clause-read : goal.returns-clause-read
+returns-clause-read g c = blames_reads _ c.work.ensures.outcome.outcome c.work.ensures.outcome.shows
+
+pub returns-clause-kept : goal.returns-clause-kept
+returns-clause-kept g c = λ nothing. keeps _ _ c.work.ensures.outcome nothing
+
+pub returns-clause-answers : goal.returns-clause-answers
+returns-clause-answers g c = answers_of _ _ c.work.ensures.outcome
+
+pub returns-clause-completes : goal.returns-clause-completes
+returns-clause-completes g c = completes_of _ _ c.work.ensures.outcome
+
+pub returns-clause-untaken : goal.returns-clause-untaken
+returns-clause-untaken g c = untaken_of _ _ c.work.ensures.outcome
+
+pub returns-clause-headline : goal.returns-clause-headline
+returns-clause-headline g c = headline_of c.one_verdict.ensures _ _ c.work.ensures.outcome
+
+pub returns-clause-plan_headline : goal.returns-clause-plan_headline
+returns-clause-plan_headline g c = plan_headline_of _ _ c.work.ensures.outcome
+
+pub returns-clause-stock_headline : goal.returns-clause-stock_headline
+returns-clause-stock_headline g c = stock_headline_of _ _ c.work.ensures.outcome
+
+pub returns-clause-rest_headline : goal.returns-clause-rest_headline
+returns-clause-rest_headline g c = rest_headline_of c.one_list_verdict.ensures _ _ c.work.ensures.outcome

@@ -1,0 +1,18 @@
+use Rattle.mill_command.specs.Requests.{plan}
+use Rattle.mill_run.specs.Calls.{Call, call_of}
+use Rattle.mill_run.proofs.Serving.{fault_serves}
+use Rattle.mill_run.proofs.Planning.{plan_serves, plan_load_fault}
+use Rattle.mill_run.proofs.plan.plan_program.Goals as goal
+
+pub returns-in-Ok : goal.returns-in-Ok
+returns-in-Ok g c =
+    let call : Call = call_of c.tell_plan.result (g.S.Shelf.shows c.args.shelf.now) (g.S.Shelf.shows c.tell_plan.new.shelf) (g.O.Sink.shows c.args.out.now) (g.O.Sink.shows c.tell_plan.new.out) in
+    plan_serves c.args.job.now c.args.part.now c.args.name.now c.args.workers call (g.S.Shelf.shows c.load_setup.new.shelf) c.in-Ok.setup c.in-Ok.ensures.told c.in-Ok.ensures.store
+    c.tell_plan.ensures
+
+pub returns-in-Err : goal.returns-in-Err
+returns-in-Err g c =
+    let call : Call = call_of c.tell_fault.result (g.S.Shelf.shows c.args.shelf.now) (g.S.Shelf.shows c.load_setup.new.shelf) (g.O.Sink.shows c.args.out.now) (g.O.Sink.shows c.tell_fault.new.out) in
+    fault_serves (plan c.args.job.now c.args.part.now c.args.name.now c.args.workers) call c.in-Err.fault
+    (plan_load_fault call.store.contents c.args.job.now c.args.part.now c.args.name.now c.args.workers c.in-Err.fault c.in-Err.ensures.told) c.requires.counts
+    c.in-Err.ensures.store c.tell_fault.ensures

@@ -1,0 +1,6 @@
+use Rattle.mill_run.proofs.Rests.{list_told}
+use Rattle.mill_run.proofs.rest.load_list.Goals as goal
+
+pub returns-in-Ok-clause-told : goal.returns-in-Ok-clause-told
+returns-in-Ok-clause-told g c =
+    list_told c.args.job.now ((g.S.Shelf.shows c.args.shelf.now).contents c.args.name.now) c.in-Ok.text.items _ c.in-Ok.ensures.told (rw c.deref.ensures.value at c.list_from.ensures.told)

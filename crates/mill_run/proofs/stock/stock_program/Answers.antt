@@ -1,0 +1,17 @@
+use Rattle.mill_command.specs.Requests.{stock}
+use Rattle.mill_run.specs.Calls.{Call, call_of}
+use Rattle.mill_run.proofs.Serving.{fault_serves}
+use Rattle.mill_run.proofs.Stocks.{stock_serves, stock_load_fault}
+use Rattle.mill_run.proofs.stock.stock_program.Goals as goal
+
+pub returns-in-Ok : goal.returns-in-Ok
+returns-in-Ok g c =
+    let call : Call = call_of c.tell_stock.result (g.S.Shelf.shows c.args.shelf.now) (g.S.Shelf.shows c.tell_stock.new.shelf) (g.O.Sink.shows c.args.out.now) (g.O.Sink.shows c.tell_stock.new.out) in
+    stock_serves c.args.job.now c.args.program.now c.args.name.now call (g.S.Shelf.shows c.load_cutting.new.shelf) c.in-Ok.cutting c.in-Ok.ensures.told c.in-Ok.ensures.store c.tell_stock.ensures
+
+pub returns-in-Err : goal.returns-in-Err
+returns-in-Err g c =
+    let call : Call = call_of c.tell_fault.result (g.S.Shelf.shows c.args.shelf.now) (g.S.Shelf.shows c.load_cutting.new.shelf) (g.O.Sink.shows c.args.out.now) (g.O.Sink.shows c.tell_fault.new.out) in
+    fault_serves (stock c.args.job.now c.args.program.now c.args.name.now) call c.in-Err.fault
+    (stock_load_fault call.store.contents c.args.job.now c.args.program.now c.args.name.now c.in-Err.fault c.in-Err.ensures.told) c.requires
+    c.in-Err.ensures.store c.tell_fault.ensures

@@ -1,0 +1,49 @@
+-- One call of the program, as the outside sees it.
+use Rattle.std.specs.Prelude.{◌≡◌, ◌⊎◌, ◌↔◌, ◌<◌, ◌-◌, ◌^◌, ℕ, List, Option, Some, None}
+use Rattle.mill_io.specs.Views.{StoreView, SinkView, ReadsOnly, IsStored}
+use Rattle.mill_load.specs.declared.status.Status.{Status}
+use Rattle.mill_load.specs.Statuses.{status_code}
+
+-- one call: its exit status, and what the store and the sink show before it and after it
+pub record Call : Type 0 where
+  pub status : ℕ
+  pub store : StoreView
+  pub store_after : StoreView
+  pub sink : SinkView
+  pub sink_after : SinkView
+
+abbrev pub call_of : Status → StoreView → StoreView → SinkView → SinkView → Call
+call_of status store store_after sink sink_after =
+    record { status = status_code status; store = store; store_after = store_after; sink = sink; sink_after = sink_after }
+
+-- each count of faults can still rise, so that a failed call is seen in it
+pub record CanCount (store : StoreView) (sink : SinkView) : Type 0 where
+  pub reads : store.read_faults < 2 ^ 64 - 1
+  pub writes : store.write_faults < 2 ^ 64 - 1
+  pub prints : sink.faults < 2 ^ 64 - 1
+
+-- nothing of the outside failed: each count of faults is what it was
+pub record NoFault (call : Call) : Type 0 where
+  pub reads : call.store_after.read_faults ≡ call.store.read_faults
+  pub writes : call.store_after.write_faults ≡ call.store.write_faults
+  pub prints : call.sink_after.faults ≡ call.sink.faults
+
+-- the status is 7 exactly where a write of the store or of the sink failed
+abbrev pub BlamesWrites : Call → Type 0
+BlamesWrites call =
+    (call.status ≡ 7) ↔ ((call.store.write_faults < call.store_after.write_faults) ⊎ (call.sink.faults < call.sink_after.faults))
+
+-- the status is 6 exactly where a read of the store failed and no write of the sink did
+abbrev pub BlamesReads : Call → Type 0
+BlamesReads call =
+    (call.status ≡ 6) ↔ ((call.store.read_faults < call.store_after.read_faults) × (call.sink_after.faults ≡ call.sink.faults))
+
+-- a text and the name that it is to be stored under
+pub record NamedText : Type 0 where
+  pub name : List ℕ
+  pub text : List ℕ
+
+-- the text is stored under its name, and nothing else has changed; where there is none, nothing has
+abbrev pub Stores : Call → Option NamedText → Type 0
+Stores call None = ReadsOnly call.store call.store_after
+Stores call (Some file) = IsStored file.name file.text call.store call.store_after

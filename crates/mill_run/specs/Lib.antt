@@ -1,0 +1,13 @@
+pub mod Words
+pub mod Calls
+pub mod Verify
+pub mod Plan
+pub mod Drop
+pub mod Level
+pub mod Stock
+pub mod Rest
+pub mod Sample
+pub mod Answers
+pub mod Outcomes
+pub mod Headline
+pub mod inner

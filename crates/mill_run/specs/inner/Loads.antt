@@ -1,0 +1,89 @@
+-- What reading a list, and reading all that a command needs, comes to.
+use Rattle.std.specs.Prelude.{◌≤◌, ◌<◌, ℕ, List, length, take, All, Option, IfSome, Result, Ok, Err}
+use Rattle.std.specs.Global.{Vec}
+use Rattle.mill_base.specs.declared.limits.TheConstants.{MAX_WORKERS}
+use Rattle.mill_base.specs.Covers.{IsUnder}
+use Rattle.mill_job.specs.declared.job.Job.{Job}
+use Rattle.mill_job.specs.Jobs.{IsJob}
+use Rattle.mill_list.specs.declared.limits.TheConstants.{MAX_STEPS}
+use Rattle.mill_list.specs.declared.step.Step.{Step}
+use Rattle.mill_verify.specs.Files.{File as CutFile, IsFileOf}
+use Rattle.mill_load.specs.declared.file.File.TheVariants.{List as ListFile, StepProgram}
+use Rattle.mill_load.specs.declared.load.LoadFault.{LoadFault}
+use Rattle.mill_load.specs.declared.load.LoadFault.TheVariants.{Memory, ReadFault, Unfit}
+use Rattle.mill_load.specs.declared.load.Unfit.TheVariants.{TooLong, ListRefused}
+use Rattle.mill_run.specs.declared.verify.Loaded.{Loaded}
+use Rattle.mill_run.specs.declared.rest.Listed.{Listed}
+use Rattle.mill_run.specs.declared.stock.Cutting.{Cutting}
+use Rattle.mill_run.specs.Rest.{RestTexts, ReadsRest, ReadsSteps, step_at, IsListText, IsRefusedList, IsUnfitRest, IsReadBeforeRest}
+use Rattle.mill_load.specs.Setup.{IsTooLong}
+use Rattle.mill_run.specs.Stock.{StockTexts, ReadsStock, IsUnfitStock, IsReadBeforeStock}
+use Rattle.mill_run.specs.Verify.{Texts, Reads, IsUnfitProgram, IsReadBeforeProgram}
+use Rattle.mill_load.specs.Loads.{AreMoves, LoadsProgram}
+
+-- ---- a list and its programs
+
+-- the steps of a list's file, or why there are none
+abbrev pub LoadsList : Job → Option (List ℕ) → Result (Vec Step) LoadFault → Type 0
+LoadsList job told (Ok steps) = IfSome told (λ text. IsListText job text steps.items)
+LoadsList job told (Err Memory) = Unit {0}
+LoadsList job told (Err (ReadFault ListFile)) = Unit {0}
+LoadsList job told (Err (Unfit (TooLong ListFile))) = IfSome told IsTooLong
+LoadsList job told (Err (Unfit (ListRefused fault))) = IfSome told (λ text. IsRefusedList job text fault)
+LoadsList job told (Err _) = ⊥
+
+-- why the program of a step has no moves, where all steps before it are read
+pub record StopsAtStep (programs : List ℕ → Option (List ℕ)) (job : Job) (steps : List Step) (fault : LoadFault) : Type 0 where
+  pub number : ℕ
+  pub files : List CutFile
+  pub there : number < length steps
+  pub before : ReadsSteps programs job (take number steps) files
+  pub stops : LoadsProgram job (programs (step_at steps number).program) (StepProgram number) (Err fault)
+
+-- ---- all that a command needs
+
+-- job, part and moves, or why there are none
+abbrev pub Loads : Texts → Result Loaded LoadFault → Type 0
+Loads texts (Ok l) = Reads texts l.job l.part l.moves.items
+Loads texts (Err Memory) = Unit {0}
+Loads texts (Err (ReadFault file)) = IsReadBeforeProgram texts file
+Loads texts (Err (Unfit fault)) = IsUnfitProgram texts fault
+
+-- job and moves, or why there are none
+abbrev pub LoadsCutting : StockTexts → Result Cutting LoadFault → Type 0
+LoadsCutting texts (Ok c) = ReadsStock texts c.job c.moves.items
+LoadsCutting texts (Err Memory) = Unit {0}
+LoadsCutting texts (Err (ReadFault file)) = IsReadBeforeStock texts file
+LoadsCutting texts (Err (Unfit fault)) = IsUnfitStock texts fault
+
+-- job, part and files, or why there are none
+abbrev pub LoadsFiles : RestTexts → Result Listed LoadFault → Type 0
+LoadsFiles texts (Ok l) = (steps : List Step) × ReadsRest texts l.job l.part steps l.files.items
+LoadsFiles texts (Err Memory) = Unit {0}
+LoadsFiles texts (Err (ReadFault file)) = IsReadBeforeRest texts file
+LoadsFiles texts (Err (Unfit fault)) = IsUnfitRest texts fault
+
+-- ---- what was read
+
+-- all that the verifier asks for
+pub record IsReady (l : Loaded) : Type 0 where
+  pub job_ok : IsJob l.job
+  pub under : IsUnder l.part l.job.top
+  pub moves_ok : AreMoves l.job l.moves.items
+
+-- a job, and moves within the ranges that cutting asks for
+pub record IsCutting (c : Cutting) : Type 0 where
+  pub job_ok : IsJob c.job
+  pub moves_ok : AreMoves c.job c.moves.items
+
+-- all that the verifier asks for of files in turn
+pub record AreFilesReady (l : Listed) : Type 0 where
+  pub job_ok : IsJob l.job
+  pub under : IsUnder l.part l.job.top
+  pub files_ok : All (IsFileOf l.job) l.files.items
+  pub few : length l.files.items ≤ MAX_STEPS
+
+-- a number of workers that a command may have
+pub record AreWorkers (workers : ℕ) : Type 0 where
+  pub some : 1 ≤ workers
+  pub few : workers ≤ MAX_WORKERS

@@ -1,0 +1,278 @@
+//! The command `rest`: the verdict on the programs of a list, in turn on one stock.
+ghost use Rattle.std.specs.Prelude.{◌≡◌, ◌-◌, ◌^◌, ◌<◌, ◌≤◌, length, All, IfErr, IfOk, Some};
+ghost use Rattle.mill_command.specs.Requests.{rest as asks_rest};
+ghost use Rattle.mill_job.specs.Jobs.{FitsJob, IsJob};
+ghost use Rattle.mill_list.specs.declared.limits.TheConstants.{MAX_STEPS};
+ghost use Rattle.mill_verify.specs.Files.{IsFileOf};
+ghost use Rattle.mill_run.specs.Answers.{judged_files};
+ghost use Rattle.mill_run.specs.Calls.{CanCount, call_of};
+ghost use Rattle.mill_load.specs.declared.file.File.TheVariants.{StepProgram};
+ghost use Rattle.mill_run.specs.inner.Loads.{AreFilesReady, AreWorkers, LoadsFiles, LoadsList, StopsAtStep};
+ghost use Rattle.mill_load.specs.Loads.{CountsFault, LoadsProgram, OnlyLoads};
+ghost use Rattle.mill_run.specs.Outcomes.{Serves, answered};
+ghost use Rattle.mill_run.specs.inner.Prints.{PrintsOr, TriesListVerdict};
+ghost use Rattle.mill_run.specs.Rest.{NamesFileMove, ReadsStep, ReadsSteps, list_line, list_status, rest_texts};
+ghost use Rattle.mill_load.specs.Setup.{Fits};
+ghost use Rattle.mill_load.specs.Statuses.{status_code};
+
+use crate::verify::line_of_reason;
+use mill_base::WantOfMemory;
+use mill_io::{Shelf, Sink};
+use mill_job::{Job, JobFault};
+use mill_line::Word::{Length, Number, Text};
+use mill_line::line_of;
+use mill_list::{Step, read_list};
+use mill_load::{
+    File, LoadFault, Status, Unfit, line_of_column, load_program, load_setup, read_file, tell,
+    tell_fault, tell_made,
+};
+use mill_part::Part;
+use mill_verify::{CutFile, ListVerdict, verify_list};
+use std::alloc::Global;
+use std::thread::Threads;
+
+/// What the verifier works on: a job, a part, and the moves of each program of a list, with its cutter.
+#[derive(Drop)]
+pub struct Listed {
+    pub job: Job,
+    pub part: Part,
+    pub files: Vec<CutFile>,
+}
+
+/// The work of `rest`: reads the job, the part, the list and the programs that it names, and prints
+/// the verdict on them or what keeps it from one.
+pub fn verify_files<R: Threads + Sync, S: Shelf, O: Sink>(
+    rt: &R,
+    alloc: Global,
+    shelf: &mut S,
+    job: &str,
+    part: &str,
+    list: &str,
+    workers: u32,
+    out: &mut O,
+) -> Status
+    requires workers { AreWorkers workers }
+    requires counts { CanCount (S.shows shelf.old) (O.shows out.old) }
+    ensures { Serves (asks_rest job.now part.now list.now workers)
+        (call_of result (S.shows shelf.old) (S.shows shelf.new) (O.shows out.old) (O.shows out.new)) }
+{
+    match load_files(alloc, shelf, job, part, list) {
+        Ok(listed) => tell_list_verdict(rt, alloc, &listed, workers, out),
+        Err(fault) => tell_fault(alloc, fault, out),
+    }
+}
+
+/// Reads the job, the part, the list and the program of each of its steps, in this order, and checks
+/// the part's top before the list. The first that fails ends it.
+fn load_files<S: Shelf>(
+    alloc: Global,
+    shelf: &mut S,
+    job: &str,
+    part: &str,
+    list: &str,
+) -> Result<Listed, LoadFault>
+    ensures told { LoadsFiles (rest_texts (S.shows shelf.old).contents
+        (record { job = job.now; part = part.now; list = list.now })) result }
+    ensures ready { IfOk result AreFilesReady }
+    ensures store { OnlyLoads (S.shows shelf.old) (S.shows shelf.new) result }
+{
+    let setup = match load_setup(alloc, shelf, job, part) {
+        Ok(setup) => setup,
+        Err(fault) => return Err(fault),
+    };
+    let steps = match load_list(alloc, shelf, list, &setup.job) {
+        Ok(steps) => steps,
+        Err(fault) => return Err(fault),
+    };
+    let files = match load_steps(alloc, shelf, &steps, &setup.job) {
+        Ok(files) => files,
+        Err(fault) => return Err(fault),
+    };
+    Ok(Listed {
+        job: setup.job,
+        part: setup.part,
+        files,
+    })
+}
+
+/// Reads the list for a job.
+fn load_list<S: Shelf>(
+    alloc: Global,
+    shelf: &mut S,
+    name: &str,
+    job: &Job,
+) -> Result<Vec<Step>, LoadFault>
+    ensures told { LoadsList job.now ((S.shows shelf.old).contents name.now) result }
+    ensures fit { IfOk result (λ steps. All (λ step. FitsJob job.now step.cutter) steps.items) }
+    ensures few { IfOk result (λ steps. length steps.items ≤ MAX_STEPS) }
+    ensures store { OnlyLoads (S.shows shelf.old) (S.shows shelf.new) result }
+{
+    match read_file(alloc, shelf, name, File::List) {
+        Ok(text) => list_from(alloc, &text, job),
+        Err(fault) => Err(fault),
+    }
+}
+
+fn list_from(alloc: Global, text: &[u8], job: &Job) -> Result<Vec<Step>, LoadFault>
+    requires { Fits text.now }
+    ensures told { LoadsList job.now (Some text.now) result }
+    ensures fit { IfOk result (λ steps. All (λ step. FitsJob job.now step.cutter) steps.items) }
+    ensures few { IfOk result (λ steps. length steps.items ≤ MAX_STEPS) }
+    ensures cause { CountsFault 0 0 result }
+{
+    match read_list(alloc, text, job) {
+        Ok(steps) => Ok(steps),
+        Err(JobFault::WantOfMemory) => Err(LoadFault::Memory),
+        Err(fault) => Err(LoadFault::Unfit(Unfit::ListRefused(fault))),
+    }
+}
+
+/// Reads the program of each step in turn. The first that fails ends it.
+fn load_steps<S: Shelf>(
+    alloc: Global,
+    shelf: &mut S,
+    steps: &[Step],
+    job: &Job,
+) -> Result<Vec<CutFile>, LoadFault>
+    requires job_ok { IsJob job.now }
+    requires fit { All (λ step. FitsJob job.now step.cutter) steps.now }
+    requires few { length steps.now ≤ MAX_STEPS }
+    ensures read { IfOk result (λ files.
+        ReadsSteps (S.shows shelf.old).contents job.now steps.now files.items) }
+    ensures fault { IfErr result (StopsAtStep (S.shows shelf.old).contents job.now steps.now) }
+    ensures ready { IfOk result (λ files. All (IsFileOf job.now) files.items) }
+    ensures few { IfOk result (λ files. length files.items ≤ MAX_STEPS) }
+    ensures store { OnlyLoads (S.shows shelf.old) (S.shows shelf.new) result }
+{
+    let mut files = Vec::new(alloc);
+    for number in 0..steps.len() {
+        let file = match load_step(alloc, shelf, &steps[number], job, number as u32) {
+            Ok(file) => file,
+            Err(fault) => return Err(fault),
+        };
+        let Ok(()) = files.push(file) else {
+            return Err(LoadFault::Memory);
+        };
+    }
+    Ok(files)
+}
+
+/// Reads the program of a step, which has this number in its list.
+fn load_step<S: Shelf>(
+    alloc: Global,
+    shelf: &mut S,
+    step: &Step,
+    job: &Job,
+    number: u32,
+) -> Result<CutFile, LoadFault>
+    requires job_ok { IsJob job.now }
+    requires fits { FitsJob job.now step.now.cutter }
+    ensures read { IfOk result (ReadsStep (S.shows shelf.old).contents job.now step.now) }
+    ensures fault { IfErr result (λ fault. LoadsProgram job.now
+        ((S.shows shelf.old).contents step.now.program) (StepProgram number) (Err fault)) }
+    ensures ready { IfOk result (IsFileOf job.now) }
+    ensures store { OnlyLoads (S.shows shelf.old) (S.shows shelf.new) result }
+{
+    let program = step.program.as_str();
+    match load_program(alloc, shelf, program, job, File::StepProgram(number)) {
+        Ok(moves) => Ok(CutFile {
+            cutter: step.cutter,
+            moves,
+        }),
+        Err(fault) => Err(fault),
+    }
+}
+
+/// Prints the verdict on what was read.
+fn tell_list_verdict<R: Threads + Sync, O: Sink>(
+    rt: &R,
+    alloc: Global,
+    listed: &Listed,
+    workers: u32,
+    out: &mut O,
+) -> Status
+    requires workers { AreWorkers workers }
+    requires ready { AreFilesReady listed.now }
+    requires prints { (O.shows out.old).faults < 2 ^ 64 - 1 }
+    ensures { TriesListVerdict listed.now (status_code result) (O.shows out.old) (O.shows out.new) }
+{
+    match verify_list(rt, alloc, &listed.job, &listed.part, &listed.files, workers) {
+        Ok(verdict) => tell_line_of_list(alloc, listed, verdict, out),
+        Err(WantOfMemory) => tell(out, b"out of memory\n", Status::Memory),
+    }
+}
+
+/// Prints the line of a verdict.
+fn tell_line_of_list<O: Sink>(
+    alloc: Global,
+    listed: &Listed,
+    verdict: ListVerdict,
+    out: &mut O,
+) -> Status
+    requires names { NamesFileMove listed.now.files.items verdict }
+    requires prints { (O.shows out.old).faults < 2 ^ 64 - 1 }
+    ensures { PrintsOr
+        (answered (judged_files listed.now.job listed.now.part listed.now.files.items verdict))
+        (status_code result) (O.shows out.old) (O.shows out.new) }
+{
+    let line = line_of_list_verdict(alloc, &listed.job, &listed.files, verdict);
+    tell_made(line, status_of(verdict), out)
+}
+
+/// The status of a verdict.
+fn status_of(verdict: ListVerdict) -> Status
+    ensures { status_code result ≡ list_status verdict }
+{
+    match verdict {
+        ListVerdict::Accept { .. } => Status::Done,
+        ListVerdict::Reject { .. } | ListVerdict::Left { .. } => Status::Rejected,
+    }
+}
+
+/// The line of a verdict.
+fn line_of_list_verdict(
+    alloc: Global,
+    job: &Job,
+    files: &[CutFile],
+    verdict: ListVerdict,
+) -> Result<Vec<u8>, WantOfMemory>
+    requires { NamesFileMove files.now verdict }
+    ensures { IfOk result (λ made. made.items ≡ list_line job.now files.now verdict) }
+{
+    match verdict {
+        ListVerdict::Accept {
+            files: count,
+            moves,
+            columns,
+            most_left,
+        } => {
+            let words = [
+                Text(b"files"),
+                Number(u64::from(count)),
+                Text(b"moves"),
+                Number(moves),
+                Text(b"columns"),
+                Number(columns),
+                Text(b"left"),
+                Length(most_left, job.unit),
+            ];
+            line_of(alloc, &[Text(b"accepted")], &words)
+        }
+        ListVerdict::Reject { file, reason } => {
+            let start = [Text(b"rejected"), Text(b"file"), Number(u64::from(file))];
+            let rejected = &files[file as usize];
+            line_of_reason(alloc, &start, &rejected.moves, reason, job.unit)
+        }
+        ListVerdict::Left { row, col, top } => {
+            line_of_column(
+                alloc,
+                &[Text(b"rejected")],
+                b"left",
+                row,
+                col,
+                top,
+                job.unit,
+            )
+        }
+    }
+}
