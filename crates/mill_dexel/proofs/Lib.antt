@@ -26,5 +26,6 @@ mod Ends
 pub mod Cleared
 pub mod Limits
 pub mod SameStocks
+pub mod Shows
 mod StockLaws
 pub mod Ranges

@@ -26,7 +26,7 @@ use std::marker::Model;
 
 /// A row of the stock's columns: for each, the height up to which it is still there, in units. It goes
 /// through the moves of a program one by one, up to a rapid that would cut it, a feed that would cut too
-/// deep, or a move on which the holder would touch it.
+/// deep, or a move on which the holder would touch it; or, by `turn_through`, past these too.
 #[derive(Drop)]
 pub struct Row {
     number: u32,
@@ -189,6 +189,30 @@ impl Row {
         ensures row { IsRowOf job.now self.new }
     {
         self.turn_after(job, moves, t, end_before(moves, t))
+    }
+
+    /// The turn of move `t`, as `turn_on` makes it, but the move cuts whether it passes or not, and the row
+    /// goes on. The answer is the first test that the move fails, if it fails one; nothing is noted in the row.
+    pub fn turn_through(&mut self, job: &Job, moves: &[Move], t: u64) -> Option<RowFail>
+        requires job { IsJob job.now }
+        requires moves_ok { MovesInRange moves.now }
+        requires row { IsRowOf job.now self.old }
+        requires unfailed { self.old.failed ≡ None }
+        requires next { t ≡ self.old.done }
+        requires there { t < length moves.now }
+        requires left { IsLeftBy job.now moves.now t self.old }
+        ensures told { MatchOption
+            result
+            (ClearsRow job.now self.old (move_at moves.now t))
+            (StopsRow job.now self.old (move_at moves.now t)) }
+        ensures cut { self.new ≡ turned job.now (move_at moves.now t) self.old }
+        ensures row { IsRowOf job.now self.new }
+    {
+        let step = &moves[t as usize];
+        let fail = self.stop(job, step);
+        self.cut_after(job, step, end_before(moves, t));
+        self.done = t + 1;
+        fail
     }
 
     /// Lets the row go over its next moves, from `t` on, where they stay so far away that none of them
