@@ -28,7 +28,7 @@ PassesFromLift = (tool : Tool) (part : List Tri) (m : Move) (n k : ℕ) → IsLe
 abbrev pub PassingNeedsNoLift : Type 0
 PassingNeedsNoLift = (tool : Tool) (part : List Tri) (m : Move) → ToolPassesPart tool m part ↔ IsLeastLift tool part m 0
 
--- so the move that is raised so, where it is in range, has no part point strictly inside its cutter, or its holder, at any moment
+-- a move that is raised by the least lift or by more, where it is in range, has no part point strictly inside its cutter, or its holder, at any moment
 abbrev pub LiftedIsClear : Type 0
 LiftedIsClear = (tool : Tool) (part : List Tri) (m : Move) (n k : ℕ) (a d : ℤ) → IsTool tool → MoveInRange (raised k m) → IsLeastLift tool part m n → n ≤ k → IsMoment a d
     → ¬ ToolGouges tool d (tip_at (raised k m) a d) part
