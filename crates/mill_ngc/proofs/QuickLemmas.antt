@@ -1,11 +1,8 @@
 -- Lines that are only a move, with their words in the usual order.
-use Rattle.std.proofs.Common.{◌≡◌, ℕ, ℤ, ◌+◌, ◌<◌, ◌≤◌, ◌×◌, List, length, get_or, arith, Bool, true, ◌||◌, Option, Some, None, is_some, unwrap_or, refl, inl, inr}
+use Rattle.std.proofs.Common.{◌≡◌, ℕ, ℤ, ◌+◌, ◌<◌, ◌≤◌, List, length, get_or, true, ◌||◌, Option, Some, None, is_some, unwrap_or, refl, inl, inr}
 use Rattle.std.specs.Char.{to_ascii_uppercase}
 use Rattle.mill_base.specs.Ranges.{IsInUnitRange}
-use Rattle.mill_base.specs.Units.{places_of}
 use Rattle.mill_base.specs.declared.motion.Kind.{Kind}
-use Rattle.mill_base.specs.declared.unit.Unit.{Unit as LengthUnit}
-use Rattle.mill_base.specs.declared.unit.Unit.TheVariants.{Hundredth, Thousandth}
 use Rattle.mill_words.specs.Lines.{EndsWord, and_word, is_word_letter, line_from}
 use Rattle.mill_words.specs.Words.{Line}
 use Rattle.mill_words.specs.declared.word.Num.{Num}
@@ -15,11 +12,6 @@ use Rattle.mill_ngc.specs.declared.progress.Progress.{Progress}
 use Rattle.mill_ngc.specs.Programs.{line_begun}
 use Rattle.mill_ngc.specs.inner.PlainMoves.{IsEnd, IsMotion, IsReady, LineMovesTo, ReadTo, ReadsAxis, in_order, mode_of, plain_target}
 use Rattle.mill_ngc.proofs.PlainLemmas.{capital-of, goes-motion, goes-x, goes-y, goes-z, line-moves, more-motion, more-x, more-y, more-z, none-read, one-more-read}
-
--- a unit has two or three decimals
-pub few-places : (unit : LengthUnit) → (2 ≤ places_of unit) × (places_of unit ≤ 3)
-few-places Hundredth = (omega arith, omega arith)
-few-places Thousandth = (omega arith, omega arith)
 
 -- a motion word is read
 pub motion-read : (p : Progress) (bytes : List ℕ) (end : ℕ) (n : Num) (kind : Option Kind) → get_or bytes 0 0 ≡ 71
