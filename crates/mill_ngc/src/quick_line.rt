@@ -1,17 +1,18 @@
-//! Lines that are only a move, and spelled as most lines of a program are: a `G0` or `G1` or none, and
-//! behind it numbers of X, Y and Z in this order, each with the unit's decimals.
+//! Lines that are only a move, and spelled as most lines of a program are: a `G0` or `G1` or none,
+//! behind it numbers of X, Y and Z in this order, each with the unit's decimals, and last a feed rate
+//! or none.
 //!
 //! They are read with less to decide than any line of plain words.
-ghost use Rattle.std.specs.Prelude.{◌≡◌, ◌+◌, ◌<◌, ◌≤◌, ◌^◌, ◌||◌, length, None, IfSome, is_some};
+ghost use Rattle.std.specs.Prelude.{◌≡◌, ◌+◌, ◌<◌, ◌≤◌, ◌^◌, ◌||◌, length, None, IfSome, IsTrue, is_some};
 ghost use Rattle.mill_base.specs.Ranges.{IsInUnitRange};
 ghost use Rattle.mill_ngc.specs.declared.progress.Progress.{Progress};
 ghost use Rattle.mill_ngc.specs.Programs.{line_begun};
-ghost use Rattle.mill_ngc.specs.inner.PlainMoves.{IsReady, LineMovesTo, ReadTo, ReadsAxis, in_order};
+ghost use Rattle.mill_ngc.specs.inner.PlainMoves.{EndsLine, IsReady, LineMovesTo, ReadTo, ReadsAxis, in_order};
 
 use crate::plain_move::{PlainMove, kind_in, take_motion, whole_units};
 use crate::progress::Progress;
 use mill_base::{Kind, Pt3, Unit};
-use mill_words::{decimal_behind, digit_behind};
+use mill_words::{decimal_behind, digit_behind, plain_number_behind};
 
 /// The motion that a line names, if it names one, and the place behind its word.
 #[derive(Clone, Copy)]
@@ -65,7 +66,7 @@ impl Progress {
         let y_end = y.units.unwrap_or(self.here.y);
         let z = axis_at(line, y.end, b'Z', unit, number)?;
         let z_end = z.units.unwrap_or(self.here.z);
-        if z.end < line.len() {
+        if !ends_at(line, z.end) {
             return None;
         }
         if !names_axis(x.units, y.units, z.units) {
@@ -80,6 +81,36 @@ impl Progress {
             },
         })
     }
+}
+
+// Whether the line ends at a place, or behind the feed rate that stands there.
+#[inline(always)]
+fn ends_at(line: &[u8], place: usize) -> bool
+    requires within { place ≤ length line.now }
+    ensures { IsTrue result → EndsLine line.now place }
+{
+    if place == line.len() {
+        return true;
+    }
+    ends_with_feed(line, place)
+}
+
+// Whether the line ends behind the feed rate at a place. It is kept apart, since most lines name none.
+#[inline(never)]
+fn ends_with_feed(line: &[u8], place: usize) -> bool
+    requires within { place < length line.now }
+    ensures { IsTrue result → EndsLine line.now place }
+{
+    if line[place] != b'F' {
+        return false;
+    }
+    let Some(number) = plain_number_behind(line, place) else {
+        return false;
+    };
+    if number.end < line.len() {
+        return false;
+    }
+    true
 }
 
 fn names_axis(x: Option<i32>, y: Option<i32>, z: Option<i32>) -> bool

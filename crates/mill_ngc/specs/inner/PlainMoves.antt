@@ -1,5 +1,5 @@
 -- What a line that is only a move has said so far, and its move.
-use Rattle.std.specs.Prelude.{◌≡◌, ℕ, ℤ, ◌+◌, ◌<◌, ◌≤◌, Bool, true, false, ◌||◌, if◌then◌else◌, List, ◌++◌, drop, length, slice_index, Option, Some, None, is_some, unwrap_or, Result, Ok}
+use Rattle.std.specs.Prelude.{◌≡◌, ℕ, ℤ, ◌+◌, ◌<◌, ◌≤◌, ◌⊎◌, Bool, true, false, ◌||◌, if◌then◌else◌, List, ◌++◌, drop, length, slice_index, Option, Some, None, is_some, unwrap_or, Result, Ok}
 use Rattle.std.specs.Char.{is_ascii_alphabetic, to_ascii_uppercase}
 use Rattle.std.specs.List.{list_any}
 use Rattle.mill_base.specs.Numbers.{Within}
@@ -163,3 +163,14 @@ pub record AxisWord (unit : LengthUnit) (line : ℕ) (bytes : List ℕ) (place l
 abbrev pub ReadsAxis : LengthUnit → ℕ → List ℕ → ℕ → ℕ → Option ℤ → ℕ → Type 0
 ReadsAxis unit line bytes place letter None end = end ≡ place
 ReadsAxis unit line bytes place letter (Some units) end = AxisWord unit line bytes place letter units end
+
+-- the last word of the line stands at the place, and is a feed rate, whose letter is 70
+pub record FeedWord (bytes : List ℕ) (place : ℕ) : Type 0 where
+  pub num : Num
+  pub letter_is : slice_index bytes place ≡ 70
+  pub word : (l : Line) → is_word_letter (slice_index bytes place) ≡ true → length l.words < 32 → EndsWord bytes (length bytes)
+      → line_from l bytes place ≡ line_from (and_word l (to_ascii_uppercase (slice_index bytes place)) num) bytes (length bytes)
+
+-- the line ends there, or behind that word
+abbrev pub EndsLine : List ℕ → ℕ → Type 0
+EndsLine bytes place = (length bytes ≤ place) ⊎ FeedWord bytes place
