@@ -1,5 +1,5 @@
 -- Lines that are only a move, with their words in the usual order.
-use Rattle.std.proofs.Common.{◌≡◌, ℕ, ℤ, ◌+◌, ◌<◌, ◌≤◌, List, length, get_or, arith, true, ◌||◌, Option, Some, None, is_some, unwrap_or, refl, inl, inr}
+use Rattle.std.proofs.Common.{◌≡◌, ℕ, ℤ, ◌+◌, ◌<◌, List, length, get_or, arith, true, ◌||◌, Option, Some, None, is_some, unwrap_or, refl, inl, inr}
 use Rattle.std.specs.Char.{to_ascii_uppercase}
 use Rattle.mill_base.specs.Ranges.{IsInUnitRange}
 use Rattle.mill_base.specs.declared.motion.Kind.{Kind}
@@ -10,7 +10,7 @@ use Rattle.mill_ngc.specs.declared.plain_move.PlainMove.{PlainMove}
 use Rattle.mill_ngc.specs.declared.profile.Mode.TheVariants.{On}
 use Rattle.mill_ngc.specs.declared.progress.Progress.{Progress}
 use Rattle.mill_ngc.specs.Programs.{line_begun}
-use Rattle.mill_ngc.specs.inner.PlainMoves.{EndsLine, FeedWord, IsEnd, IsMotion, IsReady, LineMovesTo, ReadTo, ReadsAxis, in_order, mode_of, plain_target}
+use Rattle.mill_ngc.specs.inner.PlainMoves.{EndsLine, FeedWord, IsMotion, IsReady, LineMovesTo, ReadTo, ReadsAxis, in_order, mode_of, plain_target}
 use Rattle.mill_ngc.proofs.PlainLemmas.{capital-of, goes-feed, goes-motion, goes-x, goes-y, goes-z, line-moves, more-feed, more-motion, more-x, more-y, more-z, none-read, one-more-read}
 
 -- a motion word is read

@@ -1,6 +1,5 @@
-use Rattle.std.proofs.Common.{◌≡◌, ◌+◌, ◌≤◌, ◌||◌, length, true, Option, ℤ, is_some, rules, arith}
+use Rattle.std.proofs.Common.{◌≡◌, ◌||◌, true, is_some, rules}
 use Rattle.mill_ngc.specs.Programs.{line_begun}
-use Rattle.mill_ngc.specs.inner.PlainMoves.{in_order, plain_target}
 use Rattle.mill_ngc.proofs.QuickLemmas.{quick-moves}
 use Rattle.mill_ngc.proofs.progress.Progress.quick_line_in.Goals as goal
 
