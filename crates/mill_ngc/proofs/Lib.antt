@@ -2,6 +2,7 @@ mod Feeds
 mod LineLemmas
 mod SaidLemmas
 mod PlainLemmas
+mod QuickLemmas
 mod PercentLemmas
 mod ProgramLemmas
 mod PieceLemmas

@@ -166,9 +166,9 @@ front-fed s piece total e = rw (← e) (front-lines s (put_before _ (lines_of pi
 
 -- ---- answers
 
-pub fault_told : (result : Result ⊤ NgcFault) (f : NgcFault) (total : Reading × List Move) (moves : List Move) → result ≡ Err f → total ≡ (Failed f, moves)
-    → IfErr result (λ f. f ≢ fault.WantOfMemory → total ≡ (Failed f, moves))
-fault_told result f total moves is told = rw is (λ _. told)
+pub fault_told : (result : Result ⊤ NgcFault) (f : NgcFault) (total : Reading × List Move) (moves : List Move) → result ≡ Err f
+    → (f ≢ fault.WantOfMemory → total ≡ (Failed f, moves)) → IfErr result (λ f. f ≢ fault.WantOfMemory → total ≡ (Failed f, moves))
+fault_told result f total moves is told = rw is told
 
 pub begun_ok : (result : Result ⊤ NgcFault) (begun now : Reading) (total : Reading × List Move) (moves : List Move) → total ≡ (begun, moves) → OnOk result (begun ≡ now)
     → OnOk result (total ≡ (now, moves))

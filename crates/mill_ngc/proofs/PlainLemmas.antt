@@ -365,7 +365,7 @@ ready-begun p ready = record { few = ready.few; frame = ready.frame; millimetres
 end-begun : (p : Progress) (plain : PlainLine) (m : PlainMove) → IsEnd p plain m → IsEnd (line_begun p) plain m
 end-begun p plain m end = record { some = end.some; mode = end.mode; to = end.to }
 
-line-moves : (p : Progress) (bytes : List ℕ) (place : ℕ) (plain : PlainLine) (m : PlainMove) → IsReady p → IsInUnitRange p.unit p.here
+pub line-moves : (p : Progress) (bytes : List ℕ) (place : ℕ) (plain : PlainLine) (m : PlainMove) → IsReady p → IsInUnitRange p.unit p.here
     → ReadTo (line_begun p) bytes place plain → length bytes ≤ place → IsEnd p plain m → LineMovesTo (line_begun p) bytes m
 line-moves p bytes place plain m ready here to all end =
     let q = line_begun p in

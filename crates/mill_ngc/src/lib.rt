@@ -18,6 +18,7 @@ mod numbers;
 mod plain_move;
 mod profile;
 mod progress;
+mod quick_line;
 mod reader;
 mod said;
 mod text_reader;

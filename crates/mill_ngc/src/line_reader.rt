@@ -98,8 +98,20 @@ impl LineReader {
         self.progress.act_words(&self.words, &mut self.said)
     }
 
-    /// Takes the next line, if its words are plain and it is only a move, which is the answer.
+    /// Takes the next line, if it is only a move and spelled as most are: this move is the answer.
     // Most lines are such, and are read without what other lines need.
+    #[inline(always)]
+    pub fn read_quick(&mut self, line: &[u8]) -> Option<Move>
+        requires here { IsInUnitRange self.old.unit self.old.here }
+        requires number { self.old.line < 2 ^ 63 }
+        ensures made { IfSome result (λ made. after_line self.old line.now ≡ Ok (self.new, Some made)) }
+        ensures keeps { IfSome result (λ made. Keeps (line_begun self.old) (Some made) self.new) }
+        ensures stays { result ≡ None → self.new ≡ self.old }
+    {
+        self.progress.read_quick(line)
+    }
+
+    /// Takes the next line, if its words are plain and it is only a move, which is the answer.
     #[inline(always)]
     pub fn read_plain(&mut self, line: &[u8]) -> Option<Move>
         requires here { IsInUnitRange self.old.unit self.old.here }
@@ -113,6 +125,23 @@ impl LineReader {
 }
 
 impl Progress {
+    // Does what the next line says, if it is only a move and spelled as most are.
+    #[inline(always)]
+    fn read_quick(&mut self, line: &[u8]) -> Option<Move>
+        requires here { IsInUnitRange self.old.unit self.old.here }
+        requires number { self.old.line < 2 ^ 63 }
+        ensures made { IfSome result (λ made. after_line self.old line.now ≡ Ok (self.new, Some made)) }
+        ensures keeps { IfSome result (λ made. Keeps (line_begun self.old) (Some made) self.new) }
+        ensures stays { result ≡ None → self.new ≡ self.old }
+    {
+        if line.len() > LONGEST || has_percent(self.frame, line) {
+            return None;
+        }
+        let plain = self.quick_line(line)?;
+        self.line += 1;
+        Some(self.make_plain(plain))
+    }
+
     // Does what the next line says, if its words are plain and it is only a move.
     #[inline(always)]
     fn read_plain(&mut self, line: &[u8]) -> Option<Move>

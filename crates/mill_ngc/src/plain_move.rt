@@ -84,7 +84,8 @@ impl Progress {
         self.end_plain(&plain)
     }
 
-    fn is_ready(&self) -> bool
+    /// Whether the lines before have settled what a move needs, and there is room for one more.
+    pub fn is_ready(&self) -> bool
         ensures { IsTrue result → IsReady self.now }
     {
         match self.frame {
@@ -100,7 +101,7 @@ impl Progress {
         if plain.x.is_none() && plain.y.is_none() && plain.z.is_none() {
             return None;
         }
-        let kind = self.kind_of(plain)?;
+        let kind = kind_in(plain.kind, self.mode)?;
         Some(PlainMove {
             kind,
             to: Pt3 {
@@ -109,18 +110,6 @@ impl Progress {
                 z: plain.z.unwrap_or(self.here.z),
             },
         })
-    }
-
-    fn kind_of(&self, plain: &PlainLine) -> Option<Kind>
-        ensures { IfSome result (λ kind. unwrap_or (mode_of plain.now.kind) self.now.mode ≡ On kind) }
-    {
-        if plain.kind.is_some() {
-            return plain.kind;
-        }
-        match self.mode {
-            Mode::On(kind) => Some(kind),
-            Mode::Off => None,
-        }
     }
 }
 
@@ -157,6 +146,19 @@ impl PlainLine {
     }
 }
 
+/// The kind of a line's move: what the line names, or the mode.
+pub(crate) fn kind_in(named: Option<Kind>, mode: Mode) -> Option<Kind>
+    ensures { IfSome result (λ kind. unwrap_or (mode_of named) mode ≡ On kind) }
+{
+    if named.is_some() {
+        return named;
+    }
+    match mode {
+        Mode::On(kind) => Some(kind),
+        Mode::Off => None,
+    }
+}
+
 // Takes an axis number, where the line has no other of its axis, and it is on the grid and in range.
 #[inline(always)]
 fn take_axis(axis: &mut Option<i32>, line: u64, unit: Unit, num: Num) -> bool
@@ -188,9 +190,9 @@ fn units_in_range(line: u64, unit: Unit, num: Num) -> Option<i32>
     scaled_units(line, unit, num.neg, num.mant, num.scale)
 }
 
-// The same of a number with the unit's decimals.
+/// The units of an axis number that has the unit's decimals, if it is in range.
 #[inline(always)]
-fn whole_units(_line: u64, unit: Unit, num: Num) -> Option<i32>
+pub(crate) fn whole_units(_line: u64, unit: Unit, num: Num) -> Option<i32>
     requires { num.scale ≡ places_of unit }
     ensures { IfSome result (λ units. IsUnits unit _line units num) }
 {
@@ -200,7 +202,7 @@ fn whole_units(_line: u64, unit: Unit, num: Num) -> Option<i32>
     Some(signed(num.neg, num.mant as u32))
 }
 
-// The same of any number. It is kept apart, since most numbers of a program have the unit's decimals,
+// The units of any axis number. It is kept apart, since most numbers of a program have the unit's decimals,
 // and takes the number's parts, so that those others need no place in memory.
 #[inline(never)]
 fn scaled_units(line: u64, unit: Unit, neg: bool, mant: u64, scale: u8) -> Option<i32>
@@ -213,9 +215,9 @@ fn scaled_units(line: u64, unit: Unit, neg: bool, mant: u64, scale: u8) -> Optio
     }
 }
 
-// Takes the number of a `G0` or `G1`, where the line has none so far.
+/// Takes the number of a `G0` or `G1`, where the line has none so far.
 #[inline(always)]
-fn take_motion(kind: &mut Option<Kind>, num: Num) -> bool
+pub(crate) fn take_motion(kind: &mut Option<Kind>, num: Num) -> bool
     ensures new { IsTrue result → kind.old ≡ None }
     ensures kind { IsTrue result → IsMotion num kind.new }
 {

@@ -5,7 +5,7 @@ ghost use Rattle.mill_base.specs.declared.points.Pt3.{Pt3};
 ghost use Rattle.mill_base.specs.declared.unit.Unit.{Unit};
 ghost use Rattle.mill_ngc.specs.Programs.{after_line, made_list, line_begun, start_at};
 ghost use Rattle.mill_ngc.specs.Pieces.{Failed, after_begun, fed, at_end, last_answer, IsFront, SoFar, AreSound};
-ghost use Rattle.mill_ngc.specs.inner.Bounds.{Keeps};
+ghost use Rattle.mill_ngc.specs.inner.Bounds.{AddsLine, Keeps};
 ghost use Rattle.mill_ngc.specs.Texts.{reading_of};
 ghost use Rattle.mill_ngc.specs.declared.fault.NgcFault.TheVariants as faults;
 
@@ -52,8 +52,7 @@ impl TextReader {
             let (line, more) = split_line(rest);
             match more {
                 Some(text) => {
-                    let made = self.end_line(line)?;
-                    add(out, made)?;
+                    self.end_line(line, out)?;
                     rest = text;
                 }
                 None => return self.keep(line),
@@ -62,10 +61,45 @@ impl TextReader {
         Ok(())
     }
 
-    // Takes the bytes before a line end, and reads the line that they end. The answer is its move,
-    // if it makes one.
+    // Takes the bytes before a line end, reads the line that they end, and adds its move if it makes
+    // one. A move is added where it is made, so that it stays in registers.
     #[inline(always)]
-    fn end_line(&mut self, bytes: &[u8]) -> Result<Option<Move>, NgcFault>
+    fn end_line(&mut self, bytes: &[u8], out: &mut Vec<Move>) -> Result<(), NgcFault>
+        requires here { IsInUnitRange self.old.lines.unit self.old.lines.here }
+        requires number { self.old.lines.line < 2 ^ 63 }
+        ensures ok { OnOk result (AddsLine self.old.lines (self.old.unfinished ++ bytes.now) out.old.items self.new.lines out.new.items) }
+        ensures begins { OnOk result (self.new.unfinished ≡ []) }
+        ensures fault { IfErr result (λ f. f ≢ faults.WantOfMemory → after_line self.old.lines (self.old.unfinished ++ bytes.now) ≡ Err f) }
+        ensures kept { OnErr result (out.new.items ≡ out.old.items) }
+    {
+        if self.unfinished.len() == 0 {
+            if let Some(made) = self.lines.read_quick(bytes) {
+                add(out, Some(made))?;
+                return Ok(());
+            }
+        }
+        self.end_other_line(bytes, out)
+    }
+
+    // The same of a line that isn't spelled as most are. It is kept apart, so that those need not
+    // make room for what it needs.
+    #[inline(never)]
+    fn end_other_line(&mut self, bytes: &[u8], out: &mut Vec<Move>) -> Result<(), NgcFault>
+        requires here { IsInUnitRange self.old.lines.unit self.old.lines.here }
+        requires number { self.old.lines.line < 2 ^ 63 }
+        ensures ok { OnOk result (AddsLine self.old.lines (self.old.unfinished ++ bytes.now) out.old.items self.new.lines out.new.items) }
+        ensures begins { OnOk result (self.new.unfinished ≡ []) }
+        ensures fault { IfErr result (λ f. f ≢ faults.WantOfMemory → after_line self.old.lines (self.old.unfinished ++ bytes.now) ≡ Err f) }
+        ensures kept { OnErr result (out.new.items ≡ out.old.items) }
+    {
+        let made = self.move_of_line(bytes)?;
+        add(out, made)?;
+        Ok(())
+    }
+
+    // The move of the line that the bytes end, if it makes one.
+    #[inline(always)]
+    fn move_of_line(&mut self, bytes: &[u8]) -> Result<Option<Move>, NgcFault>
         requires here { IsInUnitRange self.old.lines.unit self.old.lines.here }
         requires number { self.old.lines.line < 2 ^ 63 }
         ensures ok { IfOk result (λ made. after_line self.old.lines (self.old.unfinished ++ bytes.now) ≡ Ok (self.new.lines, made)) }

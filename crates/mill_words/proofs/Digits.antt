@@ -1,15 +1,15 @@
 -- Digits one after another, whose number may wrap where they are more than 18.
-use Rattle.std.proofs.Common.{◌≡◌, ℕ, ◌+◌, ◌-◌, ◌*◌, ◌%◌, ◌<◌, ◌≤◌, ◌^◌, List, length, get_or, drop, arith, Bool, true, false, refl, ◌∙◌}
+use Rattle.std.proofs.Common.{◌≡◌, ℕ, ◌+◌, ◌-◌, ◌*◌, ◌%◌, ◌<◌, ◌≤◌, ◌^◌, List, length, get_or, drop, arith, Bool, true, false, cond, refl, ◌∙◌}
 use Rattle.std.proofs.Math.Nat.{mod-eq_of_lt}
 use Rattle.std.specs.Char.{digit_value}
 use Rattle.mill_words.specs.Words.{Line}
-use Rattle.mill_words.specs.Lines.{with_digit}
+use Rattle.mill_words.specs.Lines.{opened_at, with_digit}
 use Rattle.mill_words.specs.declared.marks.Region.TheVariants.{Outside}
 use Rattle.mill_words.specs.declared.open_word.OpenWord.{OpenWord}
 use Rattle.mill_words.specs.declared.stage.Stage.TheVariants.{InWord}
 use Rattle.mill_words.specs.inner.Places.{rest_of, plain_word, DigitsTo}
 use Rattle.mill_words.proofs.Numbers.{below, one_more}
-use Rattle.mill_words.proofs.Places.{at-place}
+use Rattle.mill_words.proofs.Places.{at-place, sign-at, point-at}
 use Rattle.mill_words.proofs.Spelled.{digit-read}
 
 -- a digit at a place goes on with the number of the word
@@ -79,3 +79,31 @@ pub first-below : (bytes : List ℕ) (from end value n : ℕ) → DigitsTo bytes
 first-below bytes from end value n digits e few =
     let none : 0 + n ≡ n = omega arith in
     rw none at (digits.bound n 0 e (omega arith) (omega (arith, few)))
+
+-- a sign or none, digits, a point, and so many digits behind it
+pub decimal-read : (bytes : List ℕ) (from sign point value mant count scale letter place : ℕ) (neg : Bool) (l : Line)
+    → sign ≡ cond neg 1 0 → (neg ≡ true → from < length bytes) → (neg ≡ true → get_or bytes from 0 ≡ 45)
+    → DigitsTo bytes (from + sign) point 0 value → from + sign ≤ point → point - (from + sign) ≤ 15 → point < length bytes → get_or bytes point 0 ≡ 46
+    → DigitsTo bytes (point + 1) (point + 1 + count) value mant → count ≤ 3 → scale ≡ count
+    → rest_of Outside (InWord (opened_at letter place)) l bytes from
+    ≡ rest_of Outside (InWord (plain_word letter place neg mant scale (point - (from + sign) + count) true)) l bytes (point + 1 + count)
+decimal-read bytes from sign point value mant count scale letter place neg l sign_is within byte digits forward few lt dot more small scale_is =
+    let n : point ≡ from + sign + (point - (from + sign)) = omega (arith, forward) in
+    let low : value < 10 ^ (point - (from + sign)) = first-below bytes (from + sign) point value (point - (from + sign)) digits n (omega (arith, few)) in
+    let end : point + 1 + count ≡ point + 1 + count = refl in
+    let signed : rest_of Outside (InWord (opened_at letter place)) l bytes from ≡ rest_of Outside (InWord (plain_word letter place neg 0 0 0 false)) l bytes (from + sign)
+    = rw sign_is (sign-at neg bytes from letter place l within byte) in
+    rw scale_is (
+    signed
+    ∙ first-digits bytes (from + sign) point value (point - (from + sign)) letter place neg l digits n (omega (arith, few))
+    ∙ point-at bytes point letter place neg value (point - (from + sign)) l lt dot
+    ∙ more.part count (point - (from + sign)) letter place neg l end low (omega (arith, few, small)))
+
+-- they are at most 18 digits
+pub decimal-below : (bytes : List ℕ) (first point value mant count : ℕ) → DigitsTo bytes first point 0 value → first ≤ point → point - first ≤ 15
+    → DigitsTo bytes (point + 1) (point + 1 + count) value mant → count ≤ 3 → mant < 10 ^ 18
+decimal-below bytes first point value mant count digits forward few more small =
+    let n : point ≡ first + (point - first) = omega (arith, forward) in
+    let low : value < 10 ^ (point - first) = first-below bytes first point value (point - first) digits n (omega (arith, few)) in
+    let end : point + 1 + count ≡ point + 1 + count = refl in
+    below (point - first + count) 18 mant (omega (arith, few, small)) (more.bound count (point - first) end low (omega (arith, few, small)))

@@ -8,6 +8,7 @@
 //! which numbers are plain.
 #![tactic(auto)]
 
+mod decimals;
 mod line;
 mod line_words;
 mod marks;
@@ -16,6 +17,7 @@ mod plain;
 mod stage;
 mod word;
 
+pub use decimals::{decimal_behind, digit_behind};
 pub use line::{read_line, read_line_into};
 pub use line_words::LineWords;
 pub use plain::{LetterNumber, plain_number_behind};

@@ -222,7 +222,7 @@ fn number_at(line: &[u8], from: usize) -> Option<PlainNumber>
     })
 }
 
-fn has_byte(line: &[u8], place: usize, byte: u8) -> bool
+pub(crate) fn has_byte(line: &[u8], place: usize, byte: u8) -> bool
     requires within { place ≤ length line.now }
     ensures value { result ≡ has_at byte line.now place }
     ensures within { IsTrue result → place < length line.now }
@@ -231,9 +231,9 @@ fn has_byte(line: &[u8], place: usize, byte: u8) -> bool
     place < line.len() && line[place] == byte
 }
 
-// The number of the digits at a place, behind digits that stand for `front`, and the place behind
-// them. Where all of them are more than 18, the number may have wrapped.
-fn digits_at(line: &[u8], from: usize, front: u64) -> (u64, usize)
+/// The number of the digits at a place, behind digits that stand for `front`, and the place behind
+/// them. Where all of them are more than 18, the number may have wrapped.
+pub(crate) fn digits_at(line: &[u8], from: usize, front: u64) -> (u64, usize)
     requires { from ≤ length line.now }
     ensures digits { DigitsTo line.now from result.1 front result.0 }
     ensures end { result.1 ≡ digits_end line.now from }

@@ -1,11 +1,12 @@
 -- What stays true while a program is read.
-use Rattle.std.specs.Prelude.{◌≡◌, ◌+◌, ◌≤◌, Option, Some, None, IfSome}
+use Rattle.std.specs.Prelude.{◌≡◌, ℕ, ◌+◌, ◌≤◌, List, ◌++◌, Option, Some, None, Ok, IfSome}
 use Rattle.mill_base.specs.declared.limits.TheConstants.{MAX_MOVES}
 use Rattle.mill_base.specs.Ranges.{IsInUnitRange}
 use Rattle.mill_base.specs.declared.motion.Move.{Move}
 use Rattle.mill_words.specs.Words.{FitsNum}
 use Rattle.mill_ngc.specs.declared.said.Said.{Said}
 use Rattle.mill_ngc.specs.declared.progress.Progress.{Progress}
+use Rattle.mill_ngc.specs.Programs.{after_line, line_begun, made_list}
 
 -- the axis numbers have at most 18 digits
 pub record FitsSaid (s : Said) : Type 0 where
@@ -35,3 +36,10 @@ pub record Keeps (old : Progress) (made : Option Move) (new : Progress) : Type 0
   pub move_is : KeepsMove old made new
   pub same_unit : new.unit ≡ old.unit
   pub same_line : new.line ≡ old.line
+
+-- the next line is read, and its move added to these moves, if it makes one
+pub record AddsLine (old : Progress) (line : List ℕ) (moves : List Move) (new : Progress) (more : List Move) : Type 0 where
+  pub made : Option Move
+  pub told : after_line old line ≡ Ok (new, made)
+  pub added : more ≡ moves ++ made_list made
+  pub keeps : Keeps (line_begun old) made new

@@ -1,5 +1,5 @@
 -- What a line that is only a move has said so far, and its move.
-use Rattle.std.specs.Prelude.{◌≡◌, ℕ, ℤ, ◌+◌, ◌<◌, ◌≤◌, Bool, true, false, ◌||◌, if◌then◌else◌, List, ◌++◌, drop, length, Option, Some, None, is_some, unwrap_or, Result, Ok}
+use Rattle.std.specs.Prelude.{◌≡◌, ℕ, ℤ, ◌+◌, ◌<◌, ◌≤◌, ◌⊎◌, Bool, true, false, ◌||◌, if◌then◌else◌, List, ◌++◌, drop, length, slice_index, Option, Some, None, is_some, unwrap_or, Result, Ok}
 use Rattle.std.specs.Char.{is_ascii_alphabetic, to_ascii_uppercase}
 use Rattle.std.specs.List.{list_any}
 use Rattle.mill_base.specs.Numbers.{Within}
@@ -10,7 +10,7 @@ use Rattle.mill_base.specs.declared.motion.Kind.{Kind}
 use Rattle.mill_base.specs.declared.motion.Move.{Move}
 use Rattle.mill_base.specs.declared.points.Pt3.{Pt3}
 use Rattle.mill_base.specs.declared.unit.Unit.{Unit as LengthUnit}
-use Rattle.mill_words.specs.Lines.{EndsWord, is_word_letter, line_from, line_of}
+use Rattle.mill_words.specs.Lines.{EndsWord, and_word, is_word_letter, line_from, line_of}
 use Rattle.mill_words.specs.Words.{Line}
 use Rattle.mill_words.specs.declared.word.Num.{Num}
 use Rattle.mill_words.specs.declared.word.Word.{Word}
@@ -144,3 +144,33 @@ pub record LineMovesTo (p : Progress) (bytes : List ℕ) (m : PlainMove) : Type 
   pub line : Line
   pub told : line_of bytes ≡ Ok line
   pub moves : MovesTo p line m
+
+-- ---- a line in the usual order
+
+-- what such a line has said
+abbrev pub in_order : Option Kind → Option ℤ → Option ℤ → Option ℤ → PlainLine
+in_order kind x y z = record { kind = kind; feed = false; x = x; y = y; z = z }
+
+-- at the place stands a word of this letter that names these units, and the line goes on behind it
+pub record AxisWord (unit : LengthUnit) (line : ℕ) (bytes : List ℕ) (place letter : ℕ) (units : ℤ) (end : ℕ) : Type 0 where
+  pub num : Num
+  pub letter_is : slice_index bytes place ≡ letter
+  pub word : (l : Line) → is_word_letter (slice_index bytes place) ≡ true → length l.words < 32 → EndsWord bytes end
+      → line_from l bytes place ≡ line_from (and_word l (to_ascii_uppercase (slice_index bytes place)) num) bytes end
+  pub units_are : IsUnits unit line units num
+
+-- that word is read, or none
+abbrev pub ReadsAxis : LengthUnit → ℕ → List ℕ → ℕ → ℕ → Option ℤ → ℕ → Type 0
+ReadsAxis unit line bytes place letter None end = end ≡ place
+ReadsAxis unit line bytes place letter (Some units) end = AxisWord unit line bytes place letter units end
+
+-- the last word of the line stands at the place, and is a feed rate, whose letter is 70
+pub record FeedWord (bytes : List ℕ) (place : ℕ) : Type 0 where
+  pub num : Num
+  pub letter_is : slice_index bytes place ≡ 70
+  pub word : (l : Line) → is_word_letter (slice_index bytes place) ≡ true → length l.words < 32 → EndsWord bytes (length bytes)
+      → line_from l bytes place ≡ line_from (and_word l (to_ascii_uppercase (slice_index bytes place)) num) bytes (length bytes)
+
+-- the line ends there, or behind that word
+abbrev pub EndsLine : List ℕ → ℕ → Type 0
+EndsLine bytes place = (length bytes ≤ place) ⊎ FeedWord bytes place

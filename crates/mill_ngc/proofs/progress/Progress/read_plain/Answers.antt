@@ -1,4 +1,4 @@
-use Rattle.std.proofs.Common.{arith, rules}
+use Rattle.std.proofs.Common.{rules}
 use Rattle.mill_ngc.proofs.PlainLemmas.{plain-line}
 use Rattle.mill_ngc.proofs.progress.Progress.read_plain.Goals as goal
 

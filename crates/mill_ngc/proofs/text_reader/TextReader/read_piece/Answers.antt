@@ -6,41 +6,37 @@ use Rattle.mill_ngc.proofs.ProgramLemmas.{so_far-begun, so_far-line, are_sound}
 use Rattle.mill_ngc.proofs.PieceLemmas.{fed-next, fed-fault, fed-last, fed-ended, front-add, front-more, front-fed, fault_told, begun_ok, begun_fault, keeps_range}
 use Rattle.mill_ngc.proofs.text_reader.TextReader.read_piece.Goals as goal
 
-pub returns-in_err-made-in-Some-clause-fault : goal.returns-in_err-made-in-Some-clause-fault
-returns-in_err-made-in-Some-clause-fault c =
+pub returns-in_err-end_line-in-Some-clause-fault : goal.returns-in_err-end_line-in-Some-clause-fault
+returns-in_err-end_line-in-Some-clause-fault c =
     let lines = rw c.in-Some.is at c.split_line.ensures.lines in
-    let f = c.in_err-made-in-Some.field-0.0 in
+    let f = c.in_err-end_line-in-Some.field-0.0 in
     let total = fed (reading_of c.args.self.now, c.args.out.now.items) c.args.piece.now in
-    let told = fed-fault c.loop-rest.self.lines c.loop-rest.self.unfinished c.loop-rest.out.items c.loop-rest.rest.now c.split_line.result.0.now c.in-Some.text.now f total
-    (search rules) lines c.in_err-made-in-Some.ensures.fault c.loop-rest.invariant.so_far in
-    fault_told c.from_residual.result f total c.loop-rest.out.items (search rules) told
+    rw c.in_err-end_line-in-Some.ensures.kept (
+    fault_told c.from_residual.result f total c.loop-rest.out.items (search rules)
+    (λ other. fed-fault c.loop-rest.self.lines c.loop-rest.self.unfinished c.loop-rest.out.items c.loop-rest.rest.now c.split_line.result.0.now c.in-Some.text.now f total
+    (search rules) lines (c.in_err-end_line-in-Some.ensures.fault other) c.loop-rest.invariant.so_far))
 
-pub returns-in_err-made-in-Some-clause-front : goal.returns-in_err-made-in-Some-clause-front
-returns-in_err-made-in-Some-clause-front c =
-    front-fed (reading_of c.loop-rest.self, c.loop-rest.out.items) c.loop-rest.rest.now _ c.loop-rest.invariant.so_far
-
-pub returns-in_err-add-in-Some-clause-front : goal.returns-in_err-add-in-Some-clause-front
-returns-in_err-add-in-Some-clause-front c =
+pub returns-in_err-end_line-in-Some-clause-front : goal.returns-in_err-end_line-in-Some-clause-front
+returns-in_err-end_line-in-Some-clause-front c =
     let front = front-fed (reading_of c.loop-rest.self, c.loop-rest.out.items) c.loop-rest.rest.now _ c.loop-rest.invariant.so_far in
-    rw c.in_err-add-in-Some.ensures.kept front
+    rw c.in_err-end_line-in-Some.ensures.kept front
 
 pub loop-rest-preserved : goal.loop-rest-preserved
 loop-rest-preserved c =
     let p = c.loop-rest.self.lines in
     let q = c.end_line.new.self.lines in
     let moves = c.loop-rest.out.items in
-    let made = c.in_ok-made-in-Some.made in
-    let keeps = c.in_ok-made-in-Some.ensures.keeps in
+    let adds = c.in_ok-end_line-in-Some.ensures.ok in
     let lines = rw c.in-Some.is at c.split_line.ensures.lines in
     let shorter : length c.in-Some.text.now < length c.loop-rest.rest.now = rw c.in-Some.is at c.split_line.ensures.shorter in
-    rw c.in_ok-add-in-Some.ensures.ok (record {
-      so_far = fed-next p q c.loop-rest.self.unfinished c.end_line.new.self.unfinished moves made c.loop-rest.rest.now c.split_line.result.0.now c.in-Some.text.now
+    rw adds.added (record {
+      so_far = fed-next p q c.loop-rest.self.unfinished c.end_line.new.self.unfinished moves adds.made c.loop-rest.rest.now c.split_line.result.0.now c.in-Some.text.now
           (fed (reading_of c.args.self.now, c.args.out.now.items) c.args.piece.now)
-          (search rules) lines c.in_ok-made-in-Some.ensures.ok c.in_ok-made-in-Some.ensures.begins c.loop-rest.invariant.so_far;
-      lines = omega (arith, shorter, keeps.same_line, c.loop-rest.invariant.lines);
-      here = keeps_range (line_begun p) q made c.loop-rest.invariant.here keeps;
-      grows = front-more c.args.out.now.items moves (moves ++ made_list made) c.loop-rest.invariant.grows (front-add moves (made_list made));
-      moves = λ start unit s. so_far-line start unit (line_begun p) q moves made (so_far-begun start unit p moves (c.loop-rest.invariant.moves start unit s)) keeps;
+          (search rules) lines adds.told c.in_ok-end_line-in-Some.ensures.begins c.loop-rest.invariant.so_far;
+      lines = omega (arith, shorter, adds.keeps.same_line, c.loop-rest.invariant.lines);
+      here = keeps_range (line_begun p) q adds.made c.loop-rest.invariant.here adds.keeps;
+      grows = front-more c.args.out.now.items moves (moves ++ made_list adds.made) c.loop-rest.invariant.grows (front-add moves (made_list adds.made));
+      moves = λ start unit s. so_far-line start unit (line_begun p) q moves adds.made (so_far-begun start unit p moves (c.loop-rest.invariant.moves start unit s)) adds.keeps;
     })
 
 pub returns-in-None-clause-ok : goal.returns-in-None-clause-ok
@@ -71,13 +67,9 @@ returns-clause-front c =
 
 -- ---- the moves of the lines that are read are sound, where those before them were
 
-pub returns-in_err-made-in-Some-clause-sound : goal.returns-in_err-made-in-Some-clause-sound
-returns-in_err-made-in-Some-clause-sound c start unit s =
-    are_sound start unit c.loop-rest.self.lines c.loop-rest.out.items (c.loop-rest.invariant.moves start unit s)
-
-pub returns-in_err-add-in-Some-clause-sound : goal.returns-in_err-add-in-Some-clause-sound
-returns-in_err-add-in-Some-clause-sound c =
-    rw c.in_err-add-in-Some.ensures.kept
+pub returns-in_err-end_line-in-Some-clause-sound : goal.returns-in_err-end_line-in-Some-clause-sound
+returns-in_err-end_line-in-Some-clause-sound c =
+    rw c.in_err-end_line-in-Some.ensures.kept
     (λ start unit s. are_sound start unit c.loop-rest.self.lines c.loop-rest.out.items (c.loop-rest.invariant.moves start unit s))
 
 pub returns-in-None-clause-sound : goal.returns-in-None-clause-sound
