@@ -88,8 +88,8 @@ fn share<W: Work, R: Threads + Sync>(
     seat
 }
 
-/// What the work comes to, by so many workers, each on a thread of its own; by this thread alone where
-/// there is none or one. There are fewer than 2^32 pieces, and the turns of each lie under `turns`. No
+/// What the work comes to, by so many workers, each on a thread of its own; where there is none or one,
+/// as by [`run_alone`]. There are fewer than 2^32 pieces, and the turns of each lie under `turns`. No
 /// word of the answer depends on the workers: it is what one of them alone would give.
 pub fn run_all<W: Work, R: Threads + Sync>(
     rt: &R,
@@ -104,7 +104,28 @@ pub fn run_all<W: Work, R: Threads + Sync>(
     requires spans { HasSpans W.means work turns }
     ensures { IfOk result (λ closed. IsClosed W.means (record { work = work; turns = turns }) closed.least closed.pieces.items) }
 {
+    if workers <= 1 {
+        return run_alone(alloc, work, pieces, turns);
+    }
     let (board, seat) = Board::new(alloc, work, pieces, turns)?;
     let seat = share(rt, &board, seat, workers);
+    board.close(seat)
+}
+
+/// What the work comes to, by this thread alone, and with no runtime: the answer of [`run_all`]. There are
+/// fewer than 2^32 pieces, and the turns of each lie under `turns`.
+pub fn run_alone<W: Work>(
+    alloc: Global,
+    work: W,
+    pieces: u64,
+    turns: u64,
+) -> Result<Closed<W::Piece>, WantOfMemory>
+    requires count { pieces ≡ W.means.pieces work }
+    requires few { pieces < 2 ^ 32 }
+    requires spans { HasSpans W.means work turns }
+    ensures { IfOk result (λ closed. IsClosed W.means (record { work = work; turns = turns }) closed.least closed.pieces.items) }
+{
+    let (board, mut seat) = Board::new(alloc, work, pieces, turns)?;
+    board.serve(&mut seat);
     board.close(seat)
 }

@@ -1,5 +1,5 @@
 -- What is left over a column's greatest covered height, and the most of it.
-use Rattle.std.specs.Prelude.{◌≡◌, ℕ, ◌+◌, ◌<◌, ◌≤◌, ℤ, pos, ◌-ℤ◌, ◌<ℤ◌, ◌≤ℤ◌, ◌⊎◌, List, Result, Ok, Err, MatchResult, refl}
+use Rattle.std.specs.Prelude.{◌≡◌, ℕ, ◌+◌, ◌<◌, ◌≤◌, ℤ, pos, ◌-ℤ◌, ◌<ℤ◌, ◌≤ℤ◌, ◌⊎◌, List, Result, Ok, Err, refl}
 use Rattle.std.specs.Int.{int_min, int_max}
 use Rattle.std.proofs.Common.{sym, subst, inl, inr, arith}
 use Rattle.std.proofs.lemmas.Bool.{cases_lt}
@@ -12,7 +12,7 @@ use Rattle.mill_dexel.specs.Tops.{Stock}
 use Rattle.mill_part.proofs.Below.{covered_below}
 use Rattle.mill_verify.specs.Tests.{IsCutOn}
 use Rattle.mill_verify.specs.Verdicts.{IsFirstUncut, IsLeftOverOn}
-use Rattle.mill_verify.specs.inner.Firsts.{IsCutTo, IsMostWith, IsRowLeft, IsRowUncut, IsMostOf, LeftInRow, AreRowsLeft, IsFirstUncutOf, AreRowsTold, IsBoth, IsStockLeft}
+use Rattle.mill_verify.specs.inner.Firsts.{IsCutTo, IsMostWith, IsRowLeft, IsRowUncut, IsMostOf, LeftInRow, AreRowsLeft, IsFirstUncutOf, AreRowsTold, IsBoth, IsStockLeft, IsStockTold}
 use Rattle.mill_verify.specs.declared.left.Uncut.{Uncut}
 use Rattle.mill_verify.proofs.Most.{most_none, most_more, most_stays, most_both, below_suc}
 
@@ -225,6 +225,6 @@ both_told job part stock s m e (Ok most) (Ok other) told first second l r is = s
 
 -- what is said of all rows is said of the stock
 pub stock_told : (job : Job) (part : List Tri) (stock : Stock) (n : ℕ) (told : Result ℤ Uncut) → n ≡ row_count job → 0 < row_count job → AreRowsTold job part stock 0 n told
-    → MatchResult told (IsStockLeft job part stock) (λ uncut. IsFirstUncut job part stock uncut.row uncut.col uncut.top)
+    → IsStockTold job part stock told
 stock_told job part stock n (Ok left) all some h = stock_left_all all some h
 stock_told job part stock n (Err uncut) all some h = first_uncut_all all h

@@ -1,5 +1,5 @@
 -- What is said of a program on a stock is said of it on each stock that is the same at each column.
-use Rattle.std.specs.Prelude.{◌≡◌, ℕ, ℤ, ◌-ℤ◌, List, length, take, Result, Ok, Err, MatchResult}
+use Rattle.std.specs.Prelude.{◌≡◌, ℕ, ℤ, ◌-ℤ◌, List, length, take, Result, Ok, Err}
 use Rattle.std.proofs.Common.{◌∙◌, ap, subst}
 use Rattle.mill_base.specs.Covers.{Covered, IsHighestCovered}
 use Rattle.mill_base.specs.Points.{point_at, point_tri}
@@ -24,8 +24,11 @@ use Rattle.mill_verify.specs.Verdicts.{BlocksHolder, BlocksLeaf, FailsHolderStoc
 use Rattle.mill_verify.specs.declared.left.Uncut.{Uncut}
 use Rattle.mill_verify.specs.declared.verdict.Reason.{Reason}
 use Rattle.mill_verify.specs.declared.verdict.Reason.TheVariants.{Floor, Gouge, Holder, Rapid as RapidCut, Cut, HolderStock, Left}
-use Rattle.mill_verify.specs.inner.Firsts.{ArePassed, IsStockLeft, IsStopped}
+use Rattle.mill_verify.specs.inner.Firsts.{ArePassed, AreRowsTold, IsStockLeft, IsStockTold, IsStopped}
+use Rattle.mill_verify.specs.inner.Readiness.{AreJobRows}
 use Rattle.mill_verify.proofs.Mounted.{each_some}
+use Rattle.mill_verify.proofs.Ranges.{some_rows}
+use Rattle.mill_verify.proofs.Remaining.{stock_told}
 
 -- test (iv)
 module _ (job : Job) (part : List Tri) (a b : Stock) (same : AreSame job a b) where
@@ -64,11 +67,14 @@ module _ (job : Job) (part : List Tri) (a b : Stock) (same : AreSame job a b) wh
   }
 
 -- so what is said of the stock that rows show is said of the stock whose tops they have
-pub told_same : (job : Job) (part : List Tri) (rows : List RowState) (stock : Stock) → ShowsStock job stock rows → (told : Result ℤ Uncut)
-    → MatchResult told (IsStockLeft job part (shown_by rows)) (λ uncut. IsFirstUncut job part (shown_by rows) uncut.row uncut.col uncut.top)
-    → MatchResult told (IsStockLeft job part stock) (λ uncut. IsFirstUncut job part stock uncut.row uncut.col uncut.top)
+told_same : (job : Job) (part : List Tri) (rows : List RowState) (stock : Stock) → ShowsStock job stock rows → (told : Result ℤ Uncut) → IsStockTold job part (shown_by rows) told → IsStockTold job part stock told
 told_same job part rows stock shows (Ok left) h = same_stock_left job part (shown_by rows) stock (shown_same job stock rows shows) left h
 told_same job part rows stock shows (Err uncut) h = same_uncut job part (shown_by rows) stock (shown_same job stock rows shows) uncut.row uncut.col uncut.top h
+
+-- and what is said of all rows is said of that stock
+pub rows_told : (job : Job) (part : List Tri) (rows : List RowState) (told : Result ℤ Uncut) → AreJobRows job rows → AreRowsTold job part (shown_by rows) 0 (length rows) told
+    → (stock : Stock) → ShowsStock job stock rows → IsStockTold job part stock told
+rows_told job part rows told are h stock shows = told_same job part rows stock shows told (stock_told job part (shown_by rows) (length rows) told are.shows.count (some_rows job) h)
 
 -- tests (iii) and (iii h)
 module _ (job : Job) (part : List Tri) (a b : Stock) (moves : List Move) (same : AreSame job a b) where

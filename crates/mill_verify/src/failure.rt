@@ -8,6 +8,7 @@ use crate::verdict::Reason;
 use mill_base::Kind;
 use mill_board::Held;
 use mill_dexel::{RowFail, RowTest};
+use mill_gouge::Gouge;
 
 /// The number of the first piece that has failed at this turn; none where none has.
 ///
@@ -93,16 +94,8 @@ fn part_reason(at: u64, fail: PartFail) -> Reason
     ensures { result ≡ reason_by_part at fail }
 {
     match fail {
-        PartFail::Cutter(gouge) => Reason::Gouge {
-            at,
-            tri: gouge.tri,
-            leaf: gouge.leaf,
-        },
-        PartFail::Holder(gouge) => Reason::Holder {
-            at,
-            tri: gouge.tri,
-            leaf: gouge.leaf,
-        },
+        PartFail::Cutter(Gouge { tri, leaf }) => Reason::Gouge { at, tri, leaf },
+        PartFail::Holder(Gouge { tri, leaf }) => Reason::Holder { at, tri, leaf },
     }
 }
 
@@ -110,12 +103,7 @@ fn part_reason(at: u64, fail: PartFail) -> Reason
 fn stock_reason(kind: Kind, at: u64, row: u32, fail: RowFail) -> Reason
     ensures { result ≡ reason_by_stock fail.test kind at row fail.col fail.leaf }
 {
-    let RowFail {
-        at: _,
-        col,
-        leaf,
-        test,
-    } = fail;
+    let RowFail { col, leaf, test, .. } = fail;
     match test {
         RowTest::Holder => Reason::HolderStock { at, row, col, leaf },
         RowTest::Cut => match kind {

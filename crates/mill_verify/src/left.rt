@@ -1,15 +1,13 @@
 ghost use Rattle.std.specs.Prelude.{◌≡◌, ◌<◌, ◌≤◌, pos, ◌-ℤ◌, ◌≤ℤ◌, length, MatchOption, MatchResult};
-ghost use Rattle.mill_base.specs.Numbers.{Within};
-ghost use Rattle.mill_base.specs.declared.limits.TheConstants.{MAX_COORDINATE, MAX_WORKERS};
+ghost use Rattle.mill_base.specs.declared.limits.TheConstants.{MAX_WORKERS};
 ghost use Rattle.mill_base.specs.Covers.{Covered};
 ghost use Rattle.mill_cells.specs.Sorted.{sorted_of};
 ghost use Rattle.mill_job.specs.Jobs.{IsJob, IsFrom};
 ghost use Rattle.mill_job.specs.Columns.{row_count};
 ghost use Rattle.mill_dexel.specs.Stocks.{ShowsStock, shown_by};
 ghost use Rattle.mill_dexel.specs.Tops.{Stock};
-ghost use Rattle.mill_verify.specs.inner.Firsts.{AreRowsTold, IsBoth, IsCutTo, IsMostWith, IsRowLeft, IsRowUncut, IsStockLeft};
-ghost use Rattle.mill_verify.specs.inner.Readiness.{AreJobRows, AreRowsReady};
-ghost use Rattle.mill_verify.specs.Verdicts.{IsFirstUncut};
+ghost use Rattle.mill_verify.specs.inner.Firsts.{AreRowsTold, IsBoth, IsCutTo, IsMostWith, IsRowLeft, IsRowUncut, IsStockTold};
+ghost use Rattle.mill_verify.specs.inner.Readiness.{AreJobRows, AreRowsReady, IsColumnReady};
 ghost use denote.Param.Send.{IsSync};
 
 use mill_cells::Cells;
@@ -40,13 +38,20 @@ pub fn stock_left<R: Threads + Sync>(
     requires cells_ok { cells.now ≡ sorted_of part.now }
     requires rows_ok { AreJobRows job.now rows.now }
     requires few_workers { workers ≤ MAX_WORKERS }
-    ensures { (stock : Stock) → ShowsStock job.now stock rows.now → MatchResult
-        result
-        (IsStockLeft job.now part.now stock)
-        (λ uncut. IsFirstUncut job.now part.now stock uncut.row uncut.col uncut.top) }
+    ensures { (stock : Stock) → ShowsStock job.now stock rows.now → IsStockTold job.now part.now stock result }
 {
     let end = rows.len();
     rows_left(rt, job, part, cells, rows, 0, end, workers)
+}
+
+/// Test (iv) of [`stock_left`], by this thread alone.
+pub fn stock_left_alone(job: &Job, part: &Part, cells: &Cells, rows: &[Row]) -> Result<i32, Uncut>
+    requires job_ok { IsJob job.now }
+    requires cells_ok { cells.now ≡ sorted_of part.now }
+    requires rows_ok { AreJobRows job.now rows.now }
+    ensures { (stock : Stock) → ShowsStock job.now stock rows.now → IsStockTold job.now part.now stock result }
+{
+    scan_rows(job, part, cells, rows, 0, rows.len())
 }
 
 /// Test (iv) on the rows from number `start` to before `end`; 0 is left where there is none.
@@ -167,11 +172,7 @@ fn most_with(
     top: i32,
     most: i32,
 ) -> Option<i32>
-    requires job_ok { IsJob job.now }
-    requires cells_ok { cells.now ≡ sorted_of part.now }
-    requires x_ok { Within MAX_COORDINATE x }
-    requires y_ok { Within MAX_COORDINATE y }
-    requires top_ok { Within MAX_COORDINATE top }
+    requires ready { IsColumnReady job.now part.now cells.now x y top }
     requires most_ok { pos 0 ≤ℤ most }
     ensures { MatchOption
         result
@@ -189,11 +190,7 @@ fn most_with(
 /// How much a column with this top is left over its greatest covered height; none where the top
 /// is more than the allowance over it.
 fn left_over(job: &Job, part: &Part, cells: &Cells, x: i32, y: i32, top: i32) -> Option<i32>
-    requires job_ok { IsJob job.now }
-    requires cells_ok { cells.now ≡ sorted_of part.now }
-    requires x_ok { Within MAX_COORDINATE x }
-    requires y_ok { Within MAX_COORDINATE y }
-    requires top_ok { Within MAX_COORDINATE top }
+    requires ready { IsColumnReady job.now part.now cells.now x y top }
     ensures { MatchOption
         result
         (¬ Covered part.now job.now.floor job.now.band x y (top -ℤ job.now.allowance))

@@ -37,5 +37,8 @@ pub use file::CutFile;
 pub use laws::{alone_is_verdict, one_list_verdict, one_verdict};
 pub use list::{ListVerdict, MAX_FILES, verify_list};
 pub use mill_board::{Gate, NoGate};
-pub use program::{verdict_on_stock, verify, verify_with, verify_with_cells};
+pub use program::{
+    verdict_on_stock, verdict_on_stock_alone, verify, verify_alone, verify_alone_with_cells,
+    verify_with, verify_with_cells,
+};
 pub use verdict::{Reason, Verdict};

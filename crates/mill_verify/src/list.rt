@@ -12,7 +12,7 @@ ghost use Rattle.mill_verify.specs.declared.list.TheConstants.{MAX_FILES};
 ghost use Rattle.mill_verify.specs.declared.verdict.Reason.{Reason as Why};
 
 use crate::file::{CutFile, job_with, moves_of};
-use crate::left::stock_left;
+use crate::left::{Uncut, stock_left};
 use crate::moves::rows_after;
 use crate::start::{Start, rows_of_start};
 use crate::verdict::Reason;
@@ -124,8 +124,6 @@ fn rows_after_files<R: Threads + Sync>(
     requires cells_ok { cells.now ≡ sorted_of part.now }
     requires files_ok { All (IsFileOf job.now) files.now }
     requires few { length files.now ≤ MAX_FILES }
-    requires some_workers { 1 ≤ workers }
-    requires few_workers { workers ≤ MAX_WORKERS }
     ensures { IfOk result (λ told. MatchResult
         told
         (λ rows. AreFilesPassed job.now part.now files.now rows.items)
@@ -135,17 +133,8 @@ fn rows_after_files<R: Threads + Sync>(
     for number in 0..files.len() {
         let file = &files[number];
         let job = job_with(job, file);
-        match rows_after(
-            rt,
-            alloc,
-            NoGate,
-            &job,
-            part,
-            cells,
-            &start,
-            file.moves(),
-            workers,
-        )? {
+        let moves = file.moves();
+        match rows_after(rt, alloc, NoGate, &job, part, cells, &start, moves, workers)? {
             Ok(rows) => start = Start::Rows(rows),
             Err(reason) => {
                 return Ok(Err(Stop {
@@ -184,10 +173,6 @@ fn last_verdict<R: Threads + Sync>(
             columns: job.column_total(),
             most_left,
         },
-        Err(uncut) => ListVerdict::Left {
-            row: uncut.row,
-            col: uncut.col,
-            top: uncut.top,
-        },
+        Err(Uncut { row, col, top }) => ListVerdict::Left { row, col, top },
     }
 }

@@ -1,11 +1,7 @@
-ghost use Rattle.std.specs.Prelude.{◌≡◌, ◌≤◌, length, IfOk, MatchResult};
-ghost use Rattle.mill_base.specs.declared.limits.TheConstants.{MAX_MOVES, MAX_WORKERS};
-ghost use Rattle.mill_base.specs.Ranges.{MovesInRange};
-ghost use Rattle.mill_cells.specs.Sorted.{sorted_of};
-ghost use Rattle.mill_job.specs.Jobs.{IsJob};
+ghost use Rattle.std.specs.Prelude.{IfOk, MatchResult};
 ghost use Rattle.mill_verify.specs.inner.Firsts.{ArePassed, IsFloorEnd, IsStopped};
 ghost use Rattle.mill_verify.specs.inner.Pieces.{AreReady, AreTested};
-ghost use Rattle.mill_verify.specs.inner.Readiness.{IsStart, rows_at, stock_of};
+ghost use Rattle.mill_verify.specs.inner.Readiness.{AreAsked, rows_at, stock_of};
 
 use crate::block::Block;
 use crate::failure::{first_failed, reason_of};
@@ -16,7 +12,7 @@ use crate::stock::rows_of;
 use crate::verdict::Reason;
 use crate::work::Tests;
 use mill_base::{Move, WantOfMemory};
-use mill_board::{Closed, Gate, run_all};
+use mill_board::{Closed, Gate, NoGate, run_all, run_alone};
 use mill_cells::Cells;
 use mill_dexel::Row;
 use mill_job::Job;
@@ -41,13 +37,7 @@ pub fn rows_after<R: Threads + Sync, G: Gate>(
     moves: &[Move],
     workers: u32,
 ) -> Result<Result<Vec<Row>, Reason>, WantOfMemory>
-    requires job_ok { IsJob job.now }
-    requires cells_ok { cells.now ≡ sorted_of part.now }
-    requires start_ok { IsStart job.now start.now }
-    requires moves_ok { MovesInRange moves.now }
-    requires few { length moves.now ≤ MAX_MOVES }
-    requires some_workers { 1 ≤ workers }
-    requires few_workers { workers ≤ MAX_WORKERS }
+    requires { AreAsked job.now part.now cells.now start.now moves.now }
     ensures { IfOk result (λ told. MatchResult
         told
         (λ rows. ArePassed job.now part.now (stock_of job.now start.now) moves.now rows.items)
@@ -57,6 +47,28 @@ pub fn rows_after<R: Threads + Sync, G: Gate>(
     let work = Tests::new(alloc, job, part, cells, start, moves, turns, gate)?;
     let pieces = work.pieces();
     let closed = run_all(rt, alloc, work, pieces, turns, workers)?;
+    told_by(alloc, job, part, cells, start, moves, turns, closed)
+}
+
+/// The tests of [`rows_after`], by this thread alone and with no gate.
+pub fn rows_after_alone(
+    alloc: Global,
+    job: &Job,
+    part: &Part,
+    cells: &Cells,
+    start: &Start,
+    moves: &[Move],
+) -> Result<Result<Vec<Row>, Reason>, WantOfMemory>
+    requires { AreAsked job.now part.now cells.now start.now moves.now }
+    ensures { IfOk result (λ told. MatchResult
+        told
+        (λ rows. ArePassed job.now part.now (stock_of job.now start.now) moves.now rows.items)
+        (IsStopped job.now part.now (stock_of job.now start.now) moves.now)) }
+{
+    let turns = floor_end(job, moves) as u64;
+    let work = Tests::new(alloc, job, part, cells, start, moves, turns, NoGate)?;
+    let pieces = work.pieces();
+    let closed = run_alone(alloc, work, pieces, turns)?;
     told_by(alloc, job, part, cells, start, moves, turns, closed)
 }
 

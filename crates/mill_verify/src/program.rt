@@ -1,20 +1,22 @@
-ghost use Rattle.std.specs.Prelude.{◌≡◌, ℕ, ◌≤◌, ℤ, length, Ok, IfOk};
+ghost use Rattle.std.specs.Prelude.{◌≡◌, ℕ, ◌≤◌, ℤ, List, length, Ok, IfOk};
 ghost use Rattle.mill_base.specs.declared.limits.TheConstants.{MAX_MOVES, MAX_WORKERS};
 ghost use Rattle.mill_base.specs.Covers.{IsUnder};
 ghost use Rattle.mill_base.specs.Motion.{Follow};
 ghost use Rattle.mill_base.specs.Ranges.{MovesInRange};
+ghost use Rattle.mill_base.specs.declared.points.Tri.{Tri};
 ghost use Rattle.mill_cells.specs.Sorted.{sorted_of};
 ghost use Rattle.mill_job.specs.Columns.{home};
 ghost use Rattle.mill_job.specs.Jobs.{IsJob};
 ghost use Rattle.mill_verify.specs.Claims.{CutsSafely};
 ghost use Rattle.mill_dexel.specs.Stocks.{IsStock};
-ghost use Rattle.mill_dexel.specs.Tops.{uncut};
+ghost use Rattle.mill_dexel.specs.Tops.{stock_after, uncut};
 ghost use Rattle.mill_verify.specs.Tests.{GoodBefore};
 ghost use Rattle.mill_verify.specs.Verdicts.{IsVerdict, NamesLeaf};
+ghost use Rattle.mill_verify.specs.inner.Firsts.{IsStockTold};
 ghost use Rattle.mill_verify.specs.declared.verdict.Reason.{Reason as Why};
 
-use crate::left::stock_left;
-use crate::moves::rows_after;
+use crate::left::{Uncut, stock_left, stock_left_alone};
+use crate::moves::{rows_after, rows_after_alone};
 use crate::start::Start;
 use crate::verdict::{Reason, Verdict};
 use mill_base::{Move, WantOfMemory};
@@ -138,6 +140,64 @@ pub fn verify_with_cells<R: Threads + Sync>(
     tested(rt, alloc, NoGate, job, part, cells, moves, workers)
 }
 
+/// The verdict of [`verify`], by this thread alone and with no runtime: the same, since it doesn't depend on
+/// who does the work.
+///
+/// Job, part and moves are as `verify` takes them, and the only error is want of memory.
+pub fn verify_alone(
+    alloc: Global,
+    job: &Job,
+    part: &Part,
+    moves: &[Move],
+) -> Result<Verdict, WantOfMemory>
+    requires job_ok { IsJob job.now }
+    requires moves_ok { MovesInRange moves.now }
+    requires under { IsUnder part.now job.now.top }
+    requires follow { Follow (home job.now) moves.now }
+    requires few { length moves.now ≤ MAX_MOVES }
+    ensures verdict { IfOk result (IsVerdict job.now part.now moves.now) }
+    ensures safe { (count columns : ℕ) (left : ℤ)
+        → result ≡ Ok (Verdict.Accept count columns left)
+        → CutsSafely job.now part.now moves.now }
+    ensures blocked { (reason : Why)
+        → result ≡ Ok (Verdict.Reject reason)
+        → NamesLeaf job.now part.now (uncut job.now) moves.now reason }
+{
+    let sorted = SortedPart::new(alloc, part)?;
+    verify_alone_with_cells(alloc, job, part, sorted.cells(), moves)
+}
+
+/// The verdict of [`verify_alone`], by cells that the part's triangles are sorted into already.
+pub fn verify_alone_with_cells(
+    alloc: Global,
+    job: &Job,
+    part: &Part,
+    cells: &Cells,
+    moves: &[Move],
+) -> Result<Verdict, WantOfMemory>
+    requires job_ok { IsJob job.now }
+    requires cells_ok { cells.now ≡ sorted_of part.now }
+    requires moves_ok { MovesInRange moves.now }
+    requires under { IsUnder part.now job.now.top }
+    requires follow { Follow (home job.now) moves.now }
+    requires few { length moves.now ≤ MAX_MOVES }
+    ensures verdict { IfOk result (IsVerdict job.now part.now moves.now) }
+    ensures safe { (count columns : ℕ) (left : ℤ)
+        → result ≡ Ok (Verdict.Accept count columns left)
+        → CutsSafely job.now part.now moves.now }
+    ensures blocked { (reason : Why)
+        → result ≡ Ok (Verdict.Reject reason)
+        → NamesLeaf job.now part.now (uncut job.now) moves.now reason }
+{
+    match rows_after_alone(alloc, job, part, cells, &Start::Uncut, moves)? {
+        Ok(rows) => {
+            let left = stock_left_alone(job, part, cells, &rows);
+            Ok(last_verdict(job, moves, left))
+        }
+        Err(reason) => Ok(Verdict::Reject(reason)),
+    }
+}
+
 /// The verdict of [`verify`] on a program all of whose moves are good, by the rows of the stock that its
 /// moves made.
 ///
@@ -169,7 +229,29 @@ pub fn verdict_on_stock<R: Threads + Sync>(
         → result ≡ Verdict.Accept count columns left
         → CutsSafely job.now part.now moves.now }
 {
-    last_verdict(rt, job, part, cells, moves, rows, workers)
+    last_verdict(job, moves, stock_left(rt, job, part, cells, rows, workers))
+}
+
+/// The verdict of [`verdict_on_stock`], by this thread alone and with no runtime. What must be known of the
+/// moves and the rows is what `verdict_on_stock` asks for, and none of it is looked at here.
+pub fn verdict_on_stock_alone(
+    job: &Job,
+    part: &Part,
+    cells: &Cells,
+    moves: &[Move],
+    rows: &[Row],
+) -> Verdict
+    requires job_ok { IsJob job.now }
+    requires cells_ok { cells.now ≡ sorted_of part.now }
+    requires moves_ok { MovesInRange moves.now }
+    requires good { GoodBefore job.now part.now moves.now (length moves.now) }
+    requires rows_ok { IsStock job.now moves.now rows.now }
+    ensures verdict { IsVerdict job.now part.now moves.now result }
+    ensures safe { (count columns : ℕ) (left : ℤ)
+        → result ≡ Verdict.Accept count columns left
+        → CutsSafely job.now part.now moves.now }
+{
+    last_verdict(job, moves, stock_left_alone(job, part, cells, rows))
 }
 
 /// The verdict, where each test of a move passes this gate first, by cells that the part's triangles are
@@ -187,10 +269,7 @@ fn tested<R: Threads + Sync, G: Gate>(
     requires job_ok { IsJob job.now }
     requires cells_ok { cells.now ≡ sorted_of part.now }
     requires moves_ok { MovesInRange moves.now }
-    requires under { IsUnder part.now job.now.top }
-    requires follow { Follow (home job.now) moves.now }
     requires few { length moves.now ≤ MAX_MOVES }
-    requires some_workers { 1 ≤ workers }
     requires few_workers { workers ≤ MAX_WORKERS }
     ensures verdict { IfOk result (IsVerdict job.now part.now moves.now) }
     ensures safe { (count columns : ℕ) (left : ℤ)
@@ -200,52 +279,33 @@ fn tested<R: Threads + Sync, G: Gate>(
         → result ≡ Ok (Verdict.Reject reason)
         → NamesLeaf job.now part.now (uncut job.now) moves.now reason }
 {
-    match rows_after(
-        rt,
-        alloc,
-        gate,
-        job,
-        part,
-        cells,
-        &Start::Uncut,
-        moves,
-        workers,
-    )? {
-        Ok(rows) => Ok(last_verdict(rt, job, part, cells, moves, &rows, workers)),
+    let start = Start::Uncut;
+    match rows_after(rt, alloc, gate, job, part, cells, &start, moves, workers)? {
+        Ok(rows) => {
+            let left = stock_left(rt, job, part, cells, &rows, workers);
+            Ok(last_verdict(job, moves, left))
+        }
         Err(reason) => Ok(Verdict::Reject(reason)),
     }
 }
 
-/// The verdict after the last move, all moves being good.
-fn last_verdict<R: Threads + Sync>(
-    rt: &R,
-    job: &Job,
-    part: &Part,
-    cells: &Cells,
-    moves: &[Move],
-    rows: &[Row],
-    workers: u32,
-) -> Verdict
+/// The verdict after the last move, all moves being good, by what is told to be left of the stock.
+fn last_verdict(job: &Job, moves: &[Move], left: Result<i32, Uncut>) -> Verdict
     requires job_ok { IsJob job.now }
-    requires cells_ok { cells.now ≡ sorted_of part.now }
-    requires good { GoodBefore job.now part.now moves.now (length moves.now) }
-    requires rows_ok { IsStock job.now moves.now rows.now }
-    requires few_workers { workers ≤ MAX_WORKERS }
-    ensures verdict { IsVerdict job.now part.now moves.now result }
-    ensures blocked { (reason : Why)
+    ensures verdict { (part : List Tri)
+        → GoodBefore job.now part moves.now (length moves.now)
+        → IsStockTold job.now part (stock_after job.now (uncut job.now) moves.now) left
+        → IsVerdict job.now part moves.now result }
+    ensures blocked { (part : List Tri) (reason : Why)
         → result ≡ Verdict.Reject reason
-        → NamesLeaf job.now part.now (uncut job.now) moves.now reason }
+        → NamesLeaf job.now part (uncut job.now) moves.now reason }
 {
-    match stock_left(rt, job, part, cells, rows, workers) {
+    match left {
         Ok(most_left) => Verdict::Accept {
             moves: moves.len() as u64,
             columns: job.column_total(),
             most_left,
         },
-        Err(uncut) => Verdict::Reject(Reason::Left {
-            row: uncut.row,
-            col: uncut.col,
-            top: uncut.top,
-        }),
+        Err(Uncut { row, col, top }) => Verdict::Reject(Reason::Left { row, col, top }),
     }
 }

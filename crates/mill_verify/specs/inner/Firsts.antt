@@ -11,7 +11,7 @@ use Rattle.mill_dexel.specs.Rows.{RowState}
 use Rattle.mill_dexel.specs.Stocks.{ShowsStock}
 use Rattle.mill_verify.specs.Blocks.{BlockState}
 use Rattle.mill_verify.specs.Tests.{GoodBeforeOn, IsCutOn, IsOverFloor}
-use Rattle.mill_verify.specs.Verdicts.{IsLeftOverOn, IsMostLeftOn, IsOfMove, IsRejectionOn, NamesLeaf}
+use Rattle.mill_verify.specs.Verdicts.{IsFirstUncut, IsLeftOverOn, IsMostLeftOn, IsOfMove, IsRejectionOn, NamesLeaf}
 use Rattle.mill_verify.specs.declared.verdict.Reason.{Reason}
 use Rattle.mill_verify.specs.declared.left.Uncut.{Uncut}
 
@@ -102,3 +102,7 @@ IsBoth (Ok most) (Ok other) told = told ≡ Ok (int_max most other)
 pub record IsStockLeft (job : Job) (part : List Tri) (stock : Stock) (left : ℤ) : Type 0 where
   pub cut : (j i : ℕ) → IsColumn job j i → IsCutOn job part stock j i
   pub most : IsMostLeftOn job part stock left
+
+-- what the test of a stock says: how much is left at most, or the first column that isn't cut
+abbrev pub IsStockTold : Job → List Tri → Stock → Result ℤ Uncut → Type 0
+IsStockTold job part stock told = MatchResult told (IsStockLeft job part stock) (λ uncut. IsFirstUncut job part stock uncut.row uncut.col uncut.top)

@@ -1,6 +1,9 @@
 -- What a thread needs for its share of a test, and the stock from which a program starts.
-use Rattle.std.specs.Prelude.{◌≡◌, ℕ, ◌≤◌, List, length, Option, None, Some, IfSome}
-use Rattle.mill_base.specs.declared.limits.TheConstants.{MAX_WORKERS}
+use Rattle.std.specs.Prelude.{◌≡◌, ℕ, ℤ, ◌≤◌, List, length, Option, None, Some, IfSome}
+use Rattle.mill_base.specs.Numbers.{Within}
+use Rattle.mill_base.specs.Ranges.{MovesInRange}
+use Rattle.mill_base.specs.declared.limits.TheConstants.{MAX_COORDINATE, MAX_MOVES, MAX_WORKERS}
+use Rattle.mill_base.specs.declared.motion.Move.{Move}
 use Rattle.mill_base.specs.declared.points.Tri.{Tri}
 use Rattle.mill_cells.specs.Sorted.{Sorted, sorted_of}
 use Rattle.mill_job.specs.declared.job.Job.{Job}
@@ -32,6 +35,22 @@ stock_of job start = start_stock job (rows_at start)
 -- where rows are left, they are the job's
 abbrev pub IsStart : Job → Start → Type 0
 IsStart job start = IfSome (rows_at start) (AreJobRows job)
+
+-- the cells are the part's, the stock is one that the job may start from, and the moves are in range and no more than there may be
+pub record AreAsked (job : Job) (part : List Tri) (cells : Sorted) (start : Start) (moves : List Move) : Type 0 where
+  pub job_ok : IsJob job
+  pub cells_ok : cells ≡ sorted_of part
+  pub start_ok : IsStart job start
+  pub moves_ok : MovesInRange moves
+  pub few : length moves ≤ MAX_MOVES
+
+-- the cells are the part's, and the place of a column and its top are in range
+pub record IsColumnReady (job : Job) (part : List Tri) (cells : Sorted) (x y top : ℤ) : Type 0 where
+  pub job_ok : IsJob job
+  pub cells_ok : cells ≡ sorted_of part
+  pub x_ok : Within MAX_COORDINATE x
+  pub y_ok : Within MAX_COORDINATE y
+  pub top_ok : Within MAX_COORDINATE top
 
 -- the cells are the part's, the rows are the stock's, s and e bound some of them, and the workers are no more than there may be
 pub record AreRowsReady (job : Job) (part : List Tri) (cells : Sorted) (rows : List RowState) (s e workers : ℕ) : Type 0 where

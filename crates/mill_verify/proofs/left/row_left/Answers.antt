@@ -22,18 +22,18 @@ column_x-requires-clause-column c =
     let tops = tops_read (row_read c.requires.rows_ok.shows (in_rows c.requires.rows_ok.shows c.requires.there) c.index-rows-number.is) c.tops-tops.ensures in
     omega (arith, tops.count)
 
-pub most_with-requires-clause-x_ok : goal.most_with-requires-clause-x_ok
-most_with-requires-clause-x_ok c = stored_within c.args.job.now.unit _ c.column_x.ensures.in_range
-
-pub most_with-requires-clause-y_ok : goal.most_with-requires-clause-y_ok
-most_with-requires-clause-y_ok c = stored_within c.args.job.now.unit _ c.row_y-y.ensures.in_range
-
-pub most_with-requires-clause-top_ok : goal.most_with-requires-clause-top_ok
-most_with-requires-clause-top_ok c =
+pub most_with-requires-clause-ready : goal.most_with-requires-clause-ready
+most_with-requires-clause-ready c =
     let tops = tops_read (row_read c.requires.rows_ok.shows (in_rows c.requires.rows_ok.shows c.requires.there) c.index-rows-number.is) c.tops-tops.ensures in
     let there : c.loop-index.index < column_count c.args.job.now = omega (arith, tops.count) in
     let column : IsColumn c.args.job.now c.args.number c.loop-index.index = record { row = c.requires.there; column = there } in
-    top_stored c.requires.job_ok c.requires.rows_ok.tops_ok column (is_at c.requires.job_ok c.requires.rows_ok.tops_ok tops column c.column_x.ensures.value c.column_x.ensures.in_range c.row_y-y.ensures.value c.row_y-y.ensures.in_range)
+    record {
+      job_ok = c.requires.job_ok;
+      cells_ok = c.requires.cells_ok;
+      x_ok = stored_within c.args.job.now.unit _ c.column_x.ensures.in_range;
+      y_ok = stored_within c.args.job.now.unit _ c.row_y-y.ensures.in_range;
+      top_ok = top_stored c.requires.job_ok c.requires.rows_ok.tops_ok column (is_at c.requires.job_ok c.requires.rows_ok.tops_ok tops column c.column_x.ensures.value c.column_x.ensures.in_range c.row_y-y.ensures.value c.row_y-y.ensures.in_range);
+    }
 
 pub returns-in-None : goal.returns-in-None
 returns-in-None c =

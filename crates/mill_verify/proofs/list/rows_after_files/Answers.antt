@@ -1,14 +1,19 @@
-use Rattle.std.proofs.Common.{refl, arith}
+use Rattle.std.proofs.Common.{refl, rules, arith}
 use Rattle.mill_verify.proofs.Filed.{all_passed, none_passed, passed_so, starts_so, stopped_so}
 use Rattle.mill_verify.proofs.list.rows_after_files.Goals as goal
 
 pub loop-number-init : goal.loop-number-init
 loop-number-init g c = none_passed c.args.job.now c.args.part.now c.args.files.now _ refl
 
-pub rows_after-requires-clause-start_ok : goal.rows_after-requires-clause-start_ok
-rows_after-requires-clause-start_ok g c _ _ =
-    starts_so c.args.job.now c.args.part.now c.args.files.now c.loop-number.number c.requires.job_ok c.loop-number-test.true c.loop-number.start c.loop-number.invariant
-    c.index-files-number.result c.job_with-job.result c.moves.result.now c.index-files-number.is c.job_with-job.ensures.is c.moves.ensures
+pub rows_after-requires : goal.rows_after-requires
+rows_after-requires g c = record {
+  job_ok = c.job_with-job.ensures.job_ok;
+  cells_ok = c.requires.cells_ok;
+  start_ok = starts_so c.args.job.now c.args.part.now c.args.files.now c.loop-number.number c.requires.job_ok c.loop-number-test.true c.loop-number.start c.loop-number.invariant
+      c.index-files-number.result c.job_with-job.result c.moves.result.now c.index-files-number.is c.job_with-job.ensures.is c.moves.ensures;
+  moves_ok = search rules;
+  few = search rules;
+}
 
 pub loop-number-preserved : goal.loop-number-preserved
 loop-number-preserved g c =

@@ -1,0 +1,16 @@
+use Rattle.mill_dexel.specs.Tops.{stock_after, uncut}
+use Rattle.mill_verify.proofs.Accepted.{accepted_is_safe}
+use Rattle.mill_verify.proofs.Starts.{job_rows}
+use Rattle.mill_verify.proofs.program.verdict_on_stock_alone.Goals as goal
+
+pub stock_left_alone-requires-clause-rows_ok : goal.stock_left_alone-requires-clause-rows_ok
+stock_left_alone-requires-clause-rows_ok c = job_rows c.args.job.now c.args.moves.now c.args.rows.now c.requires.job_ok c.requires.rows_ok
+
+pub returns-clause-verdict : goal.returns-clause-verdict
+returns-clause-verdict c =
+    c.last_verdict.ensures.verdict c.args.part.now c.requires.good (c.stock_left_alone.ensures (stock_after c.args.job.now (uncut c.args.job.now) c.args.moves.now) c.requires.rows_ok)
+
+pub returns-clause-safe : goal.returns-clause-safe
+returns-clause-safe c = λ count columns left e.
+    let verdict = c.last_verdict.ensures.verdict c.args.part.now c.requires.good (c.stock_left_alone.ensures (stock_after c.args.job.now (uncut c.args.job.now) c.args.moves.now) c.requires.rows_ok) in
+    accepted_is_safe c.args.job.now c.args.part.now c.args.moves.now c.last_verdict.result c.requires.job_ok c.requires.moves_ok verdict count columns left e
