@@ -103,7 +103,12 @@ fn part_reason(at: u64, fail: PartFail) -> Reason
 fn stock_reason(kind: Kind, at: u64, row: u32, fail: RowFail) -> Reason
     ensures { result ≡ reason_by_stock fail.test kind at row fail.col fail.leaf }
 {
-    let RowFail { col, leaf, test, .. } = fail;
+    let RowFail {
+        col,
+        leaf,
+        test,
+        ..
+    } = fail;
     match test {
         RowTest::Holder => Reason::HolderStock { at, row, col, leaf },
         RowTest::Cut => match kind {

@@ -37,7 +37,7 @@ pub fn rows_after<R: Threads + Sync, G: Gate>(
     moves: &[Move],
     workers: u32,
 ) -> Result<Result<Vec<Row>, Reason>, WantOfMemory>
-    requires { AreAsked job.now part.now cells.now start.now moves.now }
+    requires asked { AreAsked job.now part.now cells.now start.now moves.now }
     ensures { IfOk result (λ told. MatchResult
         told
         (λ rows. ArePassed job.now part.now (stock_of job.now start.now) moves.now rows.items)
@@ -59,7 +59,7 @@ pub fn rows_after_alone(
     start: &Start,
     moves: &[Move],
 ) -> Result<Result<Vec<Row>, Reason>, WantOfMemory>
-    requires { AreAsked job.now part.now cells.now start.now moves.now }
+    requires asked { AreAsked job.now part.now cells.now start.now moves.now }
     ensures { IfOk result (λ told. MatchResult
         told
         (λ rows. ArePassed job.now part.now (stock_of job.now start.now) moves.now rows.items)

@@ -1,31 +1,34 @@
 use Rattle.std.proofs.Common.{refl, rules, arith}
+use Rattle.mill_verify.specs.inner.Readiness.{AreAsked}
 use Rattle.mill_verify.proofs.Filed.{all_passed, none_passed, passed_so, starts_so, stopped_so}
 use Rattle.mill_verify.proofs.list.rows_after_files.Goals as goal
 
 pub loop-number-init : goal.loop-number-init
 loop-number-init g c = none_passed c.args.job.now c.args.part.now c.args.files.now _ refl
 
-pub rows_after-requires : goal.rows_after-requires
-rows_after-requires g c = record {
-  job_ok = c.job_with-job.ensures.job_ok;
-  cells_ok = c.requires.cells_ok;
-  start_ok = starts_so c.args.job.now c.args.part.now c.args.files.now c.loop-number.number c.requires.job_ok c.loop-number-test.true c.loop-number.start c.loop-number.invariant
-      c.index-files-number.result c.job_with-job.result c.moves.result.now c.index-files-number.is c.job_with-job.ensures.is c.moves.ensures;
-  moves_ok = search rules;
-  few = search rules;
-}
+pub rows_after-requires-clause-asked : goal.rows_after-requires-clause-asked
+rows_after-requires-clause-asked g c _ _ =
+    let asked : AreAsked c.job_with-job.result c.args.part.now c.args.cells.now c.loop-number.start c.moves-moves.result.now = record {
+      job_ok = c.job_with-job.ensures.job_ok;
+      cells_ok = c.requires.cells_ok;
+      start_ok = starts_so c.args.job.now c.args.part.now c.args.files.now c.loop-number.number c.requires.job_ok c.loop-number-test.true c.loop-number.start c.loop-number.invariant
+          c.index-files-number.result c.job_with-job.result c.moves-moves.result.now c.index-files-number.is c.job_with-job.ensures.is c.moves-moves.ensures;
+      moves_ok = search rules;
+      few = search rules;
+    } in
+    asked
 
 pub loop-number-preserved : goal.loop-number-preserved
 loop-number-preserved g c =
     let passed = rw c.in-Ok.is at c.in_ok-rows.ensures in
     passed_so c.args.job.now c.args.part.now c.args.files.now c.loop-number.number c.requires.job_ok c.loop-number-test.true c.loop-number.start c.loop-number.invariant
-    c.index-files-number.result c.job_with-job.result c.moves.result.now c.index-files-number.is c.job_with-job.ensures.is c.moves.ensures c.in-Ok.rows.items _ refl passed
+    c.index-files-number.result c.job_with-job.result c.moves-moves.result.now c.index-files-number.is c.job_with-job.ensures.is c.moves-moves.ensures c.in-Ok.rows.items _ refl passed
 
 pub returns-in-Err : goal.returns-in-Err
 returns-in-Err g c =
     let stopped = rw c.in-Err.is at c.in_ok-rows.ensures in
     stopped_so c.args.job.now c.args.part.now c.args.files.now c.loop-number.number c.requires.job_ok c.loop-number-test.true c.loop-number.start c.loop-number.invariant
-    c.index-files-number.result c.job_with-job.result c.moves.result.now c.index-files-number.is c.job_with-job.ensures.is c.moves.ensures c.in-Err.reason stopped
+    c.index-files-number.result c.job_with-job.result c.moves-moves.result.now c.index-files-number.is c.job_with-job.ensures.is c.moves-moves.ensures c.in-Err.reason stopped
 
 pub returns : goal.returns
 returns g c =

@@ -12,5 +12,5 @@ returns-in-Ok-clause-verdict c = λ part good told.
 pub returns-in-Err-clause-verdict : goal.returns-in-Err-clause-verdict
 returns-in-Err-clause-verdict c = λ part good told.
     let first = rw c.in-Err.is at told in
-    let fits : FitsSigned w32 c.in-Err.top = search rules in
-    rw (to_z-of_z w32 c.in-Err.top fits) (record { before = good; column = first.column; first = first.first; fails = first.fails; shown = first.shown })
+    let fits : FitsSigned w32 c.in-Err.field-0.top = search rules in
+    rw (to_z-of_z w32 c.in-Err.field-0.top fits) (record { before = good; column = first.column; first = first.first; fails = first.fails; shown = first.shown })

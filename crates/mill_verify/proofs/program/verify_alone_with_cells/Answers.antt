@@ -10,17 +10,17 @@ use Rattle.mill_verify.proofs.program.verify_alone_with_cells.Goals as goal
 pub stock_left_alone-left-requires-clause-rows_ok : goal.stock_left_alone-left-requires-clause-rows_ok
 stock_left_alone-left-requires-clause-rows_ok c =
     let passed = rw c.in-Ok.is at c.in_ok-rows.ensures in
-    job_rows c.args.job.now c.args.moves.now c.in-Ok.rows.items c.requires.job_ok passed.shows
+    rw c.deref.ensures.value (job_rows c.args.job.now c.args.moves.now c.in-Ok.rows.items c.requires.job_ok passed.shows)
 
 pub returns-in-Ok-clause-verdict : goal.returns-in-Ok-clause-verdict
 returns-in-Ok-clause-verdict c =
     let passed = rw c.in-Ok.is at c.in_ok-rows.ensures in
-    c.last_verdict.ensures.verdict c.args.part.now passed.good (c.stock_left_alone-left.ensures (stock_after c.args.job.now (uncut c.args.job.now) c.args.moves.now) passed.shows)
+    c.last_verdict.ensures.verdict c.args.part.now passed.good (c.stock_left_alone-left.ensures (stock_after c.args.job.now (uncut c.args.job.now) c.args.moves.now) (rw c.deref.ensures.value passed.shows))
 
 pub returns-in-Ok-clause-safe : goal.returns-in-Ok-clause-safe
 returns-in-Ok-clause-safe c = λ count columns left e.
     let passed = rw c.in-Ok.is at c.in_ok-rows.ensures in
-    let verdict = c.last_verdict.ensures.verdict c.args.part.now passed.good (c.stock_left_alone-left.ensures (stock_after c.args.job.now (uncut c.args.job.now) c.args.moves.now) passed.shows) in
+    let verdict = c.last_verdict.ensures.verdict c.args.part.now passed.good (c.stock_left_alone-left.ensures (stock_after c.args.job.now (uncut c.args.job.now) c.args.moves.now) (rw c.deref.ensures.value passed.shows)) in
     let same : c.last_verdict.result ≡ Accept count columns left = cc in
     accepted_is_safe c.args.job.now c.args.part.now c.args.moves.now c.last_verdict.result c.requires.job_ok c.requires.moves_ok verdict count columns left same
 
