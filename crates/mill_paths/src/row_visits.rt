@@ -1,4 +1,4 @@
-ghost use Rattle.std.specs.Prelude.{◌≡◌, ◌≤◌, ◌<◌, ◌++◌, ◌<ℤ◌, pos, length, map as map_list, All, IfErr, IfOk, OnOk};
+ghost use Rattle.std.specs.Prelude.{◌≡◌, ◌≤◌, ◌++◌, pos, length, map as map_list, All, IfErr, IfOk, OnOk};
 ghost use Rattle.std.specs.List.{flat_map};
 ghost use Rattle.mill_base.specs.Lattices.{lattice_ys, node_count};
 ghost use Rattle.mill_base.specs.declared.limits.TheConstants.{MAX_NODES};
@@ -7,39 +7,36 @@ ghost use Rattle.mill_job.specs.Jobs.{IsFrom, IsJob};
 ghost use Rattle.mill_job.specs.declared.limits.TheConstants.{MAX_DISTANCE};
 ghost use Rattle.mill_paths.specs.Lattices.{finish_lattice as finish_lattice_of};
 ghost use Rattle.mill_paths.specs.Limits.{change_count, most_changes, IsHeightsFault, IsListFault};
-ghost use Rattle.mill_paths.specs.Visits.{AreRowVisits, HaveManyRowVisits, in_turn, point_visit, point_visits, step_from as step_of};
-ghost use Rattle.mill_paths.specs.inner.Rows.{AreTurnedPaths, IsFinishFault, IsInArea, IsRowTask, IsTurnedPath, row_y};
-ghost use Rattle.mill_paths.specs.declared.fault.PathFault.TheVariants.{WantOfMemory};
+ghost use Rattle.mill_paths.specs.Visits.{AreRowVisits, HaveManyRowVisits, point_visit, point_visits, step_from as step_of};
+ghost use Rattle.mill_paths.specs.inner.Rows.{IsFinishFault, IsInArea};
 
+use crate::crew::Crew;
 use crate::fault::PathFault;
 use crate::lattices::finish_lattice;
 use crate::path::{Path, tip_height};
 use crate::visit::Visit;
 use crate::visit_list::VisitList;
-use mill_base::{Box2, MAX_NODES, Pt3};
+use mill_base::{MAX_NODES, Pt3};
 use mill_cells::Cells;
-use mill_drop::path_drop;
 use mill_job::Job;
 use mill_part::Part;
-use rayon::prelude::*;
 use std::alloc::Global;
-use std::ops::Range;
-use std::thread::Threads;
 
-/// How many rows' paths are worked out side by side before their visits are added. One path can have
-/// over a million points, so no more paths than these are held at once; and they are enough to keep
-/// every thread at work.
+/// How many rows' paths are worked out before their visits are added. One path can have over a million
+/// points, so no more paths than these are held at once; and they are enough to keep every thread of a
+/// crew at work.
 const ROWS_AT_ONCE: u32 = 64;
 
 /// The finishing visits by a tolerance: row by row, along each row's path.
-pub(crate) fn row_visits<R: Threads + Sync>(
-    rt: &R,
+pub(crate) fn row_visits<C: Crew>(
+    crew: &C,
     alloc: Global,
     job: &Job,
     part: &Part,
     cells: &Cells,
     tol: i32,
 ) -> Result<Vec<Visit>, PathFault>
+    requires crew_ok { C.ready }
     requires job_ok { IsJob job.now }
     requires cells_ok { cells.now ≡ sorted_of part.now }
     requires tol_ok { IsFrom (pos 0) MAX_DISTANCE tol }
@@ -54,7 +51,7 @@ pub(crate) fn row_visits<R: Threads + Sync>(
     let mut first = 0;
     while first < rows {
         let end = rows.min(first + ROWS_AT_ONCE);
-        let paths = paths_of(rt, alloc, job, part, cells, tol, first..end)?;
+        let paths = crew.paths(alloc, job, part, cells, tol, first..end)?;
         add_paths(job, &paths, &mut list)?;
         first = end;
     }
@@ -75,82 +72,6 @@ fn row_count(job: &Job) -> Result<u32, PathFault>
         return Err(PathFault::TooManyNodes { nodes });
     }
     Ok(lattice.node_rows())
-}
-
-/// The points of the paths along these rows, each in the order in which they are come to. The paths are
-/// worked out side by side.
-fn paths_of<R: Threads + Sync>(
-    rt: &R,
-    alloc: Global,
-    job: &Job,
-    part: &Part,
-    cells: &Cells,
-    tol: i32,
-    rows: Range<u32>,
-) -> Result<Vec<Vec<Pt3>>, PathFault>
-    requires job_ok { IsJob job.now }
-    requires cells_ok { cells.now ≡ sorted_of part.now }
-    requires tol_ok { IsFrom (pos 0) MAX_DISTANCE tol }
-    requires few { node_count (finish_lattice_of job.now) ≤ MAX_NODES }
-    requires order { rows.start ≤ rows.end }
-    requires rows_ok { rows.end ≤ length (lattice_ys (finish_lattice_of job.now)) }
-    ensures paths { IfOk result (λ paths. AreTurnedPaths job.now part.now tol rows.start rows.end (map_list (λ path. path.items) paths.items)) }
-    ensures fault { IfErr result (λ fault. fault ≡ WantOfMemory) }
-{
-    rows.into_par_iter()
-        .with_min_len(1)
-        .map(
-            |row: u32| -> Result<Vec<Pt3>, PathFault>
-                requires { IsRowTask job.now part.now cells.now tol row }
-                ensures path { IfOk result (λ path. IsTurnedPath job.entry.now part.entry.now tol row path.items) }
-                ensures fault { IfErr result (λ fault. fault ≡ WantOfMemory) }
-            { path_of(alloc, job, part, cells, tol, row) },
-        )
-        .collect::<Result<Vec<Vec<Pt3>>, PathFault>>(rt, alloc)?
-}
-
-/// The points of the path along the row of this number, in the order in which they are come to: from the
-/// least x in the rows 0, 2, 4 and so on, and from the greatest in the others.
-fn path_of(
-    alloc: Global,
-    job: &Job,
-    part: &Part,
-    cells: &Cells,
-    tol: i32,
-    row: u32,
-) -> Result<Vec<Pt3>, PathFault>
-    requires { IsRowTask job.now part.now cells.now tol row }
-    ensures path { IfOk result (λ path. IsTurnedPath job.now part.now tol row path.items) }
-    ensures fault { IfErr result (λ fault. fault ≡ WantOfMemory) }
-{
-    let y = row_place(job, row);
-    let tool = job.tool();
-    let Box2 { x0, x1, .. } = job.area;
-    let mut path = path_drop(alloc, part, cells, &tool, y, x0, x1, job.floor, tol)?;
-    turn(row, &mut path);
-    Ok(path)
-}
-
-/// Turns the points of the path along the row of this number, which have x ascending, into the order in
-/// which they are come to.
-fn turn(row: u32, path: &mut Vec<Pt3>)
-    ensures { path.new.items ≡ in_turn row path.old.items }
-{
-    if row % 2 != 0 {
-        path.reverse();
-    }
-}
-
-/// Where the row of this number lies in y.
-fn row_place(job: &Job, row: u32) -> i32
-    requires job_ok { IsJob job.now }
-    requires few { node_count (finish_lattice_of job.now) ≤ MAX_NODES }
-    requires row_ok { row < length (lattice_ys (finish_lattice_of job.now)) }
-    ensures { result ≡ row_y job.now row }
-{
-    let lattice = finish_lattice(job);
-    let (_, y) = lattice.node(row * lattice.node_columns());
-    y
 }
 
 /// Adds the visits along each path.
