@@ -26,6 +26,6 @@ mod search;
 
 pub use drop::drop_at;
 pub use laws::{drop_heights_are_unique, one_path, paths_are_halved};
-pub use map::drop_map;
+pub use map::{drop_map, drop_map_alone};
 pub use once::drop_once;
 pub use path::{MAX_TOLERANCE, path_drop};

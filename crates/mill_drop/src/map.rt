@@ -47,8 +47,9 @@ pub fn drop_map<R: Threads + Sync>(
     Ok(heights)
 }
 
-/// The drop heights at all nodes of the lattice, as `drop_map` gives them, one after another.
-pub fn drop_each(
+/// The drop heights at all nodes of the lattice, as [`drop_map`] gives them, one after another: the calling
+/// thread starts no other. None of them is over `MAX_COORDINATE` in magnitude.
+pub fn drop_map_alone(
     alloc: Global,
     part: &Part,
     cells: &Cells,

@@ -24,6 +24,6 @@ pub mod Lengths
 pub mod Rounds
 mod Many
 mod Kept
-mod Gathered
+pub mod Gathered
 mod Along
 mod Finishing

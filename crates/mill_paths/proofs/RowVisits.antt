@@ -16,7 +16,8 @@ use Rattle.mill_paths.specs.declared.fault.PathFault.{PathFault}
 use Rattle.mill_paths.specs.declared.path.Path.TheVariants.{Finish}
 use Rattle.mill_paths.specs.declared.visit.Visit.{Visit}
 use Rattle.mill_paths.specs.inner.Paths.{path_height}
-use Rattle.mill_paths.specs.inner.Rows.{AreFirstVisits, IsTurnedPath, last_point, row_y}
+use Rattle.mill_paths.specs.RowPaths.{IsTurnedPath, row_y}
+use Rattle.mill_paths.specs.inner.Rows.{AreFirstVisits, last_point}
 use Rattle.mill_paths.proofs.Changes.{fault_stays}
 
 -- ---- along one row

@@ -1,6 +1,7 @@
 pub mod Lattices
 pub mod Limits
 pub mod Visits
+pub mod RowPaths
 pub mod Links
 pub mod Tours
 pub mod Safety

@@ -3,14 +3,15 @@ ghost use Rattle.std.specs.List.{flat_map};
 ghost use Rattle.mill_base.specs.Lattices.{node_count};
 ghost use Rattle.mill_base.specs.declared.limits.TheConstants.{MAX_NODES};
 ghost use Rattle.mill_cells.specs.Sorted.{sorted_of};
-ghost use Rattle.mill_job.specs.Jobs.{IsJob, tool_of};
-ghost use Rattle.mill_level.specs.Waterlines.{IsWaterline, seen};
+ghost use Rattle.mill_job.specs.Jobs.{IsJob};
+ghost use Rattle.mill_level.specs.Waterlines.{seen};
 ghost use Rattle.mill_paths.specs.Lattices.{finish_lattice as finish_lattice_of};
 ghost use Rattle.mill_paths.specs.Limits.{change_count, most_changes, HasManyNodes, IsHeightsFault, IsListFault};
 ghost use Rattle.mill_paths.specs.Visits.{AreLevelVisits, AreWaterlines, HaveManyLevelVisits, IsVisit, level_visits_of, outline_visits};
-ghost use Rattle.mill_paths.specs.declared.fault.PathFault.TheVariants.{TooManyNodes, TooManyVisits, WantOfMemory};
-ghost use Rattle.mill_paths.specs.inner.Levels.{IsLevelTask, level_at, point_visit};
+ghost use Rattle.mill_paths.specs.declared.fault.PathFault.TheVariants.{TooManyNodes, TooManyVisits};
+ghost use Rattle.mill_paths.specs.inner.Levels.{point_visit};
 
+use crate::crew::Crew;
 use crate::fault::PathFault;
 use crate::lattices::finish_lattice;
 use crate::visit::Visit;
@@ -18,30 +19,29 @@ use crate::visit_list::VisitList;
 use mill_base::{MAX_NODES, Pt3};
 use mill_cells::Cells;
 use mill_job::Job;
-use mill_level::{Chain, waterline};
+use mill_level::Chain;
 use mill_part::Part;
-use rayon::prelude::*;
 use std::alloc::Global;
-use std::thread::Threads;
 
 /// The visits of a plan's levels, from the first level on: along each chain of the tool's waterline there,
 /// over the finishing lattice, and along a closed one up to its first point again. Without levels there
 /// are none, and the lattice isn't gone over.
 ///
-/// `cells` are those of the part's triangles. The visits are the same whatever the number of threads.
+/// `cells` are those of the part's triangles. The visits are the same whatever the crew.
 ///
 /// # Errors
 ///
 /// `TooManyNodes` exactly where there are levels and the lattice has more than 4,000,000 nodes;
 /// `TooManyVisits` exactly where it hasn't, and more than 1,000,000 visits differ from the one before
 /// them. Want of memory may come in the place of the latter.
-pub fn level_visits<R: Threads + Sync>(
-    rt: &R,
+pub fn level_visits<C: Crew>(
+    crew: &C,
     alloc: Global,
     job: &Job,
     part: &Part,
     cells: &Cells,
 ) -> Result<Vec<Visit>, PathFault>
+    requires crew_ok { C.ready }
     requires job_ok { IsJob job.now }
     requires cells_ok { cells.now ≡ sorted_of part.now }
     ensures list { IfOk result (λ visits. AreLevelVisits job.now part.now visits.items) }
@@ -55,21 +55,22 @@ pub fn level_visits<R: Threads + Sync>(
     if job.levels.as_slice().is_empty() {
         return Ok(Vec::new(alloc));
     }
-    let waterlines = waterlines_of(rt, alloc, job, part, cells)?;
+    let waterlines = waterlines_of(crew, alloc, job, part, cells)?;
     let mut list = VisitList::new(alloc);
     add_waterlines(job, &waterlines, &mut list)?;
     Ok(list.into_visits())
 }
 
 /// The waterlines of the job's tool at its levels over the finishing lattice, where that has at most
-/// 4,000,000 nodes. They are worked out side by side.
-fn waterlines_of<R: Threads + Sync>(
-    rt: &R,
+/// 4,000,000 nodes.
+fn waterlines_of<C: Crew>(
+    crew: &C,
     alloc: Global,
     job: &Job,
     part: &Part,
     cells: &Cells,
 ) -> Result<Vec<Vec<Chain>>, PathFault>
+    requires crew_ok { C.ready }
     requires job_ok { IsJob job.now }
     requires cells_ok { cells.now ≡ sorted_of part.now }
     ensures waterlines { IfOk result (λ waterlines. AreWaterlines job.now part.now (map_list (λ chains. map_list seen chains.items) waterlines.items)) }
@@ -80,40 +81,7 @@ fn waterlines_of<R: Threads + Sync>(
     if nodes > MAX_NODES {
         return Err(PathFault::TooManyNodes { nodes });
     }
-    (0..job.levels.as_slice().len())
-        .into_par_iter()
-        .with_min_len(1)
-        .map(
-            |number: usize| -> Result<Vec<Chain>, PathFault>
-                requires { IsLevelTask job.now part.now cells.now number }
-                ensures chains { IfOk result (λ chains. IsWaterline (tool_of job.entry.now) part.entry.now (level_at job.entry.now number) (finish_lattice_of job.entry.now) (map_list seen chains.items)) }
-                ensures fault { IfErr result (λ fault. fault ≡ WantOfMemory) }
-            { waterline_at(alloc, job, part, cells, number) },
-        )
-        .collect::<Result<Vec<Vec<Chain>>, PathFault>>(rt, alloc)?
-}
-
-/// The waterline of the job's tool at the level of this number, over the finishing lattice.
-fn waterline_at(
-    alloc: Global,
-    job: &Job,
-    part: &Part,
-    cells: &Cells,
-    number: usize,
-) -> Result<Vec<Chain>, PathFault>
-    requires { IsLevelTask job.now part.now cells.now number }
-    ensures chains { IfOk result (λ chains. IsWaterline (tool_of job.now) part.now (level_at job.now number) (finish_lattice_of job.now) (map_list seen chains.items)) }
-    ensures fault { IfErr result (λ fault. fault ≡ WantOfMemory) }
-{
-    let z = job.levels.as_slice()[number];
-    let lattice = finish_lattice(job);
-    let tool = job.tool();
-    // The nodes were counted before, and so only memory can be wanting.
-    waterline(alloc, part, cells, &tool, z, &lattice).map_err(
-        |_| -> PathFault
-            ensures { result ≡ WantOfMemory }
-        { PathFault::WantOfMemory },
-    )
+    Ok(crew.waterlines(alloc, job, part, cells)?)
 }
 
 /// Adds the visits along the chains of each waterline.

@@ -4,13 +4,18 @@
 //! rows (mill_drop) and on the tool's waterlines at heights (mill_level), and the links between the places
 //! on `mill_gouge`, which tries the tool on one move against the part, and on `mill_dexel`, whose rows are
 //! the stock that the moves so far leave. A tool is the cutter, and its holder if the job has one.
+//! A [`Crew`] works out the heights, waterlines and paths: the threads of a runtime, or the calling thread
+//! alone. What comes of it is the same.
+//!
 //! `specs/Lattices` says which lattices the paths go over and in which order, `specs/Visits` which
-//! places they come to, and how high, `specs/Limits` how many they may be, `specs/Links` which moves
-//! link one place to the next, and `specs/Tours` which moves make a plan. `specs/Safety` says what
-//! each of these moves keeps, and `specs/Unique` that a job and a part have one plan at most; what
-//! lies in `specs/inner` serves the functions within.
+//! places they come to, and how high, `specs/RowPaths` in which order the points of rows are come to,
+//! `specs/Limits` how many the visits may be, `specs/Links` which moves link one place to the next, and
+//! `specs/Tours` which moves make a plan. `specs/Safety` says what each of these moves keeps, and
+//! `specs/Unique` that a job and a part have one plan at most; what lies in `specs/inner` serves the
+//! functions within.
 #![tactic(auto)]
 
+mod crew;
 mod fault;
 mod lattices;
 mod levels;
@@ -19,11 +24,14 @@ mod links;
 mod path;
 mod plan_laws;
 mod row_paths;
+mod row_visits;
 mod visit;
 mod visit_list;
 mod visits;
+mod waterlines;
 mod zigzag;
 
+pub use crew::{Alone, Crew, Threaded};
 pub use fault::PathFault;
 pub use lattices::{finish_lattice, rough_lattice};
 pub use levels::level_visits;

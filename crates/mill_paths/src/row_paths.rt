@@ -1,22 +1,17 @@
-ghost use Rattle.std.specs.Prelude.{◌≡◌, ◌≤◌, ◌<◌, ◌++◌, ◌<ℤ◌, pos, length, map as map_list, All, IfErr, IfOk, OnOk};
-ghost use Rattle.std.specs.List.{flat_map};
+//! The paths along a plan's rows, worked out side by side, or one after another.
+ghost use Rattle.std.specs.Prelude.{◌≡◌, ◌≤◌, ◌<◌, pos, length, map as map_list, IfOk};
 ghost use Rattle.mill_base.specs.Lattices.{lattice_ys, node_count};
 ghost use Rattle.mill_base.specs.declared.limits.TheConstants.{MAX_NODES};
 ghost use Rattle.mill_cells.specs.Sorted.{sorted_of};
 ghost use Rattle.mill_job.specs.Jobs.{IsFrom, IsJob};
 ghost use Rattle.mill_job.specs.declared.limits.TheConstants.{MAX_DISTANCE};
 ghost use Rattle.mill_paths.specs.Lattices.{finish_lattice as finish_lattice_of};
-ghost use Rattle.mill_paths.specs.Limits.{change_count, most_changes, IsHeightsFault, IsListFault};
-ghost use Rattle.mill_paths.specs.Visits.{AreRowVisits, HaveManyRowVisits, in_turn, point_visit, point_visits, step_from as step_of};
-ghost use Rattle.mill_paths.specs.inner.Rows.{AreTurnedPaths, IsFinishFault, IsInArea, IsRowTask, IsTurnedPath, row_y};
-ghost use Rattle.mill_paths.specs.declared.fault.PathFault.TheVariants.{WantOfMemory};
+ghost use Rattle.mill_paths.specs.RowPaths.{AreTurnedPaths, IsTurnedPath, row_y};
+ghost use Rattle.mill_paths.specs.Visits.{in_turn};
+ghost use Rattle.mill_paths.specs.inner.Rows.{IsRowTask};
 
-use crate::fault::PathFault;
 use crate::lattices::finish_lattice;
-use crate::path::{Path, tip_height};
-use crate::visit::Visit;
-use crate::visit_list::VisitList;
-use mill_base::{Box2, MAX_NODES, Pt3};
+use mill_base::{Box2, Pt3, WantOfMemory};
 use mill_cells::Cells;
 use mill_drop::path_drop;
 use mill_job::Job;
@@ -26,60 +21,9 @@ use std::alloc::Global;
 use std::ops::Range;
 use std::thread::Threads;
 
-/// How many rows' paths are worked out side by side before their visits are added. One path can have
-/// over a million points, so no more paths than these are held at once; and they are enough to keep
-/// every thread at work.
-const ROWS_AT_ONCE: u32 = 64;
-
-/// The finishing visits by a tolerance: row by row, along each row's path.
-pub(crate) fn row_visits<R: Threads + Sync>(
-    rt: &R,
-    alloc: Global,
-    job: &Job,
-    part: &Part,
-    cells: &Cells,
-    tol: i32,
-) -> Result<Vec<Visit>, PathFault>
-    requires job_ok { IsJob job.now }
-    requires cells_ok { cells.now ≡ sorted_of part.now }
-    requires tol_ok { IsFrom (pos 0) MAX_DISTANCE tol }
-    ensures list { IfOk result (λ visits. AreRowVisits job.now part.now tol visits.items) }
-    ensures few { IfOk result (λ visits. change_count visits.items ≤ most_changes) }
-    ensures nodes { IfOk result (λ _. node_count (finish_lattice_of job.now) ≤ MAX_NODES) }
-    ensures fault { IfErr result
-        (IsFinishFault (finish_lattice_of job.now) (HaveManyRowVisits job.now part.now tol)) }
-{
-    let rows = row_count(job)?;
-    let mut list = VisitList::new(alloc);
-    let mut first = 0;
-    while first < rows {
-        let end = rows.min(first + ROWS_AT_ONCE);
-        let paths = paths_of(rt, alloc, job, part, cells, tol, first..end)?;
-        add_paths(job, &paths, &mut list)?;
-        first = end;
-    }
-    Ok(list.into_visits())
-}
-
-/// How many rows the finishing lattice has, where it has at most 4,000,000 nodes.
-fn row_count(job: &Job) -> Result<u32, PathFault>
-    requires { IsJob job.now }
-    ensures value { IfOk result (λ rows. rows ≡ length (lattice_ys (finish_lattice_of job.now))) }
-    ensures bound { IfOk result (λ rows. rows ≤ MAX_NODES) }
-    ensures few { IfOk result (λ _. node_count (finish_lattice_of job.now) ≤ MAX_NODES) }
-    ensures fault { IfErr result (IsHeightsFault (finish_lattice_of job.now)) }
-{
-    let lattice = finish_lattice(job);
-    let nodes = lattice.nodes();
-    if nodes > MAX_NODES {
-        return Err(PathFault::TooManyNodes { nodes });
-    }
-    Ok(lattice.node_rows())
-}
-
-/// The points of the paths along these rows, each in the order in which they are come to. The paths are
-/// worked out side by side.
-fn paths_of<R: Threads + Sync>(
+/// The points of the paths along these rows, each in the order in which they are come to, by the threads
+/// of a runtime.
+pub(crate) fn paths_by_threads<R: Threads + Sync>(
     rt: &R,
     alloc: Global,
     job: &Job,
@@ -87,26 +31,50 @@ fn paths_of<R: Threads + Sync>(
     cells: &Cells,
     tol: i32,
     rows: Range<u32>,
-) -> Result<Vec<Vec<Pt3>>, PathFault>
+) -> Result<Vec<Vec<Pt3>>, WantOfMemory>
     requires job_ok { IsJob job.now }
     requires cells_ok { cells.now ≡ sorted_of part.now }
     requires tol_ok { IsFrom (pos 0) MAX_DISTANCE tol }
     requires few { node_count (finish_lattice_of job.now) ≤ MAX_NODES }
     requires order { rows.start ≤ rows.end }
     requires rows_ok { rows.end ≤ length (lattice_ys (finish_lattice_of job.now)) }
-    ensures paths { IfOk result (λ paths. AreTurnedPaths job.now part.now tol rows.start rows.end (map_list (λ path. path.items) paths.items)) }
-    ensures fault { IfErr result (λ fault. fault ≡ WantOfMemory) }
+    ensures { IfOk result (λ paths. AreTurnedPaths job.now part.now tol rows.start rows.end (map_list (λ path. path.items) paths.items)) }
 {
     rows.into_par_iter()
         .with_min_len(1)
         .map(
-            |row: u32| -> Result<Vec<Pt3>, PathFault>
+            |row: u32| -> Result<Vec<Pt3>, WantOfMemory>
                 requires { IsRowTask job.now part.now cells.now tol row }
-                ensures path { IfOk result (λ path. IsTurnedPath job.entry.now part.entry.now tol row path.items) }
-                ensures fault { IfErr result (λ fault. fault ≡ WantOfMemory) }
+                ensures { IfOk result (λ path. IsTurnedPath job.entry.now part.entry.now tol row path.items) }
             { path_of(alloc, job, part, cells, tol, row) },
         )
-        .collect::<Result<Vec<Vec<Pt3>>, PathFault>>(rt, alloc)?
+        .collect::<Result<Vec<Vec<Pt3>>, WantOfMemory>>(rt, alloc)?
+}
+
+/// The points of the paths along these rows, each in the order in which they are come to, one path after
+/// another.
+pub(crate) fn paths_alone(
+    alloc: Global,
+    job: &Job,
+    part: &Part,
+    cells: &Cells,
+    tol: i32,
+    rows: Range<u32>,
+) -> Result<Vec<Vec<Pt3>>, WantOfMemory>
+    requires job_ok { IsJob job.now }
+    requires cells_ok { cells.now ≡ sorted_of part.now }
+    requires tol_ok { IsFrom (pos 0) MAX_DISTANCE tol }
+    requires few { node_count (finish_lattice_of job.now) ≤ MAX_NODES }
+    requires order { rows.start ≤ rows.end }
+    requires rows_ok { rows.end ≤ length (lattice_ys (finish_lattice_of job.now)) }
+    ensures { IfOk result (λ paths. AreTurnedPaths job.now part.now tol rows.start rows.end (map_list (λ path. path.items) paths.items)) }
+{
+    let mut paths = Vec::new(alloc);
+    for row in rows.start..rows.end {
+        let path = path_of(alloc, job, part, cells, tol, row)?;
+        paths.push(path)?;
+    }
+    Ok(paths)
 }
 
 /// The points of the path along the row of this number, in the order in which they are come to: from the
@@ -118,10 +86,9 @@ fn path_of(
     cells: &Cells,
     tol: i32,
     row: u32,
-) -> Result<Vec<Pt3>, PathFault>
+) -> Result<Vec<Pt3>, WantOfMemory>
     requires { IsRowTask job.now part.now cells.now tol row }
-    ensures path { IfOk result (λ path. IsTurnedPath job.now part.now tol row path.items) }
-    ensures fault { IfErr result (λ fault. fault ≡ WantOfMemory) }
+    ensures { IfOk result (λ path. IsTurnedPath job.now part.now tol row path.items) }
 {
     let y = row_place(job, row);
     let tool = job.tool();
@@ -151,75 +118,4 @@ fn row_place(job: &Job, row: u32) -> i32
     let lattice = finish_lattice(job);
     let (_, y) = lattice.node(row * lattice.node_columns());
     y
-}
-
-/// Adds the visits along each path.
-fn add_paths(job: &Job, paths: &[Vec<Pt3>], list: &mut VisitList) -> Result<(), PathFault>
-    requires job_ok { IsJob job.now }
-    requires points_ok { All (λ path. All (IsInArea job.now) path.items) paths.now }
-    ensures ok { OnOk result
-        (list.new.visits.items ≡ list.old.visits.items
-        ++ flat_map (point_visits job.now) (map_list (λ path. path.items) paths.now)) }
-    ensures fault { IfErr result
-        (IsListFault (list.old.visits.items
-        ++ flat_map (point_visits job.now) (map_list (λ path. path.items) paths.now))) }
-{
-    for path in paths {
-        add_path(job, path, list)?;
-    }
-    Ok(())
-}
-
-/// Adds the visits at the points of a row's path, which are in the order in which they are come to.
-fn add_path(job: &Job, points: &[Pt3], list: &mut VisitList) -> Result<(), PathFault>
-    requires job_ok { IsJob job.now }
-    requires points_ok { All (IsInArea job.now) points.now }
-    ensures ok { OnOk result
-        (list.new.visits.items ≡ list.old.visits.items ++ point_visits job.now points.now) }
-    ensures fault { IfErr result
-        (IsListFault (list.old.visits.items ++ point_visits job.now points.now)) }
-{
-    let Some(first) = points.first() else {
-        return Ok(());
-    };
-    let mut before = *first;
-    for point in points {
-        add_point(job, before, *point, list)?;
-        before = *point;
-    }
-    Ok(())
-}
-
-/// Adds the visit at a point of a row's path, raised by the lift, if that is under the top. `before` is
-/// the point before it.
-fn add_point(job: &Job, before: Pt3, point: Pt3, list: &mut VisitList) -> Result<(), PathFault>
-    requires job_ok { IsJob job.now }
-    requires before_ok { IsInArea job.now before }
-    requires point_ok { IsInArea job.now point }
-    ensures ok { OnOk result
-        (list.new.visits.items ≡ list.old.visits.items ++ point_visit job.now before point) }
-    ensures fault { IfErr result
-        (IsListFault (list.old.visits.items ++ point_visit job.now before point)) }
-{
-    match tip_height(job, Path::Finish, point.z) {
-        Some(z) => {
-            let step = step_from(job, before, point);
-            list.push(Visit {
-                at: Pt3 { z, ..point },
-                step,
-            })
-        }
-        None => Ok(()),
-    }
-}
-
-/// The step of the visit at a point of a row's path: the way to it in x from the point before it, and at
-/// least the raster.
-fn step_from(job: &Job, before: Pt3, point: Pt3) -> i32
-    requires job_ok { IsJob job.now }
-    requires before_ok { IsInArea job.now before }
-    requires point_ok { IsInArea job.now point }
-    ensures { result ≡ step_of job.now before point }
-{
-    job.raster.max((point.x - before.x).abs())
 }

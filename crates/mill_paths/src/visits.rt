@@ -10,25 +10,24 @@ ghost use Rattle.mill_paths.specs.Visits.{AreRoughVisits, AreFinishVisits, AreNo
 ghost use Rattle.mill_paths.specs.inner.Rows.{IsFinishFault};
 ghost use Rattle.mill_paths.specs.declared.fault.PathFault.TheVariants.{TooManyNodes, TooManyVisits};
 
+use crate::crew::Crew;
 use crate::fault::PathFault;
 use crate::path::Path;
-use crate::row_paths::row_visits;
+use crate::row_visits::row_visits;
 use crate::visit::Visit;
 use crate::visit_list::VisitList;
 use crate::zigzag::add_path;
 use mill_base::{Lattice, MAX_NODES};
 use mill_cells::Cells;
-use mill_drop::drop_map;
 use mill_job::Job;
 use mill_part::Part;
 use std::alloc::Global;
-use std::thread::Threads;
 
 /// The visits of a plan's roughing, level by level from the top, and on each in zigzag order: over
 /// each node of the rough lattice at which the level is at least the rough stock over the drop
 /// height of the job's tool. Without a layer there are none, and the lattice isn't gone over.
 ///
-/// `cells` are those of the part's triangles. The visits are the same whatever the number of threads.
+/// `cells` are those of the part's triangles. The visits are the same whatever the crew.
 ///
 /// # Errors
 ///
@@ -36,13 +35,14 @@ use std::thread::Threads;
 /// nodes; `TooManyVisits` exactly where it hasn't, and more than 1,000,000 visits differ from the one
 /// before them, of which the first has none before it. Want of memory may come in the place of the
 /// latter.
-pub fn rough_visits<R: Threads + Sync>(
-    rt: &R,
+pub fn rough_visits<C: Crew>(
+    crew: &C,
     alloc: Global,
     job: &Job,
     part: &Part,
     cells: &Cells,
 ) -> Result<Vec<Visit>, PathFault>
+    requires crew_ok { C.ready }
     requires job_ok { IsJob job.now }
     requires cells_ok { cells.now ≡ sorted_of part.now }
     ensures list { IfOk result (λ visits. AreRoughVisits job.now part.now visits.items) }
@@ -57,7 +57,7 @@ pub fn rough_visits<R: Threads + Sync>(
     if job.layer == 0 {
         return Ok(Vec::new(alloc));
     }
-    let heights = drop_heights(rt, alloc, job, part, cells, job.rough_raster)?;
+    let heights = drop_heights(crew, alloc, job, part, cells, job.rough_raster)?;
     let mut list = VisitList::new(alloc);
     add_levels(job, &heights, &mut list)?;
     Ok(list.into_visits())
@@ -71,20 +71,21 @@ pub fn rough_visits<R: Threads + Sync>(
 /// ascending in the rows 0, 2, 4 and so on, and descending in the others. The step of such a visit is the
 /// way to it in x from the point before it in the row, and at least the raster.
 ///
-/// `cells` are those of the part's triangles. The visits are the same whatever the number of threads.
+/// `cells` are those of the part's triangles. The visits are the same whatever the crew.
 ///
 /// # Errors
 ///
 /// `TooManyNodes` exactly where the lattice has more than 4,000,000 nodes; `TooManyVisits` exactly
 /// where it hasn't, and more than 1,000,000 visits differ from the one before them. Want of memory may
 /// come in the place of the latter.
-pub fn finish_visits<R: Threads + Sync>(
-    rt: &R,
+pub fn finish_visits<C: Crew>(
+    crew: &C,
     alloc: Global,
     job: &Job,
     part: &Part,
     cells: &Cells,
 ) -> Result<Vec<Visit>, PathFault>
+    requires crew_ok { C.ready }
     requires job_ok { IsJob job.now }
     requires cells_ok { cells.now ≡ sorted_of part.now }
     ensures list { IfOk result (λ visits. AreFinishVisits job.now part.now visits.items) }
@@ -96,19 +97,20 @@ pub fn finish_visits<R: Threads + Sync>(
     ensures many { OnOk result (¬ HaveManyFinishVisits job.now part.now) }
 {
     match job.path_tol {
-        None => node_visits(rt, alloc, job, part, cells),
-        Some(tol) => row_visits(rt, alloc, job, part, cells, tol),
+        None => node_visits(crew, alloc, job, part, cells),
+        Some(tol) => row_visits(crew, alloc, job, part, cells, tol),
     }
 }
 
 /// The finishing visits at the nodes of the finishing lattice, in zigzag order.
-fn node_visits<R: Threads + Sync>(
-    rt: &R,
+fn node_visits<C: Crew>(
+    crew: &C,
     alloc: Global,
     job: &Job,
     part: &Part,
     cells: &Cells,
 ) -> Result<Vec<Visit>, PathFault>
+    requires crew_ok { C.ready }
     requires job_ok { IsJob job.now }
     requires cells_ok { cells.now ≡ sorted_of part.now }
     ensures list { IfOk result (λ visits. AreNodeVisits job.now part.now visits.items) }
@@ -117,7 +119,7 @@ fn node_visits<R: Threads + Sync>(
     ensures fault { IfErr result
         (IsFinishFault (finish_lattice job.now) (HaveManyNodeVisits job.now part.now)) }
 {
-    let heights = drop_heights(rt, alloc, job, part, cells, job.raster)?;
+    let heights = drop_heights(crew, alloc, job, part, cells, job.raster)?;
     let mut list = VisitList::new(alloc);
     add_path(job, &heights, Path::Finish, &mut list)?;
     Ok(list.into_visits())
@@ -125,14 +127,15 @@ fn node_visits<R: Threads + Sync>(
 
 /// The drop heights of the job's tool over the lattice of its area by this step, where that has at most
 /// 4,000,000 nodes.
-fn drop_heights<R: Threads + Sync>(
-    rt: &R,
+fn drop_heights<C: Crew>(
+    crew: &C,
     alloc: Global,
     job: &Job,
     part: &Part,
     cells: &Cells,
     step: i32,
 ) -> Result<Vec<i32>, PathFault>
+    requires crew_ok { C.ready }
     requires job_ok { IsJob job.now }
     requires cells_ok { cells.now ≡ sorted_of part.now }
     requires step_ok { IsFrom (pos 1) (pos 10000) step }
@@ -149,7 +152,7 @@ fn drop_heights<R: Threads + Sync>(
         return Err(PathFault::TooManyNodes { nodes });
     }
     let tool = job.tool();
-    Ok(drop_map(rt, alloc, part, cells, &tool, &lattice, job.floor)?)
+    Ok(crew.heights(alloc, part, cells, &tool, &lattice, job.floor)?)
 }
 
 /// Adds the visits of all levels. `heights` are the drop heights at the nodes of the rough lattice.

@@ -1,6 +1,5 @@
--- The paths along the rows one at a time, and the visits along the first of them. It serves the functions within.
-use Rattle.std.specs.Prelude.{◌≡◌, ℕ, ◌-◌, ◌<◌, ◌≤◌, ℤ, pos, ◌≤ℤ◌, List, [], ◌∷◌, ◌++◌, length, slice_index_or}
-use Rattle.std.specs.List.{AllZip, range_with_len}
+-- What the path along one row needs, and the visits along the first rows. It serves the functions within.
+use Rattle.std.specs.Prelude.{◌≡◌, ℕ, ◌<◌, ◌≤◌, ℤ, pos, ◌≤ℤ◌, List, [], ◌∷◌, ◌++◌, length}
 use Rattle.mill_base.specs.Lattices.{lattice_ys, node_count}
 use Rattle.mill_base.specs.declared.lattice.Lattice.{Lattice}
 use Rattle.mill_base.specs.declared.limits.TheConstants.{MAX_NODES}
@@ -12,14 +11,10 @@ use Rattle.mill_job.specs.declared.job.Job.{Job}
 use Rattle.mill_job.specs.declared.limits.TheConstants.{MAX_DISTANCE}
 use Rattle.mill_paths.specs.Lattices.{finish_lattice}
 use Rattle.mill_paths.specs.Limits.{HasManyNodes}
-use Rattle.mill_paths.specs.Visits.{AreFirstPaths, IsRowPath, in_turn, row_visits_from, visits_after}
+use Rattle.mill_paths.specs.Visits.{AreFirstPaths, row_visits_from, visits_after}
 use Rattle.mill_paths.specs.declared.fault.PathFault.{PathFault}
 use Rattle.mill_paths.specs.declared.fault.PathFault.TheVariants.{TooManyNodes, TooManyVisits, WantOfMemory}
 use Rattle.mill_paths.specs.declared.visit.Visit.{Visit}
-
--- where the row of this number lies in y
-abbrev pub row_y : Job → ℕ → ℤ
-row_y job row = slice_index_or (lattice_ys (finish_lattice job)) row (pos 0)
 
 -- the point lies over the job's area in x
 pub record IsInArea (job : Job) (p : Pt3) : Type 0 where
@@ -44,16 +39,6 @@ pub record AreAdded (job : Job) (first : Pt3) (points : List Pt3) (start : List 
   pub come : last ≡ last_point first points
   pub inside : IsInArea job last
   pub visits : list ≡ start ++ visits_after job first points
-
--- these are the points of the path along the row of this number, in the order in which they are come to
-pub record IsTurnedPath (job : Job) (part : List Tri) (tol : ℤ) (row : ℕ) (points : List Pt3) : Type 0 where
-  pub path : List Pt3
-  pub is : IsRowPath job part tol (row_y job row) path
-  pub turned : points ≡ in_turn row path
-
--- these are those of the paths along the rows from this one on, up to the row of number end
-abbrev pub AreTurnedPaths : Job → List Tri → ℤ → ℕ → ℕ → List (List Pt3) → Type 0
-AreTurnedPaths job part tol first end paths = AllZip (IsTurnedPath job part tol) (range_with_len first (end - first)) paths
 
 -- these are the visits along the paths of the first rows, so many of them
 pub record AreFirstVisits (job : Job) (part : List Tri) (tol : ℤ) (rows : ℕ) (list : List Visit) : Type 0 where

@@ -1,45 +1,10 @@
-use Rattle.std.proofs.Common.{◌≡◌, ℕ, ◌-◌, ◌<◌, ◌≤◌, ◌∙◌, length, map, sym, ap, subst, arith}
-use Rattle.std.specs.Prelude.{pos}
-use Rattle.std.specs.List.{range_with_len}
-use Rattle.rayon.specs.Numbers.{nat_range}
-use Rattle.rayon.proofs.ToStd.{nat_range-All}
+use Rattle.std.proofs.Common.{◌≡◌, ◌∙◌, ap, arith}
 use Rattle.mill_base.specs.Lattices.{node_count}
 use Rattle.mill_base.specs.declared.lattice.Lattice.{Lattice}
-use Rattle.mill_base.specs.declared.limits.TheConstants.{MAX_NODES}
-use Rattle.mill_job.specs.Jobs.{tool_of}
-use Rattle.mill_level.specs.Waterlines.{IsWaterline, seen}
 use Rattle.mill_paths.specs.Lattices.{finish_lattice}
-use Rattle.mill_paths.specs.Limits.{IsHeightsFault}
-use Rattle.mill_paths.specs.declared.fault.PathFault.{PathFault}
-use Rattle.mill_paths.specs.inner.Levels.{IsLevelTask}
-use Rattle.mill_paths.proofs.Gathered.{when_failed, when_made}
 use Rattle.mill_paths.proofs.levels.waterlines_of.Goals as goal
 
-pub collect-requires-clause-ready : goal.collect-requires-clause-ready
-collect-requires-clause-ready g c κs =
-    let n : ℕ = length c.as_slice.result.now in
-    let ends = c.into_par_iter.ensures in
-    let all : n ≡ length c.args.job.now.levels = ap (λ zs. length zs) c.as_slice.ensures.list in
-    let inside = nat_range-All (λ i. IsLevelTask c.args.job.now c.args.part.now c.args.cells.now i) 0 n (λ i low high.
-    record { job_ok = c.requires.job_ok; cells_ok = c.requires.cells_ok; number_ok = subst (λ m. i < m) all high }) in
-    λ lifetimes. rw (c.map.ensures.base, c.map.ensures.f, c.with_min_len.ensures.base, ends.0, ends.1) (λ k d lt. (inside k d lt, λ y p. tt))
-
-pub returns-clause-waterlines : goal.returns-clause-waterlines
-returns-clause-waterlines g c =
-    let ends = c.into_par_iter.ensures in
-    let h = c.in_ok-collect.ensures {u = tt} in
-    let chain = rw (c.map.ensures.base, c.map.ensures.f, c.with_min_len.ensures.base) at h.1 in
-    let whole : length c.as_slice.result.now - 0 ≡ length c.as_slice.result.now = omega arith in
-    let all : length c.as_slice.result.now ≡ length c.args.job.now.levels = ap (λ zs. length zs) c.as_slice.ensures.list in
-    let numbers : chain.0 ≡ range_with_len 0 (length c.args.job.now.levels) = chain.1 ∙ (λ i. nat_range (ends.0 i) (ends.1 i)) ∙ ap (range_with_len 0) (whole ∙ all) in
-    when_made _ (λ v. v.items) chain.0 h.0 chain.2 (λ z outlines. IsWaterline (tool_of c.args.job.now) c.args.part.now z (finish_lattice c.args.job.now) outlines) (λ chains. map seen chains.items)
-    c.args.job.now.levels (pos 0) numbers (λ k v p. p.0) c.in_ok-collect.field-0 h.2
-
-pub returns-clause-fault : goal.returns-clause-fault
-returns-clause-fault g c =
-    let h = c.in_ok-collect.ensures {u = tt} in
-    let chain = rw (c.map.ensures.base, c.map.ensures.f, c.with_min_len.ensures.base) at h.1 in
+pub waterlines-requires-clause-few : goal.waterlines-requires-clause-few
+waterlines-requires-clause-few g c =
     let counted : c.nodes-nodes.result ≡ node_count (finish_lattice c.args.job.now) = c.nodes-nodes.ensures ∙ ap (λ (l : Lattice). node_count l) c.finish_lattice.ensures in
-    let few : node_count (finish_lattice c.args.job.now) ≤ MAX_NODES = omega arith in
-    when_failed _ (λ v. v.items) chain.0 h.0 chain.2 (IsHeightsFault (finish_lattice c.args.job.now))
-    (λ k e p. subst (λ (fault : PathFault). IsHeightsFault (finish_lattice c.args.job.now) fault) (sym p.1) few) c.in_ok-collect.field-0 h.2
+    omega arith

@@ -2,7 +2,7 @@ use Rattle.mill_base.specs.Numbers.{Within}
 use Rattle.mill_base.specs.declared.limits.TheConstants.{MAX_COORDINATE}
 use Rattle.mill_base.proofs.Ranges.{coordinate, within_of_unit}
 use Rattle.mill_part.proofs.Stored.{band_kept}
-use Rattle.mill_paths.specs.inner.Rows.{row_y}
+use Rattle.mill_paths.specs.RowPaths.{row_y}
 use Rattle.mill_paths.proofs.Kept.{unit_coordinate}
 use Rattle.mill_paths.proofs.VisitLemmas.{row_in_range}
 use Rattle.mill_paths.proofs.row_paths.path_of.Goals as goal
@@ -15,8 +15,8 @@ path_drop-requires-clause-row_ok c =
     let x1 : Within MAX_COORDINATE job.area.x1 = within_of_unit job.unit job.area.x1 c.requires.job_ok.x1_ok in
     rw (c.row_place-y.ensures, coordinate (row_y job c.args.row) y, coordinate job.area.x0 x0, coordinate job.area.x1 x1) (record { y_ok = y; x0_ok = x0; x1_ok = x1; order = c.requires.job_ok.x_order })
 
-pub returns-clause-path : goal.returns-clause-path
-returns-clause-path c =
+pub returns : goal.returns
+returns c =
     let job = c.args.job.now in
     let y : Within MAX_COORDINATE (row_y job c.args.row) = within_of_unit job.unit (row_y job c.args.row) (row_in_range job c.args.row c.requires.job_ok c.requires.row_ok) in
     let x0 : Within MAX_COORDINATE job.area.x0 = within_of_unit job.unit job.area.x0 c.requires.job_ok.x0_ok in

@@ -11,7 +11,7 @@ returns-clause-heights g c =
     let fits : FitsSigned w32 c.args.step = search rules in
     let step = to_z-of_z w32 c.args.step fits in
     let floor = unit_coordinate c.args.job.now.unit c.args.job.now.floor c.requires.job_ok.floor_ok in
-    simp (step, floor, c.tool-tool.ensures) at c.in_ok-drop_map.ensures
+    simp (step, floor, c.tool-tool.ensures) at c.in_ok-heights.ensures
 
 pub returns-clause-lattice_ok : goal.returns-clause-lattice_ok
 returns-clause-lattice_ok g c =

@@ -12,7 +12,7 @@ use Rattle.mill_paths.specs.inner.Rows.{AreFirstVisits}
 use Rattle.mill_paths.proofs.FaultLemmas.{from_list}
 use Rattle.mill_paths.proofs.RowPoints.{all_inside}
 use Rattle.mill_paths.proofs.RowVisits.{all_rows, first_joined, many_first}
-use Rattle.mill_paths.proofs.row_paths.row_visits.Goals as goal
+use Rattle.mill_paths.proofs.row_visits.row_visits.Goals as goal
 
 joined : (a b : ℕ) → a ≤ b → a + (b - a) ≡ b
 joined a b h = omega (h, arith)
@@ -25,7 +25,7 @@ add_paths-requires-clause-points_ok g c =
     let kept = band_kept c.args.tol c.requires.tol_ok.low c.requires.tol_ok.high in
     rw c.deref.ensures.value
     (all_inside (λ path. path.items) c.args.job.now c.args.part.now c.args.tol (range_with_len c.loop-first.first (c.min-end.result - c.loop-first.first)) c.in_ok-paths.paths.items
-    c.requires.job_ok (rw kept at c.in_ok-paths.ensures.paths))
+    c.requires.job_ok (rw kept at c.in_ok-paths.ensures))
 
 pub returns-in_err-add_paths-clause-fault : goal.returns-in_err-add_paths-clause-fault
 returns-in_err-add_paths-clause-fault g c =
@@ -33,7 +33,7 @@ returns-in_err-add_paths-clause-fault g c =
     let job = c.args.job.now in
     let kept = band_kept c.args.tol c.requires.tol_ok.low c.requires.tol_ok.high in
     let so_far = rw kept at c.loop-first.invariant in
-    let turned = rw kept at c.in_ok-paths.ensures.paths in
+    let turned = rw kept at c.in_ok-paths.ensures in
     let n : ℕ = c.min-end.result - c.loop-first.first in
     let paths : List (List Pt3) = map (λ path. path.items) c.in_ok-paths.paths.items in
     let list : List Visit = c.loop-first.list.visits.items ++ flat_map (point_visits job) paths in
@@ -52,7 +52,7 @@ loop-first-preserved g c =
     let job = c.args.job.now in
     let kept = band_kept c.args.tol c.requires.tol_ok.low c.requires.tol_ok.high in
     let so_far = rw kept at c.loop-first.invariant in
-    let turned = rw kept at c.in_ok-paths.ensures.paths in
+    let turned = rw kept at c.in_ok-paths.ensures in
     let n : ℕ = c.min-end.result - c.loop-first.first in
     let paths : List (List Pt3) = map (λ path. path.items) c.in_ok-paths.paths.items in
     let list : List Visit = c.loop-first.list.visits.items ++ flat_map (point_visits job) paths in

@@ -7,7 +7,7 @@ use Rattle.mill_paths.specs.declared.path.Path.TheVariants.{Finish}
 use Rattle.mill_paths.specs.declared.visit.Visit.{Visit}
 use Rattle.mill_paths.specs.inner.Paths.{path_height}
 use Rattle.mill_paths.proofs.RowVisits.{point_nowhere, point_there}
-use Rattle.mill_paths.proofs.row_paths.add_point.Goals as goal
+use Rattle.mill_paths.proofs.row_visits.add_point.Goals as goal
 
 pub returns-in-Some-clause-ok : goal.returns-in-Some-clause-ok
 returns-in-Some-clause-ok c =

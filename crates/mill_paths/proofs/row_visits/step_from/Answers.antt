@@ -7,7 +7,7 @@ use Rattle.mill_base.proofs.Machine.{stored}
 use Rattle.mill_base.proofs.Ranges.{coordinate}
 use Rattle.mill_cells.proofs.BoxLemmas.{most}
 use Rattle.mill_paths.proofs.RowPoints.{x_within}
-use Rattle.mill_paths.proofs.row_paths.step_from.Goals as goal
+use Rattle.mill_paths.proofs.row_visits.step_from.Goals as goal
 
 way_fits : (u v : ℤ) → Within MAX_COORDINATE u → Within MAX_COORDINATE v → FitsSigned w32 (u -ℤ v)
 way_fits u v u_ok v_ok = let p = u_ok.within in let q = v_ok.within in omega (p, q, arith, ints)

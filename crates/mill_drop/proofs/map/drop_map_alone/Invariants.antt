@@ -4,7 +4,7 @@ use Rattle.mill_base.specs.Lattices.{nodes_of}
 use Rattle.mill_base.specs.Numbers.{Within}
 use Rattle.mill_base.specs.declared.limits.TheConstants.{MAX_COORDINATE}
 use Rattle.mill_drop.specs.Maps.{IsHeightAt}
-use Rattle.mill_drop.proofs.map.drop_each.Given as goal
+use Rattle.mill_drop.proofs.map.drop_map_alone.Given as goal
 
 abbrev pub invariant-loop-number : goal.invariant-loop-number
 invariant-loop-number l = AllZip (IsHeightAt l.tool l.part l.floor) (take l.number (nodes_of l.lattice)) l.dropped.items × All (Within MAX_COORDINATE) l.dropped.items

@@ -8,7 +8,7 @@ use Rattle.mill_base.proofs.NodeLemmas.{length-rows}
 use Rattle.mill_base.proofs.Ranges.{coordinate}
 use Rattle.mill_drop.specs.Maps.{IsHeightAt}
 use Rattle.mill_drop.proofs.RowLemmas.{zip_more, zip_all}
-use Rattle.mill_drop.proofs.map.drop_each.Goals as goal
+use Rattle.mill_drop.proofs.map.drop_map_alone.Goals as goal
 
 pub height_at-requires : goal.height_at-requires
 height_at-requires c =

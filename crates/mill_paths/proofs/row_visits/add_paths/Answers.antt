@@ -5,7 +5,7 @@ use Rattle.mill_paths.specs.Limits.{IsListFault}
 use Rattle.mill_paths.specs.Visits.{point_visits}
 use Rattle.mill_paths.specs.declared.visit.Visit.{Visit}
 use Rattle.mill_paths.proofs.Adding.{adds_all, adds_fault}
-use Rattle.mill_paths.proofs.row_paths.add_paths.Goals as goal
+use Rattle.mill_paths.proofs.row_visits.add_paths.Goals as goal
 
 pub add_path-requires-clause-points_ok : goal.add_path-requires-clause-points_ok
 add_path-requires-clause-points_ok c =

@@ -9,7 +9,7 @@ use Rattle.mill_paths.specs.Visits.{visits_after}
 use Rattle.mill_paths.specs.declared.visit.Visit.{Visit}
 use Rattle.mill_paths.specs.inner.Rows.{IsInArea}
 use Rattle.mill_paths.proofs.RowVisits.{from_first, last_is, point_fault, point_more}
-use Rattle.mill_paths.proofs.row_paths.add_path.Goals as goal
+use Rattle.mill_paths.proofs.row_visits.add_path.Goals as goal
 
 at_first : (P : Pt3 → Type 0) (points : List Pt3) (first : Pt3) → slice_get points 0 ≡ Some first → All P points → P first
 at_first P [] first is each = absurd (cc)
