@@ -3,11 +3,13 @@ use Rattle.std.proofs.Common.{◌≡◌, ℕ, zero, suc, ◌+◌, ◌<◌, ◌�
 use Rattle.std.proofs.lemmas.Fmt.{IsAscii-decimal}
 use Rattle.std.proofs.lemmas.Str.{IsUtf8-from_ascii}
 use Rattle.std.proofs.lemmas.Str.Ascii.{IsAscii-from_all}
+use Rattle.std.proofs.lemmas.List.{get_or_default}
 use Rattle.std.proofs.lemmas.List.Elements.{All-append, All-cons, All-nil}
 use Rattle.std.specs.Prelude.{All, ℤ, pos, negsuc, nat_abs, decimal, IsUtf8}
 use Rattle.std.specs.Str.{IsAscii}
 use Rattle.mill_base.specs.Units.{places_of}
 use Rattle.mill_base.specs.declared.unit.Unit.{Unit}
+use Rattle.mill_base.specs.declared.unit.Unit.TheVariants.{Hundredth, Thousandth}
 use Rattle.mill_decimal.specs.Decimals.{canonical, last_digits, unsigned}
 use Rattle.mill_decimal.proofs.Canonical.{canonical-pos, canonical-negsuc}
 
@@ -19,12 +21,16 @@ low_last zero n = All-nil (λ b. b < 128)
 low_last (suc k) n = All-cons (λ b. b < 128) (48 + n / 10 ^ k % 10) (last_digits k n) (omega arith) (low_last k n)
 
 low_decimal : (n : ℕ) → n < 2 ^ 64 → IsLow (decimal n)
-low_decimal n fits = λ k d lt. ?
+low_decimal n fits = λ k d lt. rw (get_or_default (decimal n) k d 0 lt) (IsAscii-decimal n fits k)
+
+few_millimetres : (unit : Unit) (n : ℕ) → n < 2 ^ 64 → n / 10 ^ places_of unit < 2 ^ 64
+few_millimetres Hundredth n fits = omega arith
+few_millimetres Thousandth n fits = omega arith
 
 low_unsigned : (unit : Unit) (n : ℕ) → n < 2 ^ 64 → IsLow (unsigned unit n)
 low_unsigned unit n fits =
     All-append (λ b. b < 128) (decimal (n / 10 ^ places_of unit)) (46 ∷ last_digits (places_of unit) n)
-    (low_decimal (n / 10 ^ places_of unit) ?)
+    (low_decimal (n / 10 ^ places_of unit) (few_millimetres unit n fits))
     (All-cons (λ b. b < 128) 46 (last_digits (places_of unit) n) (omega arith) (low_last (places_of unit) n))
 
 low_canonical : (unit : Unit) (z : ℤ) → nat_abs z < 2 ^ 32 → IsLow (canonical unit z)

@@ -1,11 +1,11 @@
 -- Lines with a line feed behind each.
-use Rattle.std.proofs.Common.{◌≡◌, ℕ, suc, ◌+◌, ◌≤◌, Bool, true, false, cond, eqb, List, [], ◌∷◌, ◌++◌, length, refl, sym, ap, ◌∙◌, arith, append_assoc, append-nil, length-append}
+use Rattle.std.proofs.Common.{◌≡◌, ℕ, Bool, true, false, cond, eqb, List, [], ◌∷◌, ◌++◌, refl, sym, ap, ◌∙◌, append_assoc, append-nil}
 use Rattle.std.proofs.lemmas.Bool.{eqb-true}
 use Rattle.std.specs.Prelude.{⊤, Result, Ok, Err}
 use Rattle.mill_base.specs.declared.motion.Move.{Move}
 use Rattle.mill_ngc.specs.declared.fault.NgcFault.{NgcFault}
 use Rattle.mill_ngc.specs.Programs.{put_first, lines_of}
-use Rattle.mill_ngc.specs.Pieces.{Reading, Going, Failed, after_whole, after_begun, after_lines, fed, at_end, line_so_far, told}
+use Rattle.mill_ngc.specs.Pieces.{Reading, after_whole, after_lines, fed, at_end, line_so_far, told}
 use Rattle.mill_source.specs.Lines.{with_ends}
 
 pub with_ends-append : (xs ys : List (List ℕ)) → with_ends (xs ++ ys) ≡ with_ends xs ++ with_ends ys

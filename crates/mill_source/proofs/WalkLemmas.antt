@@ -1,15 +1,16 @@
 -- A text that is read line by line.
-use Rattle.std.proofs.Common.{◌≡◌, ℕ, suc, ◌+◌, ◌-◌, ◌≤◌, ◌<◌, List, [], ◌∷◌, ◌++◌, length, get_or, take, drop, Ok, refl, sym, ap, subst, ◌∙◌, inl, inr, arith, append_assoc, length-append}
+use Rattle.std.proofs.Common.{◌≡◌, ℕ, ◌+◌, ◌-◌, ◌≤◌, ◌<◌, List, [], ◌∷◌, ◌++◌, length, get_or, take, drop, Ok, refl, sym, ap, subst, ◌∙◌, inl, inr, arith, append_assoc, length-append}
 use Rattle.std.proofs.lemmas.Bool.{cases_lt}
-use Rattle.std.proofs.lemmas.List.{get_or_at, get_or_append_left, get_or-append_right, get_or-replicate, length-replicate, take_at, take_all, length_push}
-use Rattle.std.specs.Prelude.{◌⊎◌, replicate, slice_range}
+use Rattle.std.proofs.lemmas.List.{get_or_at, get_or_append_left, get_or-append_right, get_or-replicate, length-replicate, take_at, take_all, length_push, replicate_more}
+use Rattle.std.specs.Prelude.{⊤, ◌⊎◌, Result, Err, OnOk, replicate, slice_range}
+use Rattle.mill_base.specs.declared.memory.WantOfMemory.{WantOfMemory}
 use Rattle.mill_base.specs.declared.motion.Move.{Move}
 use Rattle.mill_base.specs.declared.points.Pt3.{Pt3}
 use Rattle.mill_base.specs.declared.unit.Unit.{Unit}
-use Rattle.mill_ngc.specs.Pieces.{Reading, fed, reading_at, at_end, last_answer, lines_read}
+use Rattle.mill_ngc.specs.Pieces.{Reading, after_lines, fed, reading_at, at_end, last_answer, lines_read}
 use Rattle.mill_ngc.specs.Programs.{lines_of, program_of}
 use Rattle.mill_ngc.proofs.JoinLemmas.{pieces_join, pieces_read_program}
-use Rattle.mill_source.specs.Lines.{IsPlace, ArePlaces, first_lines, line_at, moves_to, with_ends}
+use Rattle.mill_source.specs.Lines.{IsPlace, ArePlaces, first_lines, moves_to, with_ends}
 use Rattle.mill_source.specs.inner.Walks.{HasWalked}
 use Rattle.mill_source.specs.declared.place.Place.{Place}
 use Rattle.mill_source.specs.declared.walk.Walk.{Walk}
@@ -85,6 +86,29 @@ all_stand start unit text places place more k other old new lt =
     let size : length (places ++ replicate more place) ≡ length places + more = length-append places (replicate more place) ∙ ap (λ n. length places + n) (length-replicate more place) in
     all_stand_by start unit text places place more k other old new (omega (arith, size)) (cases_lt k (length places))
 
+-- ---- a line
+
+-- what holds in any case holds where nothing failed
+pub in_any_case : (P : Type 0) (r : Result ⊤ WantOfMemory) → P → OnOk r P
+in_any_case P (Ok u) p = p
+in_any_case P (Err e) p = tt
+
+-- a line and its line feed are read one after the other
+pub line_and_feed : (first second third : Reading × List Move) (line : List ℕ) → second ≡ fed first line → third ≡ fed second (10 ∷ []) → third ≡ fed first (line ++ 10 ∷ [])
+line_and_feed first second third line line_read feed_read =
+    feed_read ∙ ap (λ (s : Reading × List Move). fed s (10 ∷ [])) line_read ∙ pieces_join first line (10 ∷ [])
+
+-- one place more
+pub noted_more : (old here new : List Place) (place : Place) → here ≡ old ++ replicate (length here - length old) place → new ≡ here ++ place ∷ [] → length old ≤ length here
+    → new ≡ old ++ replicate (length new - length old) place
+noted_more old here new place are pushed more =
+    let long : length new ≡ length here + 1 = ap length pushed ∙ length_push here place in
+    let size : length new - length old ≡ length here - length old + 1 = omega (arith, long, more) in
+    pushed
+    ∙ ap (λ (ps : List Place). ps ++ place ∷ []) are
+    ∙ append_assoc old (replicate (length here - length old) place) (place ∷ [])
+    ∙ ap (λ (ps : List Place). old ++ ps) (replicate_more (length here - length old) place ∙ ap (λ k. replicate k place) (sym size))
+
 -- ---- the walk
 
 -- nothing has been read of an empty front
@@ -141,7 +165,7 @@ next_each start unit text walk next place done bytes rest is there adds even eac
     let more = length next.moves.items - length walk.moves.items in
     subst (λ (ps : List Place). (k : ℕ) (other : Place) → k < length ps → IsPlace start unit text k (get_or ps k other)) (sym adds.places)
     (λ k other lt. all_stand start unit text walk.places.items place more k other each
-      (λ i low high. stands start unit text done bytes rest (state_of walk) (state_of next) place i is there (omega (arith, low, even)) (omega (arith, high, even, adds.more))) lt)
+    (λ i low high. stands start unit text done bytes rest (state_of walk) (state_of next) place i is there (omega (arith, low, even)) (omega (arith, high, even, adds.more))) lt)
 
 -- the line ends at a line feed, and others follow
 pub walk_more : (start : Pt3) (unit : Unit) (text : List ℕ) (from line finish : ℕ) (walk next : Walk) → HasWalked start unit text from line walk → from ≤ finish → finish < length text
@@ -182,7 +206,7 @@ walk_last start unit text from line finish walk next h order inside cut adds =
 -- a program has a place for each of its moves
 pub places_of_all : (start : Pt3) (unit : Unit) (text : List ℕ) (places : List Place) (moves : List Move) → ArePlaces start unit text places → program_of start unit text ≡ Ok moves → length places ≡ length moves
 places_of_all start unit text places moves are e =
-    let begun = (reading_at start unit, []) in
+    let begun : Reading × List Move = (reading_at start unit, []) in
     let lines = lines_of text in
     let whole : first_lines (length lines) text ≡ text ++ 10 ∷ [] = ap with_ends (take_all (length lines) lines (omega arith)) ∙ with_ends-lines_of text in
     let fed_all : moves_to start unit text (length lines) ≡ (at_end (fed begun text)).1 =
