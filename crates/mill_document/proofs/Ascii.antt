@@ -1,12 +1,13 @@
 -- The text of a length is UTF-8.
-use Rattle.std.proofs.Common.{◌≡◌, ℕ, zero, suc, ◌+◌, ◌<◌, ◌≤◌, ◌^◌, ◌/◌, ◌%◌, ◌∷◌, ◌++◌, List, [], arith}
+use Rattle.std.proofs.Common.{ℕ, zero, suc, ◌+◌, ◌<◌, ◌^◌, ◌/◌, ◌%◌, ◌∷◌, List, arith}
 use Rattle.std.proofs.lemmas.Fmt.{IsAscii-decimal}
 use Rattle.std.proofs.lemmas.Str.{IsUtf8-from_ascii}
 use Rattle.std.proofs.lemmas.Str.Ascii.{IsAscii-from_all}
 use Rattle.std.proofs.lemmas.List.{get_or_default}
 use Rattle.std.proofs.lemmas.List.Elements.{All-append, All-cons, All-nil}
-use Rattle.std.specs.Prelude.{All, ℤ, pos, negsuc, nat_abs, decimal, IsUtf8}
-use Rattle.std.specs.Str.{IsAscii}
+use Rattle.std.proofs.lemmas.Int.{ints}
+use Rattle.std.specs.Prelude.{All, ℤ, pos, negsuc, nat_abs, decimal, FitsSigned, IsUtf8}
+use Rattle.std.specs.Int.{w32}
 use Rattle.mill_base.specs.Units.{places_of}
 use Rattle.mill_base.specs.declared.unit.Unit.{Unit}
 use Rattle.mill_base.specs.declared.unit.Unit.TheVariants.{Hundredth, Thousandth}
@@ -40,3 +41,6 @@ low_canonical unit (negsuc n) fits =
 
 pub IsUtf8-canonical : (unit : Unit) (z : ℤ) → nat_abs z < 2 ^ 32 → IsUtf8 (canonical unit z)
 IsUtf8-canonical unit z fits = IsUtf8-from_ascii (canonical unit z) (IsAscii-from_all (canonical unit z) (low_canonical unit z fits))
+
+pub small_enough : (z : ℤ) → FitsSigned w32 z → nat_abs z < 2 ^ 32
+small_enough z fits = omega (arith, ints)

@@ -69,13 +69,16 @@ abbrev pub triangle_or_null : Unit → Option Triangle → Data
 triangle_or_null unit None = null
 triangle_or_null unit (Some t) = triangle_data unit t
 
-abbrev pub column_data : Unit → Column → Data
-column_data unit c = object
-    (put (codes "top") (length_data unit c.top)
+abbrev pub put_column : Unit → Column → Members → Members
+put_column unit c members =
+    put (codes "top") (length_data unit c.top)
     (put (codes "y") (length_data unit c.y)
     (put (codes "x") (length_data unit c.x)
     (put (codes "column") (whole c.column)
-    (put (codes "row") (whole c.row) no_members)))))
+    (put (codes "row") (whole c.row) members))))
+
+abbrev pub column_data : Unit → Column → Data
+column_data unit c = object (put_column unit c no_members)
 
 abbrev pub column_or_null : Unit → Option Column → Data
 column_or_null unit None = null
@@ -122,11 +125,11 @@ abbrev pub unit_name : Unit → List ℕ
 unit_name Hundredth = codes "0.01"
 unit_name Thousandth = codes "0.001"
 
+abbrev pub put_sums : Sums → Members → Members
+put_sums sums members = put (codes "program") (sum_data sums.program) (put (codes "part") (sum_data sums.part) (put (codes "job") (sum_data sums.job) members))
+
 abbrev pub sums_data : Sums → Data
-sums_data sums = object
-    (put (codes "program") (sum_data sums.program)
-    (put (codes "part") (sum_data sums.part)
-    (put (codes "job") (sum_data sums.job) no_members)))
+sums_data sums = object (put_sums sums no_members)
 
 abbrev pub too_high_data : ℕ → List Data → Data
 too_high_data count columns = object (put (codes "columns") (list_of columns) (put (codes "count") (whole count) no_members))

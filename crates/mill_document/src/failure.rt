@@ -115,11 +115,31 @@ fn add_obstacle(
     ensures { OnOk result (members_view members.new.entries
         ≡ put_obstacle unit failure.now (members_view members.old.entries)) }
 {
-    put(members, alloc, "triangle", triangle_value(alloc, unit, failure.triangle)?)?;
-    put(members, alloc, "column", column_value_of(alloc, unit, failure.column)?)?;
+    put(
+        members,
+        alloc,
+        "triangle",
+        triangle_value(alloc, unit, failure.triangle)?,
+    )?;
+    put(
+        members,
+        alloc,
+        "column",
+        column_value_of(alloc, unit, failure.column)?,
+    )?;
     put(members, alloc, "leaf", leaf_value(alloc, failure.segment)?)?;
-    put(members, alloc, "segment", segment_value(alloc, unit, failure.segment)?)?;
-    put(members, alloc, "lift", lift_value(alloc, unit, failure.lift)?)
+    put(
+        members,
+        alloc,
+        "segment",
+        segment_value(alloc, unit, failure.segment)?,
+    )?;
+    put(
+        members,
+        alloc,
+        "lift",
+        lift_value(alloc, unit, failure.lift)?,
+    )
 }
 
 fn test_value(alloc: Global, test: Test) -> Result<Value, AllocError>
@@ -159,7 +179,12 @@ fn one_triangle(alloc: Global, unit: Unit, triangle: Triangle) -> Result<Value, 
 {
     let mut members = Map::new(alloc);
     put(&mut members, alloc, "number", Value::from(triangle.number))?;
-    put(&mut members, alloc, "corners", corners_value(alloc, unit, triangle.corners)?)?;
+    put(
+        &mut members,
+        alloc,
+        "corners",
+        corners_value(alloc, unit, triangle.corners)?,
+    )?;
     Ok(Value::from(members))
 }
 
@@ -173,11 +198,7 @@ fn corners_value(alloc: Global, unit: Unit, corners: Tri) -> Result<Value, Alloc
     Ok(Value::from(points))
 }
 
-fn column_value_of(
-    alloc: Global,
-    unit: Unit,
-    column: Option<Column>,
-) -> Result<Value, AllocError>
+fn column_value_of(alloc: Global, unit: Unit, column: Option<Column>) -> Result<Value, AllocError>
     ensures { IfOk result (λ v. view v ≡ column_or_null unit column) }
 {
     match column {
@@ -200,9 +221,24 @@ fn one_column(alloc: Global, unit: Unit, column: Column) -> Result<Value, AllocE
     let mut members = Map::new(alloc);
     put(&mut members, alloc, "row", Value::from(column.row))?;
     put(&mut members, alloc, "column", Value::from(column.column))?;
-    put(&mut members, alloc, "x", length_value(alloc, unit, column.x)?)?;
-    put(&mut members, alloc, "y", length_value(alloc, unit, column.y)?)?;
-    put(&mut members, alloc, "top", length_value(alloc, unit, column.top)?)?;
+    put(
+        &mut members,
+        alloc,
+        "x",
+        length_value(alloc, unit, column.x)?,
+    )?;
+    put(
+        &mut members,
+        alloc,
+        "y",
+        length_value(alloc, unit, column.y)?,
+    )?;
+    put(
+        &mut members,
+        alloc,
+        "top",
+        length_value(alloc, unit, column.top)?,
+    )?;
     Ok(Value::from(members))
 }
 

@@ -11,4 +11,4 @@ mod report;
 mod values;
 
 pub use failure::{Column, Failure, Segment, Test, Triangle, column_value, failure_value};
-pub use report::{Sums, Summary, fault_text, report_text};
+pub use report::{Summary, Sums, fault_text, report_text};

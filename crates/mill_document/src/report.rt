@@ -1,6 +1,6 @@
 //! The whole document.
 ghost use Rattle.std.specs.Prelude.{◌≡◌, ◌++◌, ◌∷◌, [], All, IfOk, OnOk, false, map};
-ghost use Rattle.mill_document.specs.Documents.{fault_data, put_answer, put_lists, put_numbers, report_data, sums_data, text_of, too_high_data, unit_name};
+ghost use Rattle.mill_document.specs.Documents.{fault_data, length_or_null, put_answer, put_lists, put_numbers, report_data, sums_data, text_of, too_high_data, unit_name};
 ghost use Rattle.serde_json.specs.View.{members_view, view};
 ghost use Rattle.serde_json.specs.Written.{compact_text, has_float};
 
@@ -105,10 +105,20 @@ fn add_numbers(
         ≡ put_numbers sums.now summary.now (members_view members.old.entries)) }
 {
     put(members, alloc, "sha256", sums_value(alloc, sums)?)?;
-    put(members, alloc, "unit", Value::try_from_str(alloc, unit_text(summary.unit))?)?;
+    put(
+        members,
+        alloc,
+        "unit",
+        Value::try_from_str(alloc, unit_text(summary.unit))?,
+    )?;
     put(members, alloc, "moves", Value::from(summary.moves))?;
     put(members, alloc, "columns", Value::from(summary.columns))?;
-    put(members, alloc, "left", left_value(alloc, summary.unit, summary.left)?)
+    put(
+        members,
+        alloc,
+        "left",
+        left_value(alloc, summary.unit, summary.left)?,
+    )
 }
 
 /// Adds the moves that fail and the columns left too high.
@@ -123,7 +133,12 @@ fn add_lists(
         ≡ put_lists too_high (map view failing.items) (map view left.items) (members_view members.old.entries)) }
 {
     put(members, alloc, "failing", Value::from(failing))?;
-    put(members, alloc, "left_too_high", too_high_value(alloc, too_high, left)?)
+    put(
+        members,
+        alloc,
+        "left_too_high",
+        too_high_value(alloc, too_high, left)?,
+    )
 }
 
 fn sums_value(alloc: Global, sums: &Sums) -> Result<Value, AllocError>
@@ -132,7 +147,12 @@ fn sums_value(alloc: Global, sums: &Sums) -> Result<Value, AllocError>
     let mut members = Map::new(alloc);
     put(&mut members, alloc, "job", sum_value(alloc, &sums.job)?)?;
     put(&mut members, alloc, "part", sum_value(alloc, &sums.part)?)?;
-    put(&mut members, alloc, "program", sum_value(alloc, &sums.program)?)?;
+    put(
+        &mut members,
+        alloc,
+        "program",
+        sum_value(alloc, &sums.program)?,
+    )?;
     Ok(Value::from(members))
 }
 
