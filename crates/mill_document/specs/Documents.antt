@@ -46,11 +46,13 @@ bytes_data bytes = string (utf8_lossy bytes)
 abbrev pub sum_data : List ℕ → Data
 sum_data sum = string (encode_lower sum)
 
+-- a point, by its three coordinates
 abbrev pub point_data : Unit → Pt3 → Data
 point_data unit p = list_of (length_data unit p.x ∷ length_data unit p.y ∷ length_data unit p.z ∷ [])
 
 -- ---- a move that fails
 
+-- the name of a test
 abbrev pub test_name : Test → List ℕ
 test_name tests.Floor = codes "floor"
 test_name tests.Gouge = codes "gouge"
@@ -59,16 +61,20 @@ test_name tests.Rapid = codes "rapid"
 test_name tests.Cut = codes "cut"
 test_name tests.HolderStock = codes "holder-stock"
 
+-- the three corners of a triangle
 abbrev pub corners_data : Unit → Tri → Data
 corners_data unit t = list_of (point_data unit t.a ∷ point_data unit t.b ∷ point_data unit t.c ∷ [])
 
+-- a triangle, by its number and its corners
 abbrev pub triangle_data : Unit → Triangle → Data
 triangle_data unit t = object (put (codes "corners") (corners_data unit t.corners) (put (codes "number") (whole t.number) no_members))
 
+-- a triangle, if there is one
 abbrev pub triangle_or_null : Unit → Option Triangle → Data
 triangle_or_null unit None = null
 triangle_or_null unit (Some t) = triangle_data unit t
 
+-- what is told of a column, put among members
 abbrev pub put_column : Unit → Column → Members → Members
 put_column unit c members =
     put (codes "top") (length_data unit c.top)
@@ -77,9 +83,11 @@ put_column unit c members =
     (put (codes "column") (whole c.column)
     (put (codes "row") (whole c.row) members))))
 
+-- a column of the stock
 abbrev pub column_data : Unit → Column → Data
 column_data unit c = object (put_column unit c no_members)
 
+-- a column, if there is one
 abbrev pub column_or_null : Unit → Option Column → Data
 column_or_null unit None = null
 column_or_null unit (Some c) = column_data unit c
@@ -93,6 +101,7 @@ leaf_data (Some s) = list_of (whole s.depth ∷ whole s.number ∷ [])
 abbrev pub ends_data : Unit → Segment → Data
 ends_data unit s = list_of (point_data unit s.from ∷ point_data unit s.to ∷ [])
 
+-- both, if there is a segment
 abbrev pub segment_data : Unit → Option Segment → Data
 segment_data unit None = null
 segment_data unit (Some s) = ends_data unit s
@@ -125,12 +134,15 @@ abbrev pub unit_name : Unit → List ℕ
 unit_name Hundredth = codes "0.01"
 unit_name Thousandth = codes "0.001"
 
+-- the three checksums, put among members
 abbrev pub put_sums : Sums → Members → Members
 put_sums sums members = put (codes "program") (sum_data sums.program) (put (codes "part") (sum_data sums.part) (put (codes "job") (sum_data sums.job) members))
 
+-- the three checksums
 abbrev pub sums_data : Sums → Data
 sums_data sums = object (put_sums sums no_members)
 
+-- how many columns are left too high, and those that are told of
 abbrev pub too_high_data : ℕ → List Data → Data
 too_high_data count columns = object (put (codes "columns") (list_of columns) (put (codes "count") (whole count) no_members))
 
