@@ -1,6 +1,5 @@
 pub mod Told
 pub mod Taken
-pub mod Loading
 pub mod Answering
 pub mod Blaming
 pub mod Serving
