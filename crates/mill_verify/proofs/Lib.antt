@@ -8,7 +8,7 @@ mod Depths
 mod Most
 mod Remaining
 mod Stored
-mod Unique
+pub mod Unique
 mod Safe
 mod Accepted
 mod Scanning
