@@ -17,7 +17,8 @@ use Rattle.mill_report.specs.Findings.{AreFindings, IsFinding, move_of}
 use Rattle.mill_report.specs.Laws.{AcceptedHasNothing, FirstIsVerdict, FirstLeftIsVerdict, NothingIsAccepted, OneLeft, OneList, VerdictIsFirst}
 use Rattle.mill_report.specs.declared.left.LeftColumn.{LeftColumn}
 use Rattle.mill_report.specs.declared.left.TheConstants.{MAX_LEFT}
-use Rattle.mill_report.proofs.Alone.{finding_fails, not_before, one_finding, rejected_fails, rejected_met, rejected_there}
+use Rattle.mill_verify.proofs.Unique.{moves_fail, not_before}
+use Rattle.mill_report.proofs.Alone.{finding_fails, one_finding, rejected_met}
 use Rattle.mill_report.proofs.Listed.{all_bare, before_first, first_is, none_listed, one_listing}
 
 pub one_list : OneList
@@ -42,7 +43,7 @@ same_reason {r} {s} e = ap by e
 
 pub verdict_is_first : OneVerdict → VerdictIsFirst
 verdict_is_first one job part moves reason [] h of_move v =
-    absurd (rejected_fails job part (uncut job) moves reason of_move v (good_all job part moves h (move_of reason) (rejected_there job part moves reason of_move v)))
+    absurd (moves_fail job part (uncut job) moves reason of_move v (good_all job part moves h))
 verdict_is_first one job part moves reason (first ∷ rest) h of_move v =
     let e = one job part moves (Reject first) (Reject reason) (first_is_verdict job part moves first rest h) v in
     (rest, ap (λ (r : Reason). r ∷ rest) (same_reason e))

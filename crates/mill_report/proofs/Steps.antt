@@ -1,55 +1,122 @@
--- From one move to all of a program's.
-use Rattle.std.specs.Prelude.{◌≡◌, ℕ, ◌+◌, ◌<◌, List, [], ◌∷◌, ◌++◌, length, take, drop, Option, None, Some, MatchOption}
-use Rattle.std.proofs.Common.{sym, ◌∙◌, subst, arith}
-use Rattle.std.proofs.lemmas.List.{take-append-le, take_all}
+-- One move's tests, part by part: why it fails, and that it names a leaf that is blocked.
+use Rattle.std.specs.Prelude.{◌≡◌, ℕ, List, [], ◌∷◌, Some, refl}
+use Rattle.std.proofs.Common.{arith}
+use Rattle.mill_base.specs.Points.{point_tri, tri_at}
+use Rattle.mill_base.specs.Ranges.{MoveInRange}
+use Rattle.mill_base.specs.Tools.{IsHolder}
 use Rattle.mill_base.specs.declared.points.Tri.{Tri}
 use Rattle.mill_base.specs.declared.motion.Move.{Move}
-use Rattle.mill_gouge.specs.Gouges.{ToolPassesPart}
+use Rattle.mill_base.specs.declared.motion.Kind.{Kind}
+use Rattle.mill_base.specs.declared.motion.Kind.TheVariants.{Rapid, Feed}
+use Rattle.mill_base.specs.declared.tool.Holder.{Holder as OneHolder}
+use Rattle.mill_gouge.specs.Gouges.{IsFirstGouge, IsFirstHolderGouge, PassesPart, ToolPassesPart}
+use Rattle.mill_gouge.specs.declared.gouge.Gouge.{Gouge as OneGouge}
+use Rattle.mill_sweep.specs.Halving.{Blocks, FailsAt}
+use Rattle.mill_sweep.specs.Holders.{HolderFailingIsBlocked, HolderFailsAt, HolderIsBlocked}
+use Rattle.mill_sweep.specs.Leaves.{span_of}
+use Rattle.mill_sweep.specs.Moments.{FailingIsBlocked}
+use Rattle.mill_sweep.specs.declared.leaf.Leaf.{Leaf}
 use Rattle.mill_job.specs.declared.job.Job.{Job}
-use Rattle.mill_job.specs.Jobs.{tool_of}
-use Rattle.mill_dexel.specs.Tops.{Stock, uncut}
-use Rattle.mill_dexel.specs.Turns.{move_at}
-use Rattle.mill_verify.specs.Tests.{IsGood, IsGoodOn, IsOverFloor, stock_met}
-use Rattle.mill_verify.specs.declared.verdict.Reason.{Reason}
-use Rattle.mill_report.specs.Findings.{AreFindingsTo, FailsAlone, IsFinding, move_of}
-use Rattle.mill_report.specs.inner.Steps.{FailsMove, FailsStock, PassesStock}
-use Rattle.mill_report.proofs.Alone.{good_met}
-use Rattle.mill_report.proofs.Listed.{listing_bare, listing_more, listing_start}
+use Rattle.mill_job.specs.Jobs.{IsJob, tool_of}
+use Rattle.mill_dexel.specs.Tops.{Stock, tested_point_on, top_point_on}
+use Rattle.mill_dexel.specs.declared.fail.RowTest.{RowTest}
+use Rattle.mill_dexel.specs.declared.fail.RowTest.TheVariants as test
+use Rattle.mill_verify.specs.Tests.{IsGoodOn, IsOverFloor}
+use Rattle.mill_verify.specs.Verdicts.{BlocksHolder, BlocksLeaf, FailsHolderStockOn, FailsStockOn}
+use Rattle.mill_verify.specs.declared.verdict.Reason.TheVariants.{Gouge, Holder}
+use Rattle.mill_report.specs.inner.Steps.{FailsMove, FailsPart, cut_reason, stop_reason}
+use Rattle.mill_report.specs.inner.Stops.{IsCutStop, IsHolderStop, PassesStock, StopsBy}
+use Rattle.mill_report.specs.declared.pass.Stop.{Stop}
+use Rattle.mill_report.proofs.Alone.{of_some}
 
--- the tests against the stock come last
-pub last_tests : (job : Job) (part : List Tri) (stock : Stock) (m : Move) (number : ℕ) (o : Option Reason) → IsOverFloor job (m ∷ []) 0 → ToolPassesPart (tool_of job) m part
-    → MatchOption o (PassesStock job stock m) (FailsStock job stock m number) → MatchOption o (IsGoodOn job part stock (m ∷ []) 0) (FailsMove job part stock m number)
-last_tests job part stock m number None over tool passes = record { floor = over; clears = tool.cutter; holder = tool.holder; stock = passes.cut; holder_stock = passes.holder }
-last_tests job part stock m number (Some reason) over tool fails = fails part over tool
+module _ (failing_is_blocked : FailingIsBlocked) (holder_failing_is_blocked : HolderFailingIsBlocked) (job : Job) (m : Move) (job_ok : IsJob job) (range : MoveInRange m) where
+  -- a leaf at which a test fails is one of the last
+  leaf_named : (leaf : Leaf) (tri : Tri) → FailsAt job.cutter m tri leaf → Blocks job.cutter (span_of m leaf.d leaf.k) tri → BlocksLeaf job.cutter m leaf tri
+  leaf_named leaf tri fails blocked = record { last = (failing_is_blocked job.cutter m tri leaf job_ok.cutter_ok range fails).0; blocks = blocked }
 
-module _ (job : Job) (part : List Tri) (moves : List Move) where
-  -- before the first move nothing is found
-  pub found_none : AreFindingsTo job part moves 0 []
-  found_none = listing_start Reason move_of (IsFinding job part moves) (IsGood job part moves)
+  held_named : (holder : OneHolder) (leaf : Leaf) (tri : Tri) → job.holder ≡ Some holder → HolderFailsAt holder m tri leaf → HolderIsBlocked holder m tri leaf → BlocksHolder job (m ∷ []) 0 leaf tri
+  held_named holder leaf tri mounted fails blocked =
+      let ok : IsHolder holder = of_some IsHolder job.holder holder mounted job_ok.holder_ok in
+      record { holder = holder; mounted = mounted; blocks = record { last = (holder_failing_is_blocked holder m tri leaf ok range fails).0; blocks = blocked } }
 
-  -- what is found of move n
-  abbrev IsToldOf : ℕ → Move → Option Reason → Type 0
-  IsToldOf n m told = MatchOption told (IsGoodOn job part (stock_met job (uncut job) moves n) (m ∷ []) 0) (FailsMove job part (stock_met job (uncut job) moves n) m n)
+  -- ---- the tests against the part
+  pub gouges : (part : List Tri) (number : ℕ) (gouge : OneGouge) → IsFirstGouge job.cutter m part gouge → FailsPart job part m number (Gouge number gouge.tri gouge.leaf)
+  gouges part number gouge h stock over = record {
+    at = refl;
+    fails = record {
+      of_move = tt;
+      rejects = record { there = omega arith; before = λ e less. absurd (omega (less, arith)); floor = over; tri = h.tri; first = h.first; fails = h.fails };
+    };
+    names = leaf_named gouge.leaf (tri_at part gouge.tri) h.fails h.blocked;
+  }
 
-  abbrev IsNoted : Option Reason → List Reason → List Reason → Type 0
-  IsNoted told old new = MatchOption told (new ≡ old) (λ reason. new ≡ old ++ reason ∷ [])
+  pub holder_gouges : (part : List Tri) (number : ℕ) (holder : OneHolder) (gouge : OneGouge) → PassesPart job.cutter m part → job.holder ≡ Some holder → IsFirstHolderGouge holder m part gouge
+      → FailsPart job part m number (Holder number gouge.tri gouge.leaf)
+  holder_gouges part number holder gouge clears mounted h stock over = record {
+    at = refl;
+    fails = record {
+      of_move = tt;
+      rejects = record {
+        there = omega arith;
+        before = λ e less. absurd (omega (less, arith));
+        floor = over;
+        clears = clears;
+        holder = holder;
+        mounted = mounted;
+        tri = h.tri;
+        first = h.first;
+        fails = h.fails;
+      };
+    };
+    names = held_named holder gouge.leaf (tri_at part gouge.tri) mounted h.fails h.blocked;
+  }
 
-  module _ (n : ℕ) (there : n < length moves) (old : List Reason) (found : AreFindingsTo job part moves n old) where
-    one_more : (told : Option Reason) (new : List Reason) → IsToldOf n (move_at moves n) told → IsNoted told old new → AreFindingsTo job part moves (n + 1) new
-    one_more None new good noted =
-        subst (AreFindingsTo job part moves (n + 1)) (sym noted) (listing_bare Reason move_of (IsFinding job part moves) (IsGood job part moves) n old found (good_met job part moves n good))
-    one_more (Some reason) new fails noted =
-        subst (AreFindingsTo job part moves (n + 1)) (sym noted) (listing_more Reason move_of (IsFinding job part moves) (IsGood job part moves) n old reason found is fails.at)
-      where
-        is : IsFinding job part moves reason
-        is = record {
-          there = subst (λ (k : ℕ). k < length moves) (sym fails.at) there;
-          fails = subst (λ (k : ℕ). FailsAlone job part (stock_met job (uncut job) moves k) (move_at moves k) reason) (sym fails.at) fails.fails;
-        }
+  -- ---- the tests against the stock, which come last
+  module _ (part : List Tri) (stock : Stock) (number : ℕ) (over : IsOverFloor job (m ∷ []) 0) (tool : ToolPassesPart (tool_of job) m part) where
+    pub passes_all : PassesStock job stock m → IsGoodOn job part stock (m ∷ []) 0
+    passes_all passes = record { floor = over; clears = tool.cutter; holder = tool.holder; stock = passes.cut; holder_stock = passes.holder }
 
-    pub found_more : (told : Option Reason) (new : List Reason) (m : Move) → m ≡ move_at moves n → IsToldOf n m told → IsNoted told old new → AreFindingsTo job part moves (n + 1) new
-    found_more told new m read is noted = one_more told new (subst (λ (x : Move). IsToldOf n x told) read is) noted
+    cut_fails : (stop : Stop) → IsCutStop job stock m stop → FailsStockOn job part stock (m ∷ []) m.kind 0 stop.row stop.col stop.leaf
+    cut_fails stop h = record {
+      there = omega arith;
+      before = λ e less. absurd (omega (less, arith));
+      floor = over;
+      clears = tool.cutter;
+      holder = tool.holder;
+      is = refl;
+      tested = h.tested;
+      column = h.column;
+      first = h.first;
+      fails = h.fails;
+    }
 
--- a list that was written as a whole is what was written
-pub all_written : {A : Type 0} (n : ℕ) (new old : List A) → n ≡ length new → take n (new ++ drop (length new) old) ≡ new
-all_written {A} n new old count = take-append-le n new (drop (length new) old) (omega (count, arith)) ∙ take_all n new (omega (count, arith))
+    held_fails : (stop : Stop) → IsHolderStop job stock m stop → FailsHolderStockOn job part stock (m ∷ []) 0 stop.row stop.col stop.leaf
+    held_fails stop h = record {
+      there = omega arith;
+      before = λ e less. absurd (omega (less, arith));
+      floor = over;
+      clears = tool.cutter;
+      holder_clears = tool.holder;
+      stock = h.cut;
+      holder = h.holder;
+      mounted = h.mounted;
+      column = h.column;
+      first = h.first;
+      fails = h.fails;
+    }
+
+    by_kind : (kind : Kind) (stop : Stop) → FailsStockOn job part stock (m ∷ []) kind 0 stop.row stop.col stop.leaf
+        → BlocksLeaf job.cutter m stop.leaf (point_tri (tested_point_on job kind stock stop.row stop.col)) → FailsMove job part stock m number (cut_reason kind number stop)
+    by_kind Rapid stop h names = record { at = refl; fails = record { of_move = tt; rejects = h }; names = names }
+    by_kind Feed stop h names = record { at = refl; fails = record { of_move = tt; rejects = h }; names = names }
+
+    by_test : (t : RowTest) (stop : Stop) → StopsBy t job stock m stop → FailsMove job part stock m number (stop_reason t m.kind number stop)
+    by_test test.Cut stop h = by_kind m.kind stop (cut_fails stop h) (leaf_named stop.leaf (point_tri (tested_point_on job m.kind stock stop.row stop.col)) h.fails h.blocked)
+    by_test test.Holder stop h = record {
+      at = refl;
+      fails = record { of_move = tt; rejects = held_fails stop h };
+      names = held_named h.holder stop.leaf (point_tri (top_point_on job stock stop.row stop.col)) h.mounted h.fails h.blocked;
+    }
+
+    pub stopped : (stop : Stop) → StopsBy stop.test job stock m stop → FailsMove job part stock m number (stop_reason stop.test m.kind number stop)
+    stopped stop h = by_test stop.test stop h

@@ -7,16 +7,16 @@
 //! of `specs/Laws` say what they have to do with the verdict: its reason is the first of them, and a
 //! program is accepted where there is none.
 //!
-//! `all_findings` finds both, on one thread: `step` tests one move on the rows of the stock (`rows`), `moves`
-//! goes through the program, and `left` tests the columns. What stands in `specs/inner` serves the
-//! functions within.
+//! `all_findings` finds both, on one thread. First each row of the stock goes through all moves (`pass`), which
+//! leaves the cut rows and where the stock stopped each move. Then the other tests of each move are made (`step`,
+//! `moves`), and `left` tests the columns. What stands in `specs/inner` serves the functions within.
 #![tactic(auto)]
 
 mod laws;
 mod left;
 mod moves;
+mod pass;
 mod report;
-mod rows;
 mod step;
 
 pub use laws::{

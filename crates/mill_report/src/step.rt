@@ -1,44 +1,40 @@
-ghost use Rattle.std.specs.Prelude.{◌≡◌, List, [], ◌∷◌, All, length, false, IsTrue, MatchOption};
+ghost use Rattle.std.specs.Prelude.{◌≡◌, [], ◌∷◌, false, IsTrue, MatchOption};
 ghost use Rattle.mill_base.specs.Ranges.{MoveInRange};
-ghost use Rattle.mill_base.specs.declared.motion.Move.{Move as OneMove};
 ghost use Rattle.mill_cells.specs.Sorted.{sorted_of};
 ghost use Rattle.mill_gouge.specs.Gouges.{ToolPassesPart};
-ghost use Rattle.mill_job.specs.Columns.{row_count};
 ghost use Rattle.mill_job.specs.Jobs.{IsJob, tool_of};
-ghost use Rattle.mill_dexel.specs.Rows.{IsRowOf};
-ghost use Rattle.mill_dexel.specs.Stocks.{IsStock};
-ghost use Rattle.mill_dexel.specs.Tops.{stock_after, uncut};
+ghost use Rattle.mill_dexel.specs.Tops.{Stock};
 ghost use Rattle.mill_verify.specs.Tests.{IsGoodOn, IsOverFloor};
-ghost use Rattle.mill_verify.specs.declared.verdict.Reason.TheVariants.{HolderStock};
-ghost use Rattle.mill_report.specs.inner.Steps.{FailsMove, FailsPart, FailsStock, PassesStock, cut_reason as cut_reason_of};
+ghost use Rattle.mill_report.specs.inner.Steps.{FailsMove, FailsPart, cut_reason as cut_reason_of, stop_reason as stop_reason_of};
+ghost use Rattle.mill_report.specs.inner.Stops.{IsTold};
 
-use crate::rows::{Stop, cut_stop, holder_stop};
+use crate::pass::Stop;
 use mill_base::{Kind, Move};
 use mill_cells::Cells;
-use mill_dexel::Row;
+use mill_dexel::RowTest;
 use mill_gouge::{first_gouge, first_holder_gouge};
 use mill_job::Job;
 use mill_part::Part;
+use mill_sweep::{failing_is_blocked, holder_failing_is_blocked};
 use mill_verify::Reason;
 
-/// The first test that move `number` fails on the stock that these rows are; none where it passes all.
+/// The first test that move `number` fails, where the stock that it meets stops it so, or doesn't; none where it
+/// passes all.
 pub fn finding_of(
     job: &Job,
     part: &Part,
     cells: &Cells,
-    rows: &[Row],
     step: &Move,
     number: u64,
+    told: Option<Stop>,
 ) -> Option<Reason>
     requires job_ok { IsJob job.now }
     requires cells_ok { cells.now ≡ sorted_of part.now }
-    requires rows_ok { All (IsRowOf job.now) rows.now }
-    requires count { length rows.now ≡ row_count job.now }
     requires step_ok { MoveInRange step.now }
-    ensures { (done : List OneMove) → IsStock job.now done rows.now → MatchOption
+    ensures { (stock : Stock) → IsTold job.now stock step.now told → MatchOption
         result
-        (IsGoodOn job.now part.now (stock_after job.now (uncut job.now) done) (step.now ∷ []) 0)
-        (FailsMove job.now part.now (stock_after job.now (uncut job.now) done) step.now number) }
+        (IsGoodOn job.now part.now stock (step.now ∷ []) 0)
+        (FailsMove job.now part.now stock step.now number) }
 {
     if !is_over_floor(job, step) {
         return Some(Reason::Floor { at: number });
@@ -46,7 +42,11 @@ pub fn finding_of(
     if let Some(reason) = part_finding(job, part, cells, step, number) {
         return Some(reason);
     }
-    stock_finding(job, rows, step, number)
+    // Laws without code: a leaf that fails, of the cutter or of the holder, is one of the last of its move.
+    failing_is_blocked();
+    holder_failing_is_blocked();
+    let stop = told?;
+    Some(stop_reason(step.kind, number, stop))
 }
 
 /// Test (i): whether both ends of the move are at or over the floor.
@@ -71,6 +71,9 @@ fn part_finding(job: &Job, part: &Part, cells: &Cells, step: &Move, number: u64)
         (ToolPassesPart (tool_of job.now) step.now part.now)
         (FailsPart job.now part.now step.now number) }
 {
+    // Laws without code, as above.
+    failing_is_blocked();
+    holder_failing_is_blocked();
     if let Some(gouge) = first_gouge(job.cutter, part, cells, step) {
         return Some(Reason::Gouge {
             at: number,
@@ -87,32 +90,31 @@ fn part_finding(job: &Job, part: &Part, cells: &Cells, step: &Move, number: u64)
     })
 }
 
-/// The first of the tests against the stock that the move fails, the cutter's before the holder's; none where
-/// it passes both.
-fn stock_finding(job: &Job, rows: &[Row], step: &Move, number: u64) -> Option<Reason>
-    requires job_ok { IsJob job.now }
-    requires rows_ok { All (IsRowOf job.now) rows.now }
-    requires count { length rows.now ≡ row_count job.now }
-    requires step_ok { MoveInRange step.now }
-    ensures { (done : List OneMove) → IsStock job.now done rows.now → MatchOption
-        result
-        (PassesStock job.now (stock_after job.now (uncut job.now) done) step.now)
-        (FailsStock job.now (stock_after job.now (uncut job.now) done) step.now number) }
+/// Why a stop stops a move of this kind and number.
+fn stop_reason(kind: Kind, number: u64, stop: Stop) -> Reason
+    ensures { result ≡ stop_reason_of stop.test kind number stop }
 {
-    if let Some(stop) = cut_stop(job, rows, step) {
-        return Some(cut_reason(step.kind, number, stop));
+    match stop.test {
+        RowTest::Cut => cut_reason(kind, number, stop),
+        RowTest::Holder => Reason::HolderStock {
+            at: number,
+            row: stop.row,
+            col: stop.col,
+            leaf: stop.leaf,
+        },
     }
-    if let Some(stop) = holder_stop(job, rows, step) {
-        return Some(holder_reason(number, stop));
-    }
-    None
 }
 
 /// Why a stop of the cutter stops a move of this kind and number.
 fn cut_reason(kind: Kind, number: u64, stop: Stop) -> Reason
     ensures { result ≡ cut_reason_of kind number stop }
 {
-    let Stop { row, col, leaf } = stop;
+    let Stop {
+        row,
+        col,
+        leaf,
+        test: _,
+    } = stop;
     match kind {
         Kind::Rapid => Reason::Rapid {
             at: number,
@@ -126,18 +128,5 @@ fn cut_reason(kind: Kind, number: u64, stop: Stop) -> Reason
             col,
             leaf,
         },
-    }
-}
-
-/// Why a stop of the holder stops the move of this number.
-fn holder_reason(number: u64, stop: Stop) -> Reason
-    ensures { result ≡ HolderStock number stop.row stop.col stop.leaf }
-{
-    let Stop { row, col, leaf } = stop;
-    Reason::HolderStock {
-        at: number,
-        row,
-        col,
-        leaf,
     }
 }
