@@ -1,6 +1,5 @@
 -- What printing an outcome comes to.
 use Rattle.std.specs.Prelude.{◌⊎◌, ℕ, ℤ, List, string_bytes}
-use Rattle.mill_base.specs.declared.memory.WantOfMemory.{WantOfMemory}
 use Rattle.mill_base.specs.declared.unit.Unit.{Unit as LengthUnit}
 use Rattle.mill_command.specs.declared.refusal.Refusal.{Refusal}
 use Rattle.mill_command.specs.declared.refusal.Refusal.TheVariants as refusal
