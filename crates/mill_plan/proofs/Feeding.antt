@@ -1,13 +1,15 @@
 -- The answers for the visits, one by one and in a list, and where the cutter is before each.
-use Rattle.std.specs.Prelude.{◌≡◌, ℕ, zero, suc, ◌+◌, ◌<◌, Bool, List, [], ◌∷◌, length, slice_index_or}
+use Rattle.std.specs.Prelude.{◌≡◌, ℕ, zero, suc, ◌+◌, ◌<◌, Bool, List, [], ◌∷◌, ◌++◌, length, slice_index_or}
 use Rattle.std.specs.List.{AllZip, range_with_len}
-use Rattle.std.proofs.Common.{refl, sym, ap, subst, arith}
+use Rattle.std.proofs.Common.{refl, sym, ap, ◌∙◌, subst, subst₂, arith}
 use Rattle.std.proofs.lemmas.List.{get_or_default}
+use Rattle.std.proofs.lemmas.Slice.Zip.{all_zipped_more}
 use Rattle.mill_base.specs.declared.points.Pt3.{Pt3}
 use Rattle.mill_base.specs.declared.points.Tri.{Tri}
 use Rattle.mill_job.specs.declared.job.Job.{Job}
 use Rattle.mill_paths.specs.Links.{SaysClear}
 use Rattle.mill_paths.specs.declared.visit.Visit.{Visit}
+use Rattle.mill_paths.proofs.Gathered.{numbers_more}
 use Rattle.mill_plan.specs.inner.Feeds.{SayClear, SaysClearTo, no_visit, place_before}
 
 -- what holds of the numbers from one on and the items of a list holds of each number and item
@@ -24,6 +26,20 @@ as_many R from zero [] all = refl
 as_many R from zero (y ∷ ys) all = absurd all
 as_many R from (suc n) [] all = absurd all
 as_many R from (suc n) (y ∷ ys) all = ap suc (as_many R (from + 1) n ys all.1)
+
+-- one more answer after those of the numbers before it
+pub told_more : {Y : Type 0} (R : ℕ → Y → Type 0) (k : ℕ) (ys zs : List Y) (y : Y) → AllZip R (range_with_len 0 k) ys → R k y → zs ≡ ys ++ y ∷ [] → AllZip R (range_with_len 0 (k + 1)) zs
+told_more R k ys zs y before here more =
+    subst₂ (λ ks us. AllZip R ks us) (sym numbers) (sym more) (all_zipped_more R (range_with_len 0 k) ys k y before here)
+  where
+    next : k + 1 ≡ suc k
+    next = omega arith
+
+    plain : 0 + k ≡ k
+    plain = omega arith
+
+    numbers : range_with_len 0 (k + 1) ≡ range_with_len 0 k ++ k ∷ []
+    numbers = ap (range_with_len 0) next ∙ numbers_more 0 k ∙ ap (λ (m : ℕ). range_with_len 0 k ++ m ∷ []) plain
 
 -- what the answers say of the visit of number k, with the place where the cutter is then
 pub says_at : (job : Job) (part : List Tri) (visits : List Visit) (answers : List Bool) (k : ℕ) (d : Visit) (e : Bool) (place : Pt3) → SayClear job part visits answers

@@ -1,4 +1,4 @@
-//! Which of a plan's links are clear, tried side by side.
+//! Which of a plan's links are clear, tried side by side, or one after another.
 ghost use Rattle.std.specs.Prelude.{◌≡◌, ◌<◌, length, All, IfOk};
 ghost use Rattle.mill_base.specs.Ranges.{IsInUnitRange};
 ghost use Rattle.mill_cells.specs.Sorted.{sorted_of};
@@ -15,13 +15,8 @@ use rayon::prelude::*;
 use std::alloc::Global;
 use std::thread::Threads;
 
-/// For each visit, in their order, whether the link to it is clear, as `goes_clear` says: to the first
-/// from home, and to each other from the visit before it.
-///
-/// Where the cutter is before a visit is known beforehand, and no answer looks at the stock, so the
-/// feeds are tried side by side. The answers are the same whatever the number of threads. The cells are
-/// those of the part's triangles.
-pub(crate) fn clear_links<R: Threads + Sync>(
+/// For each visit, in their order, whether the link to it is clear, tried by the threads of a runtime.
+pub(crate) fn clear_links_by_threads<R: Threads + Sync>(
     rt: &R,
     alloc: Global,
     job: &Job,
@@ -44,6 +39,27 @@ pub(crate) fn clear_links<R: Threads + Sync>(
             { is_clear_to(job, part, cells, visits, number) },
         )
         .collect(rt, alloc)?;
+    Ok(answers)
+}
+
+/// For each visit, in their order, whether the link to it is clear, tried one after another.
+pub(crate) fn clear_links_alone(
+    alloc: Global,
+    job: &Job,
+    part: &Part,
+    cells: &Cells,
+    visits: &[Visit],
+) -> Result<Vec<bool>, WantOfMemory>
+    requires job_ok { IsJob job.now }
+    requires cells_ok { cells.now ≡ sorted_of part.now }
+    requires visits_ok { All (IsVisit job.now part.now) visits.now }
+    ensures say { IfOk result (λ answers. SayClear job.now part.now visits.now answers.items) }
+    ensures each { IfOk result (λ answers. length answers.items ≡ length visits.now) }
+{
+    let mut answers = Vec::with_capacity(alloc, visits.len())?;
+    for number in 0..visits.len() {
+        answers.push(is_clear_to(job, part, cells, visits, number))?;
+    }
     Ok(answers)
 }
 

@@ -16,19 +16,18 @@ ghost use Rattle.mill_plan.specs.Plans.{HasFewNodes, HasPlan, IsPlanFault};
 ghost use Rattle.mill_plan.specs.inner.Feeds.{SayClear};
 ghost use Rattle.mill_plan.specs.inner.Steps.{IsNodesFault, IsRound, IsRoundFault};
 
+use crate::crew::PlanCrew;
 use crate::fault::PlanFault;
-use crate::feeds::clear_links;
 use mill_base::{MAX_MOVES, MAX_NODES, Move, WantOfMemory};
 use mill_cells::Cells;
 use mill_dexel::{Row, cut_rows, uncut_rows};
 use mill_job::Job;
 use mill_part::Part;
 use mill_paths::{
-    Visit, finish_lattice, finish_visits, home, level_visits, link_known, rough_lattice,
+    Crew, Visit, finish_lattice, finish_visits, home, level_visits, link_known, rough_lattice,
     rough_visits,
 };
 use std::alloc::Global;
-use std::thread::Threads;
 
 /// Whether each lattice that the paths go over has at most 4,000,000 nodes: the finishing one, over
 /// which the levels' waterlines go too, and, where there is a layer, the rough one. The error tells of
@@ -57,14 +56,15 @@ pub(crate) fn check_nodes(job: &Job) -> Result<(), PlanFault>
 /// They go safely from home to home. The rows are those of `rows_for_depth`; where the job limits the
 /// depth of cut, they are then those that all the moves leave. The error is that there are too many
 /// moves, or want of memory.
-pub(crate) fn planned_moves<R: Threads + Sync>(
-    rt: &R,
+pub(crate) fn planned_moves<C: PlanCrew>(
+    crew: &C,
     alloc: Global,
     job: &Job,
     part: &Part,
     cells: &Cells,
     rows: &mut [Row],
 ) -> Result<Vec<Move>, PlanFault>
+    requires crew_ok { C.ready }
     requires job_ok { IsJob job.now }
     requires cells_ok { cells.now ≡ sorted_of part.now }
     requires under { IsUnder part.now job.now.top }
@@ -78,19 +78,20 @@ pub(crate) fn planned_moves<R: Threads + Sync>(
         (λ moves. GoSafely job.now part.now [] (home_of job.now) moves.items (home_of job.now)) }
     ensures fault { IfErr result (IsPlanFault job.now part.now) }
 {
-    let visits = plan_visits(rt, alloc, job, part, cells)?;
-    let clear = clear_links(rt, alloc, job, part, cells, &visits)?;
+    let visits = plan_visits(crew, alloc, job, part, cells)?;
+    let clear = crew.clear_links(alloc, job, part, cells, &visits)?;
     round_of(alloc, job, rows, &visits, &clear)
 }
 
 /// The plan's visits: those of its roughing, then those of its levels, then its finishing path.
-fn plan_visits<R: Threads + Sync>(
-    rt: &R,
+fn plan_visits<C: Crew>(
+    crew: &C,
     alloc: Global,
     job: &Job,
     part: &Part,
     cells: &Cells,
 ) -> Result<Vec<Visit>, PlanFault>
+    requires crew_ok { C.ready }
     requires job_ok { IsJob job.now }
     requires cells_ok { cells.now ≡ sorted_of part.now }
     requires nodes { HasFewNodes job.now }
@@ -98,10 +99,10 @@ fn plan_visits<R: Threads + Sync>(
     ensures each { IfOk result (λ visits. All (IsVisit job.now part.now) visits.items) }
     ensures fault { IfErr result (IsPlanFault job.now part.now) }
 {
-    let mut visits = rough_visits(rt, alloc, job, part, cells)?;
-    let level = level_visits(rt, alloc, job, part, cells)?;
+    let mut visits = rough_visits(crew, alloc, job, part, cells)?;
+    let level = level_visits(crew, alloc, job, part, cells)?;
     visits.extend_from_slice(&level)?;
-    let finish = finish_visits(rt, alloc, job, part, cells)?;
+    let finish = finish_visits(crew, alloc, job, part, cells)?;
     visits.extend_from_slice(&finish)?;
     Ok(visits)
 }

@@ -11,6 +11,7 @@ ghost use Rattle.mill_verify.specs.Verdicts.{IsVerdict};
 ghost use Rattle.mill_plan.specs.Plans.{HasPlan, IsOverNodes, IsPlanAnswer, IsPlanFault, answer_of};
 ghost use Rattle.mill_plan.specs.declared.fault.PlanFault.TheVariants.{TooManyNodes};
 
+use crate::crew::PlanCrew;
 use crate::fault::PlanFault;
 use crate::moves::{check_nodes, planned_moves, rows_for_depth};
 use crate::planned::Planned;
@@ -19,8 +20,9 @@ use mill_cells::Cells;
 use mill_dexel::Row;
 use mill_job::Job;
 use mill_part::{Part, SortedPart};
+use mill_paths::{Alone, Threaded};
 use mill_post::write_program;
-use mill_verify::{Reason, Verdict, verdict_on_stock, verify_with_cells};
+use mill_verify::{Reason, Verdict};
 use std::alloc::Global;
 use std::thread::Threads;
 
@@ -69,16 +71,63 @@ pub fn plan<R: Threads + Sync>(
     ensures fault { IfErr result (IsPlanFault job.now part.now) }
     ensures nodes { (nodes : ℕ) → IsErrOf result (TooManyNodes nodes) ↔ IsOverNodes job.now nodes }
 {
+    plan_by(&Threaded { rt }, alloc, job, part, workers)
+}
+
+/// Plans a program that cuts the job's part, and verifies it, as [`plan`] does: the calling thread does
+/// all of the work, and starts no other.
+///
+/// The part is nowhere higher than the uncut stock. Lengths are in the job's units.
+///
+/// # Errors
+///
+/// Those of [`plan`].
+pub fn plan_alone(alloc: Global, job: &Job, part: &Part) -> Result<Planned, PlanFault>
+    requires job_ok { IsJob job.now }
+    requires under { IsUnder part.now job.now.top }
+    ensures planned { IfOk result (λ planned. IsPlanAnswer job.now part.now (answer_of planned)) }
+    ensures fault { IfErr result (IsPlanFault job.now part.now) }
+    ensures nodes { (nodes : ℕ) → IsErrOf result (TooManyNodes nodes) ↔ IsOverNodes job.now nodes }
+{
+    plan_by(&Alone, alloc, job, part, 1)
+}
+
+/// The planner's answer, from the work of this crew.
+fn plan_by<C: PlanCrew>(
+    crew: &C,
+    alloc: Global,
+    job: &Job,
+    part: &Part,
+    workers: u32,
+) -> Result<Planned, PlanFault>
+    requires crew_ok { C.ready }
+    requires job_ok { IsJob job.now }
+    requires under { IsUnder part.now job.now.top }
+    requires some_workers { 1 ≤ workers }
+    requires few_workers { workers ≤ MAX_WORKERS }
+    ensures planned { IfOk result (λ planned. IsPlanAnswer job.now part.now (answer_of planned)) }
+    ensures fault { IfErr result (IsPlanFault job.now part.now) }
+    ensures nodes { (nodes : ℕ) → IsErrOf result (TooManyNodes nodes) ↔ IsOverNodes job.now nodes }
+{
     check_nodes(job)?;
     let sorted = SortedPart::new(alloc, part)?;
     let mut rows = rows_for_depth(alloc, job)?;
-    let moves = planned_moves(rt, alloc, job, part, sorted.cells(), &mut rows)?;
-    verified(rt, alloc, job, part, sorted.cells(), &moves, &rows, workers)
+    let moves = planned_moves(crew, alloc, job, part, sorted.cells(), &mut rows)?;
+    verified(
+        crew,
+        alloc,
+        job,
+        part,
+        sorted.cells(),
+        &moves,
+        &rows,
+        workers,
+    )
 }
 
 /// The planner's answer, from the verdict on the plan's moves.
-fn verified<R: Threads + Sync>(
-    rt: &R,
+fn verified<C: PlanCrew>(
+    crew: &C,
     alloc: Global,
     job: &Job,
     part: &Part,
@@ -87,6 +136,7 @@ fn verified<R: Threads + Sync>(
     rows: &[Row],
     workers: u32,
 ) -> Result<Planned, PlanFault>
+    requires crew_ok { C.ready }
     requires job_ok { IsJob job.now }
     requires cells_ok { cells.now ≡ sorted_of part.now }
     requires under { IsUnder part.now job.now.top }
@@ -100,7 +150,7 @@ fn verified<R: Threads + Sync>(
         (λ planned. IsPlanAnswer job.now part.now (answer_of planned)) }
     ensures fault { IfErr result (IsPlanFault job.now part.now) }
 {
-    match verdict_on(rt, alloc, job, part, cells, moves, rows, workers)? {
+    match verdict_on(crew, alloc, job, part, cells, moves, rows, workers)? {
         Verdict::Accept {
             moves: count,
             columns,
@@ -131,8 +181,8 @@ fn verified<R: Threads + Sync>(
 
 /// The verdict on the plan's moves: by the last test alone, on the rows that the moves have made already,
 /// where it is known that the moves pass all others; else by all tests.
-fn verdict_on<R: Threads + Sync>(
-    rt: &R,
+fn verdict_on<C: PlanCrew>(
+    crew: &C,
     alloc: Global,
     job: &Job,
     part: &Part,
@@ -141,6 +191,7 @@ fn verdict_on<R: Threads + Sync>(
     rows: &[Row],
     workers: u32,
 ) -> Result<Verdict, WantOfMemory>
+    requires crew_ok { C.ready }
     requires job_ok { IsJob job.now }
     requires cells_ok { cells.now ≡ sorted_of part.now }
     requires under { IsUnder part.now job.now.top }
@@ -155,9 +206,9 @@ fn verdict_on<R: Threads + Sync>(
         → CutsSafely job.now part.now moves.now }
 {
     if is_decided_by_stock(job) {
-        return Ok(verdict_on_stock(rt, job, part, cells, moves, rows, workers));
+        return Ok(crew.verdict_on_stock(job, part, cells, moves, rows, workers));
     }
-    verify_with_cells(rt, alloc, job, part, cells, moves, workers)
+    crew.verify_with_cells(alloc, job, part, cells, moves, workers)
 }
 
 /// Whether what a plan's moves leave of the stock decides the verdict on them, and the rows tell it: the

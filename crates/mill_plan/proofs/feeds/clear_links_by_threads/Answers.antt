@@ -6,7 +6,7 @@ use Rattle.rayon.proofs.ListFacts.{IfOk-then}
 use Rattle.rayon.proofs.ToStd.{nat_range-All}
 use Rattle.mill_plan.specs.inner.Feeds.{IsLinkTask, SayClear, SaysClearTo}
 use Rattle.mill_plan.proofs.Feeding.{as_many}
-use Rattle.mill_plan.proofs.feeds.clear_links.Goals as goal
+use Rattle.mill_plan.proofs.feeds.clear_links_by_threads.Goals as goal
 
 pub collect-requires-clause-ready : goal.collect-requires-clause-ready
 collect-requires-clause-ready g c κs =

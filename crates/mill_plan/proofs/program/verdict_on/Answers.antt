@@ -4,18 +4,18 @@ use Rattle.mill_plan.proofs.Good.{follow, good, in_range}
 use Rattle.mill_plan.proofs.program.verdict_on.Goals as goal
 
 pub verify_with_cells-requires-clause-moves_ok : goal.verify_with_cells-requires-clause-moves_ok
-verify_with_cells-requires-clause-moves_ok g c κs within = moves_of_unit c.args.job.now.unit _ (in_range c.args.job.now c.args.part.now (home c.args.job.now) (home c.args.job.now) c.args.moves.now c.requires.safe)
+verify_with_cells-requires-clause-moves_ok g c = moves_of_unit c.args.job.now.unit _ (in_range c.args.job.now c.args.part.now (home c.args.job.now) (home c.args.job.now) c.args.moves.now c.requires.safe)
 
 pub verify_with_cells-requires-clause-follow : goal.verify_with_cells-requires-clause-follow
-verify_with_cells-requires-clause-follow g c κs within = follow c.args.job.now c.args.part.now (home c.args.job.now) (home c.args.job.now) c.args.moves.now c.requires.safe
+verify_with_cells-requires-clause-follow g c = follow c.args.job.now c.args.part.now (home c.args.job.now) (home c.args.job.now) c.args.moves.now c.requires.safe
 
 pub verdict_on_stock-requires-clause-moves_ok : goal.verdict_on_stock-requires-clause-moves_ok
-verdict_on_stock-requires-clause-moves_ok g c κs within = moves_of_unit c.args.job.now.unit _ (in_range c.args.job.now c.args.part.now (home c.args.job.now) (home c.args.job.now) c.args.moves.now c.requires.safe)
+verdict_on_stock-requires-clause-moves_ok g c = moves_of_unit c.args.job.now.unit _ (in_range c.args.job.now c.args.part.now (home c.args.job.now) (home c.args.job.now) c.args.moves.now c.requires.safe)
 
 pub verdict_on_stock-requires-clause-good : goal.verdict_on_stock-requires-clause-good
-verdict_on_stock-requires-clause-good g c κs within =
+verdict_on_stock-requires-clause-good g c =
     good c.args.job.now c.args.part.now (home c.args.job.now) (home c.args.job.now) c.args.moves.now
     (c.is_decided_by_stock.ensures.bare c.if-is_decided_by_stock.true) c.requires.safe
 
 pub verdict_on_stock-requires-clause-rows_ok : goal.verdict_on_stock-requires-clause-rows_ok
-verdict_on_stock-requires-clause-rows_ok g c κs within = c.requires.stock (c.is_decided_by_stock.ensures.limited c.if-is_decided_by_stock.true)
+verdict_on_stock-requires-clause-rows_ok g c = c.requires.stock (c.is_decided_by_stock.ensures.limited c.if-is_decided_by_stock.true)
