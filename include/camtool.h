@@ -65,7 +65,23 @@ enum camtool_status {
     /* A number of a fiber is out of range, or its first position is after its last. */
     CAMTOOL_FIBER = 15,
     /* The array for the counts is not as long as the fibers are many. */
-    CAMTOOL_COUNTS_ROOM = 16
+    CAMTOOL_COUNTS_ROOM = 16,
+    /* A job's text is no TOML document, or isn't UTF-8. */
+    CAMTOOL_JOB_SYNTAX = 17,
+    /* A job's text has a key that no job has. */
+    CAMTOOL_JOB_UNKNOWN = 18,
+    /* A job's text lacks a key. */
+    CAMTOOL_JOB_MISSING = 19,
+    /* The value at a key of a job's text is of another type. */
+    CAMTOOL_JOB_KIND = 20,
+    /* The value at a key of a job's text is out of its range. */
+    CAMTOOL_JOB_RANGE = 21,
+    /* The values at two keys of a job's text don't fit together. */
+    CAMTOOL_JOB_RELATION = 22,
+    /* The part's greatest height is over the job's top. */
+    CAMTOOL_PART_TOP = 23,
+    /* A program's text is refused. */
+    CAMTOOL_PROGRAM = 24
 };
 
 /* What a cutter is. */
@@ -166,6 +182,68 @@ int32_t camtool_runs(const camtool_triangle *triangles, size_t triangles_count,
                      const camtool_tool *tool, const camtool_fiber *fibers, size_t fibers_count,
                      uint64_t *counts, size_t counts_count, camtool_run *runs, size_t runs_count,
                      uint64_t *told);
+
+/* Which test of a program fails first: of a move, or after the last one. */
+enum camtool_test {
+    /* None: the program is accepted. */
+    CAMTOOL_ACCEPTED = 0,
+    /* The move stays over the floor. */
+    CAMTOOL_TEST_FLOOR = 1,
+    /* On the move the cutter passes each triangle of the part. */
+    CAMTOOL_TEST_GOUGE = 2,
+    /* On the move the holder passes each triangle of the part. */
+    CAMTOOL_TEST_HOLDER = 3,
+    /* The move, a rapid, passes what is left of the stock. */
+    CAMTOOL_TEST_RAPID = 4,
+    /* The move, a feed, cuts no deeper than the job's max_cut. */
+    CAMTOOL_TEST_CUT = 5,
+    /* On the move the holder passes what is left of the stock. */
+    CAMTOOL_TEST_HOLDER_STOCK = 6,
+    /* After the last move each column stands at most the allowance over what covers it. */
+    CAMTOOL_TEST_LEFT = 7
+};
+
+/* What is said of a program, or what is told of a text that is refused. What isn't told is 0. Moves,
+ * triangles, rows and columns are counted from 0, and lengths are in the job's unit. */
+typedef struct camtool_verdict {
+    /* One of camtool_test. */
+    int32_t test;
+    /* How much is left at most on a column of an accepted program, over what covers it. */
+    int32_t most_left;
+    /* The top of the column that is left too high. */
+    int32_t top;
+    /* The greatest height of a part that is over the job's top. */
+    int32_t height;
+    /* The triangle that the move doesn't pass. */
+    uint32_t triangle;
+    /* The row and the column of the column of stock that the move doesn't pass, or that is left too
+     * high. */
+    uint32_t row;
+    uint32_t column;
+    /* The segment of the move that is blocked: from the moment leaf / 2^depth to
+     * (leaf + 1) / 2^depth of the move. */
+    uint32_t depth;
+    uint64_t leaf;
+    /* The move that fails. */
+    uint64_t at;
+    /* How many moves an accepted program has. */
+    uint64_t moves;
+    /* How many columns the stock has, where the program is accepted. */
+    uint64_t columns;
+    /* The line of a refused text's first fault, counted from 1; each LF ends one. It is told of a
+     * part's text and of a program's. */
+    uint64_t line;
+} camtool_verdict;
+
+/* The verdict on a program for a job and a part, each by its text: a TOML document, an ASCII STL and
+ * a G-code (docs/FORMATS.md). It is the one that the command verify prints: the first test that
+ * fails, or that the program is accepted; what it says is exact. With status CAMTOOL_OK told has the
+ * verdict, which may be a rejection. The first text that is refused gives the status: the job's,
+ * the part's, which is read in the job's unit and by its snap, and then the program's, which starts
+ * at the job's home. told is written with every status. */
+int32_t camtool_verify(const uint8_t *job, size_t job_count, const uint8_t *part,
+                       size_t part_count, const uint8_t *program, size_t program_count,
+                       camtool_verdict *told);
 
 #ifdef __cplusplus
 }

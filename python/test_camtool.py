@@ -178,5 +178,64 @@ class ReadPart(unittest.TestCase):
             camtool.read_part(array.array("i", [1]))
 
 
+def said(folder, program):
+    """The verdict that the program prints, as words."""
+    files = [os.path.join(folder, name) for name in ("job.toml", "part.stl", program)]
+    return subprocess.run([PROGRAM, "verify", *files], capture_output=True, text=True).stdout.split()
+
+
+def words_of(verdict):
+    """The words of a verdict up to the lengths, as the program prints them."""
+    if verdict.accepted:
+        return ["accepted", "moves", str(verdict.moves), "columns", str(verdict.columns), "left"]
+    words = ["rejected", verdict.test] + ["move", str(verdict.move)] * (verdict.move is not None)
+    words += ["triangle", str(verdict.triangle)] * (verdict.triangle is not None)
+    words += ["row", str(verdict.row), "column", str(verdict.column)] * (verdict.row is not None)
+    if verdict.leaf is not None:
+        words += ["leaf", *map(str, verdict.leaf)]
+    return words
+
+
+class Verify(unittest.TestCase):
+    def texts(self, folder, program):
+        texts = []
+        for name in ("job.toml", "part.stl", program):
+            with open(os.path.join(ROOT, "examples", folder, name), "rb") as file:
+                texts.append(file.read())
+        return texts
+
+    def test_is_what_the_program_says(self):
+        for folder, program in (("plate", "program.ngc"), ("plate", "gouge.ngc"), ("plate", "uncut.ngc"), ("plate", "rapid.ngc"),
+                                ("plate", "floor.ngc"), ("pecks", "deep.ngc"), ("pecks", "gouge.ngc"), ("holder", "program.ngc"),
+                                ("holder", "pocket-first.ngc")):
+            verdict = camtool.verify(*self.texts(folder, program))
+            words = words_of(verdict)
+            self.assertEqual(said(os.path.join(ROOT, "examples", folder), program)[:len(words)], words, program)
+
+    def test_tells_lengths_in_units(self):
+        self.assertEqual(camtool.verify(*self.texts("plate", "uncut.ngc")), camtool.Verdict(False, "left", row=0, column=0, top=201))
+        self.assertEqual(camtool.verify(*self.texts("plate", "program.ngc")), camtool.Verdict(True, most_left=0, moves=2, columns=9))
+
+    def refused(self, error, job=None, part=None, program=None):
+        texts = [new or old for new, old in zip((job, part, program), self.texts("plate", "program.ngc"))]
+        with self.assertRaises(error) as raised:
+            camtool.verify(*texts)
+        return raised.exception
+
+    def test_names_the_first_text_that_is_refused(self):
+        job = self.texts("plate", "program.ngc")[0]
+        self.refused(camtool.JobSyntax, job=b"radius")
+        self.refused(camtool.JobUnknown, job=job + b"colour = 1\n")
+        self.refused(camtool.JobMissing, job=job.replace(b"radius = 150", b""))
+        self.refused(camtool.JobKind, job=job.replace(b"radius = 150", b"radius = true"), program=b"G2")
+        self.refused(camtool.JobRange, job=job.replace(b"radius = 150", b"radius = 0"))
+        self.refused(camtool.JobRelation, job=job.replace(b"band = 0", b"band = 151"))
+        self.assertEqual(self.refused(camtool.BadWord, part=b"solid\nface", program=b"G2").line, 2)
+        self.assertEqual(self.refused(camtool.HighPart, job=job.replace(b"top = 300", b"top = 199")).height, 200)
+        self.assertEqual(self.refused(camtool.BadProgram, program=b"G21 G90\nG2 X0\nM2\n").line, 2)
+        with self.assertRaises(camtool.BadArray):
+            camtool.verify(job, array.array("i", [1]), b"")
+
+
 if __name__ == "__main__":
     unittest.main()

@@ -29,7 +29,7 @@ def c_argument(argument):
         return []
     found = re.fullmatch(r"(&?)(mut )?(\[)?(\w+)\]?", kind)
     lent, written, many, of = found.groups()
-    of = {"i32": "int32_t", "u8": "uint8_t", "u64": "uint64_t", "usize": "size_t"}.get(of) or c_name(of)
+    of = {"i32": "int32_t", "u8": "uint8_t", "u32": "uint32_t", "u64": "uint64_t", "usize": "size_t"}.get(of) or c_name(of)
     declared = f"{of} *{name}" if lent else f"{of} {name}"
     if lent and not written:
         declared = f"const {declared}"

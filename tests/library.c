@@ -107,6 +107,10 @@ static int32_t read_part(const char *text, int32_t unit, int32_t snap, camtool_t
     "facet normal 0 0 1\nouter loop\nvertex 0 0 2\nvertex 2 0 2\nvertex 2 2.005 2\nendloop\n"       \
     "endfacet\n"
 
+#define HIGH_FACET                                                                                  \
+    "facet normal 0 0 1\nouter loop\nvertex 0 0 3.01\nvertex 2 0 2\nvertex 2 2 2\nendloop\n"       \
+    "endfacet\n"
+
 static void test_parts(void) {
     camtool_triangle one;
     camtool_reading told;
@@ -190,6 +194,55 @@ static void test_run_refusals(void) {
     refused_runs("a stretch back", CAMTOOL_FIBER, (camtool_fiber){1, 100, 100, 9, 8}, 1, 1, 0);
 }
 
+static const char JOB[] = "cutter = \"flat\"\nradius = 150\nfloor = 0\ntop = 300\nclear = 400\n"
+                          "area = [0, 0, 200, 200]\nhome = [100, 100]\npitch = 100\nsample = 50\n"
+                          "allowance = 0\nband = 0\n";
+static const char FACETS[] = "solid s\n" ONE_FACET "endsolid s\n";
+
+static int32_t verified(const char *job, const char *part, const char *program,
+                        camtool_verdict *told) {
+    memset(told, UNTOUCHED, sizeof *told);
+    return camtool_verify((const uint8_t *)job, strlen(job), (const uint8_t *)part, strlen(part),
+                          (const uint8_t *)program, strlen(program), told);
+}
+
+static void test_verdicts(void) {
+    camtool_verdict told;
+    expect("a program", CAMTOOL_OK,
+           verified(JOB, FACETS, "G21 G90\nG1 Z2\nG0 Z4\nM2\n", &told));
+    expect("its verdict", CAMTOOL_TEST_LEFT, told.test);
+    expect("its row", 1, (int32_t)told.row);
+    expect("its column", 0, (int32_t)told.column);
+    expect("its top", 200, told.top);
+    expect("a gouge", CAMTOOL_OK, verified(JOB, FACETS, "G21 G90\nG1 Z1.99\nM2\n", &told));
+    expect("its test", CAMTOOL_TEST_GOUGE, told.test);
+    expect("its move", 0, (int32_t)told.at);
+    expect("its triangle", 0, (int32_t)told.triangle);
+    expect("its depth", 8, (int32_t)told.depth);
+    expect("its leaf", 254, (int32_t)told.leaf);
+    expect("its line", 0, (int32_t)told.line);
+}
+
+static void refused_text(const char *what, int32_t status, const char *job, const char *part,
+                         const char *program, uint64_t line, int32_t height) {
+    camtool_verdict told;
+    expect(what, status, verified(job, part, program, &told));
+    expect(what, (int32_t)line, (int32_t)told.line);
+    expect(what, height, told.height);
+    expect(what, 0, told.test);
+    expect(what, 0, (int32_t)told.moves);
+}
+
+static void test_verdict_refusals(void) {
+    const char *program = "G21 G90\nM2\n", *high = "solid s\n" HIGH_FACET "endsolid s\n";
+    refused_text("no job", CAMTOOL_JOB_MISSING, "", FACETS, program, 0, 0);
+    refused_text("a job that is none", CAMTOOL_JOB_SYNTAX, "cutter", FACETS, program, 0, 0);
+    refused_text("no part", CAMTOOL_CUT_SHORT, JOB, "", program, 1, 0);
+    refused_text("a high part", CAMTOOL_PART_TOP, JOB, high, "", 0, 301);
+    refused_text("no program", CAMTOOL_PROGRAM, JOB, FACETS, "", 1, 0);
+    refused_text("an arc", CAMTOOL_PROGRAM, JOB, FACETS, "G21 G90\n\nG2 X1\nM2\n", 3, 0);
+}
+
 int main(void) {
     test_drops();
     test_nothing();
@@ -198,5 +251,7 @@ int main(void) {
     test_part_refusals();
     test_runs();
     test_run_refusals();
+    test_verdicts();
+    test_verdict_refusals();
     return failed != 0;
 }

@@ -21,10 +21,11 @@ import os
 import typing
 
 __all__ = [
-    "MAX_COORDINATE", "BadArray", "BadCoordinate", "BadCutter", "BadFiber", "BadFloor", "BadHolder", "BadPlace", "BadSnap",
-    "BadText", "BadTriangle", "BadUnit", "BadWord", "CamtoolError", "CutShort", "LongText", "NoMemory", "Part",
-    "Runs", "TooManyTriangles", "Tool", "WrongCountsRoom", "WrongRoom", "ball", "cone", "drop_heights", "flat",
-    "read_part", "runs",
+    "MAX_COORDINATE", "BadArray", "BadCoordinate", "BadCutter", "BadFiber", "BadFloor", "BadHolder", "BadJob", "BadPlace",
+    "BadProgram", "BadSnap", "BadText", "BadTriangle", "BadUnit", "BadWord", "CamtoolError", "CutShort", "HighPart",
+    "JobKind", "JobMissing", "JobRange", "JobRelation", "JobSyntax", "JobUnknown", "LongText", "NoMemory", "Part",
+    "Runs", "TooManyTriangles", "Tool", "Verdict", "WrongCountsRoom", "WrongRoom", "ball", "cone", "drop_heights", "flat",
+    "read_part", "runs", "verify",
 ]
 
 # The greatest magnitude of a coordinate, and of a floor.
@@ -102,7 +103,7 @@ class BadSnap(CamtoolError, ValueError):
 
 
 class BadText(CamtoolError, ValueError):
-    """A part's text is refused. `line` is that of its first fault, counted from 1."""
+    """A part's or a program's text is refused. `line` is that of its first fault, counted from 1."""
 
     line = None
 
@@ -143,9 +144,63 @@ class WrongCountsRoom(CamtoolError, ValueError):
     status = 16
 
 
+class BadJob(CamtoolError, ValueError):
+    """A job's text is refused."""
+
+
+class JobSyntax(BadJob):
+    """A job's text is no TOML document, or isn't UTF-8."""
+
+    status = 17
+
+
+class JobUnknown(BadJob):
+    """A job's text has a key that no job has."""
+
+    status = 18
+
+
+class JobMissing(BadJob):
+    """A job's text lacks a key."""
+
+    status = 19
+
+
+class JobKind(BadJob):
+    """The value at a key of a job's text is of another type."""
+
+    status = 20
+
+
+class JobRange(BadJob):
+    """The value at a key of a job's text is out of its range."""
+
+    status = 21
+
+
+class JobRelation(BadJob):
+    """The values at two keys of a job's text don't fit together."""
+
+    status = 22
+
+
+class HighPart(CamtoolError, ValueError):
+    """The part's greatest height is over the job's top. `height` is that height, in the job's unit."""
+
+    status = 23
+    height = None
+
+
+class BadProgram(BadText):
+    """A program's text is refused."""
+
+    status = 24
+
+
 _ERRORS = {error.status: error for error in (
     NoMemory, BadCutter, BadHolder, BadTriangle, TooManyTriangles, BadPlace, BadFloor, WrongRoom, BadUnit, BadSnap,
-    BadWord, BadCoordinate, LongText, CutShort, BadFiber, WrongCountsRoom)}
+    BadWord, BadCoordinate, LongText, CutShort, BadFiber, WrongCountsRoom, JobSyntax, JobUnknown, JobMissing, JobKind,
+    JobRange, JobRelation, HighPart, BadProgram)}
 
 
 class _Triangle(ctypes.Structure):
@@ -171,6 +226,43 @@ class _Fiber(ctypes.Structure):
 
 class _Run(ctypes.Structure):
     _fields_ = [("first", ctypes.c_int32), ("last", ctypes.c_int32)]
+
+
+class _Verdict(ctypes.Structure):
+    _fields_ = [(name, ctypes.c_int32) for name in ("test", "most_left", "top", "height")] + [
+        (name, ctypes.c_uint32) for name in ("triangle", "row", "column", "depth")] + [
+        (name, ctypes.c_uint64) for name in ("leaf", "at", "moves", "columns", "line")]
+
+
+class Verdict(typing.NamedTuple):
+    """What is said of a program. What isn't told is None. Moves, triangles, rows and columns are counted from 0, and
+    lengths are in the job's unit.
+
+    accepted   whether every test passes
+    test       the first test that fails: "floor", "gouge", "holder", "rapid", "cut" or "holder-stock" of a move, or
+               "left" after the last one
+    move       the move that fails
+    triangle   the triangle that it doesn't pass
+    row        the row of the column of stock that it doesn't pass, or that is left too high
+    column     its column
+    leaf       a pair (d, k): the segment of the move that is blocked, from the moment k / 2^d to (k + 1) / 2^d
+    top        the top of the column that is left too high
+    most_left  how much is left at most on a column of an accepted program, over what covers it
+    moves      how many moves an accepted program has
+    columns    how many columns the stock has, where the program is accepted
+    """
+
+    accepted: bool
+    test: typing.Optional[str] = None
+    move: typing.Optional[int] = None
+    triangle: typing.Optional[int] = None
+    row: typing.Optional[int] = None
+    column: typing.Optional[int] = None
+    leaf: typing.Optional[tuple] = None
+    top: typing.Optional[int] = None
+    most_left: typing.Optional[int] = None
+    moves: typing.Optional[int] = None
+    columns: typing.Optional[int] = None
 
 
 class Runs(typing.NamedTuple):
@@ -232,14 +324,7 @@ def read_part(text, unit=2, snap=0):
     It returns a Part; its triangles are an array.array('i') of 9 numbers for each, in the order of the
     text: x, y and z of each corner.
     """
-    view = memoryview(text)
-    if view.itemsize != 1 or not view.c_contiguous:
-        raise BadArray("text: no bytes in a row")
-    count = view.nbytes
-    if count == 0:
-        letters = (ctypes.c_uint8 * 1)()
-    else:
-        letters = ((ctypes.c_uint8 * count).from_buffer_copy if view.readonly else (ctypes.c_uint8 * count).from_buffer)(view)
+    letters, count = _letters("text", text)
     numbers, told = (_number(unit, BadUnit), _number(snap, BadSnap)), _Reading()
     # The first call finds the count: it has no room for any triangle. It is the whole of a part of none.
     status = _library.camtool_read_part(letters, count, *numbers, (_Triangle * 1)(), 0, told)
@@ -302,6 +387,49 @@ def runs(triangles, tool, fibers):
         status = called((_Run * told.value).from_buffer(found), told.value)
     _tell(status)
     return Runs(counts, found)
+
+
+def verify(job, part, program):
+    """The verdict on a program for a job and a part, each by its text, as the command verify prints it: the first
+    test that fails, or that the program is accepted, exactly.
+
+    job      bytes, or another array of bytes: a TOML document
+    part     the same: an ASCII STL, which is read in the job's unit and by its snap
+    program  the same: a G-code, which starts at the job's home
+
+    It returns a Verdict. Where a text is refused, an exception says why: that of the first one, in this order.
+    """
+    told = _Verdict()
+    texts = [given for name, text in (("job", job), ("part", part), ("program", program)) for given in _letters(name, text)]
+    status = _library.camtool_verify(*texts, told)
+    if status == HighPart.status:
+        raised = HighPart(HighPart.__doc__)
+        raised.height = told.height
+        raise raised
+    _tell(status, told.line or None)
+    if told.test == 0:
+        return Verdict(True, most_left=told.most_left, moves=told.moves, columns=told.columns)
+    test = ("floor", "gouge", "holder", "rapid", "cut", "holder-stock", "left")[told.test - 1]
+    if test == "left":
+        return Verdict(False, test, row=told.row, column=told.column, top=told.top)
+    if test == "floor":
+        return Verdict(False, test, told.at)
+    leaf = told.depth, told.leaf
+    if test in ("gouge", "holder"):
+        return Verdict(False, test, told.at, triangle=told.triangle, leaf=leaf)
+    return Verdict(False, test, told.at, row=told.row, column=told.column, leaf=leaf)
+
+
+def _letters(name, text):
+    """An array of C's bytes, of at least one, and how many were given."""
+    view = memoryview(text)
+    if view.itemsize != 1 or not view.c_contiguous:
+        raise BadArray(f"{name}: no bytes in a row")
+    count = view.nbytes
+    if count == 0:
+        return (ctypes.c_uint8 * 1)(), 0
+    kinds = ctypes.c_uint8 * count
+    return (kinds.from_buffer_copy if view.readonly else kinds.from_buffer)(view), count
 
 
 def _tell(status, line=None):
@@ -394,6 +522,8 @@ def _loaded():
     library.camtool_runs.argtypes = [
         ctypes.POINTER(_Triangle), size, ctypes.POINTER(_Tool), ctypes.POINTER(_Fiber), size,
         ctypes.POINTER(ctypes.c_uint64), size, ctypes.POINTER(_Run), size, ctypes.POINTER(ctypes.c_uint64)]
+    library.camtool_verify.restype = number
+    library.camtool_verify.argtypes = [ctypes.POINTER(ctypes.c_uint8), size] * 3 + [ctypes.POINTER(_Verdict)]
     return library
 
 

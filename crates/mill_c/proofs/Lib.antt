@@ -1,3 +1,4 @@
 pub mod Fibers
 pub mod Parts
+pub mod Setups
 pub mod Written

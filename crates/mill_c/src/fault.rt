@@ -38,6 +38,22 @@ pub enum Fault {
     Fiber,
     /// The array for the counts is not as long as the fibers are many.
     CountsRoom,
+    /// A job's text is no TOML document, or isn't UTF-8.
+    JobSyntax,
+    /// A job's text has a key that no job has.
+    JobUnknown,
+    /// A job's text lacks a key.
+    JobMissing,
+    /// The value at a key of a job's text is of another type.
+    JobKind,
+    /// The value at a key of a job's text is out of its range.
+    JobRange,
+    /// The values at two keys of a job's text don't fit together.
+    JobRelation,
+    /// The part's greatest height is over the job's top.
+    PartTop,
+    /// A program's text is refused.
+    Program,
 }
 
 impl Fault {
@@ -66,6 +82,14 @@ impl Fault {
             Fault::CutShort => 14,
             Fault::Fiber => 15,
             Fault::CountsRoom => 16,
+            Fault::JobSyntax => 17,
+            Fault::JobUnknown => 18,
+            Fault::JobMissing => 19,
+            Fault::JobKind => 20,
+            Fault::JobRange => 21,
+            Fault::JobRelation => 22,
+            Fault::PartTop => 23,
+            Fault::Program => 24,
         }
     }
 }

@@ -17,11 +17,14 @@ mod fault;
 mod part;
 mod raw;
 mod runs;
+mod setup;
 mod text;
 mod tool;
+mod verify;
 
 pub use drop::camtool_drop_heights;
 pub use fault::Fault;
-pub use raw::{RawFiber, RawPlace, RawPoint, RawReading, RawRun, RawTool, RawTriangle};
+pub use raw::{RawFiber, RawPlace, RawPoint, RawReading, RawRun, RawTool, RawTriangle, RawVerdict};
 pub use runs::camtool_runs;
 pub use text::camtool_read_part;
+pub use verify::camtool_verify;

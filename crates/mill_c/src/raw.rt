@@ -78,3 +78,39 @@ pub struct RawRun {
     pub first: i32,
     pub last: i32,
 }
+
+/// What is said of a program, in numbers, or what is told of a text that is refused. What isn't told is 0.
+/// Moves, triangles, rows and columns are counted from 0, and lengths are in the job's unit.
+#[repr(C)]
+#[derive(Clone, Copy, Debug, PartialEq, Eq)]
+pub struct RawVerdict {
+    /// The first test that fails; 0 where none does, and the program is accepted. Of a move: 1 that it
+    /// stays over the floor, 2 that the cutter passes the part, 3 that the holder does, 4 that a rapid
+    /// passes the stock, 5 that a feed cuts no deeper than it may, 6 that the holder passes the stock; 7
+    /// that after the last move no column is left too high.
+    pub test: i32,
+    /// How much is left at most on a column of an accepted program, over what covers it.
+    pub most_left: i32,
+    /// The top of the column that is left too high.
+    pub top: i32,
+    /// The greatest height of a part that is over the job's top.
+    pub height: i32,
+    /// The triangle that the move doesn't pass.
+    pub triangle: u32,
+    /// The row of the column that the move doesn't pass, or that is left too high.
+    pub row: u32,
+    /// Its column.
+    pub column: u32,
+    /// The segment of the move that is blocked, as `leaf` says.
+    pub depth: u32,
+    /// The segment goes from the moment leaf / 2^depth to (leaf + 1) / 2^depth of the move.
+    pub leaf: u64,
+    /// The move that fails.
+    pub at: u64,
+    /// How many moves an accepted program has.
+    pub moves: u64,
+    /// How many columns the stock has, where the program is accepted.
+    pub columns: u64,
+    /// The line of a refused text's first fault, counted from 1; each LF ends one.
+    pub line: u64,
+}

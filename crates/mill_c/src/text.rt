@@ -97,8 +97,8 @@ fn snap_from(number: i32) -> Option<Snap>
     }
 }
 
-/// The fault of a part's text, as the call tells it.
-fn fault_from(fault: StlFault) -> Fault
+/// The fault of a part's text, as a call tells it.
+pub fn fault_from(fault: StlFault) -> Fault
     ensures { result ≡ fault_of fault }
 {
     match fault {
@@ -111,7 +111,7 @@ fn fault_from(fault: StlFault) -> Fault
 }
 
 /// The line of that fault; 0 for want of memory.
-fn line_from(fault: StlFault) -> u64
+pub fn line_from(fault: StlFault) -> u64
     ensures { result ≡ line_of fault }
 {
     match fault {
