@@ -1,10 +1,11 @@
 ghost use Rattle.mill_dexel.specs.Rows.{IsRowOf};
 ghost use Rattle.mill_job.specs.Jobs.{IsJob};
 
-use crate::tables::{barred, first_word, halves, job, step, told_stop};
+use crate::tables::{add, barred, first_word, halves, job, kind, step, told_stop};
 use mill_base::Kind;
 use mill_dexel::Row;
 use mill_job::Job;
+use mill_sweep::Leaf;
 use std::alloc::Global;
 use std::process::Abort;
 use std::test::Fail;
@@ -20,25 +21,32 @@ fn told_tops(alloc: Global, tops: &[i32]) -> Result<String, Fail> {
     }
 }
 
-/// Does one act on a row: a cut, which tells the tops then, or the test of a rapid, of a feed or of a
-/// holder, which tells the column that fails.
+/// Where the test of a rapid, of a feed or of a holder fails over a row.
+fn stop(job: &Job, row: &Row, word: &str, ends: &str) -> Result<Option<(u32, Leaf)>, Fail>
+    requires job { IsJob job.now }
+    requires row { IsRowOf job.now row.now }
+{
+    let along = step(kind(word), ends)?;
+    match word {
+        "rapid" => Ok(row.rapid_turn(job, &along)),
+        "feed" => Ok(row.cut_test(job, &along)),
+        "hold" => Ok(row.holder_test(job, &along)),
+        _ => Err(Fail::from("no such act")),
+    }
+}
+
+/// Does one act on a row: a cut, which tells the tops then, or a test, which tells the column that fails.
 fn act(alloc: Global, job: &Job, row: &mut Row, text: &str) -> Result<String, Fail>
     requires job { IsJob job.now }
     requires row { IsRowOf job.now row.old }
     ensures { IsRowOf job.now row.new }
 {
     let (word, ends) = first_word(text)?;
-    let along = step(Kind::Feed, ends)?;
-    match word {
-        "cut" => {
-            row.cut_turn(job, &along);
-            told_tops(alloc, row.tops())
-        }
-        "rapid" => told_stop(alloc, row.rapid_turn(job, &step(Kind::Rapid, ends)?)),
-        "feed" => told_stop(alloc, row.cut_test(job, &along)),
-        "hold" => told_stop(alloc, row.holder_test(job, &along)),
-        _ => Err(Fail::from("no such act")),
+    if word == "cut" {
+        row.cut_turn(job, &step(Kind::Feed, ends)?);
+        return told_tops(alloc, row.tops());
     }
+    told_stop(alloc, stop(job, row, word, ends)?)
 }
 
 /// Does several acts on a row.
@@ -48,16 +56,13 @@ fn told_acts(alloc: Global, job: &Job, row: &mut Row, acts: &str) -> Result<Stri
 {
     let mut told = String::new(alloc);
     for text in acts.split("; ") {
-        if !told.is_empty() {
-            told.push_str("; ")?;
-        }
-        told.push_str(&act(alloc, job, row, text)?)?;
+        add(&mut told, &act(alloc, job, row, text)?)?;
     }
     Ok(told)
 }
 
 /// Does the acts on a row of an uncut stock.
-fn told_of(alloc: Global, job: &Job, number: u64, acts: &str) -> Result<String, Fail>
+fn told_uncut(alloc: Global, job: &Job, number: u64, acts: &str) -> Result<String, Fail>
     requires { IsJob job.now }
 {
     if number >= u64::from(job.rows()) {
@@ -67,24 +72,29 @@ fn told_of(alloc: Global, job: &Job, number: u64, acts: &str) -> Result<String, 
     told_acts(alloc, job, &mut row, acts)
 }
 
-/// Does the acts of each table's row on a row of an uncut stock, whose job has these keys and those
-/// before the bar.
+/// Does the acts of a text on a row of an uncut stock, whose job has these keys and those before the bar.
+fn told_of(alloc: Global, keys: &str, number: u64, text: &str) -> Result<String, Fail> {
+    let (more, acts) = barred(text);
+    let job = job(alloc, keys, more)?;
+    told_uncut(alloc, &job, number, acts)
+}
+
+fn look<R: Abort + AllocGlobal>(rt: &R, keys: &str, number: u64, row: &str) -> Result<(), Fail> {
+    let (text, wanted) = halves(row)?;
+    let told = told_of(rt.alloc(), keys, number, text)?;
+    assert_eq!(rt; told.as_str(), wanted, "{row}");
+    Ok(())
+}
+
+/// Looks at what the acts of each of the table's rows come to.
 fn each_row<R: Abort + AllocGlobal>(
     rt: &R,
     keys: &str,
     number: u64,
     table: &str,
 ) -> Result<(), Fail> {
-    let alloc = rt.alloc();
-    for text in table.lines() {
-        let (before, wanted) = halves(text)?;
-        let (more, acts) = barred(before);
-        let job = job(alloc, keys, more)?;
-        assert_eq!(rt;
-            told_of(alloc, &job, number, acts)?.as_str(),
-            wanted,
-            "{text}"
-        );
+    for row in table.lines() {
+        look(rt, keys, number, row)?;
     }
     Ok(())
 }

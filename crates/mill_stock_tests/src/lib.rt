@@ -1,4 +1,4 @@
-//! The tests of the crates on the stock, its surface and the verdict, by their public calls.
+//! The tests of the crates on the stock and its surface, by their public calls.
 //!
 //! They stand apart, since a crate with tests of its own is proved twice, with them and without.
 #![tactic(auto)]
@@ -9,5 +9,3 @@ mod dexel;
 mod surface;
 #[cfg(test)]
 mod tables;
-#[cfg(test)]
-mod verify;

@@ -5,12 +5,13 @@ ghost use Rattle.mill_job.specs.Jobs.{IsJob};
 ghost use Rattle.mill_dexel.specs.Rows.{IsRowOf};
 ghost use Rattle.mill_dexel.specs.Stocks.{IsStock};
 
-use crate::tables::{barred, halves, job, step};
-use mill_base::{Kind, Move, Pt3, Tri};
+use crate::tables::{add, barred, halves, job, step};
+use mill_base::{Kind, Move, Tri};
 use mill_dexel::{Row, cut_rows, uncut_rows};
 use mill_job::Job;
 use mill_surface::{SurfaceFault, surface};
 use std::alloc::Global;
+use std::process::Abort;
 use std::test::Fail;
 
 /// The surface of an uncut stock after a move.
@@ -32,30 +33,17 @@ fn cut_surface(
 /// A triangle by its corners.
 fn told_tri(alloc: Global, tri: &Tri) -> Result<String, Fail> {
     let Tri { a, b, c } = tri;
-    let (a, b, c) = (
-        told_point(alloc, a)?,
-        told_point(alloc, b)?,
-        told_point(alloc, c)?,
-    );
-    Ok(format!(in alloc; "{a}, {b}, {c}")?)
+    Ok(format!(in alloc;
+        "{} {} {}, {} {} {}, {} {} {}",
+        a.x, a.y, a.z, b.x, b.y, b.z, c.x, c.y, c.z
+    )?)
 }
 
-fn told_point(alloc: Global, point: &Pt3) -> Result<String, Fail> {
-    let Pt3 { x, y, z } = point;
-    Ok(format!(in alloc; "{x} {y} {z}")?)
-}
-
-/// Up to eight triangles, or the number of more.
-fn told(alloc: Global, tris: &[Tri]) -> Result<String, Fail> {
-    if tris.len() > 8 {
-        return Ok(format!(in alloc; "{} triangles", tris.len())?);
-    }
+/// Triangles by their corners, or `none`.
+fn told_tris(alloc: Global, tris: &[Tri]) -> Result<String, Fail> {
     let mut told = String::new(alloc);
     for tri in tris {
-        if !told.is_empty() {
-            told.push_str("; ")?;
-        }
-        told.push_str(&told_tri(alloc, tri)?)?;
+        add(&mut told, &told_tri(alloc, tri)?)?;
     }
     if told.is_empty() {
         told.push_str("none")?;
@@ -63,14 +51,40 @@ fn told(alloc: Global, tris: &[Tri]) -> Result<String, Fail> {
     Ok(told)
 }
 
-/// What the surface of a stock, whose job has these keys too, comes to after a feed.
-fn told_of(alloc: Global, more: &str, ends: &str) -> Result<String, Fail> {
-    let job = job(alloc, KEYS, more)?;
-    let mut rows = uncut_rows(alloc, &job)?;
-    match cut_surface(alloc, &job, &mut rows, &step(Kind::Feed, ends)?) {
+/// Up to eight triangles, or the number of more.
+fn told(alloc: Global, tris: &[Tri]) -> Result<String, Fail> {
+    if tris.len() > 8 {
+        return Ok(format!(in alloc; "{} triangles", tris.len())?);
+    }
+    told_tris(alloc, tris)
+}
+
+/// What the surface of an uncut stock comes to after a move.
+fn told_cut(alloc: Global, job: &Job, step: &Move) -> Result<String, Fail>
+    requires job { IsJob job.now }
+    requires step { MoveInRange step.now }
+{
+    let mut rows = uncut_rows(alloc, job)?;
+    match cut_surface(alloc, job, &mut rows, step) {
         Ok(tris) => told(alloc, &tris),
         Err(fault) => Ok(format!(in alloc; "{fault:?}")?),
     }
+}
+
+/// What the surface of a stock comes to after a feed to the end that a text names; its job has the keys
+/// before the bar, too.
+fn told_of(alloc: Global, text: &str) -> Result<String, Fail> {
+    let (more, ends) = barred(text);
+    let along = step(Kind::Feed, ends)?;
+    let job = job(alloc, KEYS, more)?;
+    told_cut(alloc, &job, &along)
+}
+
+fn look<R: Abort + AllocGlobal>(rt: &R, row: &str) -> Result<(), Fail> {
+    let (text, wanted) = halves(row)?;
+    let told = told_of(rt.alloc(), text)?;
+    assert_eq!(rt; told.as_str(), wanted, "{row}");
+    Ok(())
 }
 
 /// A stock from 0 to 300 in height.
@@ -98,9 +112,7 @@ area = [0, 0, 400, 250]; pitch = 1 | 0 0 down to 200 => 200000 triangles";
 #[test]
 fn surfaces(rt: HostRuntime) -> Result<(), Fail> {
     for row in SURFACES.lines() {
-        let (before, wanted) = halves(row)?;
-        let (more, ends) = barred(before);
-        assert_eq!(rt; told_of(rt.alloc(), more, ends)?.as_str(), wanted, "{row}");
+        look(&rt, row)?;
     }
     Ok(())
 }

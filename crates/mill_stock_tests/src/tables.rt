@@ -1,8 +1,11 @@
 //! Tables of cases, a case a row, and what stands in their rows: jobs and moves. A table is one text, so
 //! that a test's proof costs the same however many rows there are.
+//!
+//! A row is looked at by a function of its own, and functions with a loop do nothing else: the proof of
+//! a test costs the more, the more values are alive beside a loop and a `?`.
 ghost use Rattle.std.specs.Prelude.{IfOk, IsTrue};
 ghost use Rattle.mill_base.specs.Numbers.{Within};
-ghost use Rattle.mill_base.specs.Ranges.{IsInRange, MoveInRange};
+ghost use Rattle.mill_base.specs.Ranges.{IsInRange, MoveInRange, MovesInRange};
 ghost use Rattle.mill_base.specs.declared.limits.TheConstants.{MAX_COORDINATE};
 ghost use Rattle.mill_job.specs.Jobs.{IsJob};
 
@@ -90,24 +93,55 @@ fn fits(point: Pt3) -> bool
         && point.z.unsigned_abs() <= most
 }
 
-/// Whether calls take the move.
-pub(crate) fn step_fits(step: &Move) -> bool
+fn step_fits(step: &Move) -> bool
     ensures { IsTrue result → MoveInRange step.now }
 {
     fits(step.from) && fits(step.to)
 }
 
-/// A move by its kind and its ends.
-pub(crate) fn any_step(text: &str) -> Result<Move, Fail>
-    ensures { IfOk result (λ step. MoveInRange step) }
-{
-    let (kind, ends) = first_word(text)?;
-    let kind = if kind == "rapid" {
+/// A rapid by its word; any other is a feed.
+pub(crate) fn kind(word: &str) -> Kind {
+    if word == "rapid" {
         Kind::Rapid
     } else {
         Kind::Feed
-    };
-    step(kind, ends)
+    }
+}
+
+/// A move by its kind and its ends.
+fn any_step(text: &str) -> Result<Move, Fail>
+    ensures { IfOk result (λ step. MoveInRange step) }
+{
+    let (word, ends) = first_word(text)?;
+    step(kind(word), ends)
+}
+
+fn all_steps(alloc: Global, text: &str) -> Result<Vec<Move>, Fail> {
+    let mut moves = Vec::new(alloc);
+    for each in text.split("; ") {
+        moves.push(any_step(each)?)?;
+    }
+    Ok(moves)
+}
+
+/// The moves of a program, with a semicolon between them.
+pub(crate) fn moves_of(alloc: Global, text: &str) -> Result<Vec<Move>, Fail>
+    ensures { IfOk result (λ moves. MovesInRange moves.items) }
+{
+    let moves = all_steps(alloc, text)?;
+    if !moves.iter().all(step_fits) {
+        return Err(Fail::from("out of range"));
+    }
+    Ok(moves)
+}
+
+/// Adds to what is told, with a semicolon between the one and the other.
+pub(crate) fn add(told: &mut String, more: &str) -> Result<(), Fail> {
+    if !told.is_empty() {
+        told.push_str("; ")?;
+    }
+    told.push_str(more)?;
+    Ok(())
 }
 
 /// A column and the part of a move at which it stops the move.

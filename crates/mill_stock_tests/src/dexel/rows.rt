@@ -1,11 +1,11 @@
-ghost use Rattle.std.specs.Prelude.{◌≡◌, ◌<◌, ◌≤◌, length, IfOk, None};
+ghost use Rattle.std.specs.Prelude.{◌≡◌, ◌<◌, ◌≤◌, IfOk, None};
 ghost use Rattle.mill_base.specs.Ranges.{MovesInRange};
 ghost use Rattle.mill_job.specs.Jobs.{IsJob};
 ghost use Rattle.mill_job.specs.Columns.{row_count};
 ghost use Rattle.mill_dexel.specs.Rows.{IsRowOf};
 
 use super::THREE_COLUMNS;
-use crate::tables::{any_step, barred, first_word, halves, job, step_fits, told_stop};
+use crate::tables::{add, barred, first_word, halves, job, moves_of, told_stop};
 use mill_base::Move;
 use mill_dexel::{Bands, Row, rows_static, uncut_rows};
 use mill_job::Job;
@@ -13,20 +13,6 @@ use std::alloc::Global;
 use std::process::Abort;
 use std::test::Fail;
 use std::thread::Threads;
-
-/// The moves of a program, with a semicolon between them.
-fn moves_of(alloc: Global, text: &str) -> Result<Vec<Move>, Fail>
-    ensures { IfOk result (λ moves. MovesInRange moves.items) }
-{
-    let mut moves = Vec::new(alloc);
-    for each in text.split("; ") {
-        moves.push(any_step(each)?)?;
-    }
-    if !moves.iter().all(step_fits) {
-        return Err(Fail::from("out of range"));
-    }
-    Ok(moves)
-}
 
 /// A row by its tops, the number of its moves, and what stopped it.
 fn told_row(alloc: Global, row: &Row) -> Result<String, Fail> {
@@ -37,6 +23,14 @@ fn told_row(alloc: Global, row: &Row) -> Result<String, Fail> {
     let place = told_stop(alloc, Some((stop.col, stop.leaf)))?;
     let (at, test) = (stop.at, stop.test);
     Ok(format!(in alloc; "{tops:?} after {done}, {test:?} in {at} by {place}")?)
+}
+
+fn told_rows(alloc: Global, rows: &[Row]) -> Result<String, Fail> {
+    let mut told = String::new(alloc);
+    for row in rows {
+        add(&mut told, &told_row(alloc, row)?)?;
+    }
+    Ok(told)
 }
 
 /// All rows after a program, by so many workers; a second time changes nothing.
@@ -55,14 +49,7 @@ fn told_by_workers<R: Threads + Sync>(
     let rows = uncut_rows(alloc, job)?;
     let rows = rows_static(rt, job, rows, moves, workers);
     let rows = rows_static(rt, job, rows, moves, workers);
-    let mut told = String::new(alloc);
-    for row in &rows {
-        if !told.is_empty() {
-            told.push_str("; ")?;
-        }
-        told.push_str(&told_row(alloc, row)?)?;
-    }
-    Ok(told)
+    told_rows(alloc, &rows)
 }
 
 /// Lets a row go on from move 0 by `turn`, to the end or to the first move that fails.
@@ -114,57 +101,98 @@ fn told_alone(
     Ok((told_row(alloc, &row)?, told_row(alloc, &other)?))
 }
 
-/// Looks at what rows come to, by one worker, by four, by 64, and each by itself.
-fn look<R: Threads + Sync + Abort>(
+fn look_by_workers<R: Threads + Sync + Abort + AllocGlobal>(
     rt: &R,
-    alloc: Global,
+    job: &Job,
+    moves: &[Move],
+    workers: u32,
+    wanted: &str,
+) -> Result<(), Fail>
+    requires job { IsJob job.now }
+    requires moves_ok { MovesInRange moves.now }
+    requires some { 1 ≤ workers }
+    requires few { workers ≤ 64 }
+{
+    let told = told_by_workers(rt, rt.alloc(), job, moves, workers)?;
+    assert_eq!(rt; told.as_str(), wanted, "by {workers}");
+    Ok(())
+}
+
+fn look_at_row<R: Abort + AllocGlobal>(
+    rt: &R,
+    job: &Job,
+    moves: &[Move],
+    number: u64,
+    wanted: &str,
+) -> Result<(), Fail>
+    requires job { IsJob job.now }
+    requires moves_ok { MovesInRange moves.now }
+    requires row { number < row_count job.now }
+{
+    let (turned, turned_on) = told_alone(rt.alloc(), job, moves, number)?;
+    assert_eq!(rt;
+        (turned.as_str(), turned_on.as_str()),
+        (wanted, wanted),
+        "row {number}"
+    );
+    Ok(())
+}
+
+/// Looks at what each row comes to by itself.
+fn look_at_each_row<R: Abort + AllocGlobal>(
+    rt: &R,
     job: &Job,
     moves: &[Move],
     wanted: &str,
-    text: &str,
 ) -> Result<(), Fail>
     requires job { IsJob job.now }
     requires moves_ok { MovesInRange moves.now }
 {
-    assert_eq!(rt;
-        told_by_workers(rt, alloc, job, moves, 1)?.as_str(),
-        wanted,
-        "{text}"
-    );
-    assert_eq!(rt;
-        told_by_workers(rt, alloc, job, moves, 4)?.as_str(),
-        wanted,
-        "{text}"
-    );
-    assert_eq!(rt;
-        told_by_workers(rt, alloc, job, moves, 64)?.as_str(),
-        wanted,
-        "{text}"
-    );
     let mut rest = wanted.split("; ");
     for number in 0..u64::from(job.rows()) {
         let row = rest.next().ok_or("too few rows")?;
-        let (turned, turned_on) = told_alone(alloc, job, moves, number)?;
-        assert_eq!(rt; turned.as_str(), row, "row {number}: {text}");
-        assert_eq!(rt; turned_on.as_str(), row, "row {number}: {text}");
+        look_at_row(rt, job, moves, number, row)?;
     }
     Ok(())
 }
 
-/// Runs the program of each table's row over an uncut stock, whose job has these keys and those before
-/// the bar.
+/// Looks at what rows come to, by one worker, by four, by 64, and each by itself.
+fn look_at_rows<R: Threads + Sync + Abort + AllocGlobal>(
+    rt: &R,
+    job: &Job,
+    moves: &[Move],
+    wanted: &str,
+) -> Result<(), Fail>
+    requires job { IsJob job.now }
+    requires moves_ok { MovesInRange moves.now }
+{
+    look_by_workers(rt, job, moves, 1, wanted)?;
+    look_by_workers(rt, job, moves, 4, wanted)?;
+    look_by_workers(rt, job, moves, 64, wanted)?;
+    look_at_each_row(rt, job, moves, wanted)
+}
+
+/// Runs the program of a table's row over an uncut stock, whose job has these keys and those before the
+/// bar.
+fn look<R: Threads + Sync + Abort + AllocGlobal>(
+    rt: &R,
+    keys: &str,
+    row: &str,
+) -> Result<(), Fail> {
+    let (text, wanted) = halves(row)?;
+    let (more, program) = barred(text);
+    let job = job(rt.alloc(), keys, more)?;
+    let moves = moves_of(rt.alloc(), program)?;
+    look_at_rows(rt, &job, &moves, wanted)
+}
+
 fn each_program<R: Threads + Sync + Abort + AllocGlobal>(
     rt: &R,
     keys: &str,
     table: &str,
 ) -> Result<(), Fail> {
-    let alloc = rt.alloc();
-    for text in table.lines() {
-        let (before, wanted) = halves(text)?;
-        let (more, program) = barred(before);
-        let job = job(alloc, keys, more)?;
-        let moves = moves_of(alloc, program)?;
-        look(rt, alloc, &job, &moves, wanted, text)?;
+    for row in table.lines() {
+        look(rt, keys, row)?;
     }
     Ok(())
 }
@@ -193,19 +221,57 @@ fn runs_over_three_columns(rt: HostRuntime) -> Result<(), Fail> {
     each_program(&rt, THREE_COLUMNS, OVER_THREE_COLUMNS)
 }
 
-/// The last row after a program, taken again before the first move of a second one, and after that.
+/// The last row after a program.
+fn last_row(alloc: Global, job: &Job, moves: &[Move]) -> Result<Row, Fail>
+    requires job { IsJob job.now }
+    requires moves_ok { MovesInRange moves.now }
+    ensures { IfOk result (IsRowOf job.now) }
+{
+    let mut row = Row::new(alloc, job, u64::from(job.rows() - 1))?;
+    turned_on(&mut row, job, moves);
+    Ok(row)
+}
+
+/// The row taken again, before the first move of a program, and after that.
+fn told_again(alloc: Global, job: &Job, row: &Row, moves: &[Move]) -> Result<String, Fail>
+    requires job { IsJob job.now }
+    requires row { IsRowOf job.now row.now }
+    requires moves_ok { MovesInRange moves.now }
+{
+    let mut again = row.again(alloc)?;
+    let mut told = told_row(alloc, &again)?;
+    turned_on(&mut again, job, moves);
+    add(&mut told, &told_row(alloc, &again)?)?;
+    Ok(told)
+}
+
+/// The last row after a program, and what it comes to after a second one.
 fn told_in_turn(alloc: Global, job: &Job, first: &[Move], second: &[Move]) -> Result<String, Fail>
     requires job { IsJob job.now }
     requires first_ok { MovesInRange first.now }
     requires second_ok { MovesInRange second.now }
 {
-    let mut row = Row::new(alloc, job, u64::from(job.rows() - 1))?;
-    turned_on(&mut row, job, first);
-    let mut again = row.again(alloc)?;
-    let taken = told_row(alloc, &again)?;
-    turned_on(&mut again, job, second);
-    let (before, after) = (told_row(alloc, &row)?, told_row(alloc, &again)?);
-    Ok(format!(in alloc; "{before}; {taken}; {after}")?)
+    let row = last_row(alloc, job, first)?;
+    let mut told = told_row(alloc, &row)?;
+    add(&mut told, &told_again(alloc, job, &row, second)?)?;
+    Ok(told)
+}
+
+fn told_of_two(alloc: Global, job: &Job, programs: &str) -> Result<String, Fail>
+    requires { IsJob job.now }
+{
+    let (first, second) = barred(programs);
+    let (first, second) = (moves_of(alloc, first)?, moves_of(alloc, second)?);
+    told_in_turn(alloc, job, &first, &second)
+}
+
+fn look_at_two<R: Abort + AllocGlobal>(rt: &R, job: &Job, row: &str) -> Result<(), Fail>
+    requires { IsJob job.now }
+{
+    let (programs, wanted) = halves(row)?;
+    let told = told_of_two(rt.alloc(), job, programs)?;
+    assert_eq!(rt; told.as_str(), wanted, "{row}");
+    Ok(())
 }
 
 // A feed may cut 50 deep. The second program cuts what the first one left, also where that one failed, and
@@ -221,17 +287,9 @@ feed 0 0 down to 250 | feed 0 0 down to 200; feed 0 0 down to 149; feed 200 0 do
 
 #[test]
 fn goes_through_a_program_again(rt: HostRuntime) -> Result<(), Fail> {
-    let alloc = rt.alloc();
-    let job = job(alloc, THREE_COLUMNS, "max_cut = 50")?;
-    for text in PROGRAMS_IN_TURN.lines() {
-        let (programs, wanted) = halves(text)?;
-        let (first, second) = barred(programs);
-        let (first, second) = (moves_of(alloc, first)?, moves_of(alloc, second)?);
-        assert_eq!(rt;
-            told_in_turn(alloc, &job, &first, &second)?.as_str(),
-            wanted,
-            "{text}"
-        );
+    let job = job(rt.alloc(), THREE_COLUMNS, "max_cut = 50")?;
+    for row in PROGRAMS_IN_TURN.lines() {
+        look_at_two(&rt, &job, row)?;
     }
     Ok(())
 }
@@ -254,19 +312,17 @@ fn runs_over_five_rows(rt: HostRuntime) -> Result<(), Fail> {
 }
 
 /// Moves along y = 0, 150 of them, and then ten along y = 200.
-fn two_lines(alloc: Global) -> Result<Vec<Move>, Fail>
-    ensures { IfOk result (λ moves. MovesInRange moves.items) }
-{
-    let mut moves = Vec::new(alloc);
+fn two_lines(alloc: Global) -> Result<String, Fail> {
+    let mut program = String::new(alloc);
     for t in 0..160 {
-        let y = if t < 150 { "0" } else { "200" };
-        let text = format!(in alloc; "feed 0 {y} 400 to 100 {y} 400")?;
-        moves.push(any_step(&text)?)?;
+        let along = if t < 150 {
+            "feed 0 0 400 to 100 0 400"
+        } else {
+            "feed 0 200 400 to 100 200 400"
+        };
+        add(&mut program, along)?;
     }
-    if !moves.iter().all(step_fits) {
-        return Err(Fail::from("out of range"));
-    }
-    Ok(moves)
+    Ok(program)
 }
 
 /// Up to which move an uncut row goes over the first moves of a program.
@@ -280,6 +336,24 @@ fn gone_over(alloc: Global, moves: &[Move], number: u64, count: u64) -> Result<u
     let bands = Bands::new(alloc, moves, count)?;
     let mut row = Row::new(alloc, &job, number)?;
     Ok(row.go_over(&job, &bands, 0))
+}
+
+fn look_at_far<R: Abort + AllocGlobal>(rt: &R, moves: &[Move], row: &str) -> Result<(), Fail>
+    requires { MovesInRange moves.now }
+{
+    let (of, wanted) = halves(row)?;
+    let (number, count) = first_word(of)?;
+    let (number, count, wanted): (u64, u64, u64) = (
+        number.parse()?,
+        count.parse()?,
+        wanted.parse()?,
+    );
+    assert_eq!(rt;
+        gone_over(rt.alloc(), moves, number, count)?,
+        wanted,
+        "{row}"
+    );
+    Ok(())
 }
 
 // A row, of how many moves, and up to which one it goes over them. The cutter's radius is 150, so a row
@@ -296,12 +370,10 @@ const GOES_OVER: &str = "\
 
 #[test]
 fn goes_over_what_is_far_away(rt: HostRuntime) -> Result<(), Fail> {
-    let moves = two_lines(rt.alloc())?;
-    for text in GOES_OVER.lines() {
-        let (of, wanted) = halves(text)?;
-        let (number, count) = first_word(of)?;
-        let gone = gone_over(rt.alloc(), &moves, number.parse()?, count.parse()?)?;
-        assert_eq!(rt; gone, wanted.parse()?, "{text}");
+    let program = two_lines(rt.alloc())?;
+    let moves = moves_of(rt.alloc(), &program)?;
+    for row in GOES_OVER.lines() {
+        look_at_far(&rt, &moves, row)?;
     }
     Ok(())
 }

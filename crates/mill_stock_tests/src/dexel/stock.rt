@@ -3,7 +3,7 @@ ghost use Rattle.mill_job.specs.Columns.{row_count};
 ghost use Rattle.mill_job.specs.Jobs.{IsJob};
 ghost use Rattle.mill_dexel.specs.Rows.{IsRowOf};
 
-use crate::tables::{barred, first_word, halves, job, step};
+use crate::tables::{add, barred, first_word, halves, job, step};
 use mill_base::Kind;
 use mill_dexel::{Row, cut_rows, keeps_depth, uncut_rows};
 use mill_job::Job;
@@ -34,19 +34,31 @@ fn act(job: &Job, rows: &mut [Row], text: &str) -> Result<&'static str, Fail>
     })
 }
 
-/// Does several acts on the rows of an uncut stock.
-fn told_acts(alloc: Global, job: &Job, acts: &str) -> Result<String, Fail>
-    requires { IsJob job.now }
+/// Does several acts on all rows.
+fn told_acts(alloc: Global, job: &Job, rows: &mut [Row], acts: &str) -> Result<String, Fail>
+    requires job { IsJob job.now }
+    requires rows_ok { All (IsRowOf job.now) rows.old }
 {
-    let mut rows = uncut_rows(alloc, job)?;
     let mut told = String::new(alloc);
     for text in acts.split("; ") {
-        if !told.is_empty() {
-            told.push_str(", ")?;
-        }
-        told.push_str(act(job, &mut rows, text)?)?;
+        add(&mut told, act(job, rows, text)?)?;
     }
     Ok(told)
+}
+
+/// Does the acts of a text on the rows of an uncut stock, whose job has those keys before the bar, too.
+fn told_of(alloc: Global, text: &str) -> Result<String, Fail> {
+    let (more, acts) = barred(text);
+    let job = job(alloc, SEVEN_ROWS, more)?;
+    let mut rows = uncut_rows(alloc, &job)?;
+    told_acts(alloc, &job, &mut rows, acts)
+}
+
+fn look<R: Abort + AllocGlobal>(rt: &R, row: &str) -> Result<(), Fail> {
+    let (text, wanted) = halves(row)?;
+    let told = told_of(rt.alloc(), text)?;
+    assert_eq!(rt; told.as_str(), wanted, "{row}");
+    Ok(())
 }
 
 // The cutter's radius is 150, so from y = -150 or 750 it cuts no row, and from -149 or 749 the outermost.
@@ -54,28 +66,21 @@ fn told_acts(alloc: Global, job: &Job, acts: &str) -> Result<String, Fail>
 // In the last row a cut to 250 at y = 300 lowers the rows at 200, 300 and 400, and the next may go to 200
 // there. At 351 it cuts the one at 500 too.
 const DEPTHS: &str = "\
-max_cut = 50 | feed 100 300 down to 250; feed 100 300 down to 249 => kept, too deep
-max_cut = 50 | feed 100 -200 down to 0; feed 100 -150 down to 0 => kept, kept
-max_cut = 50 | feed 100 -149 down to 250; feed 100 -149 down to 249 => kept, too deep
-max_cut = 50 | feed 100 749 down to 250; feed 100 749 down to 249 => kept, too deep
+max_cut = 50 | feed 100 300 down to 250; feed 100 300 down to 249 => kept; too deep
+max_cut = 50 | feed 100 -200 down to 0; feed 100 -150 down to 0 => kept; kept
+max_cut = 50 | feed 100 -149 down to 250; feed 100 -149 down to 249 => kept; too deep
+max_cut = 50 | feed 100 749 down to 250; feed 100 749 down to 249 => kept; too deep
 max_cut = 50 | feed 100 750 down to 0 => kept
 max_cut = 0 | feed 100 300 down to 0 => kept
-max_cut = 400 | feed 100 300 down to 0; feed 100 300 down to -1 => kept, too deep
+max_cut = 400 | feed 100 300 down to 0; feed 100 300 down to -1 => kept; too deep
 max_cut = 50 | cut 100 300 down to 250; feed 100 300 down to 200; feed 100 300 down to 199; \
     feed 100 350 down to 200; feed 100 351 down to 200; feed 100 351 down to 250 => \
-    cut, kept, too deep, kept, too deep, kept";
+    cut; kept; too deep; kept; too deep; kept";
 
 #[test]
 fn keeps_the_depth_of_cut(rt: HostRuntime) -> Result<(), Fail> {
     for row in DEPTHS.lines() {
-        let (before, wanted) = halves(row)?;
-        let (more, acts) = barred(before);
-        let job = job(rt.alloc(), SEVEN_ROWS, more)?;
-        assert_eq!(rt;
-            told_acts(rt.alloc(), &job, acts)?.as_str(),
-            wanted,
-            "{row}"
-        );
+        look(&rt, row)?;
     }
     Ok(())
 }
@@ -85,42 +90,76 @@ const PLUNGE: &str = "100 300 down to 200";
 
 const ALONG: &str = "-100 600 120 to 60 600 120";
 
+/// Makes both cuts in all rows.
+fn cut_both(job: &Job, rows: &mut [Row]) -> Result<(), Fail>
+    requires job { IsJob job.now }
+    requires rows_ok { All (IsRowOf job.now) rows.old }
+{
+    let (plunge, along) = (step(Kind::Feed, PLUNGE)?, step(Kind::Feed, ALONG)?);
+    cut_rows(job, rows, &plunge);
+    cut_rows(job, rows, &along);
+    Ok(())
+}
+
+fn told_tops(alloc: Global, row: &Row) -> Result<String, Fail> {
+    Ok(format!(in alloc; "{:?}", row.tops())?)
+}
+
+fn told_rows(alloc: Global, rows: &[Row]) -> Result<String, Fail> {
+    let mut told = String::new(alloc);
+    for row in rows {
+        add(&mut told, &told_tops(alloc, row)?)?;
+    }
+    Ok(told)
+}
+
 /// All rows after both cuts.
 fn told_stock(alloc: Global, job: &Job) -> Result<String, Fail>
     requires { IsJob job.now }
 {
     let mut rows = uncut_rows(alloc, job)?;
-    cut_rows(job, &mut rows, &step(Kind::Feed, PLUNGE)?);
-    cut_rows(job, &mut rows, &step(Kind::Feed, ALONG)?);
-    let mut told = String::new(alloc);
-    for row in &rows {
-        told.push_str(&format!(in alloc; "{:?}", row.tops())?)?;
-    }
-    Ok(told)
+    cut_both(job, &mut rows)?;
+    told_rows(alloc, &rows)
 }
 
-/// The same, of each row by itself.
+/// One row after both cuts, by itself.
+fn told_one(alloc: Global, job: &Job, number: u64) -> Result<String, Fail>
+    requires job { IsJob job.now }
+    requires row { number < row_count job.now }
+{
+    let (plunge, along) = (step(Kind::Feed, PLUNGE)?, step(Kind::Feed, ALONG)?);
+    let mut row = Row::new(alloc, job, number)?;
+    row.cut_turn(job, &plunge);
+    row.cut_turn(job, &along);
+    told_tops(alloc, &row)
+}
+
+/// Each row after both cuts, by itself.
 fn told_alone(alloc: Global, job: &Job) -> Result<String, Fail>
     requires { IsJob job.now }
 {
-    let (plunge, along) = (step(Kind::Feed, PLUNGE)?, step(Kind::Feed, ALONG)?);
     let mut told = String::new(alloc);
     for number in 0..u64::from(job.rows()) {
-        let mut row = Row::new(alloc, job, number)?;
-        row.cut_turn(job, &plunge);
-        row.cut_turn(job, &along);
-        told.push_str(&format!(in alloc; "{:?}", row.tops())?)?;
+        add(&mut told, &told_one(alloc, job, number)?)?;
     }
     Ok(told)
 }
 
-const ROWS_AFTER_CUTS: &str = "[300, 300, 300][300, 300, 300][200, 200, 200][200, 200, 200]\
-[200, 200, 200][120, 120, 300][120, 120, 120]";
+const ROWS_AFTER_CUTS: &str = "[300, 300, 300]; [300, 300, 300]; [200, 200, 200]; [200, 200, 200]; \
+[200, 200, 200]; [120, 120, 300]; [120, 120, 120]";
+
+/// All rows together, and each by itself.
+fn told_both(alloc: Global) -> Result<(String, String), Fail> {
+    let job = job(alloc, SEVEN_ROWS, "")?;
+    Ok((told_stock(alloc, &job)?, told_alone(alloc, &job)?))
+}
 
 #[test]
 fn cuts_as_each_row_does(rt: HostRuntime) -> Result<(), Fail> {
-    let job = job(rt.alloc(), SEVEN_ROWS, "")?;
-    assert_eq!(rt; told_stock(rt.alloc(), &job)?.as_str(), ROWS_AFTER_CUTS);
-    assert_eq!(rt; told_alone(rt.alloc(), &job)?.as_str(), ROWS_AFTER_CUTS);
+    let (stock, alone) = told_both(rt.alloc())?;
+    assert_eq!(rt;
+        (stock.as_str(), alone.as_str()),
+        (ROWS_AFTER_CUTS, ROWS_AFTER_CUTS)
+    );
     Ok(())
 }

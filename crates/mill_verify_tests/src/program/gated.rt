@@ -1,11 +1,12 @@
 //! A gate that shows that two threads share the tests, and that none is made twice.
-use super::down_and_up;
-use crate::verify::samples::{block_job, plate};
-use mill_base::{Cutter, Kind};
-use mill_verify::{Gate, Reason, Verdict, verify_with};
+use crate::samples::{ANY_BLOCK, PLATE, job_of, part_under, program};
+use crate::tables::{halves, same};
+use mill_verify::{Gate, verify_with};
+use std::process::Abort;
 use std::sync::atomic::Ordering::SeqCst;
 use std::sync::atomic::{AtomicBool, AtomicU64};
-use std::thread::yield_now;
+use std::test::Fail;
+use std::thread::{Threads, yield_now};
 
 /// How long a turn is held up at most, in turns of the loop that waits.
 const PATIENCE: u32 = 10_000_000;
@@ -86,43 +87,50 @@ impl Gate for Meeting {
     }
 }
 
+/// The verdict on going down to the plate and up again, whose job has these keys, with this gate.
+fn told_with<R: Threads + Sync + AllocGlobal>(
+    rt: &R,
+    gate: &Meeting,
+    keys: &str,
+) -> Result<String, Fail> {
+    let alloc = rt.alloc();
+    let job = job_of(alloc, ANY_BLOCK, keys)?;
+    let part = part_under(alloc, job.top, PLATE)?;
+    let moves = program(alloc, &job, "feed 100 100 200; rapid 100 100 400")?;
+    let verdict = verify_with(rt, alloc, gate, &job, &part, &moves, 2)?;
+    Ok(format!(in alloc; "{verdict:?}")?)
+}
+
+/// Whether each turn passed the gate once.
+fn look_at_gate<R: Abort>(rt: &R, meeting: &Meeting) {
+    assert!(rt; meeting.came_once());
+}
+
+fn look<R: Threads + Sync + AllocGlobal + Abort>(rt: &R, row: &str) -> Result<(), Fail> {
+    let (keys, wanted) = halves(row)?;
+    let meeting = Meeting::new();
+    same(rt, &told_with(rt, &meeting, keys)?, wanted, row);
+    look_at_gate(rt, &meeting);
+    Ok(())
+}
+
 // Two moves are one block, and there are three rows: each has its two turns once.
 #[test]
-fn two_threads_meet(rt: HostRuntime) {
-    let alloc = rt.alloc();
-    let job = block_job(Cutter::Flat { radius: 150 }, 0, 0);
-    let part = plate(alloc, 200).unwrap_or_else(|_| panic!(rt; "want of memory"));
-    let moves = down_and_up(Kind::Feed, 200);
-    let meeting = Meeting::new();
-    let accept = Verdict::Accept {
-        moves: 2,
-        columns: 9,
-        most_left: 0,
-    };
-    assert_eq!(rt;
-        verify_with(&rt, alloc, &meeting, &job, &part, &moves, 2),
-        Ok(accept)
-    );
-    assert!(rt; meeting.came_once());
+fn two_threads_meet(rt: HostRuntime) -> Result<(), Fail> {
+    look(
+        &rt,
+        "cutter = 'flat'; radius = 150; band = 0; allowance = 0 => \
+        Accept { moves: 2, columns: 9, most_left: 0 }",
+    )
 }
 
 // The narrow cutter stays far away from the first row and the last, which go over both moves at once. Each
 // turn passes the gate all the same.
 #[test]
-fn turns_that_are_gone_over_pass_the_gate(rt: HostRuntime) {
-    let alloc = rt.alloc();
-    let job = block_job(Cutter::Flat { radius: 40 }, 0, 0);
-    let part = plate(alloc, 200).unwrap_or_else(|_| panic!(rt; "want of memory"));
-    let moves = down_and_up(Kind::Feed, 200);
-    let meeting = Meeting::new();
-    let left = Verdict::Reject(Reason::Left {
-        row: 0,
-        col: 0,
-        top: 300,
-    });
-    assert_eq!(rt;
-        verify_with(&rt, alloc, &meeting, &job, &part, &moves, 2),
-        Ok(left)
-    );
-    assert!(rt; meeting.came_once());
+fn turns_that_are_gone_over_pass_the_gate(rt: HostRuntime) -> Result<(), Fail> {
+    look(
+        &rt,
+        "cutter = 'flat'; radius = 40; band = 0; allowance = 0 => \
+        Reject(Left { row: 0, col: 0, top: 300 })",
+    )
 }

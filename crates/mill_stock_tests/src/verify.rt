@@ -1,4 +1,0 @@
-mod block;
-mod list;
-mod program;
-mod samples;

@@ -1,0 +1,133 @@
+//! The block of stock of the tests, and what stands in their rows: parts, programs and verdicts.
+ghost use Rattle.std.specs.Prelude.{◌≡◌, ◌≤◌, length, IfOk, IsTrue};
+ghost use Rattle.mill_base.specs.Covers.{IsUnder};
+ghost use Rattle.mill_base.specs.Motion.{Follow};
+ghost use Rattle.mill_base.specs.Ranges.{IsInRange, MoveInRange, MovesInRange, TriInRange};
+ghost use Rattle.mill_base.specs.declared.limits.TheConstants.{MAX_MOVES};
+ghost use Rattle.mill_job.specs.Columns.{home as home_of};
+ghost use Rattle.mill_job.specs.Jobs.{IsJob};
+
+use crate::tables::{first_word, fits, job, kind, point};
+use mill_base::{Move, Pt3, Tri};
+use mill_job::Job;
+use mill_part::Part;
+use std::alloc::Global;
+use std::test::Fail;
+
+/// A job's keys: those of its stock and its columns, and those of its cutter.
+pub(crate) type Keys<'a> = (&'a str, &'a str);
+
+/// A block of stock from 0 to 300 over a square of 200, and nine columns in it.
+const BLOCK: &str =
+    "floor = 0; top = 300; clear = 400; area = [0, 0, 200, 200]; home = [100, 100]; \
+    pitch = 100; sample = 50";
+
+/// The block, of whose cutter a row says what it is.
+pub(crate) const ANY_BLOCK: Keys<'static> = (BLOCK, "");
+
+/// The block under a flat cutter, with no band, on which nothing may be left.
+pub(crate) const FLAT_BLOCK: Keys<'static> = (
+    BLOCK,
+    "cutter = 'flat'; radius = 150; band = 0; allowance = 0",
+);
+
+/// The block under a narrow cutter in a wide holder, 50 over the tip.
+pub(crate) const NARROW_BLOCK: Keys<'static> = (
+    BLOCK,
+    "cutter = 'flat'; radius = 90; holder_radius = 200; stickout = 50; band = 0; allowance = 0",
+);
+
+/// A job by these keys and some more.
+pub(crate) fn job_of(alloc: Global, keys: Keys<'_>, more: &str) -> Result<Job, Fail>
+    ensures { IfOk result IsJob }
+{
+    let (stock, cutter) = keys;
+    let more = format!(in alloc; "{cutter}; {more}")?;
+    job(alloc, stock, &more)
+}
+
+/// A plate at the height 200 over the whole square.
+pub(crate) const PLATE: &str = "0 0 200, 200 0 200, 200 200 200; 0 0 200, 200 200 200, 0 200 200";
+
+/// A plate that is the line x = 0, beside the narrow cutter.
+pub(crate) const LINE: &str = "0 0 200, 0 0 200, 0 200 200; 0 0 200, 0 200 200, 0 200 200";
+
+/// A triangle by its three corners.
+fn triangle(text: &str) -> Result<Tri, Fail>
+    ensures { IfOk result (λ tri. TriInRange tri) }
+{
+    let (a, others) = text.split_once(", ").ok_or("a triangle of one corner")?;
+    let (b, c) = others.split_once(", ").ok_or("a triangle of two corners")?;
+    let (a, b, c) = (point(a)?, point(b)?, point(c)?);
+    Ok(Tri { a, b, c })
+}
+
+fn tri_fits(tri: &Tri) -> bool
+    ensures { IsTrue result → TriInRange tri.now }
+{
+    fits(tri.a) && fits(tri.b) && fits(tri.c)
+}
+
+/// The part of a few triangles.
+pub(crate) fn part_of(alloc: Global, text: &str) -> Result<Part, Fail> {
+    let mut tris = Vec::new(alloc);
+    for corners in text.split("; ") {
+        tris.push(triangle(corners)?)?;
+    }
+    if tris.len() > 9 || !tris.iter().all(tri_fits) {
+        return Err(Fail::from("too many triangles"));
+    }
+    Ok(Part::new(tris))
+}
+
+fn is_under(part: &Part, most: i32) -> bool
+    ensures { IsTrue result → IsUnder part.now most }
+{
+    part.top().unwrap_or(most) <= most
+}
+
+/// The part of a few triangles, of which none comes over this height.
+pub(crate) fn part_under(alloc: Global, most: i32, text: &str) -> Result<Part, Fail>
+    ensures { IfOk result (λ part. IsUnder part most) }
+{
+    let part = part_of(alloc, text)?;
+    if !is_under(&part, most) {
+        return Err(Fail::from("a part over the stock"));
+    }
+    Ok(part)
+}
+
+/// A move from a place, by its kind and its end.
+pub(crate) fn step_from(from: Pt3, text: &str) -> Result<Move, Fail>
+    requires { IsInRange from }
+    ensures range { IfOk result (λ step. MoveInRange step) }
+    ensures start { IfOk result (λ step. step.from ≡ from) }
+{
+    let (word, end) = first_word(text)?;
+    let to = point(end)?;
+    Ok(Move {
+        kind: kind(word),
+        from,
+        to,
+    })
+}
+
+/// A program from the job's home on, by the kind and the end of each move.
+pub(crate) fn program(alloc: Global, job: &Job, text: &str) -> Result<Vec<Move>, Fail>
+    requires { IsJob job.now }
+    ensures range { IfOk result (λ moves. MovesInRange moves.items) }
+    ensures follow { IfOk result (λ moves. Follow (home_of job.now) moves.items) }
+    ensures few { IfOk result (λ moves. length moves.items ≤ MAX_MOVES) }
+{
+    let mut at = job.home();
+    let mut moves = Vec::new(alloc);
+    for each in text.split("; ") {
+        let step = step_from(at, each)?;
+        at = step.to;
+        moves.push(step)?;
+    }
+    if moves.len() > 1000 {
+        return Err(Fail::from("too many moves"));
+    }
+    Ok(moves)
+}
