@@ -5,7 +5,7 @@ use crate::parts::{peak, plate};
 use mill_base::Pt3;
 use mill_job::{Job, Levels};
 use mill_part::SortedPart;
-use mill_paths::{PathFault, Visit, finish_visits, rough_visits};
+use mill_paths::{PathFault, Threaded, Visit, finish_visits, rough_visits};
 use std::process::Abort;
 use std::test::Fail;
 use std::thread::Threads;
@@ -19,7 +19,7 @@ fn rough_plate<R: Threads + Sync + AllocGlobal>(rt: &R, job: &Job) -> Result<Vec
 {
     let part = plate(rt.alloc(), 0, 300)?;
     let sorted = SortedPart::new(rt.alloc(), &part)?;
-    rough_visits(rt, rt.alloc(), job, &part, sorted.cells())
+    rough_visits(&Threaded { rt }, rt.alloc(), job, &part, sorted.cells())
 }
 
 /// The finishing visits over the plate.
@@ -28,7 +28,7 @@ fn finish_plate<R: Threads + Sync + AllocGlobal>(rt: &R, job: &Job) -> Result<Ve
 {
     let part = plate(rt.alloc(), 0, 300)?;
     let sorted = SortedPart::new(rt.alloc(), &part)?;
-    finish_visits(rt, rt.alloc(), job, &part, sorted.cells())
+    finish_visits(&Threaded { rt }, rt.alloc(), job, &part, sorted.cells())
 }
 
 /// The finishing visits over a point in the middle of the wide block.
@@ -37,7 +37,7 @@ fn finish_peak<R: Threads + Sync + AllocGlobal>(rt: &R, job: &Job) -> Result<Vec
 {
     let part = peak(rt.alloc(), 500, 500)?;
     let sorted = SortedPart::new(rt.alloc(), &part)?;
-    finish_visits(rt, rt.alloc(), job, &part, sorted.cells())
+    finish_visits(&Threaded { rt }, rt.alloc(), job, &part, sorted.cells())
 }
 
 fn visit(x: i32, y: i32, z: i32) -> Visit {

@@ -9,7 +9,7 @@ use crate::parts::{far_plate, peak, plate};
 use mill_base::{Holder, Kind, Move, Pt3};
 use mill_job::{Job, Levels};
 use mill_ngc::{NgcFault, Reader};
-use mill_plan::{PlanFault, Planned, plan};
+use mill_plan::{PlanFault, Planned, plan, plan_alone};
 use std::alloc::Global;
 use std::process::Abort;
 use std::test::Fail;
@@ -38,6 +38,24 @@ fn plan_peak<R: Threads + Sync + AllocGlobal>(rt: &R, job: &Job) -> Result<Plann
 {
     let part = peak(rt.alloc(), 500, 500)?;
     plan(rt, rt.alloc(), job, &part, 2)
+}
+
+/// The plan for the whole plate, made on one thread.
+fn plan_plate_alone(alloc: Global, job: &Job) -> Result<Planned, PlanFault>
+    requires job_ok { IsJob job.now }
+    requires top { job.now.top ≡ pos 300 }
+{
+    let part = plate(alloc, 0, 300)?;
+    plan_alone(alloc, job, &part)
+}
+
+/// The plan for one point in the middle of the wide block, made on one thread.
+fn plan_peak_alone(alloc: Global, job: &Job) -> Result<Planned, PlanFault>
+    requires job_ok { IsJob job.now }
+    requires top { job.now.top ≡ pos 400 }
+{
+    let part = peak(alloc, 500, 500)?;
+    plan_alone(alloc, job, &part)
 }
 
 fn plan_far_plate<R: Threads + Sync + AllocGlobal>(rt: &R) -> Result<Planned, PlanFault> {
@@ -250,6 +268,55 @@ fn follows_the_waterline_round_a_point(rt: HostRuntime) -> Result<(), Fail> {
     let finishing: &[u8] = b"%\nG17 G21 G90\nG1 X0.00 Y0.00 Z0.00\nG1 X1.00 Y0.00 Z0.00\n";
     look_at_peak(&rt, &wide_job(0, level(0), None), around, 151)?;
     look_at_peak(&rt, &wide_job(0, Levels::NONE, None), finishing, 135)
+}
+
+/// Looks at a plan made on one thread, which is the same as this one.
+fn look_at_same<R: Abort>(rt: &R, alone: &Planned, planned: &Planned) {
+    let numbers = (planned.moves, planned.columns, planned.most_left);
+    assert_eq!(rt;
+        (
+            alone.program.as_slice(),
+            (alone.moves, alone.columns, alone.most_left)
+        ),
+        (planned.program.as_slice(), numbers)
+    );
+}
+
+/// Looks at the plan for the whole plate, made on one thread.
+fn look_at_plate_alone<R: Threads + Sync + AllocGlobal + Abort>(
+    rt: &R,
+    job: &Job,
+) -> Result<(), Fail>
+    requires job_ok { IsJob job.now }
+    requires top { job.now.top ≡ pos 300 }
+{
+    let alone = plan_plate_alone(rt.alloc(), job)?;
+    let planned = plan_plate(rt, job, 0, 300)?;
+    look_at_same(rt, &alone, &planned);
+    Ok(())
+}
+
+/// Looks at the plan for the point, made on one thread.
+fn look_at_peak_alone<R: Threads + Sync + AllocGlobal + Abort>(
+    rt: &R,
+    job: &Job,
+) -> Result<(), Fail>
+    requires job_ok { IsJob job.now }
+    requires top { job.now.top ≡ pos 400 }
+{
+    let alone = plan_peak_alone(rt.alloc(), job)?;
+    let planned = plan_peak(rt, job)?;
+    look_at_same(rt, &alone, &planned);
+    Ok(())
+}
+
+// Over nodes, with the stock held and without; and along a level and rows by a tolerance.
+#[test]
+fn plans_the_same_alone(rt: HostRuntime) -> Result<(), Fail> {
+    for max_cut in [0, 50] {
+        look_at_plate_alone(&rt, &shallow_job(50, 0, max_cut, None, None))?;
+    }
+    look_at_peak_alone(&rt, &wide_job(0, level(0), Some(0)))
 }
 
 // The finishing path runs 10 over the plate where nothing may be left; or the cutter doesn't get into

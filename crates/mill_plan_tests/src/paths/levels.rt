@@ -10,7 +10,7 @@ use mill_base::{Box2, Cutter, Unit};
 use mill_decimal::Snap;
 use mill_job::{Job, Levels, Place};
 use mill_part::{Part, SortedPart};
-use mill_paths::{PathFault, Visit, level_visits};
+use mill_paths::{PathFault, Threaded, Visit, level_visits};
 use std::process::Abort;
 use std::test::Fail;
 use std::thread::Threads;
@@ -67,7 +67,7 @@ fn visits_round<R: Threads + Sync + AllocGlobal>(
 {
     let part = peak(rt.alloc(), x, y)?;
     let sorted = SortedPart::new(rt.alloc(), &part)?;
-    level_visits(rt, rt.alloc(), job, &part, sorted.cells())
+    level_visits(&Threaded { rt }, rt.alloc(), job, &part, sorted.cells())
 }
 
 fn visits_round_nothing<R: Threads + Sync + AllocGlobal>(
@@ -78,7 +78,7 @@ fn visits_round_nothing<R: Threads + Sync + AllocGlobal>(
 {
     let part = Part::new(Vec::new(rt.alloc()));
     let sorted = SortedPart::new(rt.alloc(), &part)?;
-    level_visits(rt, rt.alloc(), job, &part, sorted.cells())
+    level_visits(&Threaded { rt }, rt.alloc(), job, &part, sorted.cells())
 }
 
 // The cutter touches the point from its four neighbour nodes, and gouges it from the node there: the
