@@ -310,13 +310,14 @@ fn look_at_peak_alone<R: Threads + Sync + AllocGlobal + Abort>(
     Ok(())
 }
 
-// Over nodes, with the stock held and without; and along a level and rows by a tolerance.
+// Over nodes, with the stock held and without; along rows by a tolerance; and along a level.
 #[test]
 fn plans_the_same_alone(rt: HostRuntime) -> Result<(), Fail> {
     for max_cut in [0, 50] {
         look_at_plate_alone(&rt, &shallow_job(50, 0, max_cut, None, None))?;
     }
-    look_at_peak_alone(&rt, &wide_job(0, level(0), Some(0)))
+    look_at_plate_alone(&rt, &shallow_job(0, 0, 0, None, Some(0)))?;
+    look_at_peak_alone(&rt, &wide_job(0, level(0), None))
 }
 
 // The finishing path runs 10 over the plate where nothing may be left; or the cutter doesn't get into
