@@ -1,0 +1,4 @@
+mod LeafLemmas
+mod Naming
+mod Tops
+mod Lists
