@@ -1,1 +1,4 @@
 pub mod Reports
+pub mod Sources
+pub mod ReportFiles
+pub mod inner

@@ -1,5 +1,6 @@
 -- What the report on three texts tells.
-use Rattle.std.specs.Prelude.{◌≡◌, ℕ, ◌*◌, ℤ, pos, All, AllZip, List, [], ◌∷◌, ◌++◌, length, map, Option, None, Some}
+use Rattle.std.specs.List.{AllZip}
+use Rattle.std.specs.Prelude.{◌≡◌, ℕ, ◌*◌, ℤ, pos, All, List, [], ◌∷◌, ◌++◌, length, map, Option, None, Some}
 use Rattle.mill_base.specs.declared.motion.Move.{Move}
 use Rattle.mill_base.specs.declared.points.Tri.{Tri}
 use Rattle.mill_base.specs.Covers.{IsUnder}
@@ -29,6 +30,7 @@ use Rattle.mill_verify.specs.declared.verdict.Reason.TheVariants.{Gouge, Holder,
 use Rattle.mill_verify.specs.declared.verdict.Verdict.{Verdict}
 use Rattle.mill_verify.specs.declared.verdict.Verdict.TheVariants.{Accept, Reject}
 use Rattle.serde_json.specs.Data.{Data}
+use Rattle.sha2.specs.Sha256.{sha256}
 use Rattle.sha2.specs.Sha256.{sha256}
 
 -- the texts of the three files, as they were read

@@ -1,0 +1,40 @@
+-- The items of all findings.
+use Rattle.std.proofs.Common.{◌≡◌, ℕ, List, [], ◌∷◌, refl, ap, ◌∙◌}
+use Rattle.std.specs.List.{AllZip}
+use Rattle.std.specs.Prelude.{All, ℤ, Option}
+use Rattle.mill_base.specs.declared.motion.Move.{Move}
+use Rattle.mill_base.specs.declared.points.Pt3.{Pt3}
+use Rattle.mill_base.specs.declared.points.Tri.{Tri}
+use Rattle.mill_base.specs.declared.unit.Unit.{Unit}
+use Rattle.mill_details.specs.Details.{IsInText, failing_data}
+use Rattle.mill_job.specs.Columns.{home}
+use Rattle.mill_job.specs.declared.job.Job.{Job}
+use Rattle.mill_report_text.specs.Reports.{AreFailing, AreItems, IsLift, Texts}
+use Rattle.mill_source.specs.Lines.{ArePlaces}
+use Rattle.mill_source.specs.declared.place.Place.{Place}
+use Rattle.mill_verify.specs.declared.verdict.Reason.{Reason}
+use Rattle.serde_json.specs.Data.{Data}
+
+-- the places of moves stand in their text
+pub places_inside : (start : Pt3) (unit : Unit) (text : List ℕ) (places : List Place) → ArePlaces start unit text places → All (IsInText text) places
+places_inside start unit text places are = λ k other there. let is = are.each k other there in record { order = is.order; inside = is.inside }
+
+module _ (texts : Texts) (job : Job) (part : List Tri) (moves : List Move) where
+  -- the items that were made of what was read
+  pub are_items : (found : List Reason) (text : List ℕ) (at places : List Place) (given lifts : List (Option ℤ)) (items : List Data) → text ≡ texts.program → at ≡ places → given ≡ lifts
+      → ArePlaces (home job) job.unit texts.program places → AllZip (IsLift job part moves) found lifts → items ≡ failing_data job part moves text at found given → AreItems texts job part moves found items
+  are_items found text at places given lifts items same_text same_places same_lifts places_are lifts_are is = record {
+    places = places;
+    places_are = places_are;
+    lifts = lifts;
+    lifts_are = lifts_are;
+    items_are = is
+        ∙ ap (λ (t : List ℕ). failing_data job part moves t at found given) same_text
+        ∙ ap (λ (ps : List Place). failing_data job part moves texts.program ps found given) same_places
+        ∙ ap (λ (ls : List (Option ℤ)). failing_data job part moves texts.program places found ls) same_lifts;
+  }
+
+  -- where there are findings, these are the items of them all
+  pub failing_are : (found : List Reason) (items : List Data) → ¬ (found ≡ []) → AreItems texts job part moves found items → AreFailing texts job part moves found items
+  failing_are [] items some are = absurd (some refl)
+  failing_are (reason ∷ found) items some are = are

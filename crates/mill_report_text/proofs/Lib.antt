@@ -1,0 +1,7 @@
+mod LineEnds
+mod FaultTexts
+mod LiftLemmas
+mod Items
+mod Nothing
+mod Agreeing
+mod Reporting

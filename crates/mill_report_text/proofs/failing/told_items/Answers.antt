@@ -1,0 +1,16 @@
+use Rattle.std.proofs.Common.{◌∙◌, ap, sym, subst, length, map}
+use Rattle.std.proofs.lemmas.Result.{IfOk-weaker}
+use Rattle.std.proofs.lemmas.Slice.Zip.{AllZip-long}
+use Rattle.mill_report_text.proofs.Items.{are_items, places_inside}
+use Rattle.mill_report_text.specs.Reports.{IsLift}
+use Rattle.mill_report_text.specs.Sources.{texts_of_sources}
+use Rattle.serde_json.specs.View.{view}
+use Rattle.mill_report_text.proofs.failing.told_items.Goals as goal
+
+pub returns-clause-are : goal.returns-clause-are
+returns-clause-are c =
+    IfOk-weaker c.failing_values.result _ _
+    (λ values told.
+    are_items (texts_of_sources c.args.sources.now) c.args.job.now c.args.part.now c.args.moves.now c.args.found.now c.deref.result.now c.deref-2.result.now c.in_ok-places.places.items c.deref-4.result.now
+    c.in_ok-lifts.lifts.items (map view values.items) c.deref.ensures.value c.deref-2.ensures.value c.deref-4.ensures.value c.in_ok-places.ensures.are c.in_ok-lifts.ensures told)
+    c.failing_values.ensures.«data»

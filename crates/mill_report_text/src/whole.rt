@@ -1,0 +1,131 @@
+//! The whole report.
+ghost use Rattle.std.specs.Prelude.{◌≡◌, ◌≤◌, IfOk, map};
+ghost use Rattle.mill_base.specs.declared.limits.TheConstants.{MAX_WORKERS};
+ghost use Rattle.mill_document.specs.Documents.{report_data, text_of};
+ghost use Rattle.mill_job.specs.Jobs.{IsJob};
+ghost use Rattle.mill_load.specs.Loads.{AreMoves};
+ghost use Rattle.mill_load.specs.Statuses.{status_code};
+ghost use Rattle.mill_report_text.specs.Reports.{IsReportText, Read, most_left as most_left_of, sums_of as sums_of_texts, summary_of as summary_of_verdict};
+ghost use Rattle.mill_report_text.specs.Sources.{texts_of_sources};
+ghost use Rattle.mill_report_text.specs.inner.Lists.{ArePlain};
+ghost use Rattle.mill_run.specs.Verify.{IsSafe};
+ghost use Rattle.mill_verify.specs.Verdicts.{IsVerdict};
+ghost use Rattle.serde_json.specs.View.{view};
+
+use crate::line::verdict_words;
+use crate::lists::{Lists, lists_of};
+use crate::sums::sums_of;
+use crate::texts::{Report, Sources};
+use mill_base::{Move, WantOfMemory};
+use mill_document::{Summary, report_text};
+use mill_job::Job;
+use mill_part::Part;
+use mill_run::status_of_verdict;
+use mill_verify::{Verdict, verify};
+use std::alloc::Global;
+use std::thread::Threads;
+
+/// The report on a program: its verdict, with the line that `verify` prints, and all that is wrong with it.
+///
+/// `sources` has the texts as which `job`, `part` and `moves` were read; the report has the checksums of
+/// exactly these. The moves that fail are told each with the first test that it fails, on the stock that
+/// every move before it has cut; and of the columns left too high the first 10,000, with the number of all.
+/// Where the program is accepted both lists are empty, and nothing is looked for beyond the verdict.
+///
+/// The work of the verdict is shared by `workers` threads, from 1 to 64. The report doesn't depend on their
+/// number. The only error is want of memory.
+pub fn report<R: Threads + Sync>(
+    rt: &R,
+    alloc: Global,
+    sources: &Sources,
+    job: &Job,
+    part: &Part,
+    moves: &[Move],
+    workers: u32,
+) -> Result<Report, WantOfMemory>
+    requires read { Read (texts_of_sources sources.now) job.now part.now moves.now }
+    requires job_ok { IsJob job.now }
+    requires moves_ok { AreMoves job.now moves.now }
+    requires some_workers { 1 ≤ workers }
+    requires few_workers { workers ≤ MAX_WORKERS }
+    ensures { IfOk result (λ report. IsReportText (texts_of_sources sources.now) job.now part.now moves.now
+        report.text.items (status_code report.status)) }
+{
+    let verdict = verify(rt, alloc, job, part, moves, workers)?;
+    report_of_verdict(alloc, sources, job, part, moves, verdict)
+}
+
+/// The report on a program that has this verdict.
+fn report_of_verdict(
+    alloc: Global,
+    sources: &Sources,
+    job: &Job,
+    part: &Part,
+    moves: &[Move],
+    verdict: Verdict,
+) -> Result<Report, WantOfMemory>
+    requires read { Read (texts_of_sources sources.now) job.now part.now moves.now }
+    requires job_ok { IsJob job.now }
+    requires moves_ok { AreMoves job.now moves.now }
+    requires verdict { IsVerdict job.now part.now moves.now verdict }
+    requires safe { IsSafe job.now part.now moves.now verdict }
+    ensures { IfOk result (λ report. IsReportText (texts_of_sources sources.now) job.now part.now moves.now
+        report.text.items (status_code report.status)) }
+{
+    let lists = lists_of(alloc, sources, job, part, moves, verdict)?;
+    let line = verdict_words(alloc, job, moves, verdict)?;
+    let text = document(alloc, sources, job, moves, verdict, &line, lists)?;
+    Ok(Report {
+        text,
+        status: status_of_verdict(verdict),
+    })
+}
+
+/// The document of a verdict with this line and these lists.
+fn document(
+    alloc: Global,
+    sources: &Sources,
+    job: &Job,
+    moves: &[Move],
+    verdict: Verdict,
+    line: &[u8],
+    lists: Lists,
+) -> Result<Vec<u8>, WantOfMemory>
+    requires job_ok { IsJob job.now }
+    requires plain { ArePlain lists }
+    ensures { IfOk result (λ made. made.items ≡ text_of (report_data
+        line.now
+        (sums_of_texts (texts_of_sources sources.now))
+        (summary_of_verdict job.now moves.now verdict lists.too_high)
+        (map view lists.failing.items)
+        (map view lists.left.items))) }
+{
+    let sums = sums_of(sources);
+    let summary = summary_of(job, moves, verdict, lists.too_high);
+    report_text(alloc, line, &sums, &summary, lists.failing, lists.left)
+}
+
+/// The numbers of a report.
+fn summary_of(job: &Job, moves: &[Move], verdict: Verdict, too_high: u64) -> Summary
+    requires { IsJob job.now }
+    ensures { result ≡ summary_of_verdict job.now moves.now verdict too_high }
+{
+    Summary {
+        status: status_of_verdict(verdict).code(),
+        unit: job.unit,
+        moves: moves.len() as u64,
+        columns: job.column_total(),
+        left: most_left(verdict),
+        too_high,
+    }
+}
+
+/// What is left at most, which an acceptance alone tells.
+fn most_left(verdict: Verdict) -> Option<i32>
+    ensures { result ≡ most_left_of verdict }
+{
+    match verdict {
+        Verdict::Accept { most_left, .. } => Some(most_left),
+        Verdict::Reject(_) => None,
+    }
+}
