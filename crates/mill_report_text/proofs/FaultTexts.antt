@@ -1,10 +1,10 @@
 -- The documents of the faults that take no memory.
-use Rattle.std.proofs.Common.{◌≡◌, ℕ, ◌<◌, List, [], ◌∷◌, ◌++◌, Bool, true, ◌&&◌, codes, decimal, refl, sym, ap, ◌∙◌, arith, ltb-true}
+use Rattle.std.proofs.Common.{◌≡◌, ℕ, ◌<◌, List, [], ◌∷◌, ◌++◌, Bool, true, ◌&&◌, codes, refl, sym, ap, ◌∙◌, ltb-true}
 use Rattle.std.proofs.lemmas.Bool.{and_parts}
-use Rattle.std.proofs.lemmas.Fmt.{decimal_digit}
 use Rattle.std.proofs.lemmas.List.Elements.{All-cons, All-nil}
 use Rattle.std.proofs.lemmas.Str.{IsUtf8-from_ascii, utf8_lossy-IsUtf8}
 use Rattle.std.proofs.lemmas.Str.Ascii.{IsAscii-from_all}
+use Rattle.std.specs.Fmt.{digits}
 use Rattle.std.specs.Prelude.{All, nat_lt}
 use Rattle.std.specs.Str.Lossy.{utf8_lossy}
 use Rattle.json.specs.Print.{escape_byte}
@@ -37,17 +37,25 @@ abbrev pub document : List ℕ → ℕ → List ℕ
 document line digit = 123 ∷ 34 ∷ codes "line" ++ 34 ∷ 58 ∷ 34 ∷ line ++ 34 ∷ 44 ∷ 34 ∷ codes "status" ++ 34 ∷ 58 ∷ digit ∷ 125 ∷ 10 ∷ []
 
 pub memory_written : document (codes "out of memory") 53 ≡ text_of (fault_data (codes "out of memory") 5)
-unfolding escape_byte
-memory_written = rw (told_is (codes "out of memory") 5 refl, decimal_digit 5 (omega arith)) refl
+unfolding escape_byte digits
+memory_written =
+    let written : document (codes "out of memory") 53 ≡ text_of (told (codes "out of memory") 5) = refl in
+    written ∙ ap text_of (sym (told_is (codes "out of memory") 5 refl))
 
 pub job_written : document (codes "read fault job") 54 ≡ text_of (fault_data (codes "read fault job") 6)
-unfolding escape_byte
-job_written = rw (told_is (codes "read fault job") 6 refl, decimal_digit 6 (omega arith)) refl
+unfolding escape_byte digits
+job_written =
+    let written : document (codes "read fault job") 54 ≡ text_of (told (codes "read fault job") 6) = refl in
+    written ∙ ap text_of (sym (told_is (codes "read fault job") 6 refl))
 
 pub part_written : document (codes "read fault part") 54 ≡ text_of (fault_data (codes "read fault part") 6)
-unfolding escape_byte
-part_written = rw (told_is (codes "read fault part") 6 refl, decimal_digit 6 (omega arith)) refl
+unfolding escape_byte digits
+part_written =
+    let written : document (codes "read fault part") 54 ≡ text_of (told (codes "read fault part") 6) = refl in
+    written ∙ ap text_of (sym (told_is (codes "read fault part") 6 refl))
 
 pub program_written : document (codes "read fault program") 54 ≡ text_of (fault_data (codes "read fault program") 6)
-unfolding escape_byte
-program_written = rw (told_is (codes "read fault program") 6 refl, decimal_digit 6 (omega arith)) refl
+unfolding escape_byte digits
+program_written =
+    let written : document (codes "read fault program") 54 ≡ text_of (told (codes "read fault program") 6) = refl in
+    written ∙ ap text_of (sym (told_is (codes "read fault program") 6 refl))

@@ -1,12 +1,10 @@
 -- The items of all findings.
-use Rattle.std.proofs.Common.{◌≡◌, ℕ, List, [], ◌∷◌, refl, ap, ◌∙◌}
+use Rattle.std.proofs.Common.{◌≡◌, ◌==◌, ℕ, Bool, true, false, List, [], ◌∷◌, length, refl, sym, ap, ◌∙◌}
 use Rattle.std.specs.List.{AllZip}
-use Rattle.std.specs.Prelude.{All, ℤ, Option}
+use Rattle.std.specs.Prelude.{ℤ, Option}
 use Rattle.mill_base.specs.declared.motion.Move.{Move}
-use Rattle.mill_base.specs.declared.points.Pt3.{Pt3}
 use Rattle.mill_base.specs.declared.points.Tri.{Tri}
-use Rattle.mill_base.specs.declared.unit.Unit.{Unit}
-use Rattle.mill_details.specs.Details.{IsInText, failing_data}
+use Rattle.mill_details.specs.Details.{failing_data}
 use Rattle.mill_job.specs.Columns.{home}
 use Rattle.mill_job.specs.declared.job.Job.{Job}
 use Rattle.mill_report_text.specs.Reports.{AreFailing, AreItems, IsLift, Texts}
@@ -15,9 +13,16 @@ use Rattle.mill_source.specs.declared.place.Place.{Place}
 use Rattle.mill_verify.specs.declared.verdict.Reason.{Reason}
 use Rattle.serde_json.specs.Data.{Data}
 
--- the places of moves stand in their text
-pub places_inside : (start : Pt3) (unit : Unit) (text : List ℕ) (places : List Place) → ArePlaces start unit text places → All (IsInText text) places
-places_inside start unit text places are = λ k other there. let is = are.each k other there in record { order = is.order; inside = is.inside }
+not_both : (b : Bool) → b ≡ true → b ≡ false → ⊥
+not_both b p q = cc
+
+none_is_not_one : (reason : Reason) (found : List Reason) → reason ∷ found ≡ [] → ⊥
+none_is_not_one reason found e = cc
+
+-- a list that isn't empty has an item
+pub some_found : (found : List Reason) (empty : Bool) → empty ≡ (length found == 0) → empty ≡ false → ¬ (found ≡ [])
+some_found [] empty is no none = not_both empty is no
+some_found (reason ∷ found) empty is no none = none_is_not_one reason found none
 
 module _ (texts : Texts) (job : Job) (part : List Tri) (moves : List Move) where
   -- the items that were made of what was read

@@ -1,16 +1,19 @@
 -- The whole report, of its lists and its line.
-use Rattle.std.proofs.Common.{◌≡◌, ℕ, List, [], ◌∷◌, ◌++◌, map, sym, ap, subst, ◌∙◌}
+use Rattle.std.proofs.Common.{◌≡◌, ℕ, List, [], ◌∷◌, ◌++◌, map, take, sym, ap, subst, ◌∙◌}
+use Rattle.std.proofs.lemmas.List.Elements.{All-same, All-take, All-weaker}
 use Rattle.std.specs.Prelude.{All}
 use Rattle.mill_base.specs.declared.motion.Move.{Move}
 use Rattle.mill_base.specs.declared.points.Tri.{Tri}
 use Rattle.mill_details.specs.Details.{left_column}
-use Rattle.mill_dexel.specs.Tops.{uncut}
+use Rattle.mill_dexel.specs.Tops.{stock_after, uncut}
 use Rattle.mill_document.specs.Documents.{column_data, report_data, text_of}
+use Rattle.mill_job.specs.Columns.{IsColumn}
 use Rattle.mill_job.specs.declared.job.Job.{Job}
-use Rattle.mill_report.specs.Columns.{IsLeftAfter}
+use Rattle.mill_report.specs.Columns.{IsLeftAfter, IsLeftColumn}
 use Rattle.mill_report.specs.Findings.{AreFindings}
 use Rattle.mill_report.specs.Laws.{FirstIsVerdict, FirstLeftIsVerdict, VerdictIsFirst}
 use Rattle.mill_report.specs.declared.left.LeftColumn.{LeftColumn}
+use Rattle.mill_report.specs.declared.left.TheConstants.{MAX_LEFT}
 use Rattle.mill_report_text.proofs.Agreeing.{agrees}
 use Rattle.mill_report_text.specs.Reports.{AreFailing, IsReportText, Read, Texts, summary_of, sums_of}
 use Rattle.mill_report_text.specs.declared.lists.Lists.{Lists}
@@ -34,6 +37,13 @@ move_there job part moves (Reject (Rapid k j i leaf)) v = tt
 move_there job part moves (Reject (Cut k j i leaf)) v = tt
 move_there job part moves (Reject (HolderStock k j i leaf)) v = tt
 move_there job part moves (Reject (Left j i top)) v = tt
+
+-- the columns that are told of are the job's
+pub columns_told : (job : Job) (part : List Tri) (moves : List Move) (shown told : List LeftColumn) (total : ℕ) → told ≡ shown → IsLeftAfter job part moves shown total → All (λ c. IsColumn job c.row c.col) told
+columns_told job part moves shown told total same l =
+    All-same (λ (c : LeftColumn). IsColumn job c.row c.col) told (take MAX_LEFT l.left) (same ∙ l.first)
+    (All-take (λ (c : LeftColumn). IsColumn job c.row c.col) MAX_LEFT l.left
+    (All-weaker (IsLeftColumn job part (stock_after job (uncut job) moves)) (λ (c : LeftColumn). IsColumn job c.row c.col) (λ c h. h.column) l.left l.are.each))
 
 module _ (texts : Texts) (job : Job) (part : List Tri) (moves : List Move) where
   -- the lists of all findings, by what was read of them

@@ -1,11 +1,15 @@
-use Rattle.std.proofs.Common.{◌∙◌, ap, sym, subst, length, map}
+use Rattle.std.proofs.Common.{◌∙◌, ap, length, map}
 use Rattle.std.proofs.lemmas.Result.{IfOk-weaker}
 use Rattle.std.proofs.lemmas.Slice.Zip.{AllZip-long}
-use Rattle.mill_report_text.proofs.Items.{are_items, places_inside}
+use Rattle.mill_report_text.proofs.Items.{are_items}
 use Rattle.mill_report_text.specs.Reports.{IsLift}
 use Rattle.mill_report_text.specs.Sources.{texts_of_sources}
 use Rattle.serde_json.specs.View.{view}
 use Rattle.mill_report_text.proofs.failing.told_items.Goals as goal
+
+pub failing_values-requires-clause-lifts : goal.failing_values-requires-clause-lifts
+failing_values-requires-clause-lifts c =
+    ap length c.deref-4.ensures.value ∙ AllZip-long (IsLift c.args.job.now c.args.part.now c.args.moves.now) c.args.found.now c.in_ok-lifts.lifts.items c.in_ok-lifts.ensures
 
 pub returns-clause-are : goal.returns-clause-are
 returns-clause-are c =

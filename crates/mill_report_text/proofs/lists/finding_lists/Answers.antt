@@ -1,6 +1,10 @@
-use Rattle.mill_report_text.proofs.Reporting.{all_listed}
+use Rattle.mill_report_text.proofs.Reporting.{all_listed, columns_told}
 use Rattle.mill_report_text.specs.Sources.{texts_of_sources}
 use Rattle.mill_report_text.proofs.lists.finding_lists.Goals as goal
+
+pub left_values-requires-clause-columns : goal.left_values-requires-clause-columns
+left_values-requires-clause-columns c =
+    columns_told c.args.job.now c.args.part.now c.args.moves.now c.in_ok-found.found.left.shown.items c.deref-2.result.now c.in_ok-found.found.left.total c.deref-2.ensures.value c.in_ok-found.ensures.left
 
 pub returns : goal.returns
 returns c = λ reason v.
