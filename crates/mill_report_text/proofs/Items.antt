@@ -21,8 +21,8 @@ none_is_not_one reason found e = cc
 
 -- a list that isn't empty has an item
 pub some_found : (found : List Reason) (empty : Bool) → empty ≡ (length found == 0) → empty ≡ false → ¬ (found ≡ [])
-some_found [] empty is no none = not_both empty is no
-some_found (reason ∷ found) empty is no none = none_is_not_one reason found none
+some_found [] empty is fails none = not_both empty is fails
+some_found (reason ∷ found) empty is fails none = none_is_not_one reason found none
 
 module _ (texts : Texts) (job : Job) (part : List Tri) (moves : List Move) where
   -- the items that were made of what was read

@@ -1,4 +1,5 @@
-use Rattle.std.proofs.Common.{◌*◌, ◌≤◌, arith, rules}
+use Rattle.std.proofs.Common.{◌*◌, ◌≤◌, arith}
+use Rattle.std.proofs.lemmas.Int.{ints}
 use Rattle.mill_base.specs.declared.limits.TheConstants.{MAX_COORDINATE}
 use Rattle.mill_report_text.proofs.LiftLemmas.{lift_small}
 use Rattle.mill_report_text.proofs.lifts.least_units.Goals as goal
@@ -10,4 +11,7 @@ overflow_cast-result c =
     omega arith
 
 pub returns : goal.returns
-returns c = (c.least_lift.result, search rules, c.least_lift.ensures)
+returns c =
+    let small : c.least_lift.result ≤ 2 * MAX_COORDINATE =
+    lift_small c.over_part_passes.ensures c.passes_from_lift.ensures c.args.tool.now c.args.part.now c.args.step.now c.least_lift.result c.requires.tool_ok c.requires.step_ok c.requires.room_ok c.least_lift.ensures in
+    (c.least_lift.result, omega (arith, ints), c.least_lift.ensures)

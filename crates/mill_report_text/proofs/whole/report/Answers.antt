@@ -4,7 +4,7 @@ use Rattle.mill_run.proofs.Named.{is_safe}
 use Rattle.mill_report_text.proofs.whole.report.Goals as goal
 
 pub verify-requires-clause-moves_ok : goal.verify-requires-clause-moves_ok
-verify-requires-clause-moves_ok g c = moves_of_unit c.args.job.now.unit c.args.moves.now c.requires.moves_ok.in_range
+verify-requires-clause-moves_ok g c κs within = moves_of_unit c.args.job.now.unit c.args.moves.now c.requires.moves_ok.in_range
 
 pub report_of_verdict-requires-clause-safe : goal.report_of_verdict-requires-clause-safe
 report_of_verdict-requires-clause-safe g c = is_safe c.args.job.now c.args.part.now c.args.moves.now c.in_ok-verdict.verdict (λ count columns left e. c.in_ok-verdict.ensures.safe count columns left (ap Ok e))
