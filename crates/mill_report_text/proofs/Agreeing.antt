@@ -5,7 +5,7 @@ use Rattle.std.proofs.lemmas.Nat.{row_fits}
 use Rattle.std.specs.Prelude.{ℤ}
 use Rattle.mill_base.specs.declared.motion.Move.{Move}
 use Rattle.mill_base.specs.declared.points.Tri.{Tri}
-use Rattle.mill_dexel.specs.Tops.{Stock, stock_after, uncut}
+use Rattle.mill_dexel.specs.Tops.{stock_after, uncut}
 use Rattle.mill_job.specs.Columns.{IsColumn, column_count, row_count}
 use Rattle.mill_job.specs.declared.job.Job.{Job}
 use Rattle.mill_report.specs.Columns.{AreLeft, IsLeftAfter, column_number}

@@ -1,5 +1,5 @@
 -- The whole report, of its lists and its line.
-use Rattle.std.proofs.Common.{◌≡◌, ℕ, List, [], ◌∷◌, ◌++◌, map, take, sym, ap, subst, ◌∙◌}
+use Rattle.std.proofs.Common.{◌≡◌, ℕ, List, [], ◌∷◌, ◌++◌, map, take, ap, subst, ◌∙◌}
 use Rattle.std.proofs.lemmas.List.Elements.{All-same, All-take, All-weaker}
 use Rattle.std.specs.Prelude.{All}
 use Rattle.mill_base.specs.declared.motion.Move.{Move}

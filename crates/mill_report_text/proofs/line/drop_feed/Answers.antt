@@ -1,4 +1,3 @@
-use Rattle.std.proofs.Common.{sym}
 use Rattle.mill_report_text.proofs.LineEnds.{dropped}
 use Rattle.mill_report_text.proofs.line.drop_feed.Goals as goal
 
