@@ -1,0 +1,6 @@
+pub mod Taken
+mod Facts
+pub mod Loading
+pub mod Telling
+pub mod Blaming
+pub mod Headlines

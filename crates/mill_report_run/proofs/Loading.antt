@@ -1,0 +1,193 @@
+-- What was read of the three files, or why it wasn't.
+use Rattle.std.proofs.Common.{◌≡◌, ℕ, List, Option, Some, None, Result, Ok, Err, refl, sym, subst, arith}
+use Rattle.std.specs.Prelude.{IfErr, IfSome}
+use Rattle.std.specs.Global.{Vec}
+use Rattle.mill_base.specs.declared.motion.Move.{Move}
+use Rattle.mill_base.specs.declared.points.Tri.{Tri}
+use Rattle.mill_io.specs.Causes.{Rose}
+use Rattle.mill_io.specs.Views.{StoreView}
+use Rattle.mill_job.specs.declared.job.Job.{Job}
+use Rattle.mill_load.proofs.Reading.{under_loads}
+use Rattle.mill_load.specs.Loads.{CountsFault, IsSetup, JoinsPart, LoadsJob, LoadsPart, LoadsProgram, LoadsSetup, LoadsUnder, OnlyLoads, ReadsFile}
+use Rattle.mill_load.specs.Programs.{IsProgramText}
+use Rattle.mill_load.specs.Setup.{IsJobText, IsPartText, ReadsSetup as ReadsBoth, SetupTexts}
+use Rattle.mill_load.specs.declared.file.File.{File}
+use Rattle.mill_load.specs.declared.file.File.TheVariants.{Job as JobFile, Part as PartFile, Program as ProgramFile, List as ListFile, StepProgram}
+use Rattle.mill_load.specs.declared.load.LoadFault.{LoadFault}
+use Rattle.mill_load.specs.declared.load.LoadFault.TheVariants.{Memory, ReadFault, Unfit}
+use Rattle.mill_load.specs.declared.load.Setup.{Setup}
+use Rattle.mill_load.specs.declared.load.Unfit.TheVariants.{TooLong, JobRefused, PartRefused, ListRefused, ProgramRefused, PartTop}
+use Rattle.mill_report_run.specs.Outcomes.{AreTextsOf}
+use Rattle.mill_report_run.specs.declared.load.JobRead.{JobRead}
+use Rattle.mill_report_run.specs.declared.load.Loaded.{Loaded}
+use Rattle.mill_report_run.specs.declared.load.SetupRead.{SetupRead}
+use Rattle.mill_report_run.specs.inner.Loads.{AreSetupTexts, HoldsJob, HoldsSetup, IsOfThree, Loads, ReadsPart, ReadsSetup}
+use Rattle.mill_report_text.specs.Reports.{Read, Texts}
+use Rattle.mill_run.specs.Verify.{IsReadBeforeProgram, IsUnfitProgram, Reads, Texts as ToldTexts}
+
+-- ---- one text
+
+-- what holds of a text holds of what is told of its file, where that is the text
+pub if_told : (P : List ℕ → Type 0) (told : Option (List ℕ)) (text : List ℕ) → IfSome told (λ bytes. text ≡ bytes) → P text → IfSome told P
+if_told P None text same p = tt
+if_told P (Some bytes) text same p = subst P same p
+
+-- ---- why a file has no text
+
+-- of the job's file
+pub no_job_text : (told : Option (List ℕ)) (f : LoadFault) → (let r : Result (Vec ℕ) LoadFault = Err f in ReadsFile told JobFile r) → LoadsJob told (Err f)
+no_job_text told Memory h = tt
+no_job_text told (ReadFault file) h = subst (λ (x : File). LoadsJob told (Err (ReadFault x))) (sym h) tt
+no_job_text told (Unfit (TooLong file)) h = subst (λ (x : File). LoadsJob told (Err (Unfit (TooLong x)))) (sym h.0) h.1
+no_job_text told (Unfit (JobRefused fault)) h = absurd h
+no_job_text told (Unfit (PartRefused fault)) h = absurd h
+no_job_text told (Unfit (ListRefused fault)) h = absurd h
+no_job_text told (Unfit (ProgramRefused file fault)) h = absurd h
+no_job_text told (Unfit (PartTop height top unit)) h = absurd h
+
+-- of the part's file
+pub no_part_text : (job : Job) (told : Option (List ℕ)) (f : LoadFault) → (let r : Result (Vec ℕ) LoadFault = Err f in ReadsFile told PartFile r) → LoadsUnder job told (Err f)
+no_part_text job told Memory h = tt
+no_part_text job told (ReadFault file) h = subst (λ (x : File). LoadsUnder job told (Err (ReadFault x))) (sym h) tt
+no_part_text job told (Unfit (TooLong file)) h = subst (λ (x : File). LoadsUnder job told (Err (Unfit (TooLong x)))) (sym h.0) h.1
+no_part_text job told (Unfit (JobRefused fault)) h = absurd h
+no_part_text job told (Unfit (PartRefused fault)) h = absurd h
+no_part_text job told (Unfit (ListRefused fault)) h = absurd h
+no_part_text job told (Unfit (ProgramRefused file fault)) h = absurd h
+no_part_text job told (Unfit (PartTop height top unit)) h = absurd h
+
+-- a text that says no part gives none under any job's top
+pub part_under : (job : Job) (told : Option (List ℕ)) (f : LoadFault) → LoadsPart job told (Err f) → LoadsUnder job told (Err f)
+part_under job told Memory h = h
+part_under job told (ReadFault file) h = h
+part_under job told (Unfit (TooLong file)) h = h
+part_under job told (Unfit (JobRefused fault)) h = h
+part_under job told (Unfit (PartRefused fault)) h = h
+part_under job told (Unfit (ListRefused fault)) h = h
+part_under job told (Unfit (ProgramRefused file fault)) h = h
+part_under job told (Unfit (PartTop height top unit)) h = absurd h
+
+-- ---- why there is nothing to report on
+
+-- there were no job and part
+pub no_setup : (told : ToldTexts) (f : LoadFault) → LoadsSetup told.setup (Err f) → Loads told (Err f)
+no_setup told Memory h = tt
+no_setup told (ReadFault JobFile) h = h
+no_setup told (ReadFault PartFile) h = h
+no_setup told (ReadFault ProgramFile) h = absurd h
+no_setup told (ReadFault ListFile) h = h
+no_setup told (ReadFault (StepProgram number)) h = h
+no_setup told (Unfit (TooLong JobFile)) h = h
+no_setup told (Unfit (TooLong PartFile)) h = h
+no_setup told (Unfit (TooLong ProgramFile)) h = absurd h
+no_setup told (Unfit (TooLong ListFile)) h = h
+no_setup told (Unfit (TooLong (StepProgram number))) h = h
+no_setup told (Unfit (JobRefused fault)) h = h
+no_setup told (Unfit (PartRefused fault)) h = h
+no_setup told (Unfit (ListRefused fault)) h = h
+no_setup told (Unfit (ProgramRefused file fault)) h = absurd h
+no_setup told (Unfit (PartTop height top unit)) h = h
+
+-- job and part were read, and there were no moves
+pub no_moves : (told : ToldTexts) (job : Job) (part : List Tri) (f : LoadFault) → ReadsBoth told.setup job part
+    → (let r : Result (Vec Move) LoadFault = Err f in LoadsProgram job told.program ProgramFile r) → Loads told (Err f)
+no_moves told job part Memory both h = tt
+no_moves told job part (ReadFault file) both h = subst (λ (x : File). IsReadBeforeProgram told x) (sym h) (job, part, both)
+no_moves told job part (Unfit (TooLong file)) both h =
+    subst (λ (x : File). IsUnfitProgram told (TooLong x)) (sym h.0) (record { job = job; part = part; setup_is = both; long = h.1 })
+no_moves told job part (Unfit (JobRefused fault)) both h = absurd h
+no_moves told job part (Unfit (PartRefused fault)) both h = absurd h
+no_moves told job part (Unfit (ListRefused fault)) both h = absurd h
+no_moves told job part (Unfit (ProgramRefused file fault)) both h =
+    subst (λ (x : File). IsUnfitProgram told (ProgramRefused x fault)) (sym h.0) (record { job = job; part = part; setup_is = both; refused = h.1 })
+no_moves told job part (Unfit (PartTop height top unit)) both h = absurd h
+
+-- the program's file has no text
+pub no_program_text : (job : Job) (told : Option (List ℕ)) (f : LoadFault) → (let r : Result (Vec ℕ) LoadFault = Err f in ReadsFile told ProgramFile r)
+    → (let r : Result (Vec Move) LoadFault = Err f in LoadsProgram job told ProgramFile r)
+no_program_text job told Memory h = tt
+no_program_text job told (ReadFault file) h = h
+no_program_text job told (Unfit (TooLong file)) h = h
+no_program_text job told (Unfit (JobRefused fault)) h = absurd h
+no_program_text job told (Unfit (PartRefused fault)) h = absurd h
+no_program_text job told (Unfit (ListRefused fault)) h = absurd h
+no_program_text job told (Unfit (ProgramRefused file fault)) h = absurd h
+no_program_text job told (Unfit (PartTop height top unit)) h = absurd h
+
+-- or its text, which is what is told of it, has no moves
+pub no_text_moves : (job : Job) (told : Option (List ℕ)) (text : List ℕ) (f : LoadFault) → IfSome told (λ bytes. text ≡ bytes)
+    → (let r : Result (Vec Move) LoadFault = Err f in LoadsProgram job (Some text) ProgramFile r) → (let r : Result (Vec Move) LoadFault = Err f in LoadsProgram job told ProgramFile r)
+no_text_moves job None text Memory same h = tt
+no_text_moves job None text (ReadFault file) same h = h
+no_text_moves job None text (Unfit (TooLong file)) same h = (h.0, tt)
+no_text_moves job None text (Unfit (JobRefused fault)) same h = absurd h
+no_text_moves job None text (Unfit (PartRefused fault)) same h = absurd h
+no_text_moves job None text (Unfit (ListRefused fault)) same h = absurd h
+no_text_moves job None text (Unfit (ProgramRefused file fault)) same h = (h.0, tt)
+no_text_moves job None text (Unfit (PartTop height top unit)) same h = absurd h
+no_text_moves job (Some bytes) text f same h = subst (λ (t : List ℕ). (let r : Result (Vec Move) LoadFault = Err f in LoadsProgram job (Some t) ProgramFile r)) same h
+
+-- a read fault is that of one of the three
+pub of_three : (told : ToldTexts) (f : LoadFault) → Loads told (Err f) → IsOfThree f
+of_three told Memory h = tt
+of_three told (ReadFault JobFile) h = tt
+of_three told (ReadFault PartFile) h = tt
+of_three told (ReadFault ProgramFile) h = tt
+of_three told (ReadFault ListFile) h = h
+of_three told (ReadFault (StepProgram number)) h = h
+of_three told (Unfit fault) h = tt
+
+-- ---- what was read
+
+-- job and part are those of their files
+pub both_read : (told : ToldTexts) (r : SetupRead) → AreSetupTexts told.setup r → HoldsSetup r → ReadsBoth told.setup r.setup.job r.setup.part
+both_read told r agree holds = record {
+  job_is = if_told (λ text. IsJobText text r.setup.job) told.setup.job r.job.items agree.job holds.job_is;
+  part_is = if_told (λ text. IsPartText r.setup.job text r.setup.part) told.setup.part r.part.items agree.part holds.part_is;
+  under = holds.setup_ok.under;
+}
+
+-- so are all three
+pub all_read : (told : ToldTexts) (texts : Texts) (job : Job) (part : List Tri) (moves : List Move) → AreTextsOf told texts → Read texts job part moves → Reads told job part moves
+all_read told texts job part moves agree read = record {
+  setup_is = record {
+    job_is = if_told (λ text. IsJobText text job) told.setup.job texts.job agree.job read.job_is;
+    part_is = if_told (λ text. IsPartText job text part) told.setup.part texts.part agree.part read.part_is;
+    under = read.under;
+  };
+  moves_are = if_told (λ text. IsProgramText job text moves) told.program texts.program agree.program read.moves_are;
+}
+
+-- the part that was put to the job leaves both as their texts read
+pub joined_holds : (before : JobRead) (part : List Tri) (r : SetupRead) → HoldsJob before → IsPartText before.job r.part.items part → r.job.items ≡ before.text.items → IsSetup r.setup
+    → (let s : Result Setup LoadFault = Ok r.setup in JoinsPart before.job part s) → HoldsSetup r
+joined_holds before part r holds is stays setup_ok h = record {
+  setup_ok = setup_ok;
+  job_is = subst (λ (text : List ℕ). IsJobText text r.setup.job) (sym stays) (subst (λ (j : Job). IsJobText before.text.items j) (sym h.0) holds.is);
+  part_is = subst (λ (j : Job). IsPartText j r.part.items r.setup.part) (sym h.0) (subst (λ (p : List Tri). IsPartText before.job r.part.items p) (sym h.1) is);
+}
+
+-- the job was read, and this is what the part's file came to
+pub setup_read : (told : SetupTexts) (before : JobRead) (r : Result SetupRead LoadFault) → IfSome told.job (λ bytes. before.text.items ≡ bytes) → HoldsJob before
+    → ReadsPart before told.part r → ReadsSetup told r
+setup_read told before (Ok s) same holds h =
+    record { job = subst (λ (items : List ℕ). IfSome told.job (λ bytes. items ≡ bytes)) (sym h.stays) same; part = h.same }
+setup_read told before (Err fault) same holds h =
+    under_loads told before.job (Err fault) (if_told (λ text. IsJobText text before.job) told.job before.text.items same holds.is) h
+
+-- whatever all three came to, a read fault is that of one of them
+pub all_of_three : (told : ToldTexts) (r : Result Loaded LoadFault) → Loads told r → IfErr r IsOfThree
+all_of_three told (Ok l) h = tt
+all_of_three told (Err fault) h = of_three told fault h
+
+-- ---- the store
+
+no_rise : (Rose 0 0) → ⊥
+no_rise rose = omega (rose, arith)
+
+-- what is made of a text that was read changes nothing more
+pub loads_with : {T U : Type 0} (a b : StoreView) (x : T) (r : Result U LoadFault) → (let q : Result T LoadFault = Ok x in OnlyLoads a b q) → CountsFault 0 0 r → OnlyLoads a b r
+loads_with a b x (Ok y) loads cause = record { only = loads.only; reads = loads.reads }
+loads_with a b x (Err Memory) loads cause = record { only = loads.only; reads = loads.reads }
+loads_with a b x (Err (ReadFault file)) loads cause = absurd (no_rise cause)
+loads_with a b x (Err (Unfit fault)) loads cause = record { only = loads.only; reads = loads.reads }

@@ -1,0 +1,95 @@
+-- What was read and what was printed, put together as the work on the files, and as that of a call.
+use Rattle.std.proofs.Common.{◌≡◌, ◌⊎◌, ℕ, List, Option, Some, None, Result, Ok, Err, refl, sym, ap, subst, inl, inr}
+use Rattle.std.specs.Prelude.{◌↔◌, IsSome}
+use Rattle.mill_command.specs.declared.refusal.Refusal.{Refusal}
+use Rattle.mill_command.specs.declared.refusal.Refusal.TheVariants as refusal
+use Rattle.mill_io.specs.Views.{ReadsOnly, StoreView}
+use Rattle.mill_load.proofs.Reading.{rises}
+use Rattle.mill_load.specs.Loads.{OnlyLoads}
+use Rattle.mill_load.specs.declared.file.File.{File}
+use Rattle.mill_load.specs.declared.load.LoadFault.{LoadFault}
+use Rattle.mill_load.specs.declared.load.LoadFault.TheVariants.{Memory, ReadFault, Unfit}
+use Rattle.mill_report_run.specs.Outcomes.{AreTextsOf, CountsReads, HasOutcome, IsOutcome, IsOutcomeOf, Outcome, Shows, bad_words, failed, help, reported}
+use Rattle.mill_report_run.specs.Words.{ReadsWords, Request, request}
+use Rattle.mill_report_run.specs.declared.load.Loaded.{Loaded}
+use Rattle.mill_report_run.specs.inner.Loads.{Loads}
+use Rattle.mill_report_run.specs.inner.Prints.{PrintsFault, PrintsOutcome, Serves, TellsReport, TriesReport, refusal_outcome}
+use Rattle.mill_report_text.specs.ReportFiles.{IsReportFile}
+use Rattle.mill_report_text.specs.Sources.{texts_of_sources}
+use Rattle.mill_run.specs.Calls.{Call, CanCount}
+use Rattle.mill_run.specs.Verify.{texts_of}
+use Rattle.mill_run.specs.Words.{Files}
+
+-- what was printed of an outcome shows it
+pub outcome_shows : (call : Call) (o : Outcome) → ReadsOnly call.store call.store_after → CountsReads o call.store.read_faults call.store_after.read_faults
+    → PrintsOutcome o call.status call.sink call.sink_after → Shows call o
+outcome_shows call o only reads p = record { text = p.text; text_is = p.is; printed = p.printed; only = only; reads = reads }
+
+-- ---- the files
+
+-- the report on what was read was printed, or that memory was short
+pub report_serves : (files : Files) (call : Call) (l : Loaded) → AreTextsOf (texts_of call.store.contents files) (texts_of_sources l.sources)
+    → (let r : Result Loaded LoadFault = Ok l in OnlyLoads call.store call.store_after r) → TriesReport l call.status call.sink call.sink_after → Serves files call
+report_serves files call l agree loads (inl p) = record {
+  outcome = reported p.report p.code;
+  is = record { texts = texts_of_sources l.sources; agree = agree; job = l.setup.job; part = l.setup.part; moves = l.moves.items; is = p.is };
+  shows = record { text = p.report; text_is = refl; printed = p.printed; only = loads.only; reads = loads.reads };
+}
+report_serves files call l agree loads (inr m) = record { outcome = failed Memory; is = tt; shows = outcome_shows call (failed Memory) loads.only loads.reads m }
+
+-- what kept the call from a report was printed
+pub fault_serves : (files : Files) (call : Call) (f : LoadFault) → Loads (texts_of call.store.contents files) (Err f) → CanCount call.store call.sink
+    → (let r : Result Loaded LoadFault = Err f in OnlyLoads call.store call.store_after r) → PrintsFault f call.status call.sink call.sink_after → Serves files call
+fault_serves files call Memory is room loads p = record { outcome = failed Memory; is = tt; shows = outcome_shows call (failed Memory) loads.only loads.reads p }
+fault_serves files call (ReadFault file) is room loads p =
+    record { outcome = failed (ReadFault file); is = is; shows = outcome_shows call (failed (ReadFault file)) loads.only (rises _ _ room.reads loads.reads) p }
+fault_serves files call (Unfit fault) is room loads (inl p) =
+    record { outcome = failed (Unfit fault); is = is; shows = outcome_shows call (failed (Unfit fault)) loads.only loads.reads p }
+fault_serves files call (Unfit fault) is room loads (inr m) = record { outcome = failed Memory; is = tt; shows = outcome_shows call (failed Memory) loads.only loads.reads m }
+
+-- ---- the words
+
+-- words that are taken, and the work on their files
+pub served_outcome : (words : List (List ℕ)) (call : Call) (asked : Request) → request words ≡ Some asked → Serves asked.files call → HasOutcome words call
+served_outcome words call asked taken s = record { outcome = s.outcome; is = of_words s.outcome s.is; shows = s.shows }
+  where
+    of_words : (o : Outcome) → IsOutcome (texts_of call.store.contents asked.files) o → IsOutcomeOf words call.store.contents o
+    of_words (help shown) is = absurd is
+    of_words (bad_words shown) is = absurd is
+    of_words (failed Memory) is = tt
+    of_words (failed (ReadFault file)) is = record { asked = asked; taken = taken; is = is }
+    of_words (failed (Unfit fault)) is = record { asked = asked; taken = taken; is = is }
+    of_words (reported report status) is = record { asked = asked; taken = taken; is = is }
+
+refusal_is : (words : List (List ℕ)) (contents : List ℕ → Option (List ℕ)) (r : Refusal) → ReadsWords words (Err r) → IsOutcomeOf words contents (refusal_outcome r)
+refusal_is words contents (refusal.Help text) h = record { untaken = h.0; asks = h.1 }
+refusal_is words contents (refusal.NotTaken text) h = record { untaken = h.0; mistaken = h.1 }
+refusal_is words contents refusal.WantOfMemory h = tt
+
+refusal_reads : (r : Refusal) (a b : ℕ) → b ≡ a → CountsReads (refusal_outcome r) a b
+refusal_reads (refusal.Help text) a b e = e
+refusal_reads (refusal.NotTaken text) a b e = e
+refusal_reads refusal.WantOfMemory a b e = e
+
+same_store : (store : StoreView) → ReadsOnly store store
+same_store store = record { contents = λ name. refl; tells = refl; write_faults = refl }
+
+-- words that aren't taken
+pub refused_outcome : (words : List (List ℕ)) (call : Call) (r : Refusal) → ReadsWords words (Err r) → call.store_after ≡ call.store
+    → PrintsOutcome (refusal_outcome r) call.status call.sink call.sink_after → HasOutcome words call
+refused_outcome words call r h same p = record {
+  outcome = refusal_outcome r;
+  is = refusal_is words call.store.contents r h;
+  shows = outcome_shows call (refusal_outcome r) (subst (λ (v : StoreView). ReadsOnly call.store v) (sym same) (same_store call.store))
+      (refusal_reads r _ _ (ap (λ (v : StoreView). v.read_faults) same)) p;
+}
+
+-- ---- a file that couldn't be read
+
+none_is : {T : Type 0} (o : Option T) → IsSome o → o ≡ None → ⊥
+none_is None some e = absurd some
+none_is (Some x) some e = cc
+
+-- one of the three has a text that tells so
+pub has_text : {T : Type 0} (file : File) (o : Option T) → IsSome o ↔ IsReportFile file → IsReportFile file → o ≡ None → ⊥
+has_text file o files is e = none_is o (files.1 is) e

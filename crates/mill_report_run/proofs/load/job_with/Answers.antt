@@ -1,0 +1,12 @@
+use Rattle.std.proofs.Common.{Err}
+use Rattle.mill_load.proofs.Reading.{job_told}
+use Rattle.mill_report_run.proofs.load.job_with.Goals as goal
+
+pub returns-in-Ok-clause-told : goal.returns-in-Ok-clause-told
+returns-in-Ok-clause-told c = λ told same. same
+
+pub returns-in-Ok-clause-ready : goal.returns-in-Ok-clause-ready
+returns-in-Ok-clause-ready c = record { job_ok = c.in-Ok.ensures.in_range; is = rw c.deref.ensures.value at c.in-Ok.ensures.told }
+
+pub returns-in-Err-clause-told : goal.returns-in-Err-clause-told
+returns-in-Err-clause-told c = λ told same. job_told told c.args.text.items (Err c.in-Err.fault) same (rw c.deref.ensures.value at c.in-Err.ensures.told)

@@ -1,0 +1,11 @@
+use Rattle.mill_report_run.proofs.Loading.{loads_with, no_job_text}
+use Rattle.mill_report_run.proofs.load.load_job.Goals as goal
+
+pub returns-in-Ok-clause-told : goal.returns-in-Ok-clause-told
+returns-in-Ok-clause-told g c = c.job_with.ensures.told ((g.S.Shelf.shows c.args.shelf.now).contents c.args.name.now) c.in-Ok.ensures.told
+
+pub returns-in-Ok-clause-store : goal.returns-in-Ok-clause-store
+returns-in-Ok-clause-store g c = loads_with _ _ _ c.job_with.result c.in-Ok.ensures.store c.job_with.ensures.cause
+
+pub returns-in-Err-clause-told : goal.returns-in-Err-clause-told
+returns-in-Err-clause-told g c = no_job_text ((g.S.Shelf.shows c.args.shelf.now).contents c.args.name.now) c.in-Err.fault c.in-Err.ensures.told

@@ -1,0 +1,12 @@
+use Rattle.std.proofs.Common.{Err}
+use Rattle.mill_load.proofs.Reading.{part_told}
+use Rattle.mill_report_run.proofs.Loading.{part_under}
+use Rattle.mill_report_run.proofs.load.part_with.Goals as goal
+
+pub joined-requires-clause-part_is : goal.joined-requires-clause-part_is
+joined-requires-clause-part_is c = rw c.deref.ensures.value at c.in-Ok.ensures.told
+
+pub returns-in-Err-clause-told : goal.returns-in-Err-clause-told
+returns-in-Err-clause-told c = λ told same.
+    part_under c.args.before.job told c.in-Err.fault
+    (part_told c.args.before.job told c.args.text.items (Err c.in-Err.fault) same (rw c.deref.ensures.value at c.in-Err.ensures.told))

@@ -1,0 +1,20 @@
+use Rattle.std.proofs.Common.{refl}
+use Rattle.mill_report_run.proofs.Loading.{both_read, no_moves, no_text_moves}
+use Rattle.mill_report_run.proofs.load.with_program.Goals as goal
+
+pub returns-in-Ok-clause-told : goal.returns-in-Ok-clause-told
+returns-in-Ok-clause-told c = λ told agree same. record { job = agree.job; part = agree.part; program = same }
+
+pub returns-in-Ok-clause-ready : goal.returns-in-Ok-clause-ready
+returns-in-Ok-clause-ready c =
+    let setup = c.requires.ready in
+    record {
+      job_ok = setup.setup_ok.job_ok;
+      moves_ok = c.in-Ok.ensures.ready;
+      read = record { job_is = setup.job_is; part_is = setup.part_is; under = setup.setup_ok.under; moves_are = rw c.deref.ensures.value at c.in-Ok.ensures.told };
+    }
+
+pub returns-in-Err-clause-told : goal.returns-in-Err-clause-told
+returns-in-Err-clause-told c = λ told agree same.
+    no_moves told c.args.before.setup.job c.args.before.setup.part c.in-Err.fault (both_read told c.args.before agree c.requires.ready)
+    (no_text_moves c.args.before.setup.job told.program c.args.text.items c.in-Err.fault same (rw c.deref.ensures.value at c.in-Err.ensures.told))

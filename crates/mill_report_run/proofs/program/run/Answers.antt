@@ -1,0 +1,21 @@
+use Rattle.mill_report_run.proofs.Blaming.{blames_reads, blames_writes}
+use Rattle.mill_report_run.proofs.Headlines.{completes_of, headline_of, untaken_of}
+use Rattle.mill_report_run.proofs.program.run.Goals as goal
+
+pub returns-clause-write : goal.returns-clause-write
+returns-clause-write g c = blames_writes _ _ c.work.ensures.outcome
+
+pub returns-clause-read : goal.returns-clause-read
+returns-clause-read g c = blames_reads _ _ c.work.ensures.outcome
+
+pub returns-clause-kept : goal.returns-clause-kept
+returns-clause-kept g c = c.work.ensures.outcome.shows.only
+
+pub returns-clause-completes : goal.returns-clause-completes
+returns-clause-completes g c = completes_of _ _ c.work.ensures.outcome
+
+pub returns-clause-untaken : goal.returns-clause-untaken
+returns-clause-untaken g c = untaken_of _ _ c.work.ensures.outcome
+
+pub returns-clause-headline : goal.returns-clause-headline
+returns-clause-headline g c = headline_of c.one_verdict.ensures _ _ c.work.ensures.outcome

@@ -1,0 +1,1 @@
+use Rattle.mill_report_run.proofs.tell.tell_refusal.Goals as goal

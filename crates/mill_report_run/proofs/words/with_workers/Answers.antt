@@ -1,0 +1,5 @@
+use Rattle.std.proofs.lemmas.Result.{IfOk-weaker}
+use Rattle.mill_report_run.proofs.words.with_workers.Goals as goal
+
+pub returns : goal.returns
+returns c = IfOk-weaker c.with_arg.result _ _ (λ r h. h _ _ c.in_ok-plain.ensures c.workers.ensures.0) c.with_arg.ensures

@@ -1,0 +1,4 @@
+pub mod Words
+pub mod Outcomes
+pub mod Headline
+pub mod inner

@@ -1,0 +1,101 @@
+-- What a call comes to, and how it tells that.
+use Rattle.std.specs.Prelude.{◌≡◌, ◌<◌, ℕ, List, Option, Some, IfSome}
+use Rattle.mill_base.specs.declared.motion.Move.{Move}
+use Rattle.mill_base.specs.declared.points.Tri.{Tri}
+use Rattle.mill_io.specs.Views.{ReadsOnly}
+use Rattle.mill_job.specs.declared.job.Job.{Job}
+use Rattle.mill_load.specs.Faults.{fault_status}
+use Rattle.mill_load.specs.Prints.{Prints}
+use Rattle.mill_load.specs.declared.load.LoadFault.{LoadFault}
+use Rattle.mill_load.specs.declared.load.LoadFault.TheVariants.{Memory, ReadFault, Unfit}
+use Rattle.mill_report_text.specs.Reports.{IsFaultText, IsReportText, Texts}
+use Rattle.mill_report_run.specs.Words.{Request, RefusesWords, ShowsHelp, request}
+use Rattle.mill_run.specs.Calls.{Call}
+use Rattle.mill_run.specs.Verify.{IsReadBeforeProgram, IsUnfitProgram, Texts as ToldTexts, texts_of}
+use Rattle.mill_run.specs.Words.{Files}
+
+-- what a call comes to before it prints: clap's text of help or of a mistake in the words; or what kept it from a report; or a report, as its text and its status
+pub data Outcome : Type 0 where
+  help : List ℕ → Outcome
+  bad_words : List ℕ → Outcome
+  failed : LoadFault → Outcome
+  reported : List ℕ → ℕ → Outcome
+
+-- its exit status
+abbrev pub outcome_status : Outcome → ℕ
+outcome_status (help shown) = 0
+outcome_status (bad_words shown) = 2
+outcome_status (failed fault) = fault_status fault
+outcome_status (reported report status) = status
+
+-- this text tells it
+abbrev pub IsTextOf : Outcome → List ℕ → Type 0
+IsTextOf (help shown) text = text ≡ shown
+IsTextOf (bad_words shown) text = text ≡ shown
+IsTextOf (failed fault) text = IsFaultText fault text
+IsTextOf (reported report status) text = text ≡ report
+
+-- ---- which outcome it is
+
+-- each text is that of its file, where the store tells that
+pub record AreTextsOf (told : ToldTexts) (texts : Texts) : Type 0 where
+  pub job : IfSome told.setup.job (λ text. texts.job ≡ text)
+  pub part : IfSome told.setup.part (λ text. texts.part ≡ text)
+  pub program : IfSome told.program (λ text. texts.program ≡ text)
+
+-- the files' texts read as a job, a part and moves, and the report on them has this text and this status
+pub record Reports (told : ToldTexts) (report : List ℕ) (status : ℕ) : Type 0 where
+  pub texts : Texts
+  pub agree : AreTextsOf told texts
+  pub job : Job
+  pub part : List Tri
+  pub moves : List Move
+  pub is : IsReportText texts job part moves report status
+
+-- the work on these files comes to this: memory was short; or a file couldn't be read, and all before it could; or the first check of them that fails is this one; or this is the report on them
+abbrev pub IsOutcome : ToldTexts → Outcome → Type 0
+IsOutcome told (failed Memory) = Unit {0}
+IsOutcome told (failed (ReadFault file)) = IsReadBeforeProgram told file
+IsOutcome told (failed (Unfit fault)) = IsUnfitProgram told fault
+IsOutcome told (reported report status) = Reports told report status
+IsOutcome told outcome = ⊥
+
+-- the words are taken as a request, and the work on its files comes to this
+pub record AsksFor (words : List (List ℕ)) (contents : List ℕ → Option (List ℕ)) (outcome : Outcome) : Type 0 where
+  pub asked : Request
+  pub taken : request words ≡ Some asked
+  pub is : IsOutcome (texts_of contents asked.files) outcome
+
+-- a call with these words comes to this
+abbrev pub IsOutcomeOf : List (List ℕ) → (List ℕ → Option (List ℕ)) → Outcome → Type 0
+IsOutcomeOf words contents (help shown) = ShowsHelp words
+IsOutcomeOf words contents (bad_words shown) = RefusesWords words
+IsOutcomeOf words contents (failed Memory) = Unit {0}
+IsOutcomeOf words contents (failed (ReadFault file)) = AsksFor words contents (failed (ReadFault file))
+IsOutcomeOf words contents (failed (Unfit fault)) = AsksFor words contents (failed (Unfit fault))
+IsOutcomeOf words contents (reported report status) = AsksFor words contents (reported report status)
+
+-- ---- how it is told
+
+-- the count of failed reads rises with a read fault, and else stays
+abbrev pub CountsReads : Outcome → ℕ → ℕ → Type 0
+CountsReads (help shown) before after = after ≡ before
+CountsReads (bad_words shown) before after = after ≡ before
+CountsReads (failed Memory) before after = after ≡ before
+CountsReads (failed (ReadFault file)) before after = before < after
+CountsReads (failed (Unfit fault)) before after = after ≡ before
+CountsReads (reported report status) before after = after ≡ before
+
+-- its text was printed, with its status, or the printing failed; nothing of the store has changed but the count of failed reads
+pub record Shows (call : Call) (outcome : Outcome) : Type 0 where
+  pub text : List ℕ
+  pub text_is : IsTextOf outcome text
+  pub printed : Prints text (outcome_status outcome) call.status call.sink call.sink_after
+  pub only : ReadsOnly call.store call.store_after
+  pub reads : CountsReads outcome call.store.read_faults call.store_after.read_faults
+
+-- a call with these words came to an outcome, which is right by each file that the store tells, and tells it
+pub record HasOutcome (words : List (List ℕ)) (call : Call) : Type 0 where
+  pub outcome : Outcome
+  pub is : IsOutcomeOf words call.store.contents outcome
+  pub shows : Shows call outcome

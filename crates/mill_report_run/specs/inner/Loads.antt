@@ -1,0 +1,76 @@
+-- What reading the files, and keeping their texts, comes to.
+use Rattle.std.specs.Prelude.{◌≡◌, ℕ, List, Option, IfSome, Result, Ok, Err}
+use Rattle.mill_job.specs.Jobs.{IsJob}
+use Rattle.mill_load.specs.Loads.{AreMoves, IsSetup, LoadsJob, LoadsSetup, LoadsUnder}
+use Rattle.mill_load.specs.Setup.{IsJobText, IsPartText, SetupTexts}
+use Rattle.mill_load.specs.declared.load.LoadFault.{LoadFault}
+use Rattle.mill_load.specs.declared.load.LoadFault.TheVariants.{Memory, ReadFault, Unfit}
+use Rattle.mill_report_run.specs.Outcomes.{AreTextsOf}
+use Rattle.mill_report_run.specs.declared.load.JobRead.{JobRead}
+use Rattle.mill_report_run.specs.declared.load.Loaded.{Loaded}
+use Rattle.mill_report_run.specs.declared.load.SetupRead.{SetupRead}
+use Rattle.mill_report_text.specs.ReportFiles.{IsReportFile}
+use Rattle.mill_report_text.specs.Reports.{Read}
+use Rattle.mill_report_text.specs.Sources.{texts_of_sources}
+use Rattle.mill_run.specs.Verify.{IsReadBeforeProgram, IsUnfitProgram, Texts as ToldTexts}
+
+-- ---- the job
+
+-- the text reads as the job, which is in its ranges
+pub record HoldsJob (r : JobRead) : Type 0 where
+  pub job_ok : IsJob r.job
+  pub is : IsJobText r.text.items r.job
+
+-- the text of the job's file, where it is told, or why there is no job
+abbrev pub ReadsJob : Option (List ℕ) → Result JobRead LoadFault → Type 0
+ReadsJob told (Ok r) = IfSome told (λ text. r.text.items ≡ text)
+ReadsJob told (Err fault) = LoadsJob told (Err fault)
+
+-- ---- the part
+
+-- the texts read as the job and the part, which isn't over the job's top
+pub record HoldsSetup (r : SetupRead) : Type 0 where
+  pub setup_ok : IsSetup r.setup
+  pub job_is : IsJobText r.job.items r.setup.job
+  pub part_is : IsPartText r.setup.job r.part.items r.setup.part
+
+-- the job's text stays, and to it comes that of the part's file, where it is told
+pub record AddsPart (before : JobRead) (told : Option (List ℕ)) (r : SetupRead) : Type 0 where
+  pub stays : r.job.items ≡ before.text.items
+  pub same : IfSome told (λ text. r.part.items ≡ text)
+
+-- the text of the part's file for a job, or why there is no part
+abbrev pub ReadsPart : JobRead → Option (List ℕ) → Result SetupRead LoadFault → Type 0
+ReadsPart before told (Ok r) = AddsPart before told r
+ReadsPart before told (Err fault) = LoadsUnder before.job told (Err fault)
+
+-- each of the two texts is that of its file, where it is told
+pub record AreSetupTexts (told : SetupTexts) (r : SetupRead) : Type 0 where
+  pub job : IfSome told.job (λ text. r.job.items ≡ text)
+  pub part : IfSome told.part (λ text. r.part.items ≡ text)
+
+-- the texts of both files, or why there are no job and part
+abbrev pub ReadsSetup : SetupTexts → Result SetupRead LoadFault → Type 0
+ReadsSetup told (Ok r) = AreSetupTexts told r
+ReadsSetup told (Err fault) = LoadsSetup told (Err fault)
+
+-- ---- all three
+
+-- the texts read as this job, this part and these moves, and these are all that a report asks for
+pub record IsReady (l : Loaded) : Type 0 where
+  pub job_ok : IsJob l.setup.job
+  pub moves_ok : AreMoves l.setup.job l.moves.items
+  pub read : Read (texts_of_sources l.sources) l.setup.job l.setup.part l.moves.items
+
+-- the texts of the three files, or why there is nothing to report on
+abbrev pub Loads : ToldTexts → Result Loaded LoadFault → Type 0
+Loads told (Ok l) = AreTextsOf told (texts_of_sources l.sources)
+Loads told (Err Memory) = Unit {0}
+Loads told (Err (ReadFault file)) = IsReadBeforeProgram told file
+Loads told (Err (Unfit fault)) = IsUnfitProgram told fault
+
+-- a read fault is that of one of the three files
+abbrev pub IsOfThree : LoadFault → Type 0
+IsOfThree Memory = Unit {0}
+IsOfThree (ReadFault file) = IsReportFile file
+IsOfThree (Unfit fault) = Unit {0}
