@@ -101,7 +101,7 @@ module _ (call : Call) (told : ToldTexts) (texts : Texts) (job : Job) (part : Li
 module _ (job : Job) (part : List Tri) (moves : List Move) where
   first_named : (reason : Reason) (others found : List Reason) → found ≡ reason ∷ others → All (NamesLeaf job part (uncut job) moves) found → NamesLeaf job part (uncut job) moves reason
   first_named reason others found same named =
-      All-head reason others (subst (λ (f : List Reason). All (NamesLeaf job part (uncut job) moves) f) same named)
+      All-head (NamesLeaf job part (uncut job) moves) reason others (subst (λ (f : List Reason). All (NamesLeaf job part (uncut job) moves) f) same named)
 
   is_named : (v : Verdict) (found : List Reason) (left : List LeftColumn) (too_high : ℕ) → Agree v found left too_high → All (NamesLeaf job part (uncut job) moves) found → IsNamed job part moves v
   is_named (Accept count columns most) found left too_high agree named = tt

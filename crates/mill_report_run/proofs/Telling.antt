@@ -1,5 +1,5 @@
 -- What was read and what was printed, put together as the work on the files, and as that of a call.
-use Rattle.std.proofs.Common.{◌≡◌, ◌⊎◌, ℕ, List, Option, Some, None, Result, Ok, Err, refl, sym, ap, subst, inl, inr}
+use Rattle.std.proofs.Common.{◌≡◌, ◌⊎◌, ℕ, List, Option, Some, None, Result, Ok, Err, refl, sym, ap, subst, inl, inr, true≢false}
 use Rattle.std.specs.Prelude.{◌↔◌, IsSome}
 use Rattle.mill_command.specs.declared.refusal.Refusal.{Refusal}
 use Rattle.mill_command.specs.declared.refusal.Refusal.TheVariants as refusal
@@ -87,7 +87,7 @@ refused_outcome words call r h same p = record {
 -- ---- a file that couldn't be read
 
 none_is : {T : Type 0} (o : Option T) → IsSome o → o ≡ None → ⊥
-none_is None some e = absurd some
+none_is None some e = absurd (true≢false (sym some))
 none_is (Some x) some e = cc
 
 -- one of the three has a text that tells so

@@ -16,7 +16,7 @@ const VERSION: &str = "0.1.0";
 
 /// What stands below the words in the help.
 const STATUSES: &str = "\
-Exit status, which the document has too where it is that of a report or of files that give none:
+Exit status; a document tells it too:
   0  the program may be run: no move fails a test, and nothing is left too high
   2  these words aren't taken
   3  it may not: a move fails a test, or a column is left too high

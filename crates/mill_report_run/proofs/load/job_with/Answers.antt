@@ -1,5 +1,6 @@
-use Rattle.std.proofs.Common.{Err}
+use Rattle.std.proofs.Common.{ℕ, List, Some, Err, subst}
 use Rattle.mill_load.proofs.Reading.{job_told}
+use Rattle.mill_load.specs.Loads.{LoadsJob}
 use Rattle.mill_report_run.proofs.load.job_with.Goals as goal
 
 pub returns-in-Ok-clause-told : goal.returns-in-Ok-clause-told
@@ -9,4 +10,6 @@ pub returns-in-Ok-clause-ready : goal.returns-in-Ok-clause-ready
 returns-in-Ok-clause-ready c = record { job_ok = c.in-Ok.ensures.in_range; is = rw c.deref.ensures.value at c.in-Ok.ensures.told }
 
 pub returns-in-Err-clause-told : goal.returns-in-Err-clause-told
-returns-in-Err-clause-told c = λ told same. job_told told c.args.text.items (Err c.in-Err.fault) same (rw c.deref.ensures.value at c.in-Err.ensures.told)
+returns-in-Err-clause-told c = λ told same.
+    job_told told c.args.text.items (Err c.in-Err.fault) same
+    (subst (λ (text : List ℕ). LoadsJob (Some text) (Err c.in-Err.fault)) c.deref.ensures.value c.in-Err.ensures.told)

@@ -1,9 +1,11 @@
-use Rattle.std.proofs.Common.{ℕ, List, Option, subst}
+use Rattle.std.proofs.Common.{◌≡◌, ℕ, List, Option, Result, Err, subst}
+use Rattle.std.specs.Global.{Vec}
 use Rattle.std.specs.Prelude.{IfSome}
-use Rattle.mill_load.proofs.Reading.{loads_on}
+use Rattle.mill_base.specs.declared.motion.Move.{Move}
+use Rattle.mill_load.specs.Loads.{LoadsProgram}
 use Rattle.mill_load.specs.declared.file.File.TheVariants.{Program as ProgramFile}
-use Rattle.mill_report_run.specs.inner.Loads.{Loads}
-use Rattle.mill_report_run.proofs.Loading.{all_of_three, both_read, loads_with, no_moves, no_program_text, no_setup, of_three}
+use Rattle.mill_load.specs.declared.load.LoadFault.{LoadFault}
+use Rattle.mill_report_run.proofs.Loading.{both_read, no_moves, no_program_text, no_setup, of_three}
 use Rattle.mill_report_run.proofs.load.load.Goals as goal
 use Rattle.mill_run.specs.Verify.{Texts as ToldTexts, texts_of}
 
@@ -15,3 +17,19 @@ pub returns-in-Err-clause-of_three : goal.returns-in-Err-clause-of_three
 returns-in-Err-clause-of_three g c =
     let told : ToldTexts = texts_of (g.S.Shelf.shows c.args.shelf.now).contents (record { job = c.args.job.now; part = c.args.part.now; program = c.args.program.now }) in
     of_three told c.in-Err.fault (no_setup told c.in-Err.fault c.in-Err.ensures.told)
+
+pub returns-in-Ok-read_file-clause-told : goal.returns-in-Ok-read_file-clause-told
+returns-in-Ok-read_file-clause-told g c =
+    let told : ToldTexts = texts_of (g.S.Shelf.shows c.args.shelf.now).contents (record { job = c.args.job.now; part = c.args.part.now; program = c.args.program.now }) in
+    c.with_program.ensures.told told c.in-Ok.ensures.told
+    (subst (λ (o : Option (List ℕ)). IfSome o (λ bytes. c.in-Ok-read_file.text.items ≡ bytes)) (c.in-Ok.ensures.store.only.contents c.args.program.now) c.in-Ok-read_file.ensures.told)
+
+pub returns-in-Err-read_file-clause-told : goal.returns-in-Err-read_file-clause-told
+returns-in-Err-read_file-clause-told g c =
+    let told : ToldTexts = texts_of (g.S.Shelf.shows c.args.shelf.now).contents (record { job = c.args.job.now; part = c.args.part.now; program = c.args.program.now }) in
+    let later : Option (List ℕ) = (g.S.Shelf.shows c.load_setup.new.shelf).contents c.args.program.now in
+    let setup = c.in-Ok.read.setup in
+    let fault = c.in-Err-read_file.fault in
+    no_moves told setup.job setup.part fault (both_read told c.in-Ok.read c.in-Ok.ensures.told c.in-Ok.ensures.ready)
+    (subst (λ (o : Option (List ℕ)). (let r : Result (Vec Move) LoadFault = Err fault in LoadsProgram setup.job o ProgramFile r)) (c.in-Ok.ensures.store.only.contents c.args.program.now)
+    (no_program_text setup.job later fault c.in-Err-read_file.ensures.told))

@@ -1,5 +1,6 @@
-use Rattle.std.proofs.Common.{Err}
+use Rattle.std.proofs.Common.{ℕ, List, Some, Err, subst}
 use Rattle.mill_load.proofs.Reading.{part_told}
+use Rattle.mill_load.specs.Loads.{LoadsPart}
 use Rattle.mill_report_run.proofs.Loading.{part_under}
 use Rattle.mill_report_run.proofs.load.part_with.Goals as goal
 
@@ -9,4 +10,5 @@ joined-requires-clause-part_is c = rw c.deref.ensures.value at c.in-Ok.ensures.t
 pub returns-in-Err-clause-told : goal.returns-in-Err-clause-told
 returns-in-Err-clause-told c = λ told same.
     part_under c.args.before.job told c.in-Err.fault
-    (part_told c.args.before.job told c.args.text.items (Err c.in-Err.fault) same (rw c.deref.ensures.value at c.in-Err.ensures.told))
+    (part_told c.args.before.job told c.args.text.items (Err c.in-Err.fault) same
+    (subst (λ (text : List ℕ). LoadsPart c.args.before.job (Some text) (Err c.in-Err.fault)) c.deref.ensures.value c.in-Err.ensures.told))

@@ -1,4 +1,9 @@
-use Rattle.std.proofs.Common.{refl}
+use Rattle.std.proofs.Common.{ℕ, List, Some, Result, Err, subst}
+use Rattle.std.specs.Global.{Vec}
+use Rattle.mill_base.specs.declared.motion.Move.{Move}
+use Rattle.mill_load.specs.Loads.{LoadsProgram}
+use Rattle.mill_load.specs.declared.file.File.TheVariants.{Program as ProgramFile}
+use Rattle.mill_load.specs.declared.load.LoadFault.{LoadFault}
 use Rattle.mill_report_run.proofs.Loading.{both_read, no_moves, no_text_moves}
 use Rattle.mill_report_run.proofs.load.with_program.Goals as goal
 
@@ -17,4 +22,5 @@ returns-in-Ok-clause-ready c =
 pub returns-in-Err-clause-told : goal.returns-in-Err-clause-told
 returns-in-Err-clause-told c = λ told agree same.
     no_moves told c.args.before.setup.job c.args.before.setup.part c.in-Err.fault (both_read told c.args.before agree c.requires.ready)
-    (no_text_moves c.args.before.setup.job told.program c.args.text.items c.in-Err.fault same (rw c.deref.ensures.value at c.in-Err.ensures.told))
+    (no_text_moves c.args.before.setup.job told.program c.args.text.items c.in-Err.fault same
+    (subst (λ (text : List ℕ). (let r : Result (Vec Move) LoadFault = Err c.in-Err.fault in LoadsProgram c.args.before.setup.job (Some text) ProgramFile r)) c.deref.ensures.value c.in-Err.ensures.told))
