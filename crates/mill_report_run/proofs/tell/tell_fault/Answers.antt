@@ -6,7 +6,7 @@ use Rattle.mill_report_run.proofs.tell.tell_fault.Goals as goal
 
 pub unreachable-requires : goal.unreachable-requires
 unreachable-requires g c =
-    has_text c.in-ReadFault.field-0.now c.read_fault_report.result c.read_fault_report.ensures.files
+    has_text c.in-ReadFault.file c.read_fault_report.result c.read_fault_report.ensures.files
     (subst (λ (fault : LoadFault). IsOfThree fault) c.in-ReadFault.is c.requires.of_three) c.in-None.is
 
 pub returns-in-Some : goal.returns-in-Some
