@@ -31,7 +31,6 @@ use Rattle.mill_verify.specs.declared.verdict.Verdict.{Verdict}
 use Rattle.mill_verify.specs.declared.verdict.Verdict.TheVariants.{Accept, Reject}
 use Rattle.serde_json.specs.Data.{Data}
 use Rattle.sha2.specs.Sha256.{sha256}
-use Rattle.sha2.specs.Sha256.{sha256}
 
 -- the texts of the three files, as they were read
 pub record Texts : Type 0 where
