@@ -9,7 +9,6 @@ import sys
 import typing
 
 ROOT = os.path.dirname(os.path.dirname(os.path.abspath(__file__)))
-BUILT = os.path.join(ROOT, "crates", "camtool", "out", "camtool")
 # A file longer than this is told by its size, its time and how much of it is on the disk, and not by its bytes.
 TOLD_BYTES = 1 << 27
 
@@ -20,13 +19,13 @@ def option(words, name, usual=None):
     return found[-1] if found else usual
 
 
-def program(words):
-    """The file of the program: that of the word --program=FILE, or the built one, which is built where it isn't."""
-    named = option(words, "program")
+def program(words, name="camtool", word="program"):
+    """The file of a program: that of the word --program=FILE, or the built one, which is built where it isn't."""
+    named = option(words, word)
     if named:
         return os.path.abspath(named)
-    subprocess.run([os.path.join(ROOT, "camtool"), "--version"], stdout=subprocess.DEVNULL, check=True)
-    return BUILT
+    subprocess.run([os.path.join(ROOT, name), "--version"], stdout=subprocess.DEVNULL, check=True)
+    return os.path.join(ROOT, "crates", name, "out", name)
 
 
 class Ended(typing.NamedTuple):
