@@ -1,5 +1,5 @@
 -- What the statuses of a call mean.
-use Rattle.std.proofs.Common.{◌≡◌, ◌≢◌, ◌⊎◌, ℕ, ℤ, List, [], ◌∷◌, Option, Some, false, refl, sym, ap, subst, ◌∙◌, inl, inr, arith}
+use Rattle.std.proofs.Common.{◌≡◌, ◌≢◌, ◌⊎◌, ℕ, List, ◌∷◌, Option, Some, false, sym, ap, subst, ◌∙◌, inl, inr, arith}
 use Rattle.std.specs.Prelude.{All}
 use Rattle.std.proofs.lemmas.List.Elements.{All-head}
 use Rattle.mill_base.specs.declared.motion.Move.{Move}
@@ -165,7 +165,7 @@ headline_of one words call has = record {
       let t = is_reported words call asked has taken
       (apart _ 0 4 e (no 0 4 (omega arith))) (apart _ 0 5 e (no 0 5 (omega arith))) (apart _ 0 6 e (no 0 6 (omega arith))) (apart _ 0 7 e (no 0 7 (omega arith))) in
       accepts_by call (texts_of call.store.contents asked.files) t.is.texts t.is.job t.is.part t.is.moves t.is.is.verdict t.is.is.told t.is.agree t.is.is.report (sym e ∙ t.is.is.status_is);
-  is_clean = λ asked taken e.
+  clean = λ asked taken e.
       let t = is_reported words call asked has taken
       (apart _ 0 4 e (no 0 4 (omega arith))) (apart _ 0 5 e (no 0 5 (omega arith))) (apart _ 0 6 e (no 0 6 (omega arith))) (apart _ 0 7 e (no 0 7 (omega arith))) in
       none_by call (texts_of call.store.contents asked.files) t.is.texts t.is.job t.is.part t.is.moves t.is.is.verdict t.is.is.told t.is.agree t.is.is.report (sym e ∙ t.is.is.status_is)

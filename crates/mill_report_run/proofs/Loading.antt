@@ -1,6 +1,6 @@
 -- What was read of the three files, or why it wasn't.
-use Rattle.std.proofs.Common.{◌≡◌, ℕ, List, Option, Some, None, Result, Ok, Err, refl, sym, subst, arith}
-use Rattle.std.specs.Prelude.{IfErr, IfSome}
+use Rattle.std.proofs.Common.{◌≡◌, ℕ, List, Option, Some, None, Result, Ok, Err, sym, subst, arith}
+use Rattle.std.specs.Prelude.{IfSome}
 use Rattle.std.specs.Global.{Vec}
 use Rattle.mill_base.specs.declared.motion.Move.{Move}
 use Rattle.mill_base.specs.declared.points.Tri.{Tri}
@@ -19,7 +19,6 @@ use Rattle.mill_load.specs.declared.load.Setup.{Setup}
 use Rattle.mill_load.specs.declared.load.Unfit.TheVariants.{TooLong, JobRefused, PartRefused, ListRefused, ProgramRefused, PartTop}
 use Rattle.mill_report_run.specs.Outcomes.{AreTextsOf}
 use Rattle.mill_report_run.specs.declared.load.JobRead.{JobRead}
-use Rattle.mill_report_run.specs.declared.load.Loaded.{Loaded}
 use Rattle.mill_report_run.specs.declared.load.SetupRead.{SetupRead}
 use Rattle.mill_report_run.specs.inner.Loads.{AreSetupTexts, HoldsJob, HoldsSetup, IsOfThree, Loads, ReadsPart, ReadsSetup}
 use Rattle.mill_report_text.specs.Reports.{Read, Texts}
@@ -174,11 +173,6 @@ setup_read told before (Ok s) same holds h =
     record { job = subst (λ (items : List ℕ). IfSome told.job (λ bytes. items ≡ bytes)) (sym h.stays) same; part = h.same }
 setup_read told before (Err fault) same holds h =
     under_loads told before.job (Err fault) (if_told (λ text. IsJobText text before.job) told.job before.text.items same holds.is) h
-
--- whatever all three came to, a read fault is that of one of them
-pub all_of_three : (told : ToldTexts) (r : Result Loaded LoadFault) → Loads told r → IfErr r IsOfThree
-all_of_three told (Ok l) h = tt
-all_of_three told (Err fault) h = of_three told fault h
 
 -- ---- the store
 

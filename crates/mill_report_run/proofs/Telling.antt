@@ -1,5 +1,5 @@
 -- What was read and what was printed, put together as the work on the files, and as that of a call.
-use Rattle.std.proofs.Common.{◌≡◌, ◌⊎◌, ℕ, List, Option, Some, None, Result, Ok, Err, refl, sym, ap, subst, inl, inr, true≢false}
+use Rattle.std.proofs.Common.{◌≡◌, ℕ, List, Option, Some, None, Result, Ok, Err, refl, sym, ap, subst, inl, inr, true≢false}
 use Rattle.std.specs.Prelude.{◌↔◌, IsSome}
 use Rattle.mill_command.specs.declared.refusal.Refusal.{Refusal}
 use Rattle.mill_command.specs.declared.refusal.Refusal.TheVariants as refusal
@@ -13,7 +13,7 @@ use Rattle.mill_report_run.specs.Outcomes.{AreTextsOf, CountsReads, HasOutcome, 
 use Rattle.mill_report_run.specs.Words.{ReadsWords, Request, request}
 use Rattle.mill_report_run.specs.declared.load.Loaded.{Loaded}
 use Rattle.mill_report_run.specs.inner.Loads.{Loads}
-use Rattle.mill_report_run.specs.inner.Prints.{PrintsFault, PrintsOutcome, Serves, TellsReport, TriesReport, refusal_outcome}
+use Rattle.mill_report_run.specs.inner.Prints.{PrintsFault, PrintsOutcome, Serves, TriesReport, refusal_outcome}
 use Rattle.mill_report_text.specs.ReportFiles.{IsReportFile}
 use Rattle.mill_report_text.specs.Sources.{texts_of_sources}
 use Rattle.mill_run.specs.Calls.{Call, CanCount}

@@ -59,7 +59,7 @@ pub record PrintsAcceptance (call : Call) (told : ToldTexts) : Type 0 where
 -- where the files are told and read, nothing of the outside failed and memory was enough, it answers 3 if a written test fails
 pub record Headline (words : List (List ℕ)) (call : Call) : Type 0 where
   pub accepts : (asked : Request) → request words ≡ Some asked → call.status ≡ 0 → AcceptsSafely (texts_of call.store.contents asked.files)
-  pub is_clean : (asked : Request) → request words ≡ Some asked → call.status ≡ 0 → PrintsAcceptance call (texts_of call.store.contents asked.files)
+  pub clean : (asked : Request) → request words ≡ Some asked → call.status ≡ 0 → PrintsAcceptance call (texts_of call.store.contents asked.files)
   pub rejects : (asked : Request) → request words ≡ Some asked → call.status ≡ 3 → (reason : Reason) × PrintsReport call (texts_of call.store.contents asked.files) (Reject reason)
   pub exactly : (asked : Request) (job : Job) (part : List Tri) (moves : List Move) (reason : Reason) → request words ≡ Some asked
       → AreTold (texts_of call.store.contents asked.files) → Reads (texts_of call.store.contents asked.files) job part moves → IsRejection job part moves reason

@@ -12,7 +12,6 @@ use Rattle.mill_report_text.specs.Reports.{IsFaultText, IsReportText, Texts}
 use Rattle.mill_report_run.specs.Words.{Request, RefusesWords, ShowsHelp, request}
 use Rattle.mill_run.specs.Calls.{Call}
 use Rattle.mill_run.specs.Verify.{IsReadBeforeProgram, IsUnfitProgram, Texts as ToldTexts, texts_of}
-use Rattle.mill_run.specs.Words.{Files}
 
 -- what a call comes to before it prints: clap's text of help or of a mistake in the words; or what kept it from a report; or a report, as its text and its status
 pub data Outcome : Type 0 where

@@ -1,1 +1,0 @@
-use Rattle.mill_report_run.proofs.tell.tell_refusal.Goals as goal
