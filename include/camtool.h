@@ -11,7 +11,7 @@
  *
  * - A pointer is never null, not even where the count that follows it is 0, is aligned as its type
  *   wants, and leads to as many elements as the count says.
- * - No array that a call writes overlaps another of its arguments.
+ * - Nothing that a call writes, an array or what is told, overlaps another of its arguments.
  * - Nothing else writes an argument while the call runs, nor reads what it writes. Calls on
  *   arguments of their own may run at the same time.
  * - malloc, realloc and free are those of one allocator. A call comes from no signal handler, and
@@ -81,7 +81,20 @@ enum camtool_status {
     /* The part's greatest height is over the job's top. */
     CAMTOOL_PART_TOP = 23,
     /* A program's text is refused. */
-    CAMTOOL_PROGRAM = 24
+    CAMTOOL_PROGRAM = 24,
+    /* The height of a waterline is out of range. */
+    CAMTOOL_HEIGHT = 25,
+    /* An end of the lattice is out of range, its ends are the wrong way round, or its step is under a
+     * unit. */
+    CAMTOOL_LATTICE = 26,
+    /* The lattice, or one that the paths of a plan go over, has more than 4,000,000 nodes. */
+    CAMTOOL_TOO_MANY_NODES = 27,
+    /* A plan has more than 1,000,000 moves. */
+    CAMTOOL_TOO_MANY_MOVES = 28,
+    /* A plan leaves a column of the stock higher than it may. */
+    CAMTOOL_UNCUT = 29,
+    /* On a move of a plan the holder would touch what the moves before it left of a column. */
+    CAMTOOL_HELD = 30
 };
 
 /* What a cutter is. */
@@ -176,12 +189,57 @@ typedef struct camtool_run {
 /* Runs along fibers: for each fiber the maximal runs of whole positions from its first to its last
  * at which the tool, with its tip there, gouges the part of these triangles, ascending. counts has
  * how many runs each fiber has, and runs all of them, fiber after fiber. counts is as long as
- * fibers, and runs as the runs are many: with another length, as 0, the status is CAMTOOL_ROOM and
- * told has their number. told is written with every status. */
+ * fibers, and runs as the runs are many: with another length, as 0, the status is CAMTOOL_ROOM. told
+ * is written with every status: with CAMTOOL_OK and CAMTOOL_ROOM it is their number, and else 0. */
 int32_t camtool_runs(const camtool_triangle *triangles, size_t triangles_count,
                      const camtool_tool *tool, const camtool_fiber *fibers, size_t fibers_count,
                      uint64_t *counts, size_t counts_count, camtool_run *runs, size_t runs_count,
                      uint64_t *told);
+
+/* The nodes over an area: the positions in x are x0, x0 + step, x0 + 2 * step and so on up to x1, and
+ * x1 itself where it isn't one of them; likewise in y. Each x with each y is a node. */
+typedef struct camtool_lattice {
+    int32_t x0;
+    int32_t y0;
+    int32_t x1;
+    int32_t y1;
+    /* At least one unit. */
+    int32_t step;
+} camtool_lattice;
+
+/* Drop heights over a lattice: those of camtool_drop_heights at each node, row by row with y
+ * ascending, and with x ascending along each row. heights is as long as the lattice has nodes, of
+ * which there are at most 4,000,000: with another length, as 0, the status is CAMTOOL_ROOM. told is
+ * written with every status: with CAMTOOL_OK and CAMTOOL_ROOM it is the number of nodes, and else 0. */
+int32_t camtool_drop_map(const camtool_triangle *triangles, size_t triangles_count,
+                         const camtool_tool *tool, const camtool_lattice *lattice, int32_t floor,
+                         int32_t *heights, size_t heights_count, uint64_t *told);
+
+/* A chain of a waterline, beside its points. */
+typedef struct camtool_chain {
+    /* How many points it has. */
+    uint64_t points;
+    /* 1 where its last point is joined to its first, and else 0. */
+    uint64_t closed;
+} camtool_chain;
+
+/* How many chains a waterline has, and how many points these have together. */
+typedef struct camtool_counts {
+    uint64_t chains;
+    uint64_t points;
+} camtool_counts;
+
+/* A waterline at height z: the chains of the places between nodes of the lattice at which the tool
+ * gouges the part of these triangles and neighbours at which it doesn't, each at the last free place
+ * before the blocked ones, which are on the left of the way. The way from one place to the next isn't
+ * looked at. chains has how many points each chain has, in the order of their first points, and
+ * points all of them, chain after chain. Both are as long as these are many: with another length, as
+ * 0, the status is CAMTOOL_ROOM. told is written with every status: with CAMTOOL_OK and CAMTOOL_ROOM
+ * it has both numbers, and else two zeros. */
+int32_t camtool_waterline(const camtool_triangle *triangles, size_t triangles_count,
+                          const camtool_tool *tool, int32_t z, const camtool_lattice *lattice,
+                          camtool_chain *chains, size_t chains_count, camtool_point *points,
+                          size_t points_count, camtool_counts *told);
 
 /* Which test of a program fails first: of a move, or after the last one. */
 enum camtool_test {
@@ -244,6 +302,43 @@ typedef struct camtool_verdict {
 int32_t camtool_verify(const uint8_t *job, size_t job_count, const uint8_t *part,
                        size_t part_count, const uint8_t *program, size_t program_count,
                        camtool_verdict *told);
+
+/* What is told of a plan, or of why there is none. What isn't told is 0. Moves, rows and columns are
+ * counted from 0, and lengths are in the job's unit. */
+typedef struct camtool_planned {
+    /* How many bytes the program's text has. */
+    uint64_t bytes;
+    /* How many moves the program has. */
+    uint64_t moves;
+    /* How many columns the stock has. */
+    uint64_t columns;
+    /* How many nodes the lattice has that has too many. */
+    uint64_t nodes;
+    /* The move on which the holder would touch a column. */
+    uint64_t at;
+    /* The line of the part's first fault, counted from 1; each LF ends one. */
+    uint64_t line;
+    /* How much the program leaves at most on a column, over what covers it. */
+    int32_t most_left;
+    /* The top of the column that the plan leaves too high. */
+    int32_t top;
+    /* The greatest height of a part that is over the job's top. */
+    int32_t height;
+    /* The row and the column of the column of stock that is left too high, or that the holder would
+     * touch. */
+    uint32_t row;
+    uint32_t column;
+} camtool_planned;
+
+/* The text of the program that the planner writes for a job and a part, each by its text, as in
+ * camtool_verify: the one that the command plan stores. camtool_verify accepts it with the same job
+ * and part, with the numbers of moves and columns and the most left that are told. program is as long
+ * as the text has bytes: with another length, as 0, the status is CAMTOOL_ROOM. Each call plans anew,
+ * so a caller that doesn't know the length plans twice. told is written with every status: with
+ * CAMTOOL_OK and CAMTOOL_ROOM it has the program's numbers, with a refused part's the line or the
+ * height, and with CAMTOOL_TOO_MANY_NODES, CAMTOOL_UNCUT and CAMTOOL_HELD what they speak of. */
+int32_t camtool_plan(const uint8_t *job, size_t job_count, const uint8_t *part, size_t part_count,
+                     uint8_t *program, size_t program_count, camtool_planned *told);
 
 #ifdef __cplusplus
 }

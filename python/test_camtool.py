@@ -178,6 +178,54 @@ class ReadPart(unittest.TestCase):
             camtool.read_part(array.array("i", [1]))
 
 
+class OverLattices(unittest.TestCase):
+    def setUp(self):
+        self.hill = corners_of(os.path.join(ROOT, "examples", "hill"))
+        self.plate = corners_of(PLATE)
+
+    def test_heights_are_those_at_the_nodes(self):
+        tool, area, step = camtool.ball(150), (-300, -200, 1500, 1333), 250
+        xs = list(range(-300, 1500, 250)) + [1500]
+        ys = list(range(-200, 1333, 250)) + [1333]
+        places = array.array("i", [coordinate for y in ys for x in xs for coordinate in (x, y)])
+        wanted = camtool.drop_heights(self.hill, tool, places, -5)
+        self.assertEqual(camtool.drop_map(self.hill, tool, area, step, -5), wanted)
+        self.assertEqual(list(camtool.drop_map(self.plate, camtool.flat(150), (100, 100, 100, 100), 1, 0)), [200])
+
+    def test_a_waterline_is_what_the_program_says(self):
+        folder = os.path.join(ROOT, "examples", "level")
+        with open(os.path.join(folder, "z1.50.txt"), encoding="ascii") as file:
+            wanted = [line.split() for line in file]
+        chains = camtool.waterline(corners_of(folder), camtool.flat(80), 150, (0, 0, 3000, 2000), 50)
+        lines = []
+        for chain in chains:
+            lines.append(["closed" if chain.closed else "open", str(len(chain.points) // 3)])
+            lines += [[f"{x / 100:.2f}", f"{y / 100:.2f}"] for x, y in zip(chain.points[::3], chain.points[1::3])]
+            self.assertEqual(set(chain.points[2::3]), {150})
+        self.assertEqual([*lines, ["chains", str(len(chains))]], wanted)
+
+    def test_there_may_be_no_chain(self):
+        self.assertEqual(camtool.waterline(self.plate, camtool.flat(150), 200, (-300, -300, 500, 500), 50), [])
+
+    def test_name_what_is_wrong(self):
+        tool, area, far = camtool.flat(150), (0, 0, 100, 100), camtool.MAX_COORDINATE + 1
+        for wrong, step in (((0, 0, -1, 0), 1), ((0, 0, 0, -1), 1), ((0, 0, far, 0), 1), (area, 0), ((1 << 40, 0, 0, 0), 1)):
+            with self.assertRaises(camtool.BadLattice):
+                camtool.drop_map(self.plate, tool, wrong, step, 0)
+            with self.assertRaises(camtool.BadLattice):
+                camtool.waterline(self.plate, tool, 0, wrong, step)
+        with self.assertRaises(camtool.TooManyNodes):
+            camtool.drop_map(self.plate, tool, (0, 0, 2000, 2000), 1, 0)
+        with self.assertRaises(camtool.TooManyNodes):
+            camtool.waterline(self.plate, tool, 0, (0, 0, 2000, 2000), 1)
+        with self.assertRaises(camtool.BadFloor):
+            camtool.drop_map(self.plate, tool, area, 1, far)
+        with self.assertRaises(camtool.BadHeight):
+            camtool.waterline(self.plate, tool, far, area, 1)
+        with self.assertRaises(camtool.BadCutter):
+            camtool.waterline(self.plate, camtool.flat(0), 0, area, 1)
+
+
 def said(folder, program):
     """The verdict that the program prints, as words."""
     files = [os.path.join(folder, name) for name in ("job.toml", "part.stl", program)]
@@ -235,6 +283,50 @@ class Verify(unittest.TestCase):
         self.assertEqual(self.refused(camtool.BadProgram, program=b"G21 G90\nG2 X0\nM2\n").line, 2)
         with self.assertRaises(camtool.BadArray):
             camtool.verify(job, array.array("i", [1]), b"")
+
+
+class Plan(unittest.TestCase):
+    def texts(self, folder, job="job.toml"):
+        texts = []
+        for name in (job, "part.stl"):
+            with open(os.path.join(ROOT, "examples", folder, name), "rb") as file:
+                texts.append(file.read())
+        return texts
+
+    def test_is_accepted(self):
+        for folder, moves, columns, left in (("plate", 11, 9, 0), ("hill", 841, 625, 43)):
+            texts = self.texts(folder)
+            program = camtool.plan(*texts)
+            self.assertIsInstance(program, bytes)
+            self.assertEqual(camtool.verify(*texts, program), camtool.Verdict(True, most_left=left, moves=moves, columns=columns))
+
+    def test_is_the_text_that_is_kept(self):
+        with open(os.path.join(ROOT, "examples", "two-cutters", "rough.ngc"), "rb") as file:
+            self.assertEqual(camtool.plan(*self.texts("two-cutters", "rough.toml")), file.read())
+
+    def refused(self, error, job, part):
+        with self.assertRaises(error) as raised:
+            camtool.plan(job, part)
+        return raised.exception
+
+    def test_says_why_there_is_none(self):
+        why = self.refused(camtool.Uncut, *self.texts("groove"))
+        self.assertEqual((why.row, why.column, why.top), (0, 5, 200))
+        why = self.refused(camtool.Held, *self.texts("holder", "medium.toml"))
+        self.assertEqual((why.move, why.row, why.column), (237, 11, 6))
+        self.refused(camtool.TooManyMoves, *self.texts("fine"))
+        job, part = self.texts("plate")
+        wide = job.replace(b"[0, 0, 200, 200]", b"[0, 0, 2000, 2000]") + b"raster = 1\n"
+        self.assertEqual(self.refused(camtool.TooManyNodes, wide, part).nodes, 2001 * 2001)
+
+    def test_names_the_first_text_that_is_refused(self):
+        job, part = self.texts("plate")
+        self.refused(camtool.JobSyntax, b"radius", b"")
+        self.refused(camtool.JobUnknown, job + b"colour = 1\n", part)
+        self.assertEqual(self.refused(camtool.BadWord, job, b"solid\nface").line, 2)
+        self.assertEqual(self.refused(camtool.HighPart, job.replace(b"top = 300", b"top = 199"), part).height, 200)
+        with self.assertRaises(camtool.BadArray):
+            camtool.plan(job, array.array("i", [1]))
 
 
 if __name__ == "__main__":

@@ -194,10 +194,85 @@ static void test_run_refusals(void) {
     refused_runs("a stretch back", CAMTOOL_FIBER, (camtool_fiber){1, 100, 100, 9, 8}, 1, 1, 0);
 }
 
-static const char JOB[] = "cutter = \"flat\"\nradius = 150\nfloor = 0\ntop = 300\nclear = 400\n"
-                          "area = [0, 0, 200, 200]\nhome = [100, 100]\npitch = 100\nsample = 50\n"
-                          "allowance = 0\nband = 0\n";
+static void test_maps(void) {
+    const camtool_lattice lattice = {-150, 100, 100, 100, 249};
+    int32_t heights[3] = {UNTOUCHED, UNTOUCHED, UNTOUCHED};
+    uint64_t told = UNTOUCHED;
+    expect("no room for nodes", CAMTOOL_ROOM,
+           camtool_drop_map(PLATE, COUNT(PLATE), &FLAT, &lattice, 0, heights, 0, &told));
+    expect("nodes", 3, (int32_t)told);
+    expect("nodes", UNTOUCHED, heights[0]);
+    expect("a map", CAMTOOL_OK,
+           camtool_drop_map(PLATE, COUNT(PLATE), &FLAT, &lattice, 0, heights, 3, &told));
+    expect("the first node", 0, heights[0]);
+    expect("the next node", 200, heights[1]);
+    expect("the last node", 200, heights[2]);
+    expect("nodes", 3, (int32_t)told);
+}
+
+static void refused_lattice(const char *what, int32_t status, camtool_lattice lattice) {
+    int32_t height = UNTOUCHED;
+    uint64_t nodes = UNTOUCHED;
+    expect(what, status,
+           camtool_drop_map(PLATE, COUNT(PLATE), &FLAT, &lattice, 0, &height, 1, &nodes));
+    expect(what, 0, (int32_t)nodes);
+    expect(what, UNTOUCHED, height);
+    camtool_chain chain = {UNTOUCHED, UNTOUCHED};
+    camtool_point point = {UNTOUCHED, UNTOUCHED, UNTOUCHED};
+    camtool_counts told = {UNTOUCHED, UNTOUCHED};
+    expect(what, status,
+           camtool_waterline(PLATE, COUNT(PLATE), &FLAT, 100, &lattice, &chain, 1, &point, 1,
+                             &told));
+    expect(what, 0, (int32_t)told.chains);
+    expect(what, UNTOUCHED, (int32_t)chain.points);
+    expect(what, UNTOUCHED, point.x);
+}
+
+static void test_lattices(void) {
+    const int32_t far = CAMTOOL_MAX_COORDINATE + 1;
+    refused_lattice("a far end", CAMTOOL_LATTICE, (camtool_lattice){0, 0, far, 0, 1});
+    refused_lattice("ends the wrong way round", CAMTOOL_LATTICE, (camtool_lattice){0, 1, 0, 0, 1});
+    refused_lattice("no step", CAMTOOL_LATTICE, (camtool_lattice){0, 0, 1, 1, 0});
+    refused_lattice("many nodes", CAMTOOL_TOO_MANY_NODES, (camtool_lattice){0, 0, 2000, 2000, 1});
+}
+
+/* One node of the plate is blocked, and the four about it are free. */
+static void test_waterlines(void) {
+    const camtool_lattice lattice = {-500, -500, 700, 700, 600};
+    camtool_chain chain = {UNTOUCHED, UNTOUCHED};
+    camtool_point points[4];
+    camtool_counts told;
+    expect("no room for chains", CAMTOOL_ROOM,
+           camtool_waterline(PLATE, COUNT(PLATE), &FLAT, 100, &lattice, &chain, 1, points, 3,
+                             &told));
+    expect("chains", 1, (int32_t)told.chains);
+    expect("points", 4, (int32_t)told.points);
+    expect("chains", UNTOUCHED, (int32_t)chain.points);
+    expect("a waterline", CAMTOOL_OK,
+           camtool_waterline(PLATE, COUNT(PLATE), &FLAT, 100, &lattice, &chain, 1, points, 4,
+                             &told));
+    expect("its points", 4, (int32_t)chain.points);
+    expect("its end", 1, (int32_t)chain.closed);
+    const camtool_point wanted[] = {
+        {-150, 100, 100}, {100, -150, 100}, {350, 100, 100}, {100, 350, 100}};
+    expect("its points", 0, memcmp(wanted, points, sizeof points));
+    expect("a far waterline", CAMTOOL_HEIGHT,
+           camtool_waterline(PLATE, COUNT(PLATE), &FLAT, CAMTOOL_MAX_COORDINATE + 1, &lattice,
+                             &chain, 1, points, 4, &told));
+}
+
+#define JOB_OVER(area, more)                                                                        \
+    "cutter = \"flat\"\nradius = 150\nfloor = 0\ntop = 300\nclear = 400\narea = " area "\n"           \
+    "home = [100, 100]\npitch = 100\nsample = 50\nallowance = 0\nband = 0\n" more
+
+#define PLATE_FACETS                                                                                \
+    "facet normal 0 0 1\nouter loop\nvertex 0 0 2\nvertex 2 0 2\nvertex 2 2 2\nendloop\n"          \
+    "endfacet\nfacet normal 0 0 1\nouter loop\nvertex 0 0 2\nvertex 2 2 2\nvertex 0 2 2\n"         \
+    "endloop\nendfacet\n"
+
+static const char JOB[] = JOB_OVER("[0, 0, 200, 200]", "");
 static const char FACETS[] = "solid s\n" ONE_FACET "endsolid s\n";
+static const char WHOLE_PLATE[] = "solid s\n" PLATE_FACETS "endsolid s\n";
 
 static int32_t verified(const char *job, const char *part, const char *program,
                         camtool_verdict *told) {
@@ -243,6 +318,81 @@ static void test_verdict_refusals(void) {
     refused_text("an arc", CAMTOOL_PROGRAM, JOB, FACETS, "G21 G90\n\nG2 X1\nM2\n", 3, 0);
 }
 
+static int32_t planned(const char *job, const char *part, uint8_t *program, size_t room,
+                       camtool_planned *told) {
+    memset(told, UNTOUCHED, sizeof *told);
+    return camtool_plan((const uint8_t *)job, strlen(job), (const uint8_t *)part, strlen(part),
+                        program, room, told);
+}
+
+static void expect_told(const char *what, camtool_planned wanted, camtool_planned told) {
+    expect(what, (int32_t)wanted.bytes, (int32_t)told.bytes);
+    expect(what, (int32_t)wanted.moves, (int32_t)told.moves);
+    expect(what, (int32_t)wanted.columns, (int32_t)told.columns);
+    expect(what, (int32_t)wanted.nodes, (int32_t)told.nodes);
+    expect(what, (int32_t)wanted.at, (int32_t)told.at);
+    expect(what, (int32_t)wanted.line, (int32_t)told.line);
+    expect(what, wanted.most_left, told.most_left);
+    expect(what, wanted.top, told.top);
+    expect(what, wanted.height, told.height);
+    expect(what, (int32_t)wanted.row, (int32_t)told.row);
+    expect(what, (int32_t)wanted.column, (int32_t)told.column);
+}
+
+/* The plan of the plate, of which camtool says: planned moves 11 columns 9 left 0.00. */
+static void test_plans(void) {
+    uint8_t program[1024];
+    camtool_planned told;
+    memset(program, UNTOUCHED, sizeof program);
+    expect("no room for a plan", CAMTOOL_ROOM, planned(JOB, WHOLE_PLATE, program, 0, &told));
+    const camtool_planned wanted = {.bytes = told.bytes, .moves = 11, .columns = 9};
+    expect_told("no room for a plan", wanted, told);
+    const size_t bytes = (size_t)told.bytes;
+    if (bytes == 0 || bytes >= sizeof program) {
+        expect("a plan's bytes", 0, (int32_t)bytes);
+        return;
+    }
+    expect("little room", CAMTOOL_ROOM, planned(JOB, WHOLE_PLATE, program, bytes - 1, &told));
+    expect_told("little room", wanted, told);
+    expect("much room", CAMTOOL_ROOM, planned(JOB, WHOLE_PLATE, program, bytes + 1, &told));
+    for (size_t i = 0; i < sizeof program; i++)
+        expect("no plan yet", UNTOUCHED, program[i]);
+    expect("a plan", CAMTOOL_OK, planned(JOB, WHOLE_PLATE, program, bytes, &told));
+    expect_told("a plan", wanted, told);
+    for (size_t i = bytes; i < sizeof program; i++)
+        expect("behind a plan", UNTOUCHED, program[i]);
+    camtool_verdict said;
+    expect("the verdict on a plan", CAMTOOL_OK,
+           camtool_verify((const uint8_t *)JOB, strlen(JOB), (const uint8_t *)WHOLE_PLATE,
+                          strlen(WHOLE_PLATE), program, bytes, &said));
+    expect("the verdict on a plan", CAMTOOL_ACCEPTED, said.test);
+    expect("its moves", 11, (int32_t)said.moves);
+}
+
+static void refused_plan(const char *what, int32_t status, const char *job, const char *part,
+                         camtool_planned wanted) {
+    uint8_t program[2] = {UNTOUCHED, UNTOUCHED};
+    camtool_planned told;
+    expect(what, status, planned(job, part, program, 2, &told));
+    expect_told(what, wanted, told);
+    expect(what, UNTOUCHED, program[0]);
+    expect(what, UNTOUCHED, program[1]);
+}
+
+static void test_plan_refusals(void) {
+    const camtool_planned nothing = {0};
+    refused_plan("no job", CAMTOOL_JOB_MISSING, "", FACETS, nothing);
+    refused_plan("a job that is none", CAMTOOL_JOB_SYNTAX, "cutter", FACETS, nothing);
+    refused_plan("no part", CAMTOOL_CUT_SHORT, JOB, "", (camtool_planned){.line = 1});
+    refused_plan("a high part", CAMTOOL_PART_TOP, JOB, "solid s\n" HIGH_FACET "endsolid s\n",
+                 (camtool_planned){.height = 301});
+    refused_plan("a fine raster", CAMTOOL_TOO_MANY_NODES,
+                 JOB_OVER("[0, 0, 2000, 2000]", "raster = 1\n"), WHOLE_PLATE,
+                 (camtool_planned){.nodes = 2001 * 2001});
+    refused_plan("a narrow corner", CAMTOOL_UNCUT, JOB, FACETS,
+                 (camtool_planned){.row = 1, .column = 0, .top = 200});
+}
+
 int main(void) {
     test_drops();
     test_nothing();
@@ -251,7 +401,12 @@ int main(void) {
     test_part_refusals();
     test_runs();
     test_run_refusals();
+    test_maps();
+    test_lattices();
+    test_waterlines();
     test_verdicts();
     test_verdict_refusals();
+    test_plans();
+    test_plan_refusals();
     return failed != 0;
 }

@@ -21,11 +21,12 @@ import os
 import typing
 
 __all__ = [
-    "MAX_COORDINATE", "BadArray", "BadCoordinate", "BadCutter", "BadFiber", "BadFloor", "BadHolder", "BadJob", "BadPlace",
-    "BadProgram", "BadSnap", "BadText", "BadTriangle", "BadUnit", "BadWord", "CamtoolError", "CutShort", "HighPart",
-    "JobKind", "JobMissing", "JobRange", "JobRelation", "JobSyntax", "JobUnknown", "LongText", "NoMemory", "Part",
-    "Runs", "TooManyTriangles", "Tool", "Verdict", "WrongCountsRoom", "WrongRoom", "ball", "cone", "drop_heights", "flat",
-    "read_part", "runs", "verify",
+    "MAX_COORDINATE", "BadArray", "BadCoordinate", "BadCutter", "BadFiber", "BadFloor", "BadHeight", "BadHolder", "BadJob",
+    "BadLattice", "BadPlace", "BadProgram", "BadSnap", "BadText", "BadTriangle", "BadUnit", "BadWord", "CamtoolError",
+    "Chain", "CutShort", "Held", "HighPart", "JobKind", "JobMissing", "JobRange", "JobRelation", "JobSyntax",
+    "JobUnknown", "LongText", "NoMemory", "Part", "Runs", "TooManyMoves", "TooManyNodes", "TooManyTriangles", "Tool",
+    "Uncut", "Verdict", "WrongCountsRoom", "WrongRoom", "ball", "cone", "drop_heights", "drop_map", "flat", "plan",
+    "read_part", "runs", "verify", "waterline",
 ]
 
 # The greatest magnitude of a coordinate, and of a floor.
@@ -197,10 +198,52 @@ class BadProgram(BadText):
     status = 24
 
 
+class BadHeight(CamtoolError, ValueError):
+    """The height of a waterline is out of range."""
+
+    status = 25
+
+
+class BadLattice(CamtoolError, ValueError):
+    """An end of the lattice is out of range, its ends are the wrong way round, or its step is under a unit."""
+
+    status = 26
+
+
+class TooManyNodes(CamtoolError, ValueError):
+    """The lattice, or one that the paths of a plan go over, has more than 4,000,000 nodes. `nodes` is how many the
+    plan's has."""
+
+    status = 27
+    nodes = None
+
+
+class TooManyMoves(CamtoolError, ValueError):
+    """The plan has more than 1,000,000 moves."""
+
+    status = 28
+
+
+class Uncut(CamtoolError, ValueError):
+    """The plan leaves a column of the stock higher than it may. `row` and `column` are its numbers, counted from 0, and
+    `top` is its top, in the job's unit."""
+
+    status = 29
+    row = column = top = None
+
+
+class Held(CamtoolError, ValueError):
+    """On a move of the plan the holder would touch what the moves before it left of a column. `move`, `row` and `column`
+    are their numbers, counted from 0."""
+
+    status = 30
+    move = row = column = None
+
+
 _ERRORS = {error.status: error for error in (
     NoMemory, BadCutter, BadHolder, BadTriangle, TooManyTriangles, BadPlace, BadFloor, WrongRoom, BadUnit, BadSnap,
     BadWord, BadCoordinate, LongText, CutShort, BadFiber, WrongCountsRoom, JobSyntax, JobUnknown, JobMissing, JobKind,
-    JobRange, JobRelation, HighPart, BadProgram)}
+    JobRange, JobRelation, HighPart, BadProgram, BadHeight, BadLattice, TooManyNodes, TooManyMoves, Uncut, Held)}
 
 
 class _Triangle(ctypes.Structure):
@@ -226,6 +269,36 @@ class _Fiber(ctypes.Structure):
 
 class _Run(ctypes.Structure):
     _fields_ = [("first", ctypes.c_int32), ("last", ctypes.c_int32)]
+
+
+class _Lattice(ctypes.Structure):
+    _fields_ = [(name, ctypes.c_int32) for name in ("x0", "y0", "x1", "y1", "step")]
+
+
+class _Point(ctypes.Structure):
+    _fields_ = [(name, ctypes.c_int32) for name in ("x", "y", "z")]
+
+
+class _Chain(ctypes.Structure):
+    _fields_ = [("points", ctypes.c_uint64), ("closed", ctypes.c_uint64)]
+
+
+class _Counts(ctypes.Structure):
+    _fields_ = [("chains", ctypes.c_uint64), ("points", ctypes.c_uint64)]
+
+
+class _Planned(ctypes.Structure):
+    _fields_ = [(name, ctypes.c_uint64) for name in ("bytes", "moves", "columns", "nodes", "at", "line")] + [
+        (name, ctypes.c_int32) for name in ("most_left", "top", "height")] + [
+        (name, ctypes.c_uint32) for name in ("row", "column")]
+
+
+class Chain(typing.NamedTuple):
+    """A chain of a waterline: whether its last point is joined to its first, and an array.array('i') of 3 numbers
+    for each point: x, y and z."""
+
+    closed: bool
+    points: array.array
 
 
 class _Verdict(ctypes.Structure):
@@ -389,6 +462,66 @@ def runs(triangles, tool, fibers):
     return Runs(counts, found)
 
 
+def drop_map(triangles, tool, area, step, floor):
+    """Drop heights over a lattice: those of `drop_heights` at each of its nodes.
+
+    triangles  an array of shape (n, 3, 3), or of 9 n numbers in that order: x, y and z of each corner
+    tool       a Tool
+    area       x0, y0, x1 and y1: the ends of the lattice
+    step       how far nodes are apart, at least 1: the positions in x are x0, x0 + step, x0 + 2 step and so on up to
+               x1, and x1 itself where it isn't one of them; likewise in y
+    floor      a whole number, of at most MAX_COORDINATE in magnitude
+
+    It returns an array.array('i') with a height for each node, row by row with y ascending, and with x ascending
+    along each row.
+    """
+    corners, triangles_count = _read("triangles", triangles, _Triangle)
+    lattice, told, numbers = _lattice(area, step), ctypes.c_uint64(), _numbers_of(tool)
+    floor = _number(floor, BadFloor)
+    # The first call finds how many nodes there are: a lattice has one at least.
+    status = _library.camtool_drop_map(corners, triangles_count, numbers, lattice, floor, (ctypes.c_int32 * 1)(), 0, told)
+    heights = array.array("i", bytes(4 * told.value))
+    if status == WrongRoom.status:
+        room = (ctypes.c_int32 * told.value).from_buffer(heights)
+        status = _library.camtool_drop_map(corners, triangles_count, numbers, lattice, floor, room, told.value, told)
+    _tell(status)
+    return heights
+
+
+def waterline(triangles, tool, z, area, step):
+    """A waterline at height z: the chains of the places between nodes of a lattice at which the tool gouges the part
+    and neighbours at which it doesn't, each at the last free place before the blocked ones, which are on the left of
+    the way, exactly. The way from one place to the next isn't looked at.
+
+    triangles  an array of shape (n, 3, 3), or of 9 n numbers in that order: x, y and z of each corner
+    tool       a Tool
+    z          the height of the tool's tip, of at most MAX_COORDINATE in magnitude
+    area, step the lattice, as in `drop_map`
+
+    It returns a list of Chains, in the order of their first points.
+    """
+    corners, triangles_count = _read("triangles", triangles, _Triangle)
+    lattice, told, numbers = _lattice(area, step), _Counts(), _numbers_of(tool)
+    z = _number(z, BadHeight)
+
+    def called(chains, chains_count, points, points_count):
+        return _library.camtool_waterline(
+            corners, triangles_count, numbers, z, lattice, chains, chains_count, points, points_count, told)
+
+    # The first call finds how many there are: it has no room for any. It is the whole where there are none.
+    status = called((_Chain * 1)(), 0, (_Point * 1)(), 0)
+    heads, points = (_Chain * (told.chains or 1))(), array.array("i", bytes(12 * told.points))
+    if status == WrongRoom.status:
+        room = (_Point * told.points).from_buffer(points)
+        status = called(heads, told.chains, room, told.points)
+    _tell(status)
+    found, start = [], 0
+    for head in heads[:told.chains]:
+        found.append(Chain(bool(head.closed), points[3 * start:3 * (start + head.points)]))
+        start += head.points
+    return found
+
+
 def verify(job, part, program):
     """The verdict on a program for a job and a part, each by its text, as the command verify prints it: the first
     test that fails, or that the program is accepted, exactly.
@@ -401,12 +534,7 @@ def verify(job, part, program):
     """
     told = _Verdict()
     texts = [given for name, text in (("job", job), ("part", part), ("program", program)) for given in _letters(name, text)]
-    status = _library.camtool_verify(*texts, told)
-    if status == HighPart.status:
-        raised = HighPart(HighPart.__doc__)
-        raised.height = told.height
-        raise raised
-    _tell(status, told.line or None)
+    _tell(_library.camtool_verify(*texts, told), told.line or None, height=told.height)
     if told.test == 0:
         return Verdict(True, most_left=told.most_left, moves=told.moves, columns=told.columns)
     test = ("floor", "gouge", "holder", "rapid", "cut", "holder-stock", "left")[told.test - 1]
@@ -418,6 +546,28 @@ def verify(job, part, program):
     if test in ("gouge", "holder"):
         return Verdict(False, test, told.at, triangle=told.triangle, leaf=leaf)
     return Verdict(False, test, told.at, row=told.row, column=told.column, leaf=leaf)
+
+
+def plan(job, part):
+    """The text of the program that the planner writes for a job and a part, each by its text, as the command plan
+    stores it. `verify` accepts it with the same two texts.
+
+    job   bytes, or another array of bytes: a TOML document
+    part  the same: an ASCII STL, which is read in the job's unit and by its snap
+
+    It returns bytes. Where a text is refused or there is no plan, an exception says why.
+    """
+    told = _Planned()
+    texts = [given for name, text in (("job", job), ("part", part)) for given in _letters(name, text)]
+    # The first call finds how many bytes there are: it has no room for any. The second one plans anew.
+    room = (ctypes.c_uint8 * 1)()
+    status = _library.camtool_plan(*texts, room, 0, told)
+    if status == WrongRoom.status:
+        room = (ctypes.c_uint8 * told.bytes)()
+        status = _library.camtool_plan(*texts, room, told.bytes, told)
+    _tell(status, told.line or None, height=told.height, nodes=told.nodes, move=told.at, row=told.row,
+          column=told.column, top=told.top)
+    return bytes(room)[:told.bytes]
 
 
 def _letters(name, text):
@@ -432,13 +582,16 @@ def _letters(name, text):
     return (kinds.from_buffer_copy if view.readonly else kinds.from_buffer)(view), count
 
 
-def _tell(status, line=None):
-    """Raises the exception of a status other than 0, with the line of a text's fault."""
+def _tell(status, line=None, **numbers):
+    """Raises the exception of a status other than 0, with the line of a text's fault and the numbers that it speaks of."""
     if status:
         error = _ERRORS[status]
         raised = error(error.__doc__ if line is None else f"line {line}: {error.__doc__}")
         if line is not None:
             raised.line = line
+        for name, number in numbers.items():
+            if hasattr(error, name):
+                setattr(raised, name, number)
         raise raised
 
 
@@ -448,6 +601,11 @@ def _number(value, error):
     if not -(1 << 31) <= value < 1 << 31:
         raise error(error.__doc__)
     return value
+
+
+def _lattice(area, step):
+    x0, y0, x1, y1 = (_number(value, BadLattice) for value in area)
+    return _Lattice(x0, y0, x1, y1, _number(step, BadLattice))
 
 
 def _numbers_of(tool):
@@ -522,8 +680,18 @@ def _loaded():
     library.camtool_runs.argtypes = [
         ctypes.POINTER(_Triangle), size, ctypes.POINTER(_Tool), ctypes.POINTER(_Fiber), size,
         ctypes.POINTER(ctypes.c_uint64), size, ctypes.POINTER(_Run), size, ctypes.POINTER(ctypes.c_uint64)]
+    library.camtool_drop_map.restype = number
+    library.camtool_drop_map.argtypes = [
+        ctypes.POINTER(_Triangle), size, ctypes.POINTER(_Tool), ctypes.POINTER(_Lattice), number, numbers, size,
+        ctypes.POINTER(ctypes.c_uint64)]
+    library.camtool_waterline.restype = number
+    library.camtool_waterline.argtypes = [
+        ctypes.POINTER(_Triangle), size, ctypes.POINTER(_Tool), number, ctypes.POINTER(_Lattice),
+        ctypes.POINTER(_Chain), size, ctypes.POINTER(_Point), size, ctypes.POINTER(_Counts)]
     library.camtool_verify.restype = number
     library.camtool_verify.argtypes = [ctypes.POINTER(ctypes.c_uint8), size] * 3 + [ctypes.POINTER(_Verdict)]
+    library.camtool_plan.restype = number
+    library.camtool_plan.argtypes = [ctypes.POINTER(ctypes.c_uint8), size] * 3 + [ctypes.POINTER(_Planned)]
     return library
 
 

@@ -1,4 +1,6 @@
+pub mod Chains
 pub mod Fibers
+pub mod Nodes
 pub mod Parts
 pub mod Setups
 pub mod Written

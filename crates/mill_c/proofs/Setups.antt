@@ -1,6 +1,6 @@
 -- What the reading of three texts comes to.
 use Rattle.std.proofs.Common.{◌≡◌, refl, inl, inr}
-use Rattle.std.specs.Prelude.{ℕ, ℤ, List, Ok, Err}
+use Rattle.std.specs.Prelude.{ℕ, List, Ok, Err}
 use Rattle.mill_base.specs.declared.points.Tri.{Tri}
 use Rattle.mill_job.specs.Documents.{GivesJob, IsJobOf}
 use Rattle.mill_job.specs.declared.fault.JobFault.{JobFault}
@@ -16,7 +16,7 @@ use Rattle.mill_c.specs.Judged.{IsSetupCause, IsVerdictCause, ReadsSetup, fault_
 use Rattle.mill_c.specs.Texts.{fault_of, line_of}
 use Rattle.mill_c.specs.declared.fault.Fault.{Fault}
 use Rattle.mill_c.specs.declared.raw.RawVerdict.{RawVerdict}
-use Rattle.mill_c.specs.inner.Reading.{IsHighFor, IsJobCause, IsPartCause, IsPartText, IsProgramCause}
+use Rattle.mill_c.specs.inner.Reading.{IsJobCause, IsPartCause, IsProgramCause}
 
 -- why a job's text gives no job
 pub job_cause : (text : List ℕ) (first : JobFault) → GivesJob text (Err first) → IsJobCause text untold (fault_of_job first)

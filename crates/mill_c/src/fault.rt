@@ -54,6 +54,18 @@ pub enum Fault {
     PartTop,
     /// A program's text is refused.
     Program,
+    /// The height of a waterline is out of range.
+    Height,
+    /// An end of the lattice is out of range, its ends are the wrong way round, or its step is under a unit.
+    Lattice,
+    /// The lattice, or one that the paths of a plan go over, has more than 4,000,000 nodes.
+    TooManyNodes,
+    /// A plan has more than 1,000,000 moves.
+    TooManyMoves,
+    /// A plan leaves a column of the stock higher than it may.
+    Uncut,
+    /// On a move of a plan the holder would touch what the moves before it left of a column.
+    Held,
 }
 
 impl Fault {
@@ -90,6 +102,12 @@ impl Fault {
             Fault::JobRelation => 22,
             Fault::PartTop => 23,
             Fault::Program => 24,
+            Fault::Height => 25,
+            Fault::Lattice => 26,
+            Fault::TooManyNodes => 27,
+            Fault::TooManyMoves => 28,
+            Fault::Uncut => 29,
+            Fault::Held => 30,
         }
     }
 }

@@ -114,3 +114,63 @@ pub struct RawVerdict {
     /// The line of a refused text's first fault, counted from 1; each LF ends one.
     pub line: u64,
 }
+
+/// The nodes over an area: the positions in x are `x0`, `x0 + step`, `x0 + 2 * step` and so on up to `x1`,
+/// and `x1` itself where it isn't one of them; likewise in y. Lengths are in units.
+#[repr(C)]
+#[derive(Clone, Copy, Debug, PartialEq, Eq)]
+pub struct RawLattice {
+    pub x0: i32,
+    pub y0: i32,
+    pub x1: i32,
+    pub y1: i32,
+    /// At least one unit.
+    pub step: i32,
+}
+
+/// A chain of a waterline, beside its points.
+#[repr(C)]
+#[derive(Clone, Copy, Debug, PartialEq, Eq)]
+pub struct RawChain {
+    /// How many points it has.
+    pub points: u64,
+    /// 1 where its last point is joined to its first, and else 0.
+    pub closed: u64,
+}
+
+/// How many chains a waterline has, and how many points these have together.
+#[repr(C)]
+#[derive(Clone, Copy, Debug, PartialEq, Eq)]
+pub struct RawCounts {
+    pub chains: u64,
+    pub points: u64,
+}
+
+/// What is told of a plan, or of why there is none, in numbers. What isn't told is 0. Moves, rows and
+/// columns are counted from 0, and lengths are in the job's unit.
+#[repr(C)]
+#[derive(Clone, Copy, Debug, PartialEq, Eq)]
+pub struct RawPlanned {
+    /// How many bytes the program's text has.
+    pub bytes: u64,
+    /// How many moves the program has.
+    pub moves: u64,
+    /// How many columns the stock has.
+    pub columns: u64,
+    /// How many nodes the lattice has that has too many.
+    pub nodes: u64,
+    /// The move on which the holder would touch a column.
+    pub at: u64,
+    /// The line of the part's first fault, counted from 1; each LF ends one.
+    pub line: u64,
+    /// How much the program leaves at most on a column, over what covers it.
+    pub most_left: i32,
+    /// The top of the column that the plan leaves too high.
+    pub top: i32,
+    /// The greatest height of a part that is over the job's top.
+    pub height: i32,
+    /// The row of the column that is left too high, or that the holder would touch.
+    pub row: u32,
+    /// Its column.
+    pub column: u32,
+}

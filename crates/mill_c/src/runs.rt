@@ -2,8 +2,10 @@ ghost use Rattle.std.specs.Prelude.{◌≡◌, ◌≢◌, ◌<◌, ◌++◌, pos
 ghost use Rattle.mill_base.specs.Tools.{IsTool};
 ghost use Rattle.mill_push.specs.Runs.{AreRuns};
 ghost use Rattle.mill_c.specs.Asked.{IsSoundTool, IsToldFor};
+ghost use Rattle.mill_c.specs.Faults.{fault_code};
 ghost use Rattle.mill_c.specs.Fibers.{AreRunsAt, AreSoundFibers, IsAxis, IsFiberCause, IsLine, IsSoundFiber, IsStretch, fiber_of, run_of};
 ghost use Rattle.mill_c.specs.Raw.{tool_of, tris_of};
+ghost use Rattle.mill_c.specs.declared.fault.Fault.TheVariants as fault;
 ghost use Rattle.mill_c.specs.inner.Testing.{IsCauseBesideFibers};
 
 use crate::fault::Fault;
@@ -20,10 +22,10 @@ use std::sync::ledger::{Blank, Ledger};
 /// Runs along fibers: for each fiber the maximal runs of whole positions from its first to its last at
 /// which the tool, with its tip there, gouges the part of these triangles, ascending.
 ///
-/// With status 0 `counts` has how many runs each fiber has, in the order of the fibers, `runs` has all
-/// of them, fiber after fiber, and `told` how many they are. `counts` is as long as `fibers`, and `runs`
-/// as the runs are many: with an array of another length the status is that of the room, and `told`
-/// has their number. With any status but 0 both arrays are as they were.
+/// With status 0 `counts` has how many runs each fiber has, in the order of the fibers, and `runs` has all
+/// of them, fiber after fiber. `counts` is as long as `fibers`, and `runs` as the runs are many: with
+/// another length of `runs` the status is that of the room. With these two statuses `told` has their
+/// number, and with any other it is 0. With any status but 0 both arrays are as they were.
 #[unsafe(no_mangle)]
 pub extern "C" fn camtool_runs(
     alloc: Global,
@@ -44,6 +46,7 @@ pub extern "C" fn camtool_runs(
         (length counts.old) (length runs.old) told.new) result }
     ensures counts_kept { result ≢ pos 0 → counts.new ≡ counts.old }
     ensures runs_kept { result ≢ pos 0 → runs.new ≡ runs.old }
+    ensures untold { result ≢ pos 0 → result ≢ fault_code fault.Room → told.new ≡ 0 }
 {
     match runs_into(alloc, triangles, tool, fibers, counts, runs, told) {
         Ok(()) => 0,
@@ -70,6 +73,7 @@ fn runs_into(
         (length counts.old) (length runs.old) told.new) }
     ensures counts_kept { OnErr result (counts.new ≡ counts.old) }
     ensures runs_kept { OnErr result (runs.new ≡ runs.old) }
+    ensures untold { IfErr result (λ why. why ≢ fault.Room → told.new ≡ 0) }
 {
     *told = 0;
     let pushed = tool_from(tool)?;

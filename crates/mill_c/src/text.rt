@@ -144,7 +144,8 @@ fn raw_from(tri: Tri) -> RawTriangle
     }
 }
 
-fn raw_corner(corner: Pt3) -> RawPoint
+/// The numbers of a corner.
+pub fn raw_corner(corner: Pt3) -> RawPoint
     ensures { corner_of result ≡ corner }
 {
     let Pt3 { x, y, z } = corner;

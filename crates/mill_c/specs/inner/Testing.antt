@@ -1,12 +1,15 @@
 -- The parts of a test.
-use Rattle.std.specs.Prelude.{◌≢◌, ◌≤◌, ◌^◌, ℕ, ℤ, pos, ◌≤ℤ◌, List, length, All}
+use Rattle.std.specs.Prelude.{◌≢◌, ◌<◌, ◌≤◌, ◌^◌, ℕ, ℤ, pos, ◌≤ℤ◌, List, length, All}
 use Rattle.mill_base.specs.Numbers.{Within}
-use Rattle.mill_base.specs.declared.limits.TheConstants.{MAX_COORDINATE}
+use Rattle.mill_base.specs.Lattices.{IsLattice, IsMapLattice}
+use Rattle.mill_base.specs.declared.limits.TheConstants.{MAX_COORDINATE, MAX_NODES}
 use Rattle.mill_c.specs.Fibers.{IsSoundFiber}
+use Rattle.mill_c.specs.Lattices.{lattice_of, nodes_in}
 use Rattle.mill_c.specs.Raw.{IsPlace, IsTriangle, SaysCutter, SaysHolder}
 use Rattle.mill_c.specs.declared.fault.Fault.{Fault}
 use Rattle.mill_c.specs.declared.fault.Fault.TheVariants as fault
 use Rattle.mill_c.specs.declared.raw.RawFiber.{RawFiber}
+use Rattle.mill_c.specs.declared.raw.RawLattice.{RawLattice}
 use Rattle.mill_c.specs.declared.raw.RawPlace.{RawPlace}
 use Rattle.mill_c.specs.declared.raw.RawTool.{RawTool}
 use Rattle.mill_c.specs.declared.raw.RawTriangle.{RawTriangle}
@@ -38,3 +41,47 @@ IsCauseBesideFibers triangles fibers room fault.TooManyTriangles = 2 ^ 32 ≤ le
 IsCauseBesideFibers triangles fibers room fault.Fiber = ¬ All IsSoundFiber fibers
 IsCauseBesideFibers triangles fibers room fault.CountsRoom = room ≢ length fibers
 IsCauseBesideFibers triangles fibers room _ = ⊥
+
+-- what is so when the numbers of a lattice are refused with a fault
+abbrev pub IsLatticeCause : RawLattice → Fault → Type 0
+IsLatticeCause lattice fault.Lattice = ¬ IsLattice (lattice_of lattice)
+IsLatticeCause lattice fault.TooManyNodes = MAX_NODES < nodes_in lattice
+IsLatticeCause lattice _ = ⊥
+
+-- the ends of a lattice are in range
+pub record IsCorners (raw : RawLattice) : Type 0 where
+  pub x0_ok : Within MAX_COORDINATE raw.x0
+  pub x1_ok : Within MAX_COORDINATE raw.x1
+  pub y0_ok : Within MAX_COORDINATE raw.y0
+  pub y1_ok : Within MAX_COORDINATE raw.y1
+
+-- they are the right way round, and the step is at least one unit
+pub record IsInOrder (raw : RawLattice) : Type 0 where
+  pub x_order : raw.x0 ≤ℤ raw.x1
+  pub y_order : raw.y0 ≤ℤ raw.y1
+  pub step_ok : (pos 1) ≤ℤ raw.step
+
+-- the arguments of a call for drop heights over a lattice, but tool and array, are in their ranges
+pub record AreSoundBeside (triangles : List RawTriangle) (lattice : RawLattice) (floor : ℤ) : Type 0 where
+  pub triangles_ok : All IsTriangle triangles
+  pub count_ok : length triangles < 2 ^ 32
+  pub lattice_ok : IsMapLattice (lattice_of lattice)
+  pub floor_ok : Within MAX_COORDINATE floor
+
+-- what is so when they are refused with a fault
+abbrev pub IsCauseBesideNodes : List RawTriangle → RawLattice → ℤ → Fault → Type 0
+IsCauseBesideNodes triangles lattice floor fault.Triangle = ¬ All IsTriangle triangles
+IsCauseBesideNodes triangles lattice floor fault.TooManyTriangles = 2 ^ 32 ≤ length triangles
+IsCauseBesideNodes triangles lattice floor fault.Floor = ¬ Within MAX_COORDINATE floor
+IsCauseBesideNodes triangles lattice floor fault.Lattice = ¬ IsLattice (lattice_of lattice)
+IsCauseBesideNodes triangles lattice floor fault.TooManyNodes = MAX_NODES < nodes_in lattice
+IsCauseBesideNodes triangles lattice floor _ = ⊥
+
+-- what is so when those of a call for a waterline are refused with a fault
+abbrev pub IsCauseBesideLevel : List RawTriangle → ℤ → RawLattice → Fault → Type 0
+IsCauseBesideLevel triangles z lattice fault.Triangle = ¬ All IsTriangle triangles
+IsCauseBesideLevel triangles z lattice fault.TooManyTriangles = 2 ^ 32 ≤ length triangles
+IsCauseBesideLevel triangles z lattice fault.Height = ¬ Within MAX_COORDINATE z
+IsCauseBesideLevel triangles z lattice fault.Lattice = ¬ IsLattice (lattice_of lattice)
+IsCauseBesideLevel triangles z lattice fault.TooManyNodes = MAX_NODES < nodes_in lattice
+IsCauseBesideLevel triangles z lattice _ = ⊥

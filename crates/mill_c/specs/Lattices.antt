@@ -1,0 +1,48 @@
+-- A lattice of a caller's numbers, and the drop heights over one: when each fault comes, and what is answered.
+use Rattle.std.specs.Prelude.{◌≡◌, ◌≢◌, ◌<◌, ◌≤◌, ◌^◌, ℕ, ℤ, List, length, All}
+use Rattle.mill_base.specs.Lattices.{IsLattice, IsMapLattice, node_count}
+use Rattle.mill_base.specs.Numbers.{Within}
+use Rattle.mill_base.specs.declared.lattice.Lattice.{Lattice}
+use Rattle.mill_base.specs.declared.limits.TheConstants.{MAX_COORDINATE, MAX_NODES}
+use Rattle.mill_c.specs.Asked.{IsSoundTool}
+use Rattle.mill_c.specs.Raw.{IsTriangle, SaysCutter, SaysHolder}
+use Rattle.mill_c.specs.declared.fault.Fault.{Fault}
+use Rattle.mill_c.specs.declared.fault.Fault.TheVariants as fault
+use Rattle.mill_c.specs.declared.raw.RawLattice.{RawLattice}
+use Rattle.mill_c.specs.declared.raw.RawTool.{RawTool}
+use Rattle.mill_c.specs.declared.raw.RawTriangle.{RawTriangle}
+
+-- the lattice of these numbers
+abbrev pub lattice_of : RawLattice → Lattice
+lattice_of raw = record { area = record { x0 = raw.x0; y0 = raw.y0; x1 = raw.x1; y1 = raw.y1 }; step = raw.step }
+
+-- how many nodes it has
+abbrev pub nodes_in : RawLattice → ℕ
+nodes_in raw = node_count (lattice_of raw)
+
+-- each argument but the tool is in its range, and the array for the heights is as long as the nodes are many
+pub record AreSoundNodes (triangles : List RawTriangle) (lattice : RawLattice) (floor : ℤ) (room : ℕ) : Type 0 where
+  pub triangles_ok : All IsTriangle triangles
+  pub count_ok : length triangles < 2 ^ 32
+  pub lattice_ok : IsMapLattice (lattice_of lattice)
+  pub floor_ok : Within MAX_COORDINATE floor
+  pub room_ok : room ≡ nodes_in lattice
+
+-- the lattice is in its range and has so many nodes as are told, and the array for the heights is not as long
+pub record HasOtherNodes (lattice : RawLattice) (room told : ℕ) : Type 0 where
+  pub lattice_ok : IsMapLattice (lattice_of lattice)
+  pub told_ok : told ≡ nodes_in lattice
+  pub other : room ≢ nodes_in lattice
+
+-- what is so when a call for drop heights over a lattice ends with a fault: memory is asked for once the arguments are sound
+abbrev pub IsNodesCause : List RawTriangle → RawTool → RawLattice → ℤ → ℕ → ℕ → Fault → Type 0
+IsNodesCause triangles tool lattice floor room told fault.Memory = IsSoundTool tool × AreSoundNodes triangles lattice floor room
+IsNodesCause triangles tool lattice floor room told fault.Cutter = ¬ SaysCutter tool
+IsNodesCause triangles tool lattice floor room told fault.Holder = ¬ SaysHolder tool
+IsNodesCause triangles tool lattice floor room told fault.Triangle = ¬ All IsTriangle triangles
+IsNodesCause triangles tool lattice floor room told fault.TooManyTriangles = 2 ^ 32 ≤ length triangles
+IsNodesCause triangles tool lattice floor room told fault.Lattice = ¬ IsLattice (lattice_of lattice)
+IsNodesCause triangles tool lattice floor room told fault.TooManyNodes = MAX_NODES < nodes_in lattice
+IsNodesCause triangles tool lattice floor room told fault.Floor = ¬ Within MAX_COORDINATE floor
+IsNodesCause triangles tool lattice floor room told fault.Room = HasOtherNodes lattice room told
+IsNodesCause triangles tool lattice floor room told _ = ⊥
