@@ -165,7 +165,8 @@ class Compared(unittest.TestCase):
         self.assertEqual(compared, PLACES)
 
     def test_fibers(self):
-        """Where a run ends, the program drops the tool to a greater height than the fiber's; and beside it, to none."""
+        """In a run, and nowhere else, the program drops the tool no deeper than to over the fiber's height."""
+        ends_seen = 0
         for number in range(FIBERS):
             case, axis = self.cases[number % len(self.cases)], self.chosen.choice((1, 2))
             xs, ys = zip(self.place(case), self.place(case))
@@ -177,9 +178,11 @@ class Compared(unittest.TestCase):
             asked = sorted(p for p in asked if first <= p <= last)
             heights = at_once(case.dropped, [(p, at) if axis == 1 else (at, p) for p in asked])
             for position, height in zip(asked, heights):
-                blocked = round(float(height) * 10 ** places_of(job)) > z
+                blocked = round(float(height) * 10 ** places_of(case.job)) > z
                 inside = any(a <= position <= b for a, b in pairs)
                 self.assertEqual(inside, blocked, (case.job_file, axis, at, z, position))
+            ends_seen += len(found)
+        self.assertGreater(ends_seen, FIBERS)
 
     def test_waterlines(self):
         named = [case for case in self.cases if case.job_file.endswith(("level/job.toml", "holder/job.toml", "hill/job.toml"))]
