@@ -7,23 +7,23 @@ ghost use Rattle.mill_load.specs.Loads.{AreMoves};
 ghost use Rattle.mill_load.specs.Statuses.{status_code};
 ghost use Rattle.mill_report_text.specs.Reports.{IsReportText, Read, most_left as most_left_of, sums_of as sums_of_texts, summary_of as summary_of_verdict};
 ghost use Rattle.mill_report_text.specs.Sources.{texts_of_sources};
+ghost use Rattle.mill_report_text.specs.inner.Judged.{IsJudged, IsReady};
 ghost use Rattle.mill_report_text.specs.inner.Lists.{ArePlain};
-ghost use Rattle.mill_run.specs.Verify.{IsSafe};
-ghost use Rattle.mill_verify.specs.Verdicts.{IsVerdict};
 ghost use Rattle.serde_json.specs.View.{view};
+ghost use denote.Param.Send.{IsSync};
 
 use crate::line::verdict_words;
 use crate::lists::{Lists, lists_of};
 use crate::sums::sums_of;
 use crate::texts::{Report, Sources};
 use mill_base::{Move, WantOfMemory};
-use mill_document::{Summary, report_text};
+use mill_document::{Summary, Sums, report_text};
 use mill_job::Job;
 use mill_part::Part;
 use mill_run::status_of_verdict;
 use mill_verify::{Verdict, verify};
 use std::alloc::Global;
-use std::thread::Threads;
+use std::thread::{Threads, join};
 
 /// The report on a program: its verdict, with the line that `verify` prints, and all that is wrong with it.
 ///
@@ -32,8 +32,8 @@ use std::thread::Threads;
 /// every move before it has cut; and of the columns left too high the first 10,000, with the number of all.
 /// Where the program is accepted both lists are empty, and nothing is looked for beyond the verdict.
 ///
-/// The work of the verdict is shared by `workers` threads, from 1 to 64. The report doesn't depend on their
-/// number. The only error is want of memory.
+/// The work of the verdict is shared by `workers` threads, from 1 to 64, and beside them one makes the
+/// checksums. The report doesn't depend on their number. The only error is want of memory.
 pub fn report<R: Threads + Sync>(
     rt: &R,
     alloc: Global,
@@ -51,11 +51,55 @@ pub fn report<R: Threads + Sync>(
     ensures { IfOk result (λ report. IsReportText (texts_of_sources sources.now) job.now part.now moves.now
         report.text.items (status_code report.status)) }
 {
-    let verdict = verify(rt, alloc, job, part, moves, workers)?;
-    report_of_verdict(alloc, sources, job, part, moves, verdict)
+    let (verdict, sums) = verdict_and_sums(rt, alloc, sources, job, part, moves, workers);
+    report_of_verdict(alloc, sources, job, part, moves, verdict?, &sums)
 }
 
-/// The report on a program that has this verdict.
+/// The verdict, and beside it, on a thread of its own, the checksums: they take as long as a verdict that is
+/// little more than reading.
+fn verdict_and_sums<R: Threads + Sync>(
+    rt: &R,
+    alloc: Global,
+    sources: &Sources,
+    job: &Job,
+    part: &Part,
+    moves: &[Move],
+    workers: u32,
+) -> (Result<Verdict, WantOfMemory>, Sums)
+    requires ready { IsReady job.now part.now moves.now workers }
+    ensures verdict { IfOk result.0 (IsJudged job.now part.now moves.now) }
+    ensures sums { result.1 ≡ sums_of_texts (texts_of_sources sources.now) }
+{
+    join(
+        rt,
+        || -> Result<Verdict, WantOfMemory>
+            requires sync { IsSync R.row }
+            requires ready { IsReady job.now part.now moves.now workers }
+            ensures { IfOk result (IsJudged job.entry.now part.entry.now moves.entry.now) }
+        { judged(rt, alloc, job, part, moves, workers) },
+        || -> Sums
+            ensures { result ≡ sums_of_texts (texts_of_sources sources.entry.now) }
+        { sums_of(sources) },
+    )
+}
+
+/// The verdict.
+fn judged<R: Threads + Sync>(
+    rt: &R,
+    alloc: Global,
+    job: &Job,
+    part: &Part,
+    moves: &[Move],
+    workers: u32,
+) -> Result<Verdict, WantOfMemory>
+    requires ready { IsReady job.now part.now moves.now workers }
+    ensures { IfOk result (IsJudged job.now part.now moves.now) }
+{
+    let verdict = verify(rt, alloc, job, part, moves, workers)?;
+    Ok(verdict)
+}
+
+/// The report on a program that has this verdict, and on texts that have these checksums.
 fn report_of_verdict(
     alloc: Global,
     sources: &Sources,
@@ -63,28 +107,29 @@ fn report_of_verdict(
     part: &Part,
     moves: &[Move],
     verdict: Verdict,
+    sums: &Sums,
 ) -> Result<Report, WantOfMemory>
     requires read { Read (texts_of_sources sources.now) job.now part.now moves.now }
     requires job_ok { IsJob job.now }
     requires moves_ok { AreMoves job.now moves.now }
-    requires verdict { IsVerdict job.now part.now moves.now verdict }
-    requires safe { IsSafe job.now part.now moves.now verdict }
+    requires judged { IsJudged job.now part.now moves.now verdict }
+    requires sums { sums.now ≡ sums_of_texts (texts_of_sources sources.now) }
     ensures { IfOk result (λ report. IsReportText (texts_of_sources sources.now) job.now part.now moves.now
         report.text.items (status_code report.status)) }
 {
     let lists = lists_of(alloc, sources, job, part, moves, verdict)?;
     let line = verdict_words(alloc, job, moves, verdict)?;
-    let text = document(alloc, sources, job, moves, verdict, &line, lists)?;
+    let text = document(alloc, sums, job, moves, verdict, &line, lists)?;
     Ok(Report {
         text,
         status: status_of_verdict(verdict),
     })
 }
 
-/// The document of a verdict with this line and these lists.
+/// The document of a verdict with these checksums, this line and these lists.
 fn document(
     alloc: Global,
-    sources: &Sources,
+    sums: &Sums,
     job: &Job,
     moves: &[Move],
     verdict: Verdict,
@@ -95,14 +140,13 @@ fn document(
     requires plain { ArePlain lists }
     ensures { IfOk result (λ made. made.items ≡ text_of (report_data
         line.now
-        (sums_of_texts (texts_of_sources sources.now))
+        sums.now
         (summary_of_verdict job.now moves.now verdict lists.too_high)
         (map view lists.failing.items)
         (map view lists.left.items))) }
 {
-    let sums = sums_of(sources);
     let summary = summary_of(job, moves, verdict, lists.too_high);
-    report_text(alloc, line, &sums, &summary, lists.failing, lists.left)
+    report_text(alloc, line, sums, &summary, lists.failing, lists.left)
 }
 
 /// The numbers of a report.
