@@ -91,6 +91,26 @@ fn look_at_each<R: Abort>(rt: &R, tri: &Tri, cutter: Cutter, tip: Pt3, wanted: &
     look(rt, &turned(&second), cutter, tip, wanted, row);
 }
 
+/// Looks at a triangle from the place of the tip that a row has.
+fn look_from_tip<R: Abort>(rt: &R, tri: &Tri, cutter: Cutter, row: &str) -> Result<(), Fail>
+    requires tri_ok { TriInRange tri.now }
+    requires cutter_ok { IsWideCutter cutter }
+{
+    let (place, wanted) = halves(row)?;
+    look_at_each(rt, tri, cutter, tip(place)?, wanted, row);
+    Ok(())
+}
+
+fn look_from_each_tip<R: Abort>(rt: &R, tri: &Tri, cutter: Cutter, table: &str) -> Result<(), Fail>
+    requires tri_ok { TriInRange tri.now }
+    requires cutter_ok { IsWideCutter cutter }
+{
+    for row in table.lines() {
+        look_from_tip(rt, tri, cutter, row)?;
+    }
+    Ok(())
+}
+
 /// Looks at one triangle from many places of the tip: each row has a place, and how the triangle lies.
 pub(crate) fn each_tip<R: Abort>(
     rt: &R,
@@ -100,11 +120,15 @@ pub(crate) fn each_tip<R: Abort>(
 ) -> Result<(), Fail>
     requires { IsWideCutter cutter }
 {
-    let tri = triangle(corners)?;
-    for row in table.lines() {
-        let (place, wanted) = halves(row)?;
-        look_at_each(rt, &tri, cutter, tip(place)?, wanted, row);
-    }
+    look_from_each_tip(rt, &triangle(corners)?, cutter, table)
+}
+
+fn look_at_triangle<R: Abort>(rt: &R, cutter: Cutter, row: &str) -> Result<(), Fail>
+    requires { IsWideCutter cutter }
+{
+    let (text, wanted) = halves(row)?;
+    let (corners, place) = placed(text);
+    look_at_each(rt, &triangle(corners)?, cutter, tip(place)?, wanted, row);
     Ok(())
 }
 
@@ -114,10 +138,19 @@ pub(crate) fn each_triangle<R: Abort>(rt: &R, cutter: Cutter, table: &str) -> Re
     requires { IsWideCutter cutter }
 {
     for row in table.lines() {
-        let (text, wanted) = halves(row)?;
-        let (corners, place) = placed(text);
-        look_at_each(rt, &triangle(corners)?, cutter, tip(place)?, wanted, row);
+        look_at_triangle(rt, cutter, row)?;
     }
+    Ok(())
+}
+
+fn look_at_segment<R: Abort>(rt: &R, cutter: Cutter, row: &str) -> Result<(), Fail>
+    requires { IsWideCutter cutter }
+{
+    let (text, wanted) = halves(row)?;
+    let (ends, place) = placed(text);
+    let (tri, tip) = (triangle(ends)?, tip(place)?);
+    look_at_each(rt, &tri, cutter, tip, wanted, row);
+    look_at_each(rt, &back(&tri), cutter, tip, wanted, row);
     Ok(())
 }
 
@@ -126,12 +159,7 @@ pub(crate) fn each_segment<R: Abort>(rt: &R, cutter: Cutter, table: &str) -> Res
     requires { IsWideCutter cutter }
 {
     for row in table.lines() {
-        let (text, wanted) = halves(row)?;
-        let (ends, place) = placed(text);
-        let tri = triangle(ends)?;
-        let tip = tip(place)?;
-        look_at_each(rt, &tri, cutter, tip, wanted, row);
-        look_at_each(rt, &back(&tri), cutter, tip, wanted, row);
+        look_at_segment(rt, cutter, row)?;
     }
     Ok(())
 }

@@ -1,11 +1,8 @@
-//! The tests of the crates on cutters and their contacts with triangles, on the part and on its cells,
-//! by their public calls.
+//! The tests of the crates on cutters and their contacts with triangles, by their public calls.
 //!
 //! They stand apart, since a crate with tests of its own is proved twice, with them and without.
 #![tactic(auto)]
 
-#[cfg(test)]
-mod cells;
 #[cfg(test)]
 mod contact_ball;
 #[cfg(test)]
@@ -14,10 +11,6 @@ mod contact_cone;
 mod contact_flat;
 #[cfg(test)]
 mod contacts;
-#[cfg(test)]
-mod geom;
-#[cfg(test)]
-mod part;
 #[cfg(test)]
 mod shape;
 #[cfg(test)]

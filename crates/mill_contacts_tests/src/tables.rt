@@ -1,16 +1,13 @@
 //! Tables of cases, a case a row, and what stands in their rows. A table is one text, so that a test's
 //! proof costs the same however many rows there are.
-ghost use Rattle.std.specs.Prelude.{◌≤ℤ◌, pos, IsTrue, IfOk};
+ghost use Rattle.std.specs.Prelude.{◌≤ℤ◌, pos, IfOk};
 ghost use Rattle.mill_base.specs.Numbers.{Within};
 ghost use Rattle.mill_base.specs.Ranges.{IsInRange, TriInRange};
-ghost use Rattle.mill_base.specs.declared.limits.TheConstants.{LOWEST_TIP, MAX_COORDINATE, MAX_WIDE_RADIUS};
-ghost use Rattle.mill_base.specs.Sizes.{HasRadius};
+ghost use Rattle.mill_base.specs.declared.limits.TheConstants.{LOWEST_TIP, MAX_COORDINATE};
 ghost use Rattle.mill_geom.specs.Offsets.{IsCentre};
 
-use mill_base::{LOWEST_TIP, MAX_COORDINATE, MAX_WIDE_RADIUS, Pt3, Tri};
+use mill_base::{LOWEST_TIP, MAX_COORDINATE, Pt3, Tri};
 use mill_geom::Side;
-use mill_part::Part;
-use std::alloc::Global;
 use std::test::Fail;
 
 /// What stands before the `=>` of a row, and what behind it.
@@ -19,11 +16,11 @@ pub(crate) fn halves(row: &str) -> Result<(&str, &str), Fail> {
 }
 
 /// The first word and the others.
-pub(crate) fn first_word(text: &str) -> Result<(&str, &str), Fail> {
+fn first_word(text: &str) -> Result<(&str, &str), Fail> {
     Ok(text.split_once(' ').ok_or("a row with too few words")?)
 }
 
-pub(crate) fn coordinate(text: &str) -> Result<i32, Fail>
+fn coordinate(text: &str) -> Result<i32, Fail>
     ensures { IfOk result (λ number. Within MAX_COORDINATE number) }
 {
     let number: i32 = text.parse()?;
@@ -34,7 +31,7 @@ pub(crate) fn coordinate(text: &str) -> Result<i32, Fail>
 }
 
 /// A point by its three coordinates.
-pub(crate) fn point(text: &str) -> Result<Pt3, Fail>
+fn point(text: &str) -> Result<Pt3, Fail>
     ensures { IfOk result (λ point. IsInRange point) }
 {
     let (x, others) = first_word(text)?;
@@ -65,7 +62,7 @@ pub(crate) fn tip(text: &str) -> Result<Pt3, Fail>
 }
 
 /// The corners of a triangle, of which the last one counts again where there are fewer than three.
-pub(crate) fn corners(text: &str) -> (&str, &str, &str) {
+fn corners(text: &str) -> (&str, &str, &str) {
     let (a, others) = text.split_once(", ").unwrap_or((text, text));
     let (b, c) = others.split_once(", ").unwrap_or((others, others));
     (a, b, c)
@@ -83,44 +80,6 @@ pub(crate) fn triangle(text: &str) -> Result<Tri, Fail>
 /// A row's corners, and the tip's place: the origin, if it says none.
 pub(crate) fn placed(text: &str) -> (&str, &str) {
     text.split_once(" at ").unwrap_or((text, "0 0 0"))
-}
-
-/// A cutter's radius.
-pub(crate) fn radius(text: &str) -> Result<i32, Fail>
-    ensures { IfOk result (λ radius. HasRadius radius MAX_WIDE_RADIUS) }
-{
-    let radius: i32 = text.parse()?;
-    if radius < 1 || radius > MAX_WIDE_RADIUS {
-        return Err(Fail::from("out of range"));
-    }
-    Ok(radius)
-}
-
-fn fits(point: Pt3) -> bool
-    ensures { IsTrue result → IsInRange point }
-{
-    let most = MAX_COORDINATE;
-    point.x.unsigned_abs() <= most
-        && point.y.unsigned_abs() <= most
-        && point.z.unsigned_abs() <= most
-}
-
-fn tri_fits(tri: &Tri) -> bool
-    ensures { IsTrue result → TriInRange tri.now }
-{
-    fits(tri.a) && fits(tri.b) && fits(tri.c)
-}
-
-/// The part of a few triangles, each in a row of its own.
-pub(crate) fn part_of(alloc: Global, text: &str) -> Result<Part, Fail> {
-    let mut tris = Vec::new(alloc);
-    for corners in text.lines() {
-        tris.push(triangle(corners)?)?;
-    }
-    if tris.len() > 9 || !tris.iter().all(tri_fits) {
-        return Err(Fail::from("too many triangles"));
-    }
-    Ok(Part::new(tris))
 }
 
 pub(crate) fn side_word(side: Side) -> &'static str {

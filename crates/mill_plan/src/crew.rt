@@ -3,12 +3,13 @@ ghost use Rattle.std.specs.Prelude.{◌≡◌, ℕ, ◌≤◌, ℤ, length, All,
 ghost use Rattle.mill_base.specs.Covers.{IsUnder};
 ghost use Rattle.mill_base.specs.Motion.{Follow};
 ghost use Rattle.mill_base.specs.Ranges.{MovesInRange};
-ghost use Rattle.mill_base.specs.declared.limits.TheConstants.{MAX_MOVES, MAX_WORKERS};
+ghost use Rattle.mill_base.specs.declared.limits.TheConstants.{MAX_MOVES};
 ghost use Rattle.mill_cells.specs.Sorted.{sorted_of};
 ghost use Rattle.mill_dexel.specs.Stocks.{IsStock};
 ghost use Rattle.mill_job.specs.Columns.{home};
 ghost use Rattle.mill_job.specs.Jobs.{IsJob};
 ghost use Rattle.mill_paths.specs.Visits.{IsVisit};
+ghost use Rattle.mill_plan.specs.inner.Conditions.{AreWorkers};
 ghost use Rattle.mill_plan.specs.inner.Feeds.{SayClear};
 ghost use Rattle.mill_verify.specs.Claims.{CutsSafely};
 ghost use Rattle.mill_verify.specs.Tests.{GoodBefore};
@@ -68,8 +69,7 @@ pub(crate) trait PlanCrew: Crew {
         requires under { IsUnder part.now job.now.top }
         requires follow { Follow (home job.now) moves.now }
         requires few { length moves.now ≤ MAX_MOVES }
-        requires some_workers { 1 ≤ workers }
-        requires few_workers { workers ≤ MAX_WORKERS }
+        requires workers { AreWorkers workers }
         ensures verdict { IfOk result (IsVerdict job.now part.now moves.now) }
         ensures safe { (count columns : ℕ) (left : ℤ)
             → result ≡ Ok (Verdict.Accept count columns left)
@@ -92,7 +92,7 @@ pub(crate) trait PlanCrew: Crew {
         requires moves_ok { MovesInRange moves.now }
         requires good { GoodBefore job.now part.now moves.now (length moves.now) }
         requires rows_ok { IsStock job.now moves.now rows.now }
-        requires few_workers { workers ≤ MAX_WORKERS }
+        requires workers { AreWorkers workers }
         ensures verdict { IsVerdict job.now part.now moves.now result }
         ensures safe { (count columns : ℕ) (left : ℤ)
             → result ≡ Verdict.Accept count columns left

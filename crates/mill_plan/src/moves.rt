@@ -13,6 +13,7 @@ ghost use Rattle.mill_paths.specs.Safety.{GoSafely};
 ghost use Rattle.mill_paths.specs.Tours.{ArePlanVisits};
 ghost use Rattle.mill_paths.specs.Visits.{IsVisit};
 ghost use Rattle.mill_plan.specs.Plans.{HasFewNodes, HasPlan, IsPlanFault};
+ghost use Rattle.mill_plan.specs.inner.Conditions.{AreFirstRows};
 ghost use Rattle.mill_plan.specs.inner.Feeds.{SayClear};
 ghost use Rattle.mill_plan.specs.inner.Steps.{IsNodesFault, IsRound, IsRoundFault};
 
@@ -69,8 +70,7 @@ pub(crate) fn planned_moves<C: PlanCrew>(
     requires cells_ok { cells.now ≡ sorted_of part.now }
     requires under { IsUnder part.now job.now.top }
     requires nodes { HasFewNodes job.now }
-    requires stock { FollowStock job.now [] rows.old }
-    requires rows_ok { All (IsRowOf job.now) rows.old }
+    requires rows_ok { AreFirstRows job.now rows.old }
     ensures stock { IfOk result (λ moves. FollowStock job.now moves.items rows.new) }
     ensures plan { IfOk result (λ moves. HasPlan job.now part.now moves.items) }
     ensures safe { IfOk
@@ -111,8 +111,7 @@ fn plan_visits<C: Crew>(
 /// limit that.
 pub(crate) fn rows_for_depth(alloc: Global, job: &Job) -> Result<Vec<Row>, WantOfMemory>
     requires { IsJob job.now }
-    ensures stock { IfOk result (λ rows. FollowStock job.now [] rows.items) }
-    ensures rows_ok { IfOk result (λ rows. All (IsRowOf job.now) rows.items) }
+    ensures { IfOk result (λ rows. AreFirstRows job.now rows.items) }
 {
     if job.max_cut == 0 {
         return Ok(Vec::new(alloc));
@@ -133,8 +132,7 @@ fn round_of(
     clear: &[bool],
 ) -> Result<Vec<Move>, PlanFault>
     requires job_ok { IsJob job.now }
-    requires stock { FollowStock job.now [] rows.old }
-    requires rows_ok { All (IsRowOf job.now) rows.old }
+    requires rows_ok { AreFirstRows job.now rows.old }
     requires visits_ok { All (λ visit. IsInUnitRange job.now.unit visit.at) visits.now }
     requires both { length clear.now ≡ length visits.now }
     ensures round { (part : List Tri) → SayClear job.now part visits.now clear.now

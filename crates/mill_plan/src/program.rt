@@ -9,6 +9,7 @@ ghost use Rattle.mill_paths.specs.Safety.{GoSafely};
 ghost use Rattle.mill_verify.specs.Claims.{CutsSafely};
 ghost use Rattle.mill_verify.specs.Verdicts.{IsVerdict};
 ghost use Rattle.mill_plan.specs.Plans.{HasPlan, IsOverNodes, IsPlanAnswer, IsPlanFault, answer_of};
+ghost use Rattle.mill_plan.specs.inner.Conditions.{AreWorkers};
 ghost use Rattle.mill_plan.specs.declared.fault.PlanFault.TheVariants.{TooManyNodes};
 
 use crate::crew::PlanCrew;
@@ -103,8 +104,7 @@ fn plan_by<C: PlanCrew>(
     requires crew_ok { C.ready }
     requires job_ok { IsJob job.now }
     requires under { IsUnder part.now job.now.top }
-    requires some_workers { 1 ≤ workers }
-    requires few_workers { workers ≤ MAX_WORKERS }
+    requires workers { AreWorkers workers }
     ensures planned { IfOk result (λ planned. IsPlanAnswer job.now part.now (answer_of planned)) }
     ensures fault { IfErr result (IsPlanFault job.now part.now) }
     ensures nodes { (nodes : ℕ) → IsErrOf result (TooManyNodes nodes) ↔ IsOverNodes job.now nodes }
@@ -143,8 +143,7 @@ fn verified<C: PlanCrew>(
     requires plan_ok { HasPlan job.now part.now moves.now }
     requires safe { GoSafely job.now part.now [] (home job.now) moves.now (home job.now) }
     requires stock { FollowStock job.now moves.now rows.now }
-    requires some_workers { 1 ≤ workers }
-    requires few_workers { workers ≤ MAX_WORKERS }
+    requires workers { AreWorkers workers }
     ensures planned { IfOk
         result
         (λ planned. IsPlanAnswer job.now part.now (answer_of planned)) }
@@ -198,8 +197,7 @@ fn verdict_on<C: PlanCrew>(
     requires few { length moves.now ≤ MAX_MOVES }
     requires safe { GoSafely job.now part.now [] (home job.now) moves.now (home job.now) }
     requires stock { FollowStock job.now moves.now rows.now }
-    requires some_workers { 1 ≤ workers }
-    requires few_workers { workers ≤ MAX_WORKERS }
+    requires workers { AreWorkers workers }
     ensures verdict { IfOk result (IsVerdict job.now part.now moves.now) }
     ensures safe { (count columns : ℕ) (left : ℤ)
         → result ≡ Ok (Verdict.Accept count columns left)

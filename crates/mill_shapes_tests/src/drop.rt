@@ -1,8 +1,11 @@
 ghost use Rattle.std.specs.Prelude.{pos};
+ghost use Rattle.mill_base.specs.Numbers.{Within};
+ghost use Rattle.mill_base.specs.Tools.{IsTool};
+ghost use Rattle.mill_base.specs.declared.limits.TheConstants.{MAX_COORDINATE};
 ghost use Rattle.mill_drop.specs.Paths.{IsRow, IsTolerance};
 
 use crate::tables::{coordinate, first_word, halves, part_of, tool};
-use mill_base::{Box2, Cutter, Lattice, Tool};
+use mill_base::{Box2, Cutter, Lattice, Pt3, Tool};
 use mill_drop::{
     drop_at, drop_heights_are_unique, drop_map, drop_once, one_path, path_drop, paths_are_halved,
 };
@@ -10,24 +13,36 @@ use mill_part::SortedPart;
 use std::alloc::Global;
 use std::process::Abort;
 use std::test::Fail;
+use std::thread::Threads;
 
-/// The drop height of a row's text: of which tool, at which place, over which floor, and over which part;
-/// found by its cells and without them.
+/// The drop height over a part by its triangles, found by its cells and without them.
+fn drops(
+    alloc: Global,
+    tris: &str,
+    held: &Tool,
+    x: i32,
+    y: i32,
+    floor: i32,
+) -> Result<(i32, i32), Fail>
+    requires tool_ok { IsTool held.now }
+    requires x_ok { Within MAX_COORDINATE x }
+    requires y_ok { Within MAX_COORDINATE y }
+    requires floor_ok { Within MAX_COORDINATE floor }
+{
+    let part = part_of(alloc, tris)?;
+    let shape = SortedPart::new(alloc, &part)?;
+    let height = drop_at(shape.part(), shape.cells(), held, x, y, floor);
+    Ok((height, drop_once(&part, held, x, y, floor)))
+}
+
+/// The drop heights of a row's text: of which tool, at which place, over which floor, and over which part.
 fn drops_of(alloc: Global, text: &str) -> Result<(i32, i32), Fail> {
     let (held, others) = text.split_once(" at ").ok_or("a row without a place")?;
     let (place, others) = others.split_once(" over ").ok_or("a row without a floor")?;
     let (floor, tris) = others.split_once(": ").ok_or("a row without a part")?;
     let (x, y) = first_word(place)?;
-    let (held, x, y, floor) = (
-        tool(held)?,
-        coordinate(x)?,
-        coordinate(y)?,
-        coordinate(floor)?,
-    );
-    let part = part_of(alloc, tris)?;
-    let shape = SortedPart::new(alloc, &part)?;
-    let height = drop_at(shape.part(), shape.cells(), &held, x, y, floor);
-    Ok((height, drop_once(&part, &held, x, y, floor)))
+    let (x, y, floor) = (coordinate(x)?, coordinate(y)?, coordinate(floor)?);
+    drops(alloc, tris, &tool(held)?, x, y, floor)
 }
 
 fn look<R: Abort + AllocGlobal>(rt: &R, row: &str) -> Result<(), Fail> {
@@ -91,11 +106,11 @@ fn holder_on_a_point(rt: HostRuntime) -> Result<(), Fail> {
 
 const TRIANGLE: &str = "0 0 200, 1000 0 200, 0 1000 200";
 
-// The step doesn't divide the row: the positions are -200, -125, -50 and 0.
-#[test]
-fn heights_along_a_row(rt: HostRuntime) -> Result<(), Fail> {
-    let part = part_of(rt.alloc(), TRIANGLE)?;
-    let shape = SortedPart::new(rt.alloc(), &part)?;
+/// The heights of a flat cutter along a row that the step doesn't divide: at -200, -125, -50 and 0.
+fn row_heights<R: Threads + Sync + AllocGlobal>(
+    rt: &R,
+    shape: &SortedPart<'_>,
+) -> Result<Vec<i32>, Fail> {
     let tool = Tool::bare(Cutter::Flat { radius: 100 });
     let lattice = Lattice {
         area: Box2 {
@@ -106,41 +121,42 @@ fn heights_along_a_row(rt: HostRuntime) -> Result<(), Fail> {
         },
         step: 75,
     };
-    let heights = drop_map(
-        &rt,
-        rt.alloc(),
-        shape.part(),
-        shape.cells(),
-        &tool,
-        &lattice,
-        0,
-    )?;
+    let (part, cells) = (shape.part(), shape.cells());
+    Ok(drop_map(rt, rt.alloc(), part, cells, &tool, &lattice, 0)?)
+}
+
+#[test]
+fn heights_along_a_row(rt: HostRuntime) -> Result<(), Fail> {
+    let part = part_of(rt.alloc(), TRIANGLE)?;
+    let shape = SortedPart::new(rt.alloc(), &part)?;
+    let heights = row_heights(&rt, &shape)?;
     assert_eq!(rt; heights.as_slice(), [0, 0, 200, 200].as_slice());
     Ok(())
 }
 
-/// The path of a flat cutter along the row at 500: the x and the height of each point.
+fn add(alloc: Global, told: &mut String, point: &Pt3) -> Result<(), Fail> {
+    told.push_str(&format!(in alloc; "{} {}, ", point.x, point.z)?)?;
+    Ok(())
+}
+
+/// The x and the height of each point.
+fn told(alloc: Global, points: &[Pt3]) -> Result<String, Fail> {
+    let mut told = String::new(alloc);
+    for point in points {
+        add(alloc, &mut told, point)?;
+    }
+    Ok(told)
+}
+
+/// The path of a flat cutter along the row at 500.
 fn path(alloc: Global, shape: &SortedPart<'_>, x0: i32, x1: i32, tol: i32) -> Result<String, Fail>
     requires row_ok { IsRow (pos 500) x0 x1 }
     requires tol_ok { IsTolerance tol }
 {
     let tool = Tool::bare(Cutter::Flat { radius: 100 });
-    let points = path_drop(
-        alloc,
-        shape.part(),
-        shape.cells(),
-        &tool,
-        500,
-        x0,
-        x1,
-        0,
-        tol,
-    )?;
-    let mut told = String::new(alloc);
-    for point in &points {
-        told.push_str(format!(in alloc; "{} {}, ", point.x, point.z)?.as_str())?;
-    }
-    Ok(told)
+    let (part, cells) = (shape.part(), shape.cells());
+    let points = path_drop(alloc, part, cells, &tool, 500, x0, x1, 0, tol)?;
+    told(alloc, &points)
 }
 
 fn look_at_path<R: Abort + AllocGlobal>(
@@ -165,13 +181,17 @@ const TIGHT: &str =
 const LOOSE: &str = "-300 0, -150 0, -113 0, -104 0, -99 200, -94 200, -75 200, 0 200, 300 200, ";
 
 // The cutter's edge comes over the part's after -100.
+fn look_at_paths<R: Abort + AllocGlobal>(rt: &R, shape: &SortedPart<'_>) -> Result<(), Fail> {
+    look_at_path(rt, shape, -300, 300, 0, TIGHT)?;
+    look_at_path(rt, shape, -300, 300, 200, LOOSE)?;
+    look_at_path(rt, shape, -99, -99, 0, "-99 200, ")
+}
+
 #[test]
 fn paths_along_a_row(rt: HostRuntime) -> Result<(), Fail> {
     let part = part_of(rt.alloc(), TRIANGLE)?;
     let shape = SortedPart::new(rt.alloc(), &part)?;
-    look_at_path(&rt, &shape, -300, 300, 0, TIGHT)?;
-    look_at_path(&rt, &shape, -300, 300, 200, LOOSE)?;
-    look_at_path(&rt, &shape, -99, -99, 0, "-99 200, ")?;
+    look_at_paths(&rt, &shape)?;
     paths_are_halved();
     one_path();
     Ok(())

@@ -1,16 +1,13 @@
 //! Tables of cases, a case a row, and what stands in their rows. A table is one text, so that a test's
 //! proof costs the same however many rows there are.
 ghost use Rattle.std.specs.Prelude.{◌≤ℤ◌, pos, IsTrue, IfOk};
-ghost use Rattle.mill_base.specs.Lattices.{IsLattice};
 ghost use Rattle.mill_base.specs.Numbers.{Within};
 ghost use Rattle.mill_base.specs.Ranges.{IsInRange, MoveInRange, TriInRange};
 ghost use Rattle.mill_base.specs.Sizes.{HasRadius, IsCutter};
 ghost use Rattle.mill_base.specs.Tools.{IsHolder, IsTool};
 ghost use Rattle.mill_base.specs.declared.limits.TheConstants.{MAX_COORDINATE, MAX_RADIUS};
 
-use mill_base::{
-    Box2, Cutter, Holder, Kind, Lattice, MAX_COORDINATE, MAX_RADIUS, Move, Pt3, Tool, Tri,
-};
+use mill_base::{Cutter, Holder, Kind, MAX_COORDINATE, MAX_RADIUS, Move, Pt3, Tool, Tri};
 use mill_part::Part;
 use mill_sweep::Leaf;
 use std::alloc::Global;
@@ -71,14 +68,22 @@ fn tri_fits(tri: &Tri) -> bool
     fits(tri.a) && fits(tri.b) && fits(tri.c)
 }
 
-/// The part of a few triangles, or of `nothing`.
-pub(crate) fn part_of(alloc: Global, text: &str) -> Result<Part, Fail> {
+fn add(tris: &mut Vec<Tri>, corners: &str) -> Result<(), Fail> {
+    tris.push(triangle(corners)?)?;
+    Ok(())
+}
+
+fn triangles(alloc: Global, text: &str) -> Result<Vec<Tri>, Fail> {
     let mut tris = Vec::new(alloc);
-    if text != "nothing" {
-        for corners in text.split("; ") {
-            tris.push(triangle(corners)?)?;
-        }
+    for corners in text.split("; ") {
+        add(&mut tris, corners)?;
     }
+    Ok(tris)
+}
+
+/// The part of a few triangles.
+pub(crate) fn part_of(alloc: Global, text: &str) -> Result<Part, Fail> {
+    let tris = triangles(alloc, text)?;
     if tris.len() > 9 || !tris.iter().all(tri_fits) {
         return Err(Fail::from("too many triangles"));
     }
@@ -153,25 +158,6 @@ pub(crate) fn tool(text: &str) -> Result<Tool, Fail>
             })
         }
     }
-}
-
-/// A lattice by its first node, its last one and its step.
-pub(crate) fn lattice(text: &str) -> Result<Lattice, Fail>
-    ensures { IfOk result (λ lattice. IsLattice lattice) }
-{
-    let (first, others) = text
-        .split_once(" to ")
-        .ok_or("a lattice without a last node")?;
-    let (last, step) = others.split_once(" by ").ok_or("a lattice without a step")?;
-    let ((x0, y0), (x1, y1)) = (first_word(first)?, first_word(last)?);
-    let (x0, y0) = (coordinate(x0)?, coordinate(y0)?);
-    let (x1, y1) = (coordinate(x1)?, coordinate(y1)?);
-    let step: i32 = step.parse()?;
-    if x0 > x1 || y0 > y1 || step < 1 {
-        return Err(Fail::from("no lattice"));
-    }
-    let area = Box2 { x0, y0, x1, y1 };
-    Ok(Lattice { area, step })
 }
 
 /// A feed along the straight line from one point to another.

@@ -7,11 +7,16 @@ use std::alloc::Global;
 use std::process::Abort;
 use std::test::Fail;
 
+fn add(alloc: Global, all: &mut Vec<String>, word: &str) -> Result<(), Fail> {
+    let word = if word == "''" { "" } else { word };
+    all.push(String::from_str(alloc, word)?)?;
+    Ok(())
+}
+
 fn owned(alloc: Global, words: &str) -> Result<Vec<String>, Fail> {
     let mut all = Vec::new(alloc);
     for word in words.split_whitespace() {
-        let word = if word == "''" { "" } else { word };
-        all.push(String::from_str(alloc, word)?)?;
+        add(alloc, &mut all, word)?;
     }
     Ok(all)
 }
@@ -44,9 +49,14 @@ fn holds(alloc: Global, line: &str, kind: &str) -> Result<bool, Fail> {
     Ok(told == kind && says(alloc, &text, part)?)
 }
 
+fn look<R: Abort>(rt: &R, alloc: Global, line: &str, kind: &str) -> Result<(), Fail> {
+    assert!(rt; holds(alloc, line, kind)?, "{line}");
+    Ok(())
+}
+
 fn each_holds<R: Abort>(rt: &R, alloc: Global, table: &str, kind: &str) -> Result<(), Fail> {
     for line in table.lines() {
-        assert!(rt; holds(alloc, line, kind)?, "{line}");
+        look(rt, alloc, line, kind)?;
     }
     Ok(())
 }

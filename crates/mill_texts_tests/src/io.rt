@@ -6,8 +6,8 @@
 // `from PLACE`. Texts that may be empty have quotes.
 use crate::tables::{halves, same};
 use mill_io::{
-    Failed, FileShelf, MemFile, MemShelf, MemSink, Pieces, Shelf, StdSink, read_whole, store,
-    write_whole,
+    Failed, FileShelf, MemFile, MemShelf, MemSink, PieceEnd, Pieces, Shelf, StdSink, read_whole,
+    store, write_whole,
 };
 use std::alloc::{AllocError, Global};
 use std::process::Abort;
@@ -52,13 +52,22 @@ fn pieces<S: Shelf>(alloc: Global, shelf: &mut S, name: &str, limit: u64) -> Res
     let mut given = Vec::new(alloc);
     let mut last = Ok(0);
     for _ in 0..6 {
-        let mut buf = [0u8; 2];
-        last = pieces.next(&mut buf);
-        if let Ok(count) = last {
-            given.extend_from_slice(&buf[..count])?;
-        }
+        last = next_piece(&mut pieces, &mut given)?;
     }
     Ok(format!(in alloc; "{:?} {last:?}", str::from_utf8(&given)?)?)
+}
+
+// The answer of one call, whose bytes come behind those that were given.
+fn next_piece<S: Shelf>(
+    pieces: &mut Pieces<'_, S>,
+    given: &mut Vec<u8>,
+) -> Result<Result<usize, PieceEnd>, AllocError> {
+    let mut buf = [0u8; 2];
+    let answer = pieces.next(&mut buf);
+    if let Ok(count) = answer {
+        given.extend_from_slice(&buf[..count])?;
+    }
+    Ok(answer)
 }
 
 // What a read of at most three bytes gives: how many they are, and all that they are read into.
@@ -100,12 +109,23 @@ fn change<S: Shelf>(
 fn told<S: Shelf>(alloc: Global, shelf: &mut S, folder: &str, acts: &str) -> Result<String, Fail> {
     let mut told = String::new(alloc);
     for each in acts.split(", ") {
-        if !told.is_empty() {
-            told.push_str(", ")?;
-        }
-        told.push_str(&told_of_one(alloc, shelf, folder, each)?)?;
+        add(alloc, &mut told, shelf, folder, each)?;
     }
     Ok(told)
+}
+
+fn add<S: Shelf>(
+    alloc: Global,
+    told: &mut String,
+    shelf: &mut S,
+    folder: &str,
+    act: &str,
+) -> Result<(), Fail> {
+    if !told.is_empty() {
+        told.push_str(", ")?;
+    }
+    told.push_str(&told_of_one(alloc, shelf, folder, act)?)?;
+    Ok(())
 }
 
 fn told_of_one<S: Shelf>(

@@ -1,4 +1,4 @@
-//! The tests of the crates that read and write texts, and of those that they stand on, by their public
+//! The tests of the crates on jobs, lists, words of the command line, files and numbers, by their public
 //! calls.
 //!
 //! They stand apart, since a crate with tests of its own is proved twice, with them and without.
@@ -17,12 +17,4 @@ mod job;
 #[cfg(test)]
 mod list;
 #[cfg(test)]
-mod ngc;
-#[cfg(test)]
-mod post;
-#[cfg(test)]
-mod stl;
-#[cfg(test)]
 mod tables;
-#[cfg(test)]
-mod words;

@@ -3,7 +3,7 @@
 // Each table is one text, as in job.rt: a row is `OLD => NEW => SAYS`, and is tried on EXAMPLE.
 use crate::tables::{same, text_of_row};
 use mill_base::Cutter;
-use mill_job::{Key, read_job};
+use mill_job::{Job, Key, read_job};
 use mill_list::{MAX_STEPS, Step, read_list};
 use std::alloc::Global;
 use std::process::Abort;
@@ -27,11 +27,16 @@ stickout = 50
 const EXAMPLE: &str =
     r#"steps = [{ program = "rough.ngc", cutter = "ball", radius = 150 }, { program = "b/2.ngc", cutter = "cone", radius = 100, rise = 16, run = 1 }]"#;
 
+fn add(alloc: Global, told: &mut String, step: &Step) -> Result<(), Fail> {
+    told.push_str(&format!(in alloc; "{} by {:?};", step.program, step.cutter)?)?;
+    Ok(())
+}
+
 /// Each step's program and cutter.
 fn told(alloc: Global, steps: &[Step]) -> Result<String, Fail> {
     let mut told = String::new(alloc);
     for step in steps {
-        told.push_str(format!(in alloc; "{} by {:?};", step.program, step.cutter)?.as_str())?;
+        add(alloc, &mut told, step)?;
     }
     Ok(told)
 }
@@ -160,17 +165,18 @@ fn a_job_has_a_fault_with_a_narrow_cutter(rt: HostRuntime) -> Result<(), Fail> {
     Ok(())
 }
 
+/// The job that has this cutter among its keys.
+fn job_with(alloc: Global, cutter: &str) -> Result<Job, Fail> {
+    let text = JOB.replace(alloc, "\"flat\"\nradius = 150", cutter)?;
+    Ok(read_job(alloc, text.as_bytes())?)
+}
+
 #[test]
 fn a_job_takes_a_steps_cutter(rt: HostRuntime) -> Result<(), Fail> {
     let job = read_job(rt.alloc(), JOB.as_bytes())?;
+    let other = job_with(rt.alloc(), "\"ball\"\nradius = 120")?;
     let ball = Cutter::Ball { radius: 120 };
     assert!(rt; job.cutter_fault(&ball).is_none());
-    let other = JOB.replace(
-        rt.alloc(),
-        "\"flat\"\nradius = 150",
-        "\"ball\"\nradius = 120",
-    )?;
-    let other = read_job(rt.alloc(), other.as_bytes())?;
     assert_eq!(rt; job.with_cutter(ball), other);
     Ok(())
 }

@@ -16,22 +16,6 @@ pub fn same<R: Abort>(rt: &R, said: &str, wanted: &str, row: &str) {
     assert_eq!(rt; said, wanted, "{row}");
 }
 
-/// A text in which `\n`, `\r` and `\t` stand for the byte.
-pub fn with_bytes(alloc: Global, text: &str) -> Result<String, Fail> {
-    let text = text.replace(alloc, "\\n", "\n")?;
-    let text = text.replace(alloc, "\\r", "\r")?;
-    Ok(text.replace(alloc, "\\t", "\t")?)
-}
-
-const BLANKS: &str =
-    "                                                                                ";
-
-/// The same, and `_` stands for 80 blanks.
-pub fn with_blanks(alloc: Global, text: &str) -> Result<String, Fail> {
-    let text = with_bytes(alloc, text)?;
-    Ok(text.replace(alloc, '_', BLANKS)?)
-}
-
 /// The text of a row `OLD => NEW => SAYS`, in which `\n` is a line's end, and what is said of it.
 pub fn text_of_row<'a>(alloc: Global, from: &str, row: &'a str) -> Result<(String, &'a str), Fail> {
     let (old, rest) = halves(row)?;

@@ -22,8 +22,8 @@ pub loop-number-init : goal.loop-number-init
 loop-number-init c = record {
   place = c.home-place.ensures.value;
   tour = λ part say. rw c.new-moves.ensures.items (tour_nil c.args.job.now part [] (home c.args.job.now));
-  stock = λ part say. rw c.new-moves.ensures.items c.requires.stock;
-  rows_ok = c.requires.rows_ok;
+  stock = λ part say. rw c.new-moves.ensures.items c.requires.rows_ok.stock;
+  rows_ok = c.requires.rows_ok.rows_ok;
   in_range = c.home-place.ensures.in_range;
 }
 
