@@ -73,11 +73,11 @@ pub record IsRefused (unit snap : ℤ) (text : List ℕ) (told : RawReading) (ki
   pub kind_ok : fault_of first ≡ kind
   pub told_ok : told ≡ told_at (line_of first)
 
--- what is so when the reading of a text ends with a fault: memory is asked for once the numbers are sound
+-- what is so when the reading of a text ends with a fault: memory is asked for once the numbers are sound, and what isn't told is 0
 abbrev pub IsReadCause : ℤ → ℤ → List ℕ → ℕ → RawReading → Fault → Type 0
-IsReadCause unit snap text room told fault.Memory = IsSome (unit_of unit) × IsSome (snap_of snap)
-IsReadCause unit snap text room told fault.Unit = unit_of unit ≡ None
-IsReadCause unit snap text room told fault.Snap = snap_of snap ≡ None
+IsReadCause unit snap text room told fault.Memory = IsSome (unit_of unit) × IsSome (snap_of snap) × (told ≡ told_at 0)
+IsReadCause unit snap text room told fault.Unit = (unit_of unit ≡ None) × (told ≡ told_at 0)
+IsReadCause unit snap text room told fault.Snap = (snap_of snap ≡ None) × (told ≡ told_at 0)
 IsReadCause unit snap text room told fault.Word = IsRefused unit snap text told fault.Word
 IsReadCause unit snap text room told fault.Coordinate = IsRefused unit snap text told fault.Coordinate
 IsReadCause unit snap text room told fault.LongText = IsRefused unit snap text told fault.LongText
