@@ -24,7 +24,7 @@ abbrev pub KeepsMove : Progress → Option Move → Progress → Type 0
 KeepsMove old (Some m) new = MakesMove old m new
 KeepsMove old None new = MakesNone old new
 
--- and the unit and the count of lines stay
+-- the same, and the unit and the count of lines stay as they are
 pub record Keeps (old : Progress) (made : Option Move) (new : Progress) : Type 0 where
   pub move_is : KeepsMove old made new
   pub same_unit : new.unit ≡ old.unit
