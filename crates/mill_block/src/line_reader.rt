@@ -64,7 +64,7 @@ impl LineReader {
         }
     }
 
-    /// Whether the program has ended: it isn't to be fed again then.
+    /// Whether the program has ended: what comes behind has no meaning then.
     pub fn has_ended(&self) -> bool
         ensures { result ≡ self.now.ended }
     {

@@ -60,8 +60,8 @@ impl TextReader {
         Ok(())
     }
 
-    // Takes the bytes before a line end, reads the line that they end, and adds its move if it makes
-    // one.
+    // Takes the bytes before a line end, reads the line that they end, and adds the move that it
+    // makes.
     #[inline(always)]
     fn end_line(&mut self, bytes: &[u8], out: &mut Vec<Move>) -> Result<(), NgcFault>
         requires here { IsInUnitRange self.old.lines.unit self.old.lines.here }
