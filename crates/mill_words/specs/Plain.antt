@@ -1,5 +1,5 @@
 -- Which numbers are plain, and where they end.
-use Rattle.std.specs.Prelude.{◌≡◌, true, ℕ, ◌+◌, ◌<◌, ◌≤◌, nat_lt, ◌==◌, Bool, ◌&&◌, if◌then◌else◌, List, [], ◌∷◌, length, drop, slice_index}
+use Rattle.std.specs.Prelude.{ℕ, ◌+◌, ◌<◌, ◌≤◌, nat_lt, nat_le, ◌==◌, Bool, ◌&&◌, if◌then◌else◌, List, [], ◌∷◌, length, drop, slice_index}
 use Rattle.std.specs.Char.{is_ascii_digit}
 use Rattle.mill_words.specs.Marks.{is_blank}
 
@@ -57,5 +57,5 @@ abbrev pub IsPlainNumber : List ℕ → ℕ → Type 0
 IsPlainNumber bytes p = (0 < number_digits bytes p) × (number_digits bytes p ≤ 18)
 
 -- at the place p begins a minus sign or none, at most 15 digits, a point, and at least so many digits behind it
-abbrev pub IsDecimal : ℕ → List ℕ → ℕ → Type 0
-IsDecimal places bytes p = ((digit_count (drop (sign_end bytes p) bytes) ≤ 15) × (is_pointed bytes p ≡ true)) × (places ≤ digit_count (drop (whole_end bytes p + 1) bytes))
+unfoldable pub is_decimal : ℕ → List ℕ → ℕ → Bool
+is_decimal places bytes p = (nat_le (digit_count (drop (sign_end bytes p) bytes)) 15 && is_pointed bytes p) && nat_le places (digit_count (drop (whole_end bytes p + 1) bytes))

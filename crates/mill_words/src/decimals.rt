@@ -5,7 +5,7 @@ ghost use Rattle.std.specs.Prelude.{◌≡◌, ◌↔◌, ℕ, true, ◌<◌, �
 ghost use Rattle.std.specs.Char.{is_ascii_digit, to_ascii_uppercase};
 ghost use Rattle.mill_words.specs.Lines.{EndsWord, and_word, is_word_letter, line_from, opened_at};
 ghost use Rattle.mill_words.specs.Words.{Line, FitsNum};
-ghost use Rattle.mill_words.specs.Plain.{IsDecimal, digit_count, is_digit_at, space_end, whole_end};
+ghost use Rattle.mill_words.specs.Plain.{digit_count, is_decimal, is_digit_at, space_end, whole_end};
 ghost use Rattle.mill_words.specs.declared.marks.Region.TheVariants.{Outside};
 ghost use Rattle.mill_words.specs.declared.stage.Stage.{Stage};
 ghost use Rattle.mill_words.specs.declared.stage.Stage.TheVariants.{InWord};
@@ -63,7 +63,7 @@ pub fn decimal_behind(line: &[u8], place: usize, places: u8) -> Option<LetterNum
         line_from l line.now place ≡ line_from (and_word l (to_ascii_uppercase (slice_index line.now place)) n.num) line.now n.end) }
     ensures fits { IfSome result (λ n. FitsNum 18 n.num) }
     ensures scale { IfSome result (λ n. n.num.scale ≡ places) }
-    ensures decimal { IsSome result ↔ IsDecimal places line.now (place + 1) }
+    ensures decimal { IsSome result ↔ IsTrue (is_decimal places line.now (place + 1)) }
     ensures end { IfSome result (λ n. n.end ≡ space_end line.now (whole_end line.now (place + 1) + 1 + places)) }
     ensures forward { IfSome result (λ n. place < n.end) }
     ensures within { IfSome result (λ n. n.end ≤ length line.now) }
@@ -81,6 +81,7 @@ pub fn decimal_behind(line: &[u8], place: usize, places: u8) -> Option<LetterNum
 
 // The number at a place, if it has so many decimals and at most 15 digits before them.
 #[inline(always)]
+#[tactic(auto, unfolding(crate::specs::Plain::is_decimal))]
 fn decimal_at(line: &[u8], from: usize, places: u8) -> Option<PlainNumber>
     requires within { from ≤ length line.now }
     requires places { (2 ≤ places) × (places ≤ 3) }
@@ -89,7 +90,7 @@ fn decimal_at(line: &[u8], from: usize, places: u8) -> Option<PlainNumber>
     ensures some { IfSome result (λ n. 0 < n.digits) }
     ensures fits { IfSome result (λ n. FitsNum 18 n.num) }
     ensures scale { IfSome result (λ n. n.num.scale ≡ places) }
-    ensures decimal { IsSome result ↔ IsDecimal places line.now from }
+    ensures decimal { IsSome result ↔ IsTrue (is_decimal places line.now from) }
     ensures end { IfSome result (λ n. n.end ≡ whole_end line.now from + 1 + places) }
     ensures forward { IfSome result (λ n. from ≤ n.end) }
     ensures within { IfSome result (λ n. n.end ≤ length line.now) }
