@@ -8,7 +8,7 @@ use Rattle.mill_job.specs.declared.fault.JobFault.TheVariants as job_fault
 use Rattle.mill_job.specs.declared.job.Job.{Job}
 use Rattle.mill_base.specs.declared.motion.Move.{Move}
 use Rattle.mill_ngc.specs.Pieces.{Reading, Going, Failed, answer, at_end, last_answer}
-use Rattle.mill_ngc.specs.declared.fault.NgcFault.{NgcFault}
+use Rattle.mill_block.specs.declared.fault.NgcFault.{NgcFault}
 use Rattle.mill_stl.specs.Parts.{Fails, part_of}
 use Rattle.mill_stl.specs.declared.fault.StlFault.{StlFault}
 use Rattle.mill_stl.specs.declared.fault.StlFault.TheVariants as part_fault

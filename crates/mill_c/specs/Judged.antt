@@ -10,8 +10,8 @@ use Rattle.mill_job.specs.declared.fault.JobFault.{JobFault}
 use Rattle.mill_job.specs.declared.fault.JobFault.TheVariants as job_fault
 use Rattle.mill_job.specs.declared.job.Job.{Job}
 use Rattle.mill_ngc.specs.Programs.{program_of}
-use Rattle.mill_ngc.specs.declared.fault.NgcFault.{NgcFault}
-use Rattle.mill_ngc.specs.declared.fault.NgcFault.TheVariants as program_fault
+use Rattle.mill_block.specs.declared.fault.NgcFault.{NgcFault}
+use Rattle.mill_block.specs.declared.fault.NgcFault.TheVariants as program_fault
 use Rattle.mill_part.specs.Tops.{IsTop}
 use Rattle.mill_stl.specs.Parts.{part_of}
 use Rattle.mill_stl.specs.declared.fault.StlFault.{StlFault}

@@ -7,7 +7,7 @@ ghost use Rattle.mill_job.specs.Documents.{IsJobOf};
 ghost use Rattle.mill_job.specs.Jobs.{IsJob};
 ghost use Rattle.mill_ngc.specs.Pieces.{AreSound};
 ghost use Rattle.mill_ngc.specs.Programs.{program_of};
-ghost use Rattle.mill_ngc.specs.declared.fault.NgcFault.TheVariants as program_fault;
+ghost use Rattle.mill_block.specs.declared.fault.NgcFault.TheVariants as program_fault;
 ghost use Rattle.mill_c.specs.Judged.{IsSetupCause, ReadsSetup, fault_of_job, line_of_program, untold};
 ghost use Rattle.mill_c.specs.declared.fault.Fault.TheVariants as fault;
 ghost use Rattle.mill_c.specs.inner.Reading.{IsJobCause, IsPartCause, IsProgramCause, IsHighFor, IsPartText};

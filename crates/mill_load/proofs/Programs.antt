@@ -11,7 +11,7 @@ use Rattle.mill_io.specs.Contents.{GivesFrom}
 use Rattle.mill_io.proofs.Read.{length_more, read_more, read_all}
 use Rattle.mill_ngc.specs.Programs.{program_of}
 use Rattle.mill_ngc.specs.Pieces.{Reading, reading_at, after_lines, fed, at_end, last_answer, lines_read, AreSound, MovesSoFar}
-use Rattle.mill_ngc.specs.declared.fault.NgcFault.{NgcFault}
+use Rattle.mill_block.specs.declared.fault.NgcFault.{NgcFault}
 use Rattle.mill_ngc.proofs.JoinLemmas.{pieces_join}
 use Rattle.mill_ngc.proofs.WholeText.{last_moves, last_fault}
 use Rattle.mill_job.specs.declared.job.Job.{Job}

@@ -2,7 +2,7 @@
 use Rattle.std.specs.Prelude.{◌≡◌, ℕ, List, Ok, Err}
 use Rattle.mill_base.specs.declared.motion.Move.{Move}
 use Rattle.mill_ngc.specs.Programs.{program_of}
-use Rattle.mill_ngc.specs.declared.fault.NgcFault.{NgcFault}
+use Rattle.mill_block.specs.declared.fault.NgcFault.{NgcFault}
 use Rattle.mill_job.specs.declared.job.Job.{Job}
 use Rattle.mill_job.specs.Columns.{home}
 use Rattle.mill_load.specs.Setup.{Fits}

@@ -7,7 +7,7 @@ ghost use Rattle.mill_job.specs.Columns.{home};
 ghost use Rattle.mill_job.specs.Jobs.{IsJob};
 ghost use Rattle.mill_ngc.specs.Pieces.{lines_read};
 ghost use Rattle.mill_ngc.specs.Programs.{program_of};
-ghost use Rattle.mill_ngc.specs.declared.fault.NgcFault.TheVariants.{WantOfMemory as NoMemory};
+ghost use Rattle.mill_block.specs.declared.fault.NgcFault.TheVariants.{WantOfMemory as NoMemory};
 ghost use Rattle.mill_load.specs.Loads.{LoadsProgram, OnlyLoads, AreMoves, CountsFault};
 ghost use Rattle.mill_load.specs.inner.Steps.{HasTaken, TakesFile, LoadsNone, IsFirst};
 ghost use Rattle.mill_load.specs.Setup.{Fits};

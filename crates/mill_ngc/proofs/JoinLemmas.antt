@@ -3,10 +3,11 @@ use Rattle.std.proofs.Common.{◌≡◌, ℕ, ◌+◌, ◌<◌, List, [], ◌∷
 use Rattle.std.proofs.lemmas.Bool.Decides.{nat_tests}
 use Rattle.std.specs.Prelude.{nat_lt}
 use Rattle.mill_base.specs.declared.motion.Move.{Move}
-use Rattle.mill_ngc.specs.declared.fault.NgcFault.{NgcFault}
-use Rattle.mill_ngc.specs.declared.fault.NgcFault.TheVariants as fault
-use Rattle.mill_ngc.specs.declared.progress.Progress.{Progress}
-use Rattle.mill_ngc.specs.Programs.{put_first, lines_of, after_line, made_list, start_at, moves_from, program_of}
+use Rattle.mill_block.specs.declared.fault.NgcFault.{NgcFault}
+use Rattle.mill_block.specs.declared.fault.NgcFault.TheVariants as fault
+use Rattle.mill_block.specs.declared.progress.Progress.{Progress}
+use Rattle.mill_block.specs.Lines.{after_line, made_list, start_at}
+use Rattle.mill_ngc.specs.Programs.{put_first, lines_of, moves_from, program_of}
 use Rattle.mill_ngc.specs.Pieces.{Reading, Going, Failed, reading_at, line_so_far, put_before, after_whole, after_begun, after_lines, fed, at_end, last_answer, told, PiecesJoin, ReadsProgram}
 use Rattle.mill_ngc.proofs.ProgramLemmas.{behind as moves_behind, moves_from-line, moves_from-ended}
 use Rattle.mill_ngc.proofs.PieceLemmas.{HasFirst, has_first, put_before-none, after_lines-next, after_whole-ended, after_whole-ok, after_whole-fault, too_long, after_begun-long, after_lines-failed, after_lines-ended}

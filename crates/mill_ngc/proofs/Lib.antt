@@ -1,9 +1,5 @@
 mod Feeds
 mod LineLemmas
-mod SaidLemmas
-mod PlainLemmas
-mod QuickLemmas
-mod PercentLemmas
 mod ProgramLemmas
 mod PieceLemmas
 mod ShownLemmas

@@ -18,16 +18,17 @@ use Rattle.mill_words.specs.Marks.{marks_from}
 use Rattle.mill_words.specs.Lines.{grown_word, finished, started, read_marks, line_of}
 use Rattle.mill_words.specs.declared.word.Num.{Num}
 use Rattle.mill_words.specs.declared.word.Word.{Word}
-use Rattle.mill_ngc.specs.declared.profile.Mode.{Mode}
-use Rattle.mill_ngc.specs.declared.profile.Mode.TheVariants.{Off, On}
-use Rattle.mill_ngc.specs.declared.progress.Frame.TheVariants.{Framed}
-use Rattle.mill_ngc.specs.declared.progress.Progress.{Progress}
-use Rattle.mill_ngc.specs.declared.said.Said.{Said}
-use Rattle.mill_ngc.specs.Numbers.{axis_units, is_on_grid, whole_units, whole_of}
-use Rattle.mill_ngc.specs.Profile.{entry_of}
-use Rattle.mill_ngc.specs.Said.{after_entry, said_from, said_by}
-use Rattle.mill_ngc.specs.Motion.{target, moved, acted}
-use Rattle.mill_ngc.specs.Programs.{is_percent, lines_of, after_words, after_line, start_at, moves_from, program_of}
+use Rattle.mill_block.specs.declared.profile.Mode.{Mode}
+use Rattle.mill_block.specs.declared.profile.Mode.TheVariants.{Off, On}
+use Rattle.mill_block.specs.declared.progress.Frame.TheVariants.{Framed}
+use Rattle.mill_block.specs.declared.progress.Progress.{Progress}
+use Rattle.mill_block.specs.declared.said.Said.{Said}
+use Rattle.mill_block.specs.Numbers.{axis_units, is_on_grid, whole_units, whole_of}
+use Rattle.mill_block.specs.Profile.{entry_of}
+use Rattle.mill_block.specs.Said.{after_entry, said_from, said_by}
+use Rattle.mill_block.specs.Motion.{target, moved, acted}
+use Rattle.mill_block.specs.Lines.{is_percent, after_words, after_line, start_at}
+use Rattle.mill_ngc.specs.Programs.{lines_of, moves_from, program_of}
 
 -- ---- the words of a move's line
 

@@ -4,12 +4,13 @@ use Rattle.std.proofs.lemmas.Bool.Decides.{nat_tests}
 use Rattle.std.specs.Prelude.{⊤, ◌≢◌, nat_lt, OnOk, IfErr}
 use Rattle.mill_base.specs.Ranges.{IsInUnitRange}
 use Rattle.mill_base.specs.declared.motion.Move.{Move}
-use Rattle.mill_ngc.specs.declared.fault.NgcFault.{NgcFault}
-use Rattle.mill_ngc.specs.declared.fault.NgcFault.TheVariants as fault
-use Rattle.mill_ngc.specs.declared.progress.Progress.{Progress}
-use Rattle.mill_ngc.specs.Programs.{put_first, lines_of, after_line, made_list}
+use Rattle.mill_block.specs.declared.fault.NgcFault.{NgcFault}
+use Rattle.mill_block.specs.declared.fault.NgcFault.TheVariants as fault
+use Rattle.mill_block.specs.declared.progress.Progress.{Progress}
+use Rattle.mill_block.specs.Lines.{after_line, made_list}
+use Rattle.mill_ngc.specs.Programs.{put_first, lines_of}
 use Rattle.mill_ngc.specs.Pieces.{Reading, Going, Failed, put_before, after_result, after_whole, after_begun, after_lines, fed, IsFront}
-use Rattle.mill_ngc.specs.inner.Bounds.{KeepsMove, Keeps}
+use Rattle.mill_block.specs.Kept.{KeepsMove, Keeps}
 use Rattle.mill_ngc.specs.Texts.{shown}
 use Rattle.mill_ngc.specs.declared.text_reader.TextReader.{TextReader}
 

@@ -7,12 +7,13 @@ use Rattle.mill_base.specs.Ranges.{IsInUnitRange, MoveInUnitRange, MovesInUnitRa
 use Rattle.mill_base.specs.declared.points.Pt3.{Pt3}
 use Rattle.mill_base.specs.declared.motion.Move.{Move}
 use Rattle.mill_base.specs.declared.unit.Unit.{Unit}
-use Rattle.mill_ngc.specs.declared.fault.NgcFault.{NgcFault}
-use Rattle.mill_ngc.specs.declared.progress.Progress.{Progress}
-use Rattle.mill_ngc.specs.Said.{◌>>=◌}
-use Rattle.mill_ngc.specs.Programs.{line_begun, after_line, made_list, moves_from}
+use Rattle.mill_block.specs.declared.fault.NgcFault.{NgcFault}
+use Rattle.mill_block.specs.declared.progress.Progress.{Progress}
+use Rattle.mill_block.specs.Said.{◌>>=◌}
+use Rattle.mill_block.specs.Lines.{line_begun, after_line, made_list}
+use Rattle.mill_ngc.specs.Programs.{moves_from}
 use Rattle.mill_ngc.specs.Pieces.{end_of, SoFar, AreSound}
-use Rattle.mill_ngc.specs.inner.Bounds.{MakesMove, MakesNone, Keeps}
+use Rattle.mill_block.specs.Kept.{MakesMove, MakesNone, Keeps}
 
 -- ---- the meaning of the rest
 

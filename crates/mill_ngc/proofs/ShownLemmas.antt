@@ -3,7 +3,7 @@ use Rattle.std.proofs.Common.{◌≡◌, List, Option, None, sym, ap, ◌∙◌}
 use Rattle.mill_base.specs.declared.points.Pt3.{Pt3}
 use Rattle.mill_base.specs.declared.motion.Move.{Move}
 use Rattle.mill_base.specs.declared.unit.Unit.{Unit}
-use Rattle.mill_ngc.specs.declared.fault.NgcFault.{NgcFault}
+use Rattle.mill_block.specs.declared.fault.NgcFault.{NgcFault}
 use Rattle.mill_ngc.specs.declared.text_reader.TextReader.{TextReader}
 use Rattle.mill_ngc.specs.Pieces.{Reading, SoFar, MovesSoFar}
 use Rattle.mill_ngc.specs.Texts.{reading_of, shown}

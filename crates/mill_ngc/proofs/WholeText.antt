@@ -4,7 +4,7 @@ use Rattle.std.specs.Prelude.{⊤}
 use Rattle.mill_base.specs.declared.points.Pt3.{Pt3}
 use Rattle.mill_base.specs.declared.motion.Move.{Move}
 use Rattle.mill_base.specs.declared.unit.Unit.{Unit}
-use Rattle.mill_ngc.specs.declared.fault.NgcFault.{NgcFault}
+use Rattle.mill_block.specs.declared.fault.NgcFault.{NgcFault}
 use Rattle.mill_ngc.specs.Programs.{program_of}
 use Rattle.mill_ngc.specs.Pieces.{Reading, reading_at, fed, at_end, last_answer, told}
 use Rattle.mill_ngc.proofs.JoinLemmas.{ending, pieces_read_program}

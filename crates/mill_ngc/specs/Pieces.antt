@@ -6,10 +6,11 @@ use Rattle.mill_base.specs.declared.motion.Move.{Move}
 use Rattle.mill_base.specs.declared.unit.Unit.{Unit}
 use Rattle.mill_base.specs.Motion.{Follow}
 use Rattle.mill_base.specs.Ranges.{IsInUnitRange, MovesInUnitRange}
-use Rattle.mill_ngc.specs.declared.fault.NgcFault.{NgcFault}
-use Rattle.mill_ngc.specs.declared.fault.NgcFault.TheVariants as fault
-use Rattle.mill_ngc.specs.declared.progress.Progress.{Progress}
-use Rattle.mill_ngc.specs.Programs.{lines_of, after_line, made_list, start_at, program_of}
+use Rattle.mill_block.specs.declared.fault.NgcFault.{NgcFault}
+use Rattle.mill_block.specs.declared.fault.NgcFault.TheVariants as fault
+use Rattle.mill_block.specs.declared.progress.Progress.{Progress}
+use Rattle.mill_block.specs.Lines.{after_line, made_list, start_at}
+use Rattle.mill_ngc.specs.Programs.{lines_of, program_of}
 
 -- ---- the state of a reader
 

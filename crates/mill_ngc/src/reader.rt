@@ -5,11 +5,11 @@ ghost use Rattle.mill_base.specs.declared.points.Pt3.{Pt3};
 ghost use Rattle.mill_base.specs.declared.unit.Unit.{Unit};
 ghost use Rattle.mill_ngc.specs.Pieces.{Reading, reading_at, lines_read, fed, at_end, answer, last_answer, IsFront, MovesSoFar, AreSound};
 ghost use Rattle.mill_ngc.specs.Texts.{shown, StandsInRange};
-ghost use Rattle.mill_ngc.specs.declared.fault.NgcFault.TheVariants as faults;
+ghost use Rattle.mill_block.specs.declared.fault.NgcFault.TheVariants as faults;
 
-use crate::fault::NgcFault;
 use crate::text_reader::TextReader;
 use mill_base::{Move, Pt3, Unit};
+use mill_block::NgcFault;
 use std::marker::Model;
 
 /// Reads a program's text, which comes in pieces, cut anywhere, as moves.

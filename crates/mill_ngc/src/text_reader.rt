@@ -1,19 +1,18 @@
 //! Reads a text piece by piece, up to its first fault.
-ghost use Rattle.std.specs.Prelude.{◌≡◌, ◌≢◌, ◌++◌, ◌<◌, ◌≤◌, ◌+◌, ◌^◌, [], false, length, OnOk, OnErr, IfOk, IfErr, Ok, Err};
+ghost use Rattle.std.specs.Prelude.{◌≡◌, ◌≢◌, ◌++◌, ◌<◌, ◌≤◌, ◌+◌, ◌^◌, [], false, length, OnOk, OnErr, IfErr, Ok, Err};
 ghost use Rattle.mill_base.specs.Ranges.{IsInUnitRange};
 ghost use Rattle.mill_base.specs.declared.points.Pt3.{Pt3};
 ghost use Rattle.mill_base.specs.declared.unit.Unit.{Unit};
-ghost use Rattle.mill_ngc.specs.Programs.{after_line, made_list, line_begun, start_at};
+ghost use Rattle.mill_block.specs.Lines.{after_line, start_at};
+ghost use Rattle.mill_block.specs.Kept.{AddsLine};
+ghost use Rattle.mill_block.specs.declared.fault.NgcFault.TheVariants as faults;
 ghost use Rattle.mill_ngc.specs.Pieces.{Failed, after_begun, fed, at_end, last_answer, IsFront, SoFar, AreSound};
-ghost use Rattle.mill_ngc.specs.inner.Bounds.{AddsLine, Keeps};
 ghost use Rattle.mill_ngc.specs.Texts.{reading_of};
-ghost use Rattle.mill_ngc.specs.declared.fault.NgcFault.TheVariants as faults;
 
-use crate::fault::NgcFault;
-use crate::line_reader::LineReader;
 use crate::lines::split_line;
-use crate::unfinished::{LONGEST, UnfinishedLine};
+use crate::unfinished::UnfinishedLine;
 use mill_base::{Move, Pt3, Unit};
+use mill_block::{LONGEST_LINE, LineReader, NgcFault};
 
 /// What the whole lines of a text have settled, and the bytes of the line behind them.
 #[derive(Drop)]
@@ -61,8 +60,8 @@ impl TextReader {
         Ok(())
     }
 
-    // Takes the bytes before a line end, reads the line that they end, and adds its move if it makes
-    // one. A move is added where it is made, so that it stays in registers.
+    // Takes the bytes before a line end, reads the line that they end, and adds the move that it
+    // makes.
     #[inline(always)]
     fn end_line(&mut self, bytes: &[u8], out: &mut Vec<Move>) -> Result<(), NgcFault>
         requires here { IsInUnitRange self.old.lines.unit self.old.lines.here }
@@ -73,18 +72,15 @@ impl TextReader {
         ensures kept { OnErr result (out.new.items ≡ out.old.items) }
     {
         if self.unfinished.len() == 0 {
-            if let Some(made) = self.lines.read_quick(bytes) {
-                add(out, Some(made))?;
-                return Ok(());
-            }
+            return self.lines.read_line(bytes, out);
         }
-        self.end_other_line(bytes, out)
+        self.end_begun_line(bytes, out)
     }
 
-    // The same of a line that isn't spelled as most are. It is kept apart, so that those need not
-    // make room for what it needs.
+    // The same of a line that an earlier piece began. It is kept apart, since most lines stand in one
+    // piece.
     #[inline(never)]
-    fn end_other_line(&mut self, bytes: &[u8], out: &mut Vec<Move>) -> Result<(), NgcFault>
+    fn end_begun_line(&mut self, bytes: &[u8], out: &mut Vec<Move>) -> Result<(), NgcFault>
         requires here { IsInUnitRange self.old.lines.unit self.old.lines.here }
         requires number { self.old.lines.line < 2 ^ 63 }
         ensures ok { OnOk result (AddsLine self.old.lines (self.old.unfinished ++ bytes.now) out.old.items self.new.lines out.new.items) }
@@ -92,51 +88,15 @@ impl TextReader {
         ensures fault { IfErr result (λ f. f ≢ faults.WantOfMemory → after_line self.old.lines (self.old.unfinished ++ bytes.now) ≡ Err f) }
         ensures kept { OnErr result (out.new.items ≡ out.old.items) }
     {
-        let made = self.move_of_line(bytes)?;
-        add(out, made)?;
-        Ok(())
-    }
-
-    // The move of the line that the bytes end, if it makes one.
-    #[inline(always)]
-    fn move_of_line(&mut self, bytes: &[u8]) -> Result<Option<Move>, NgcFault>
-        requires here { IsInUnitRange self.old.lines.unit self.old.lines.here }
-        requires number { self.old.lines.line < 2 ^ 63 }
-        ensures ok { IfOk result (λ made. after_line self.old.lines (self.old.unfinished ++ bytes.now) ≡ Ok (self.new.lines, made)) }
-        ensures fault { IfErr result (λ f. after_line self.old.lines (self.old.unfinished ++ bytes.now) ≡ Err f) }
-        ensures keeps { IfOk result (λ made. Keeps (line_begun self.old.lines) made self.new.lines) }
-        ensures begins { OnOk result (self.new.unfinished ≡ []) }
-    {
-        if self.unfinished.len() == 0 {
-            if let Some(made) = self.lines.read_plain(bytes) {
-                return Ok(Some(made));
-            }
-        }
-        self.end_any_line(bytes)
-    }
-
-    // The same of any line. It is kept apart, since most lines are plain.
-    #[inline(never)]
-    fn end_any_line(&mut self, bytes: &[u8]) -> Result<Option<Move>, NgcFault>
-        requires here { IsInUnitRange self.old.lines.unit self.old.lines.here }
-        requires number { self.old.lines.line < 2 ^ 63 }
-        ensures ok { IfOk result (λ made. after_line self.old.lines (self.old.unfinished ++ bytes.now) ≡ Ok (self.new.lines, made)) }
-        ensures fault { IfErr result (λ f. after_line self.old.lines (self.old.unfinished ++ bytes.now) ≡ Err f) }
-        ensures keeps { IfOk result (λ made. Keeps (line_begun self.old.lines) made self.new.lines) }
-        ensures begins { OnOk result (self.new.unfinished ≡ []) }
-    {
-        if self.unfinished.len() == 0 {
-            return self.lines.read_line(bytes);
-        }
-        if self.unfinished.len() + bytes.len() > LONGEST {
+        if self.unfinished.len() + bytes.len() > LONGEST_LINE {
             return Err(NgcFault::LongLine {
                 line: self.lines.line() + 1,
             });
         }
         self.unfinished.extend(bytes);
-        let made = self.lines.read_line(self.unfinished.as_bytes())?;
+        self.lines.read_line(self.unfinished.as_bytes(), out)?;
         self.unfinished.clear();
-        Ok(made)
+        Ok(())
     }
 
     // Keeps bytes of a line that isn't whole yet.
@@ -147,7 +107,7 @@ impl TextReader {
         ensures fault { IfErr result (λ f. after_begun (reading_of self.old) (self.old.unfinished ++ bytes.now) ≡ Failed f) }
         ensures same { self.new.lines ≡ self.old.lines }
     {
-        if self.unfinished.len() + bytes.len() > LONGEST {
+        if self.unfinished.len() + bytes.len() > LONGEST_LINE {
             return Err(NgcFault::LongLine {
                 line: self.lines.line() + 1,
             });
@@ -171,8 +131,8 @@ impl TextReader {
         if self.lines.has_ended() {
             return Ok(());
         }
-        let last = self.lines.read_line(self.unfinished.as_bytes())?;
-        add(out, last)?;
+        let last = self.unfinished.as_bytes();
+        self.lines.read_line(last, out)?;
         if self.lines.has_ended() {
             return Ok(());
         }
@@ -180,21 +140,4 @@ impl TextReader {
             line: self.lines.line(),
         })
     }
-}
-
-// Adds the move of a line, if it makes one. It is pushed by its parts, so that none of them needs a
-// place in memory first.
-fn add(moves: &mut Vec<Move>, made: Option<Move>) -> Result<(), NgcFault>
-    ensures ok { OnOk result (moves.new.items ≡ moves.old.items ++ made_list made) }
-    ensures fault { IfErr result (λ f. f ≡ faults.WantOfMemory) }
-    ensures kept { OnErr result (moves.new.items ≡ moves.old.items) }
-{
-    if let Some(made) = made {
-        moves.push(Move {
-            kind: made.kind,
-            from: made.from,
-            to: made.to,
-        })?;
-    }
-    Ok(())
 }

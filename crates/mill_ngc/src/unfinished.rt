@@ -3,9 +3,6 @@ ghost use Rattle.std.specs.Prelude.{◌≡◌, ◌++◌, List, ℕ, [], ◌+◌,
 
 use std::marker::Model;
 
-/// The most bytes of a line.
-pub(crate) const LONGEST: usize = 256;
-
 /// At most 256 bytes.
 #[derive(Drop)]
 pub(crate) struct UnfinishedLine {

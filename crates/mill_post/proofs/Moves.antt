@@ -12,7 +12,7 @@ use Rattle.mill_decimal.specs.Decimals.{canonical}
 use Rattle.mill_decimal.proofs.Canonical.{length-canonical}
 use Rattle.mill_words.specs.Lines.{line_of}
 use Rattle.mill_words.proofs.Spelled.{Spelled, IsSpelled, spelling, more_text, word_of, line_of-spelled}
-use Rattle.mill_ngc.specs.Programs.{is_percent}
+use Rattle.mill_block.specs.Lines.{is_percent}
 use Rattle.mill_ngc.proofs.MoveLines.{whole_num, motion_number, move_words, IsMoveLine, program_of-moves}
 use Rattle.mill_post.specs.Texts.{motion_word, axis_word, move_line, ended, program_lines, program_text}
 use Rattle.mill_post.specs.Readings.{ReadsBack}

@@ -7,7 +7,7 @@ use Rattle.mill_job.specs.declared.fault.JobFault.{JobFault}
 use Rattle.mill_job.specs.declared.job.Job.{Job}
 use Rattle.mill_list.specs.Lists.{IsListOf}
 use Rattle.mill_list.specs.declared.step.Step.{Step}
-use Rattle.mill_ngc.specs.declared.fault.NgcFault.{NgcFault}
+use Rattle.mill_block.specs.declared.fault.NgcFault.{NgcFault}
 use Rattle.mill_verify.specs.Files.{File as CutFile, file_at, job_of, stock_before}
 use Rattle.mill_verify.specs.ListClaims.{FilesCutSafely}
 use Rattle.mill_verify.specs.Lists.{IsListVerdict}

@@ -1,5 +1,5 @@
 -- Where digits end.
-use Rattle.std.proofs.Common.{◌≡◌, ℕ, ◌+◌, ◌<◌, ◌≤◌, List, [], ◌∷◌, length, get_or, drop, arith, true, false, refl, ap, ◌∙◌, add-one, drop-cons}
+use Rattle.std.proofs.Common.{◌≡◌, ℕ, ◌+◌, ◌<◌, ◌≤◌, List, [], ◌∷◌, length, get_or, drop, arith, true, false, refl, ap, ◌∙◌, add-one, drop-cons, length-drop, Bool}
 use Rattle.std.proofs.Math.ListN.{drop_of_length-le}
 use Rattle.std.specs.Char.{is_ascii_digit}
 use Rattle.mill_words.specs.Plain.{digit_count, digits_end}
@@ -19,6 +19,31 @@ count-none = refl
 -- the bytes at a place
 at : (bytes : List ℕ) (p : ℕ) → p < length bytes → drop p bytes ≡ get_or bytes p 0 ∷ drop (p + 1) bytes
 at bytes p lt = rw (add-one p) (drop-cons bytes p 0 lt)
+
+-- a digit before others is one more
+pub count-next : (bytes : List ℕ) (p : ℕ) → p < length bytes → is_ascii_digit (get_or bytes p 0) ≡ true
+    → digit_count (drop p bytes) ≡ digit_count (drop (p + 1) bytes) + 1
+count-next bytes p lt digit = ap digit_count (at bytes p lt) ∙ count-digit (get_or bytes p 0) (drop (p + 1) bytes) digit
+
+-- none stands first where another byte does
+pub count-stop : (bytes : List ℕ) (p : ℕ) → p < length bytes → is_ascii_digit (get_or bytes p 0) ≡ false → digit_count (drop p bytes) ≡ 0
+count-stop bytes p lt other = ap digit_count (at bytes p lt) ∙ count-other (get_or bytes p 0) (drop (p + 1) bytes) other
+
+-- or where the line ends
+pub count-last : (bytes : List ℕ) (p : ℕ) → length bytes ≤ p → digit_count (drop p bytes) ≡ 0
+count-last bytes p end = ap digit_count (drop_of_length-le bytes {i = p} end) ∙ count-none
+
+count-cons : (t : Bool) (b : ℕ) (bytes : List ℕ) → is_ascii_digit b ≡ t → digit_count (b ∷ bytes) ≤ digit_count bytes + 1
+count-cons true b bytes digit = omega (arith, count-digit b bytes digit)
+count-cons false b bytes other = omega (arith, count-other b bytes other)
+
+count-length : (bytes : List ℕ) → digit_count bytes ≤ length bytes
+count-length [] = omega (arith, count-none)
+count-length (b ∷ bytes) = omega (arith, count-cons (is_ascii_digit b) b bytes refl, count-length bytes)
+
+-- fewer than so many bytes are fewer than so many digits
+pub count-below : (bytes : List ℕ) (p n : ℕ) → p ≤ length bytes → length bytes < p + n → digit_count (drop p bytes) < n
+count-below bytes p n within end = omega (arith, count-length (drop p bytes), length-drop p bytes)
 
 -- one digit further on they end at the same place
 pub digits_end-next : (bytes : List ℕ) (p : ℕ) → p < length bytes → is_ascii_digit (get_or bytes p 0) ≡ true

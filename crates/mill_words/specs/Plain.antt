@@ -1,5 +1,5 @@
 -- Which numbers are plain, and where they end.
-use Rattle.std.specs.Prelude.{ℕ, ◌+◌, ◌<◌, ◌≤◌, nat_lt, ◌==◌, Bool, ◌&&◌, if◌then◌else◌, List, [], ◌∷◌, length, drop, slice_index}
+use Rattle.std.specs.Prelude.{ℕ, ◌+◌, ◌<◌, ◌≤◌, nat_lt, nat_le, ◌==◌, Bool, ◌&&◌, if◌then◌else◌, List, [], ◌∷◌, length, drop, slice_index}
 use Rattle.std.specs.Char.{is_ascii_digit}
 use Rattle.mill_words.specs.Marks.{is_blank}
 
@@ -16,6 +16,10 @@ digits_end bytes p = p + digit_count (drop p bytes)
 abbrev pub has_at : ℕ → List ℕ → ℕ → Bool
 has_at b bytes p = nat_lt p (length bytes) && (slice_index bytes p == b)
 
+-- a digit stands at the place p
+abbrev pub is_digit_at : List ℕ → ℕ → Bool
+is_digit_at bytes p = nat_lt p (length bytes) && is_ascii_digit (slice_index bytes p)
+
 -- behind the minus sign (45) at the place p, if one stands there
 abbrev pub sign_end : List ℕ → ℕ → ℕ
 sign_end bytes p = if has_at 45 bytes p then p + 1 else p
@@ -23,6 +27,10 @@ sign_end bytes p = if has_at 45 bytes p then p + 1 else p
 -- behind the blank at the place p, if one stands there
 abbrev pub blank_end : List ℕ → ℕ → ℕ
 blank_end bytes p = if nat_lt p (length bytes) && is_blank (slice_index bytes p) then p + 1 else p
+
+-- behind the space (32) at the place p, if one stands there
+abbrev pub space_end : List ℕ → ℕ → ℕ
+space_end bytes p = if has_at 32 bytes p then p + 1 else p
 
 -- behind the sign and the first digits of a number that begins at the place p
 abbrev pub whole_end : List ℕ → ℕ → ℕ
@@ -47,3 +55,7 @@ number_digits bytes p = digit_count (drop (sign_end bytes p) bytes) + part_digit
 -- at the place p begins a minus sign or none, and 1 to 18 digits with a point before, among or behind them or none
 abbrev pub IsPlainNumber : List ℕ → ℕ → Type 0
 IsPlainNumber bytes p = (0 < number_digits bytes p) × (number_digits bytes p ≤ 18)
+
+-- at the place p begins a minus sign or none, at most 15 digits, a point, and at least so many digits behind it
+unfoldable pub is_decimal : ℕ → List ℕ → ℕ → Bool
+is_decimal places bytes p = (nat_le (digit_count (drop (sign_end bytes p) bytes)) 15 && is_pointed bytes p) && nat_le places (digit_count (drop (whole_end bytes p + 1) bytes))

@@ -4,7 +4,7 @@ use Rattle.mill_base.specs.declared.points.Tri.{Tri}
 use Rattle.mill_job.specs.Columns.{home}
 use Rattle.mill_job.specs.declared.job.Job.{Job}
 use Rattle.mill_ngc.specs.Programs.{program_of}
-use Rattle.mill_ngc.specs.declared.fault.NgcFault.{NgcFault}
+use Rattle.mill_block.specs.declared.fault.NgcFault.{NgcFault}
 use Rattle.mill_part.specs.Tops.{IsTop}
 use Rattle.mill_stl.specs.Parts.{part_of}
 use Rattle.mill_stl.specs.declared.fault.StlFault.{StlFault}

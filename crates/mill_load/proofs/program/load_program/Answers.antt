@@ -1,6 +1,6 @@
 use Rattle.std.proofs.Common.{rules, Err, refl, sym, ◌∙◌}
 use Rattle.std.specs.Prelude.{◌≢◌}
-use Rattle.mill_ngc.specs.declared.fault.NgcFault.TheVariants.{WantOfMemory}
+use Rattle.mill_block.specs.declared.fault.NgcFault.TheVariants.{WantOfMemory}
 use Rattle.mill_load.proofs.Programs.{no_text, file_moves, file_fault, moves_ok}
 use Rattle.mill_load.proofs.program.load_program.Goals as goal
 

@@ -1,6 +1,6 @@
 use Rattle.std.proofs.Common.{[], Err, rules, arith, refl, sym, ◌∙◌}
 use Rattle.std.specs.Prelude.{◌≢◌}
-use Rattle.mill_ngc.specs.declared.fault.NgcFault.TheVariants.{WantOfMemory}
+use Rattle.mill_block.specs.declared.fault.NgcFault.TheVariants.{WantOfMemory}
 use Rattle.mill_load.specs.inner.Steps.{HasTaken}
 use Rattle.mill_load.proofs.Programs.{taken_first, text_moves, text_fault, moves_ok}
 use Rattle.mill_load.proofs.program.read_moves.Goals as goal

@@ -3,4 +3,4 @@ use Rattle.mill_words.proofs.Digits.{no-digit}
 use Rattle.mill_words.proofs.decimals.digit_at.Goals as goal
 
 pub returns-clause-digits : goal.returns-clause-digits
-returns-clause-digits c = c.in_ok-digit.ensures c.args.place 0 (omega arith) (no-digit c.args.line.now c.args.place 0)
+returns-clause-digits c = c.in_ok-digit.ensures.value c.args.place 0 (omega arith) (no-digit c.args.line.now c.args.place 0)

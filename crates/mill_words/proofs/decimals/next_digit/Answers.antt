@@ -4,8 +4,8 @@ use Rattle.mill_words.proofs.Digits.{one-more-digit}
 use Rattle.mill_words.proofs.Numbers.{digit_of}
 use Rattle.mill_words.proofs.decimals.next_digit.Goals as goal
 
-pub returns : goal.returns
-returns c from front forward so_far =
+pub returns-clause-value : goal.returns-clause-value
+returns-clause-value c from front forward so_far =
     let digit : is_ascii_digit (get_or c.args.line.now c.args.place 0) ≡ true = search rules in
     let here = digit_of (get_or c.args.line.now c.args.place 0) digit in
     let value : c.from.result ≡ digit_value (get_or c.args.line.now c.args.place 0) = omega (arith, here.1, c.from.ensures) in

@@ -1,4 +1,4 @@
-use Rattle.mill_ngc.specs.Programs.{line_begun, made_list}
+use Rattle.mill_block.specs.Lines.{line_begun, made_list}
 use Rattle.std.proofs.Common.{◌++◌}
 use Rattle.mill_ngc.proofs.ProgramLemmas.{so_far-begun, so_far-line, are_sound}
 use Rattle.mill_ngc.proofs.text_reader.TextReader.finish.Goals as goal
@@ -8,15 +8,15 @@ returns-then-has_ended-2-clause-sound c =
     let p = c.args.self.now.lines in
     let q = c.read_line.new.self in
     let moves = c.args.out.now.items in
-    let made = c.in_ok-last.last in
-    rw c.in_ok-add.ensures.ok (λ start unit s. are_sound start unit q (moves ++ made_list made)
-    (so_far-line start unit (line_begun p) q moves made (so_far-begun start unit p moves s) c.in_ok-last.ensures.keeps))
+    let adds = c.in_ok-read_line.ensures.ok in
+    rw adds.added (λ start unit s. are_sound start unit q (moves ++ made_list adds.made)
+    (so_far-line start unit (line_begun p) q moves adds.made (so_far-begun start unit p moves s) adds.keeps))
 
 pub returns-clause-sound : goal.returns-clause-sound
 returns-clause-sound c =
     let p = c.args.self.now.lines in
     let q = c.read_line.new.self in
     let moves = c.args.out.now.items in
-    let made = c.in_ok-last.last in
-    rw c.in_ok-add.ensures.ok (λ start unit s. are_sound start unit q (moves ++ made_list made)
-    (so_far-line start unit (line_begun p) q moves made (so_far-begun start unit p moves s) c.in_ok-last.ensures.keeps))
+    let adds = c.in_ok-read_line.ensures.ok in
+    rw adds.added (λ start unit s. are_sound start unit q (moves ++ made_list adds.made)
+    (so_far-line start unit (line_begun p) q moves adds.made (so_far-begun start unit p moves s) adds.keeps))

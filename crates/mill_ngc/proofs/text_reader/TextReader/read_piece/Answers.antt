@@ -1,5 +1,5 @@
 use Rattle.std.proofs.Common.{◌<◌, ◌++◌, ◌∙◌, length, sym, rules, arith}
-use Rattle.mill_ngc.specs.Programs.{line_begun, made_list}
+use Rattle.mill_block.specs.Lines.{line_begun, made_list}
 use Rattle.mill_ngc.specs.Pieces.{fed}
 use Rattle.mill_ngc.specs.Texts.{reading_of}
 use Rattle.mill_ngc.proofs.ProgramLemmas.{so_far-begun, so_far-line, are_sound}

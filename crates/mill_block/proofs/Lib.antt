@@ -1,0 +1,4 @@
+mod SaidLemmas
+mod PlainLemmas
+mod QuickLemmas
+mod PercentLemmas

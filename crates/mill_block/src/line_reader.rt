@@ -1,0 +1,316 @@
+//! A reader that is fed a program line by line, up to its first fault.
+ghost use Rattle.std.specs.Prelude.{◌≡◌, ◌≢◌, ◌++◌, ◌<◌, ◌^◌, length, OnOk, OnErr, IfOk, IfErr, Ok, Err, None, Some, IfSome};
+ghost use Rattle.std.specs.Str.{bytes_eq};
+ghost use Rattle.mill_base.specs.Ranges.{IsInUnitRange};
+ghost use Rattle.mill_words.specs.Lines.{line_of};
+ghost use Rattle.mill_words.specs.Words.{Line};
+ghost use Rattle.mill_words.specs.Marks.{is_blank as is_blank_byte};
+ghost use Rattle.mill_block.specs.declared.fault.NgcFault.TheVariants as faults;
+ghost use Rattle.mill_block.specs.declared.progress.Progress.{Progress};
+ghost use Rattle.mill_block.specs.Lines.{start_at, is_percent as is_percent_line, percent_step as percent_step_by, has_frame, with_percent, with_line, line_begun, after_line, after_words, words_or_fault, made_list};
+ghost use Rattle.mill_block.specs.Kept.{AddsLine, Keeps};
+ghost use Rattle.mill_block.specs.inner.PlainMoves.{made_plain};
+
+use crate::fault::NgcFault;
+use crate::plain_move::PlainMove;
+use crate::profile::Mode;
+use crate::progress::{Frame, Progress};
+use crate::said::Said;
+use mill_base::{MAX_MOVES, Move, Pt3, Unit};
+use mill_words::{LineWords, read_line_into};
+use std::marker::Model;
+
+/// The most bytes of a line, without its line end (NISTIR 6556, 3.3).
+pub const LONGEST_LINE: usize = 256;
+
+/// Reads the lines of a program one after another, up to its first fault.
+///
+/// It shows what the lines so far have settled: where the tool stands, the motion mode, whether the
+/// program has ended, and how many lines and moves there were. Beside that it lends room for a line's
+/// words, so that none is moved.
+#[derive(Drop)]
+pub struct LineReader {
+    progress: Progress,
+    words: LineWords,
+    said: Said,
+}
+
+impl Model for LineReader {
+    ghost Value = { Progress };
+
+    ghost view = { λ r. r.progress };
+}
+
+impl LineReader {
+    /// A reader before the first line, with the tool at this point and coordinates in this unit.
+    pub fn new(start: Pt3, unit: Unit) -> Self
+        ensures { result ≡ start_at start unit }
+    {
+        LineReader {
+            progress: Progress {
+                unit,
+                here: start,
+                mode: Mode::Off,
+                millimetres: false,
+                absolute: false,
+                positioned: false,
+                frame: Frame::Unknown,
+                ended: false,
+                moves: 0,
+                line: 0,
+            },
+            words: LineWords::new(),
+            said: Said::new(),
+        }
+    }
+
+    /// Whether the program has ended: what comes behind has no meaning then.
+    pub fn has_ended(&self) -> bool
+        ensures { result ≡ self.now.ended }
+    {
+        self.progress.ended
+    }
+
+    /// How many lines it was fed: the number of the last one.
+    pub fn line(&self) -> u64
+        ensures { result ≡ self.now.line }
+    {
+        self.progress.line
+    }
+
+    /// Takes the next line, without its line end, and adds its move to `out` if it makes one.
+    ///
+    /// The answer is the line's fault, if it has one, or `WantOfMemory` where `out` can't grow. Then
+    /// nothing is added, and the reader isn't to be fed again. The tool is to stand in the unit's range,
+    /// where each line leaves it, and lines are to be fewer than 2^63.
+    // Most lines are only a move and spelled as most are, and are read without what other lines need.
+    // A move is added where it is made, so that it stays in registers.
+    #[inline(always)]
+    pub fn read_line(&mut self, line: &[u8], out: &mut Vec<Move>) -> Result<(), NgcFault>
+        requires here { IsInUnitRange self.old.unit self.old.here }
+        requires number { self.old.line < 2 ^ 63 }
+        ensures ok { OnOk result (AddsLine self.old line.now out.old.items self.new out.new.items) }
+        ensures fault { IfErr result (λ f. f ≢ faults.WantOfMemory → after_line self.old line.now ≡ Err f) }
+        ensures kept { OnErr result (out.new.items ≡ out.old.items) }
+    {
+        if let Some(made) = self.progress.read_quick(line) {
+            add(out, Some(made))?;
+            return Ok(());
+        }
+        self.read_other_line(line, out)
+    }
+
+    // The same of a line that isn't spelled as most are. It is kept apart, so that those need not
+    // make room for what it needs.
+    #[inline(never)]
+    fn read_other_line(&mut self, line: &[u8], out: &mut Vec<Move>) -> Result<(), NgcFault>
+        requires here { IsInUnitRange self.old.unit self.old.here }
+        requires number { self.old.line < 2 ^ 63 }
+        ensures ok { OnOk result (AddsLine self.old line.now out.old.items self.new out.new.items) }
+        ensures fault { IfErr result (λ f. f ≢ faults.WantOfMemory → after_line self.old line.now ≡ Err f) }
+        ensures kept { OnErr result (out.new.items ≡ out.old.items) }
+    {
+        let made = match self.progress.read_plain(line) {
+            Some(made) => Some(made),
+            None => self.move_of_any_line(line)?,
+        };
+        add(out, made)
+    }
+
+    // The move of any line, if it makes one. It is kept apart, since most lines are plain.
+    #[inline(never)]
+    #[tactic(auto, unfolding(crate::specs::Lines::after_line))]
+    fn move_of_any_line(&mut self, line: &[u8]) -> Result<Option<Move>, NgcFault>
+        requires here { IsInUnitRange self.old.unit self.old.here }
+        requires number { self.old.line < 2 ^ 63 }
+        ensures ok { IfOk result (λ made. after_line self.old line.now ≡ Ok (self.new, made)) }
+        ensures fault { IfErr result (λ f. after_line self.old line.now ≡ Err f) }
+        ensures keeps { IfOk result (λ made. Keeps (line_begun self.old) made self.new) }
+    {
+        self.progress.line += 1;
+        if line.len() > LONGEST_LINE {
+            return Err(NgcFault::LongLine {
+                line: self.progress.line,
+            });
+        }
+        if has_percent(self.progress.frame, line) {
+            self.progress.take_percent();
+            return Ok(None);
+        }
+        read_words(self.progress.line, line, &mut self.words)?;
+        self.progress.act_words(&self.words, &mut self.said)
+    }
+}
+
+impl Progress {
+    // Does what the next line says, if it is only a move and spelled as most are.
+    #[inline(always)]
+    fn read_quick(&mut self, line: &[u8]) -> Option<Move>
+        requires here { IsInUnitRange self.old.unit self.old.here }
+        requires number { self.old.line < 2 ^ 63 }
+        ensures made { IfSome result (λ made. after_line self.old line.now ≡ Ok (self.new, Some made)) }
+        ensures keeps { IfSome result (λ made. Keeps (line_begun self.old) (Some made) self.new) }
+        ensures stays { result ≡ None → self.new ≡ self.old }
+    {
+        if line.len() > LONGEST_LINE || has_percent(self.frame, line) {
+            return None;
+        }
+        let plain = self.quick_line(line)?;
+        self.line += 1;
+        Some(self.make_plain(plain))
+    }
+
+    // Does what the next line says, if its words are plain and it is only a move.
+    #[inline(always)]
+    fn read_plain(&mut self, line: &[u8]) -> Option<Move>
+        requires here { IsInUnitRange self.old.unit self.old.here }
+        requires number { self.old.line < 2 ^ 63 }
+        ensures made { IfSome result (λ made. after_line self.old line.now ≡ Ok (self.new, Some made)) }
+        ensures keeps { IfSome result (λ made. Keeps (line_begun self.old) (Some made) self.new) }
+        ensures stays { result ≡ None → self.new ≡ self.old }
+    {
+        if line.len() > LONGEST_LINE || has_percent(self.frame, line) {
+            return None;
+        }
+        let plain = self.plain_line(line)?;
+        self.line += 1;
+        Some(self.make_plain(plain))
+    }
+
+    // Does what the words of the line say.
+    fn act_words(&mut self, words: &LineWords, said: &mut Said) -> Result<Option<Move>, NgcFault>
+        requires here { IsInUnitRange self.old.unit self.old.here }
+        ensures ok { IfOk result (λ made. after_words self.old words.now ≡ Ok (self.new, made)) }
+        ensures fault { IfErr result (λ f. after_words self.old words.now ≡ Err f) }
+        ensures keeps { IfOk result (λ made. Keeps self.old made self.new) }
+    {
+        if let Some(plain) = self.plain_move(words) {
+            return Ok(Some(self.make_plain(plain)));
+        }
+        self.act_any_words(words, said)
+    }
+
+    // Makes the move of a line that is only that.
+    #[inline(always)]
+    fn make_plain(&mut self, plain: PlainMove) -> Move
+        requires few { self.old.moves < MAX_MOVES }
+        requires to { IsInUnitRange self.old.unit plain.to }
+        ensures made { made_plain self.old plain ≡ Ok (self.new, Some result) }
+        ensures keeps { Keeps self.old (Some result) self.new }
+    {
+        self.mode = Mode::On(plain.kind);
+        self.ended = false;
+        self.go(plain.kind, plain.to)
+    }
+
+    // The same of any line. It is kept apart, since most lines are only a move.
+    #[inline(never)]
+    #[tactic(auto, unfolding(crate::specs::Lines::after_words))]
+    fn act_any_words(
+        &mut self,
+        words: &LineWords,
+        said: &mut Said,
+    ) -> Result<Option<Move>, NgcFault>
+        requires here { IsInUnitRange self.old.unit self.old.here }
+        ensures ok { IfOk result (λ made. after_words self.old words.now ≡ Ok (self.new, made)) }
+        ensures fault { IfErr result (λ f. after_words self.old words.now ≡ Err f) }
+        ensures keeps { IfOk result (λ made. Keeps self.old made self.new) }
+    {
+        said.read(self.line, self.positioned, words)?;
+        self.know_frame(words.is_blank());
+        self.act(said)
+    }
+
+    // A line that isn't blank, and isn't a `%` alone, shows that a program isn't framed.
+    fn know_frame(&mut self, blank: bool)
+        ensures { self.new ≡ with_line self.old blank }
+    {
+        match self.frame {
+            Frame::Unknown if !blank => self.frame = Frame::Plain,
+            _ => {}
+        }
+    }
+
+    // A `%` line begins the program's frame, or ends it.
+    fn take_percent(&mut self)
+        ensures { self.new ≡ with_percent self.old }
+    {
+        match self.frame {
+            Frame::Framed => self.ended = true,
+            _ => self.frame = Frame::Framed,
+        }
+    }
+}
+
+// Adds the move of a line, if it makes one. It is pushed by its parts, so that none of them needs a
+// place in memory first.
+fn add(moves: &mut Vec<Move>, made: Option<Move>) -> Result<(), NgcFault>
+    ensures ok { OnOk result (moves.new.items ≡ moves.old.items ++ made_list made) }
+    ensures fault { IfErr result (λ f. f ≡ faults.WantOfMemory) }
+    ensures kept { OnErr result (moves.new.items ≡ moves.old.items) }
+{
+    if let Some(made) = made {
+        moves.push(Move {
+            kind: made.kind,
+            from: made.from,
+            to: made.to,
+        })?;
+    }
+    Ok(())
+}
+
+fn read_words(number: u64, line: &[u8], words: &mut LineWords) -> Result<(), NgcFault>
+    requires { length line.now < 2 ^ 32 }
+    ensures ok { OnOk result (line_of line.now ≡ Ok words.new) }
+    ensures fault { IfErr result (λ f. words_or_fault number (line_of line.now) ≡ Err f) }
+{
+    match read_line_into(line, words) {
+        Ok(()) => Ok(()),
+        Err(fault) => Err(NgcFault::Word {
+            line: number,
+            fault,
+        }),
+    }
+}
+
+// Whether the line is one of a frame's `%` lines.
+fn has_percent(frame: Frame, line: &[u8]) -> bool
+    ensures { result ≡ has_frame frame (is_percent_line line.now) }
+{
+    match frame {
+        Frame::Plain => false,
+        _ => is_percent(line),
+    }
+}
+
+fn is_percent(line: &[u8]) -> bool
+    ensures { result ≡ is_percent_line line.now }
+{
+    let mut seen = false;
+    for byte in line {
+        match percent_step(seen, *byte) {
+            Some(next) => seen = next,
+            None => return false,
+        }
+    }
+    seen
+}
+
+// Whether a `%` has come behind this byte, if the line may still hold only that.
+fn percent_step(seen: bool, byte: u8) -> Option<bool>
+    ensures { result ≡ percent_step_by seen byte }
+{
+    if is_blank(byte) {
+        return Some(seen);
+    }
+    if byte == b'%' && !seen {
+        return Some(true);
+    }
+    None
+}
+
+fn is_blank(byte: u8) -> bool
+    ensures { result ≡ is_blank_byte byte }
+{
+    byte == b' ' || byte == b'\t' || byte == b'\r'
+}

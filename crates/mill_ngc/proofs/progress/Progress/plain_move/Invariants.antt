@@ -1,5 +1,0 @@
-use Rattle.mill_ngc.specs.inner.PlainMoves.{TakenTo}
-use Rattle.mill_ngc.proofs.progress.Progress.plain_move.Given as goal
-
-abbrev pub invariant-loop-word : goal.invariant-loop-word
-invariant-loop-word l = TakenTo l.self l.word-items l.word-index l.plain
