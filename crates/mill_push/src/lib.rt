@@ -10,6 +10,7 @@
 
 mod contact;
 mod fiber;
+mod inside;
 mod known;
 mod laws;
 mod near;

@@ -10,6 +10,7 @@ ghost use Rattle.mill_push.specs.Touches.{position_count};
 
 use crate::contact::counted_touch;
 use crate::fiber::{Fiber, Run};
+use crate::inside::counted_inside;
 use mill_base::{Cutter, Pt3, Steps, Tri};
 use mill_geom::{Axis, Side, Touch};
 use std::sync::ledger::Ledger;
@@ -56,7 +57,8 @@ impl Pusher {
         counted_touch(tri, self.cutter, self.fiber.tip(at), self.fiber.axis, steps)
     }
 
-    /// Whether some point of the triangle is strictly inside the cutter at this position.
+    /// Whether some point of the triangle is strictly inside the cutter at this position, by one
+    /// touch, which needn't tell on which side the triangle lies.
     fn is_touched<L: Ledger>(self, tri: &Tri, at: i32, steps: &mut Steps<L>) -> bool
         requires self_ok { IsPusher self }
         requires tri_ok { TriInRange tri.now }
@@ -65,10 +67,7 @@ impl Pusher {
         ensures no { result ≡ false → ¬ IsTouched self.cutter tri.now self.fiber at }
         ensures step { steps.new ≡ steps.old + 1 }
     {
-        match self.touch_at(tri, at, steps) {
-            Touch::Inside => true,
-            Touch::Apart(_) => false,
-        }
+        counted_inside(tri, self.cutter, self.fiber.tip(at), steps)
     }
 
     /// The first position from `low` on at which the triangle is touched, where it is at `found`.
