@@ -3,11 +3,11 @@
 ghost use Rattle.std.specs.Prelude.{◌≤ℤ◌, pos, IfOk};
 ghost use Rattle.mill_base.specs.Numbers.{Within};
 ghost use Rattle.mill_base.specs.Ranges.{IsInRange, TriInRange};
-ghost use Rattle.mill_base.specs.declared.limits.TheConstants.{LOWEST_TIP, MAX_COORDINATE};
+ghost use Rattle.mill_base.specs.declared.limits.TheConstants.{LOWEST_TIP, MAX_COORDINATE, MAX_WIDE_RADIUS};
+ghost use Rattle.mill_base.specs.Sizes.{HasRadius, IsSlope, IsWideCutter};
 ghost use Rattle.mill_geom.specs.Offsets.{IsCentre};
 
-use mill_base::{LOWEST_TIP, MAX_COORDINATE, Pt3, Tri};
-use mill_geom::Side;
+use mill_base::{Cutter, LOWEST_TIP, MAX_COORDINATE, MAX_WIDE_RADIUS, Pt3, Tri};
 use std::test::Fail;
 
 /// What stands before the `=>` of a row, and what behind it.
@@ -77,15 +77,47 @@ pub(crate) fn triangle(text: &str) -> Result<Tri, Fail>
     Ok(Tri { a, b, c })
 }
 
-/// A row's corners, and the tip's place: the origin, if it says none.
+/// A row's corners, if it has any, and the tip's place: the origin, if it says none.
 pub(crate) fn placed(text: &str) -> (&str, &str) {
-    text.split_once(" at ").unwrap_or((text, "0 0 0"))
+    let (corners, place) = text.split_once("at ").unwrap_or((text, "0 0 0"));
+    (corners.trim_end(), place)
 }
 
-pub(crate) fn side_word(side: Side) -> &'static str {
-    match side {
-        Side::Less => "less",
-        Side::More => "more",
-        Side::Never => "never",
+fn radius(text: &str) -> Result<i32, Fail>
+    ensures { IfOk result (λ radius. HasRadius radius MAX_WIDE_RADIUS) }
+{
+    let radius: i32 = text.parse()?;
+    if radius < 1 || radius > MAX_WIDE_RADIUS {
+        return Err(Fail::from("out of range"));
     }
+    Ok(radius)
+}
+
+/// A cone's rise and run.
+fn slope(text: &str) -> Result<(i32, i32), Fail>
+    ensures { IfOk result (λ slope. IsSlope slope.0 slope.1) }
+{
+    let (rise, run) = first_word(text)?;
+    let (rise, run): (i32, i32) = (rise.parse()?, run.parse()?);
+    if rise < 1 || rise > 100 || run < 1 || run > 100 || rise > 16 * run {
+        return Err(Fail::from("out of range"));
+    }
+    Ok((rise, run))
+}
+
+/// A cutter: its name, its radius, and a cone's rise and run.
+pub(crate) fn cutter(text: &str) -> Result<Cutter, Fail>
+    ensures { IfOk result (λ cutter. IsWideCutter cutter) }
+{
+    let (name, sizes) = first_word(text)?;
+    let (first, others) = sizes.split_once(' ').unwrap_or((sizes, ""));
+    let radius = radius(first)?;
+    if name == "flat" {
+        return Ok(Cutter::Flat { radius });
+    }
+    if name == "ball" {
+        return Ok(Cutter::Ball { radius });
+    }
+    let (rise, run) = slope(others)?;
+    Ok(Cutter::Cone { radius, rise, run })
 }
