@@ -97,7 +97,7 @@ fn look_at_row<R: Abort>(
 {
     let (text, wanted) = halves(row)?;
     let found = lies_of(cutter, corners, text)?;
-    let (along_x, along_y) = wanted.split_once(' ').unwrap_or((wanted, wanted));
+    let (along_x, along_y) = wanted.split_once(" ").unwrap_or((wanted, wanted));
     let wanted = (along_x, along_y, wanted == "inside");
     assert_eq!(rt; found, (wanted, wanted, wanted), "{title}: {row}");
     Ok(())
@@ -120,7 +120,7 @@ fn look_at_rows<R: Abort>(
 
 fn look_at_block<R: Abort>(rt: &R, block: &str) -> Result<(), Fail> {
     let (title, block) = block.split_once(":\n").ok_or("a block without a title")?;
-    let (head, rows) = block.split_once('\n').ok_or("a block without rows")?;
+    let (head, rows) = block.split_once("\n").ok_or("a block without rows")?;
     let (name, corners) = head.split_once(": ").unwrap_or((head, ""));
     look_at_rows(rt, cutter(name)?, corners, title, rows)
 }
