@@ -57,8 +57,36 @@ fn cover_near(shape: &SortedPart<'_>, floor: i32, x: i32, y: i32, band: i32, hei
     )
 }
 
-/// Looks at the column of a row's text, its x and y, and the band: it's covered up to a height and no
-/// higher, by all triangles and by those near it.
+/// A column's x, its y, and the band.
+fn column_of(text: &str) -> Result<(i32, i32, i32), Fail>
+    ensures x { IfOk result (λ column. Within MAX_COORDINATE column.0) }
+    ensures y { IfOk result (λ column. Within MAX_COORDINATE column.1) }
+    ensures band_least { IfOk result (λ column. pos 0 ≤ℤ column.2) }
+    ensures band_most { IfOk result (λ column. column.2 ≤ℤ MAX_RADIUS) }
+{
+    let (x, others) = first_word(text)?;
+    let (y, band) = first_word(others)?;
+    Ok((coordinate(x)?, coordinate(y)?, band_of(band)?))
+}
+
+/// How a column is covered by all triangles, and by those near it.
+fn covers(
+    shape: &SortedPart<'_>,
+    floor: i32,
+    column: &str,
+    height: i32,
+) -> Result<(Cover, Cover), Fail>
+    requires floor_ok { Within MAX_COORDINATE floor }
+    requires height_ok { Within MAX_COORDINATE height }
+{
+    let (x, y, band) = column_of(column)?;
+    Ok((
+        cover(shape.part(), floor, x, y, band, height),
+        cover_near(shape, floor, x, y, band, height),
+    ))
+}
+
+/// Looks at the column of a row's text: it's covered up to a height and no higher.
 fn look_at<R: Abort>(
     rt: &R,
     shape: &SortedPart<'_>,
@@ -69,14 +97,8 @@ fn look_at<R: Abort>(
 ) -> Result<(), Fail>
     requires { Within MAX_COORDINATE floor }
 {
-    let (x, others) = first_word(column)?;
-    let (y, band) = first_word(others)?;
-    let (x, y, band) = (coordinate(x)?, coordinate(y)?, band_of(band)?);
     let height = coordinate(wanted)?;
-    let found = (
-        cover(shape.part(), floor, x, y, band, height),
-        cover_near(shape, floor, x, y, band, height),
-    );
+    let found = covers(shape, floor, column, height)?;
     let wanted = (height, true, false);
     assert_eq!(rt; found, (wanted, wanted), "{row}");
     Ok(())
