@@ -1,7 +1,7 @@
 use Rattle.std.proofs.Common.{pos, refl, arith}
 use Rattle.std.proofs.lemmas.Int.{ints}
-use Rattle.mill_dexel.proofs.Places.{split_found, split_passed, split_last}
-use Rattle.mill_dexel.proofs.sample.halvings.Goals as goal
+use Rattle.mill_sampling.proofs.Splits.{split_found, split_passed, split_last}
+use Rattle.mill_sampling.proofs.sample.halvings.Goals as goal
 
 pub returns-then-is_reached-clause-value : goal.returns-then-is_reached-clause-value
 returns-then-is_reached-clause-value c =

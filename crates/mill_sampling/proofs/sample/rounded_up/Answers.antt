@@ -2,8 +2,8 @@ use Rattle.std.proofs.Common.{◌∙◌, ◌^◌, ◌≤◌, [], ◌∷◌, refl
 use Rattle.mill_base.proofs.Machine.{Read, Lit, Diff, Cast, exact, cast_fits, stays, stored}
 use Rattle.mill_base.specs.Numbers.{floor_div}
 use Rattle.mill_base.specs.declared.limits.TheConstants.{MAX_COORDINATE}
-use Rattle.mill_dexel.proofs.Places.{up_is, up_within, turned_is}
-use Rattle.mill_dexel.proofs.sample.rounded_up.Goals as goal
+use Rattle.mill_sampling.proofs.Splits.{up_is, up_within, turned_is}
+use Rattle.mill_sampling.proofs.sample.rounded_up.Goals as goal
 
 pub overflow_cast-result-2 : goal.overflow_cast-result-2
 overflow_cast-result-2 c =

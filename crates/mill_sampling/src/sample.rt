@@ -1,12 +1,11 @@
-ghost use Rattle.std.specs.Prelude.{◌≡◌, ◌+◌, ◌*◌, ◌^◌, ◌≤◌, ◌*ℤ◌, ◌+ℤ◌, ◌≤ℤ◌, ◌&&◌, pos, nat_abs, nat_le, IfSome};
+ghost use Rattle.std.specs.Prelude.{◌≡◌, ◌+◌, ◌*◌, ◌^◌, ◌≤◌, ◌+ℤ◌, ◌≤ℤ◌, ◌&&◌, pos, nat_abs, nat_le, IfSome};
 ghost use Rattle.mill_base.specs.Numbers.{round_half_up, ceil_div, divides, Within};
 ghost use Rattle.mill_base.specs.declared.limits.TheConstants.{MAX_COORDINATE};
 ghost use Rattle.mill_base.specs.Ranges.{IsInRange, MoveInRange};
 ghost use Rattle.mill_base.specs.Sizes.{IsCutter};
 ghost use Rattle.mill_sweep.specs.Leaves.{length_x, length_y, end_of};
 ghost use Rattle.mill_sweep.specs.Widths.{longest, end_depth, farthest_end};
-ghost use Rattle.mill_dexel.specs.Samples.{split_of, sample_centre, is_at_whole_place as is_whole_at, sample_at as sample_of};
-ghost use Rattle.mill_dexel.specs.Cuts.{IsSample, IsNarrowed};
+ghost use Rattle.mill_sampling.specs.Samples.{split_of, sample_centre, is_at_whole_place as is_whole_at, sample_at as sample_of, IsSample, IsNarrowed};
 
 use mill_base::{Cutter, MAX_DEPTH, Move, Pt3, power_of_two};
 use mill_sweep::{end_at, nearest};
@@ -16,14 +15,17 @@ const MAX_HALVINGS: u32 = MAX_DEPTH + 1;
 
 /// A cutter with its tip at a whole point.
 #[derive(Clone, Copy)]
-pub(crate) struct Placed {
+pub struct Placed {
+    /// The cutter.
     pub cutter: Cutter,
+    /// Where its tip is, in units.
     pub tip: Pt3,
 }
 
 /// The least number of halvings after which the parts of the move are at most `sample` long, in x
-/// and y together.
-pub(crate) fn halvings(step: &Move, sample: u32) -> u32
+/// and y together. `sample` is a length in units, from 1 to 10,000; the move's coordinates are of at
+/// most 524,287 in magnitude.
+pub fn halvings(step: &Move, sample: u32) -> u32
     requires step_ok { MoveInRange step.now }
     requires sample_least { 1 ≤ sample }
     requires sample_most { sample ≤ 10000 }
@@ -58,8 +60,12 @@ fn is_reached(length: u32, sample: u32, d: u32) -> bool
 }
 
 /// The sample of the move at k/2^d: where the tip is at a whole place then, the cutter itself, and
-/// else the narrowed cutter beside it, raised. The tip's height is rounded up.
-pub(crate) fn sample_at(
+/// else the narrowed cutter beside it, raised. The tip's height is rounded up. There is none beside a
+/// whole place where the cutter's radius is 1.
+///
+/// `narrowed` is the cutter with its radius less by 1, and by how much it is raised for that, none at
+/// radius 1, as `mill_shape::shrink` gives it.
+pub fn sample_at(
     cutter: Cutter,
     narrowed: Option<(Cutter, i32)>,
     step: &Move,

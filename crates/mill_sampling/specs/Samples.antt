@@ -1,14 +1,15 @@
 -- The samples of a move: cutters at whole places, of which each has surely cut what it holds there.
-use Rattle.std.specs.Prelude.{ℕ, ◌+◌, ◌*◌, ◌^◌, nat_le, nat_abs, Bool, ◌&&◌, if◌then◌else◌, ℤ, pos, ◌+ℤ◌, List, map, Option, Some, None}
+use Rattle.std.specs.Prelude.{◌≡◌, ℕ, ◌+◌, ◌*◌, ◌^◌, nat_le, nat_abs, Bool, ◌&&◌, if◌then◌else◌, ℤ, pos, neg_ℤ, ◌+ℤ◌, ◌≤ℤ◌, List, map, Option, Some, None, MatchOption}
 use Rattle.std.specs.List.{range_with_len}
-use Rattle.mill_base.specs.Numbers.{round_half_up, ceil_div, divides, least_from}
+use Rattle.mill_base.specs.Numbers.{round_half_up, ceil_div, divides, least_from, Within}
 use Rattle.mill_base.specs.Points.{point_at}
-use Rattle.mill_base.specs.Sizes.{inner, shift}
+use Rattle.mill_base.specs.Sizes.{IsCutter, inner, shift}
+use Rattle.mill_base.specs.declared.limits.TheConstants.{MAX_COORDINATE}
 use Rattle.mill_base.specs.declared.points.Pt3.{Pt3}
 use Rattle.mill_base.specs.declared.motion.Move.{Move}
 use Rattle.mill_base.specs.declared.cutter.Cutter.{Cutter}
 use Rattle.mill_sweep.specs.Leaves.{length_x, length_y, end_of}
-use Rattle.mill_dexel.specs.declared.sample.Placed.{Placed}
+use Rattle.mill_sampling.specs.declared.sample.Placed.{Placed}
 
 -- a cutter with its tip at a whole point
 abbrev pub placed : Cutter → Pt3 → Placed
@@ -47,3 +48,16 @@ sample_at cutter m d k =
 -- the samples of a move, at k/2^d for each k from 0 to 2^d
 abbrev pub samples : Cutter → ℤ → Move → List (Option Placed)
 samples cutter sample m = map (sample_at cutter m (split_of sample m)) (range_with_len 0 (2 ^ split_of sample m + 1))
+
+-- a sample of a job's moves: its cutter has a job's size, and its tip is in range but for a rise of up to 16
+pub record IsSample (s : Placed) : Type 0 where
+  pub cutter_ok : IsCutter s.cutter
+  pub x_ok : Within MAX_COORDINATE s.tip.x
+  pub y_ok : Within MAX_COORDINATE s.tip.y
+  pub z_least : neg_ℤ (pos MAX_COORDINATE) ≤ℤ s.tip.z
+  pub z_most : s.tip.z ≤ℤ pos (MAX_COORDINATE + 16)
+
+-- the cutter narrowed by 1, with how far it is raised, none at radius 1
+abbrev pub IsNarrowed : Cutter → Option (Cutter × ℤ) → Type 0
+IsNarrowed cutter narrowed = MatchOption narrowed (inner cutter ≡ None)
+    (λ n. (inner cutter ≡ Some n.0) × (n.1 ≡ shift cutter (pos 1)) × IsCutter n.0 × (pos 0 ≤ℤ n.1) × (n.1 ≤ℤ pos 16))
