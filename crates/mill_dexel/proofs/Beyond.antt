@@ -10,7 +10,7 @@ use Rattle.mill_base.specs.declared.motion.Move.{Move}
 use Rattle.mill_job.specs.declared.job.Job.{Job}
 use Rattle.mill_job.specs.Columns.{column_y}
 use Rattle.mill_sweep.specs.Leaves.{end_of}
-use Rattle.mill_dexel.specs.Samples.{placed, sample_at, split_of, sample_centre}
+use Rattle.mill_sampling.specs.Samples.{placed, sample_at, split_of, sample_centre}
 use Rattle.mill_dexel.specs.Tops.{tops_after_move}
 use Rattle.mill_dexel.specs.Cuts.{IsCutBy, IsBeyond}
 use Rattle.mill_dexel.proofs.InnerCerts.{between_low, between_high}

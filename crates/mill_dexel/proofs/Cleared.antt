@@ -21,8 +21,8 @@ use Rattle.mill_shape.proofs.Over.{holds_over}
 use Rattle.mill_sweep.proofs.Passing.{radius_least}
 use Rattle.mill_sweep.proofs.Vertical.{vertical_passes_point}
 use Rattle.mill_job.specs.declared.job.Job.{Job}
-use Rattle.mill_dexel.specs.declared.sample.Placed.{Placed}
-use Rattle.mill_dexel.specs.Samples.{placed, sample_at, samples, split_of}
+use Rattle.mill_sampling.specs.declared.sample.Placed.{Placed}
+use Rattle.mill_sampling.specs.Samples.{placed, sample_at, samples, split_of}
 use Rattle.mill_dexel.specs.Tops.{lowered_to, top_after_sample, top_after_move, top_after}
 use Rattle.mill_dexel.specs.Laws.{CutAtEnd, PassesAfterCut}
 use Rattle.mill_dexel.proofs.Ends.{last_sample}

@@ -15,8 +15,8 @@ use Rattle.mill_base.specs.declared.motion.Move.{Move}
 use Rattle.mill_job.specs.declared.job.Job.{Job}
 use Rattle.mill_job.specs.Columns.{row_count, column_count, column_x, column_y}
 use Rattle.mill_job.specs.Jobs.{IsJob, IsFrom}
-use Rattle.mill_dexel.specs.declared.sample.Placed.{Placed}
-use Rattle.mill_dexel.specs.Samples.{sample_at, split_of}
+use Rattle.mill_sampling.specs.declared.sample.Placed.{Placed}
+use Rattle.mill_sampling.specs.Samples.{sample_at, split_of}
 use Rattle.mill_dexel.specs.Tops.{lowered_to, top_after_sample, top_after_move, tops_after_move}
 use Rattle.mill_dexel.specs.Rows.{RowState, IsRowOf, top_at}
 use Rattle.mill_dexel.specs.Cuts.{IsCutBy, IsReachBy, IsBeyond, IsHalfChord}

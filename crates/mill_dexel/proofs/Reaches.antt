@@ -20,7 +20,7 @@ use Rattle.mill_shape.proofs.Holding.{holds_over_tip}
 use Rattle.mill_job.specs.Jobs.{IsJob}
 use Rattle.mill_job.specs.declared.job.Job.{Job}
 use Rattle.mill_sweep.proofs.Passing.{radius_least}
-use Rattle.mill_dexel.specs.declared.sample.Placed.{Placed}
+use Rattle.mill_sampling.specs.declared.sample.Placed.{Placed}
 use Rattle.mill_dexel.specs.Tops.{top_after_sample, lowered_to}
 use Rattle.mill_dexel.specs.Cuts.{IsReachAlong, IsReachBy, IsBeyond, IsHalfChord}
 use Rattle.mill_dexel.specs.inner.Passing.{IsAway}

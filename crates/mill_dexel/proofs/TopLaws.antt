@@ -7,8 +7,8 @@ use Rattle.mill_base.specs.Sizes.{cut_height_of}
 use Rattle.mill_base.specs.declared.motion.Move.{Move}
 use Rattle.mill_job.specs.declared.job.Job.{Job}
 use Rattle.mill_job.specs.Jobs.{IsFrom}
-use Rattle.mill_dexel.specs.Samples.{samples}
-use Rattle.mill_dexel.specs.declared.sample.Placed.{Placed}
+use Rattle.mill_sampling.specs.Samples.{samples}
+use Rattle.mill_sampling.specs.declared.sample.Placed.{Placed}
 use Rattle.mill_job.specs.Columns.{column_x, column_y}
 use Rattle.mill_dexel.specs.Stocks.{IsStockOf}
 use Rattle.mill_dexel.specs.Tops.{Stock, lowered_to, stock_after, top_after_sample, top_after_move, top_after, uncut}

@@ -1,14 +1,13 @@
 -- What one sample does to the tops of a row, and which columns and rows it leaves alone.
-use Rattle.std.specs.Prelude.{◌≡◌, ◌⊎◌, ℕ, ◌+◌, ◌<◌, ◌≤◌, neg_ℤ, ℤ, pos, ◌+ℤ◌, ◌*ℤ◌, ◌≤ℤ◌, List, length, Option, None, Some, MatchOption}
-use Rattle.mill_base.specs.Numbers.{Within, square}
-use Rattle.mill_base.specs.declared.limits.TheConstants.{MAX_COORDINATE, MAX_LAST_REACH}
-use Rattle.mill_base.specs.Sizes.{IsCutter, radius_of, inner, shift}
+use Rattle.std.specs.Prelude.{◌≡◌, ◌⊎◌, ℕ, ◌+◌, ◌<◌, ◌≤◌, ℤ, pos, ◌+ℤ◌, ◌*ℤ◌, ◌≤ℤ◌, List, length, Option, Some}
+use Rattle.mill_base.specs.Numbers.{square}
+use Rattle.mill_base.specs.declared.limits.TheConstants.{MAX_LAST_REACH}
+use Rattle.mill_base.specs.Sizes.{radius_of}
 use Rattle.mill_base.specs.declared.points.Pt3.{Pt3}
-use Rattle.mill_base.specs.declared.cutter.Cutter.{Cutter}
 use Rattle.mill_job.specs.declared.job.Job.{Job}
 use Rattle.mill_job.specs.Columns.{row_count, column_count, column_x, column_y}
-use Rattle.mill_dexel.specs.declared.sample.Placed.{Placed}
-use Rattle.mill_dexel.specs.Samples.{placed}
+use Rattle.mill_sampling.specs.declared.sample.Placed.{Placed}
+use Rattle.mill_sampling.specs.Samples.{placed}
 use Rattle.mill_dexel.specs.Tops.{top_after_sample}
 use Rattle.mill_dexel.specs.Rows.{top_at}
 
@@ -56,16 +55,3 @@ IsBeyond r a b y = IsUnderBy r a b y ⊎ IsOverBy r a b y
 pub record IsHalfChord (r distance chord : ℤ) : Type 0 where
   pub least : (pos 1) ≤ℤ chord
   pub wide : square r ≤ℤ (square chord +ℤ square distance)
-
--- a sample of a job's moves: its cutter has a job's size, and its tip is in range but for a rise of up to 16
-pub record IsSample (s : Placed) : Type 0 where
-  pub cutter_ok : IsCutter s.cutter
-  pub x_ok : Within MAX_COORDINATE s.tip.x
-  pub y_ok : Within MAX_COORDINATE s.tip.y
-  pub z_least : neg_ℤ (pos MAX_COORDINATE) ≤ℤ s.tip.z
-  pub z_most : s.tip.z ≤ℤ pos (MAX_COORDINATE + 16)
-
--- the cutter narrowed by 1, with how far it is raised, none at radius 1
-abbrev pub IsNarrowed : Cutter → Option (Cutter × ℤ) → Type 0
-IsNarrowed cutter narrowed = MatchOption narrowed (inner cutter ≡ None)
-    (λ n. (inner cutter ≡ Some n.0) × (n.1 ≡ shift cutter (pos 1)) × IsCutter n.0 × (pos 0 ≤ℤ n.1) × (n.1 ≤ℤ pos 16))

@@ -1,4 +1,3 @@
-pub mod Samples
 pub mod Tops
 pub mod Laws
 pub mod Rows

@@ -12,8 +12,8 @@ use Rattle.mill_job.specs.declared.job.Job.{Job}
 use Rattle.mill_job.specs.Columns.{IsColumn, column_x, column_y, column_count}
 use Rattle.mill_sweep.specs.Halving.{PassesPoint}
 use Rattle.mill_sweep.specs.Holders.{HolderPassesPoint}
-use Rattle.mill_dexel.specs.Samples.{samples}
-use Rattle.mill_dexel.specs.declared.sample.Placed.{Placed}
+use Rattle.mill_sampling.specs.Samples.{samples}
+use Rattle.mill_sampling.specs.declared.sample.Placed.{Placed}
 
 -- a top cut down to a height, if there is one, but not under the floor
 abbrev pub lowered_to : ℤ → ℤ → Option ℤ → ℤ

@@ -6,15 +6,16 @@ ghost use Rattle.mill_base.specs.Points.{point_at};
 ghost use Rattle.mill_base.specs.Ranges.{MoveInRange};
 ghost use Rattle.mill_job.specs.Columns.{row_count, column_count, column_x, column_y};
 ghost use Rattle.mill_job.specs.Jobs.{IsJob};
+ghost use Rattle.mill_sampling.specs.Samples.{IsSample};
 ghost use Rattle.mill_dexel.specs.Tops.{top_after_sample, tops_after_move};
 ghost use Rattle.mill_dexel.specs.Rows.{top_at};
-ghost use Rattle.mill_dexel.specs.Cuts.{IsCutAt, IsCutBy, IsSample};
+ghost use Rattle.mill_dexel.specs.Cuts.{IsCutAt, IsCutBy};
 
 use crate::chord::half_chord;
 use crate::reach::{is_beyond, reach_by};
-use crate::sample::{Placed, halvings, sample_at};
 use mill_base::{Move, Pt3, offset, power_of_two};
 use mill_job::Job;
+use mill_sampling::{Placed, halvings, sample_at};
 use mill_shape::{cut_height, inside, shrink};
 
 /// Lowers the tops of a row to what the cutter leaves after the move: at each of its samples in

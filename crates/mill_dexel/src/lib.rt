@@ -1,10 +1,10 @@
 //! The stock as rows of columns (dexels): the top of each column after the moves so far.
 //!
-//! It stands on `mill_shape`, `mill_sweep` and `mill_job`. Definitions: `specs/Samples` says where
-//! a move is sampled and by which cutter, `specs/Tops` what a column's top is after a list of moves,
-//! `specs/Rows` what a row is and where a move stops at it, `specs/Turns` what becomes of a row in a
-//! program, `specs/Stocks` what the rows of a whole stock are after a list of moves, `specs/Laws` what a
-//! top implies.
+//! It stands on `mill_shape`, `mill_sweep`, `mill_job`, and on `mill_sampling`, which says where a move
+//! is sampled and by which cutter. Definitions: `specs/Tops` says what a column's top is after a list of
+//! moves, `specs/Rows` what a row is and where a move stops at it, `specs/Turns` what becomes of a row in
+//! a program, `specs/Stocks` what the rows of a whole stock are after a list of moves, `specs/Laws` what
+//! a top implies.
 //!
 //! Most moves do nothing to most rows, and that is seen early. A row goes over a band of moves at
 //! once where all of them stay far away from it (`Row::go_over`), leaves out a move's first sample
@@ -23,7 +23,6 @@ mod laws;
 mod reach;
 mod row;
 mod rows;
-mod sample;
 mod stock;
 mod turns;
 

@@ -55,12 +55,6 @@ are_four (v ∷ w ∷ x ∷ []) a b c d h ea eb ec ed = absurd (omega arith)
 are_four (v ∷ w ∷ x ∷ y ∷ []) a b c d h ea eb ec ed = cc
 are_four (v ∷ w ∷ x ∷ y ∷ z ∷ vs) a b c d h ea eb ec ed = absurd (omega arith)
 
-pub are_two : (vs : List Value) (a b : Value) → length vs ≡ 2 → a ≡ get_or vs 0 a → b ≡ get_or vs 1 b → vs ≡ a ∷ b ∷ []
-are_two [] a b h ea eb = absurd (omega arith)
-are_two (v ∷ []) a b h ea eb = absurd (omega arith)
-are_two (v ∷ w ∷ []) a b h ea eb = cc
-are_two (v ∷ w ∷ x ∷ vs) a b h ea eb = absurd (omega arith)
-
 -- the numbers from a value on are its own and those after it
 pub next_number : (vs : List Value) (i : ℕ) (v : Value) → i < length vs → v ≡ get_or vs i v
     → integers (items_view (drop i vs)) ≡ with_rest (as_integer (view v)) (integers (items_view (drop (i + 1) vs)))

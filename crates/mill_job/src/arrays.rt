@@ -95,9 +95,7 @@ pub fn area(table: &Table, unit: Unit) -> Result<Box2, JobFault>
     ensures err { IfErr result (λ fault. array_fault Key.Area (is_area unit) (table_view table.now) ≡ Some fault) }
     ensures in_range { IfOk result (IsArea unit) }
 {
-    let Some(value) = find(table, Key::Area) else {
-        return Err(JobFault::Missing(Key::Area));
-    };
+    let value = find(table, Key::Area).ok_or(JobFault::Missing(Key::Area))?;
     let Some(values) = value.as_array() else {
         return Err(JobFault::WrongKind(Key::Area));
     };
@@ -156,16 +154,6 @@ pub fn levels(table: &Table, unit: Unit) -> Result<Levels, JobFault>
     levels_in(values, unit)
 }
 
-/// The place with these coordinates.
-fn place(x: i64, y: i64, unit: Unit) -> Result<Place, JobFault>
-    ensures value { result ≡ checked (kind_fault Key.Home (is_place unit) (Some (x ∷ y ∷ []))) (record { x = x; y = y }) }
-    ensures in_range { IfOk result (IsPlace unit) }
-{
-    let x = as_coordinate(x, Key::Home, unit)?;
-    let y = as_coordinate(y, Key::Home, unit)?;
-    Ok(Place { x, y })
-}
-
 /// The two whole numbers that the values are.
 fn two(a: &Value, b: &Value) -> Option<(i64, i64)>
     ensures { option_map (λ z. z.0 ∷ z.1 ∷ []) result ≡ integers (items_view (a.now ∷ b.now ∷ [])) }
@@ -184,7 +172,9 @@ fn place_in(values: &[Value], unit: Unit) -> Result<Place, JobFault>
     let Some((x, y)) = two(&values[0], &values[1]) else {
         return Err(JobFault::WrongKind(Key::Home));
     };
-    place(x, y, unit)
+    let x = as_coordinate(x, Key::Home, unit)?;
+    let y = as_coordinate(y, Key::Home, unit)?;
+    Ok(Place { x, y })
 }
 
 /// The place at `home`.
@@ -194,9 +184,7 @@ pub fn home(table: &Table, unit: Unit) -> Result<Place, JobFault>
     ensures err { IfErr result (λ fault. array_fault Key.Home (is_place unit) (table_view table.now) ≡ Some fault) }
     ensures in_range { IfOk result (IsPlace unit) }
 {
-    let Some(value) = find(table, Key::Home) else {
-        return Err(JobFault::Missing(Key::Home));
-    };
+    let value = find(table, Key::Home).ok_or(JobFault::Missing(Key::Home))?;
     let Some(values) = value.as_array() else {
         return Err(JobFault::WrongKind(Key::Home));
     };

@@ -9,7 +9,7 @@ ghost use Rattle.mill_job.specs.inner.Ranged.{IsOutline};
 
 use crate::fault::JobFault;
 use crate::key::Key;
-use crate::values::{find, in_range, number};
+use crate::values::{find, number, whole_number};
 use mill_base::{Cutter, MAX_RADIUS};
 use toml::Table;
 
@@ -30,9 +30,7 @@ pub fn named_shape(table: &Table) -> Result<Shape, JobFault>
     ensures ok { IfOk result (λ shape. (shape_fault (table_view table.now) ≡ None) × (shape ≡ shape_of (table_view table.now))) }
     ensures err { IfErr result (λ fault. shape_fault (table_view table.now) ≡ Some fault) }
 {
-    let Some(value) = find(table, Key::Cutter) else {
-        return Err(JobFault::Missing(Key::Cutter));
-    };
+    let value = find(table, Key::Cutter).ok_or(JobFault::Missing(Key::Cutter))?;
     match value.as_str() {
         None => Err(JobFault::WrongKind(Key::Cutter)),
         Some("flat") => Ok(Shape::Flat),
@@ -51,16 +49,11 @@ pub fn slope(table: &Table, key: Key, shape: Shape) -> Result<Option<i32>, JobFa
     ensures in_range { IfOk result (λ given. IfSome given (IsFrom (pos 1) (pos 100))) }
     ensures of_cone { IfOk result (λ given. shape ≡ Shape.Cone → IsSome given) }
 {
-    let Some(value) = find(table, key) else {
-        return match shape {
-            Shape::Cone => Err(JobFault::Missing(key)),
-            Shape::Flat | Shape::Ball => Ok(None),
-        };
-    };
-    let Some(number) = value.as_integer() else {
-        return Err(JobFault::WrongKind(key));
-    };
-    Ok(Some(in_range(number, key, 1, 100)?))
+    match (find(table, key), shape) {
+        (Some(value), _) => Ok(Some(whole_number(value, key, 1, 100)?)),
+        (None, Shape::Cone) => Err(JobFault::Missing(key)),
+        (None, _) => Ok(None),
+    }
 }
 
 /// What a document says of its cutter, as long as nothing is wrong with a key of it alone.

@@ -24,13 +24,8 @@ pub fn read_document(alloc: Global, text: &[u8]) -> Result<Table, JobFault>
     };
     match toml::table_from_str(alloc, text) {
         Ok(table) => Ok(table),
-        Err(error) => {
-            if error.is_memory() {
-                Err(JobFault::WantOfMemory)
-            } else {
-                Err(JobFault::Syntax)
-            }
-        }
+        Err(error) if error.is_memory() => Err(JobFault::WantOfMemory),
+        Err(_) => Err(JobFault::Syntax),
     }
 }
 

@@ -1,7 +1,7 @@
 ghost use Rattle.std.specs.Prelude.{◌≡◌, ◌++◌, IfOk};
 ghost use Rattle.toml.specs.View.{table_view};
 ghost use Rattle.mill_job.specs.Cutters.{cutter_faults};
-ghost use Rattle.mill_job.specs.Documents.{GivesJob, job_from, job_with, key_faults, key_faults_in, relation_faults};
+ghost use Rattle.mill_job.specs.Documents.{GivesJob, job_with, key_faults_in, relation_faults};
 ghost use Rattle.mill_job.specs.Jobs.{IsJob};
 ghost use Rattle.mill_job.specs.Tables.{checked, first};
 ghost use Rattle.mill_job.specs.inner.Groups.{job_of_groups};
@@ -70,15 +70,7 @@ fn unless(fault: Option<JobFault>, job: Job) -> Result<Job, JobFault>
     }
 }
 
-/// The job of a document that has no unknown key.
-fn job(table: &Table) -> Result<Job, JobFault>
-    ensures value { result ≡ checked (first (key_faults (table_view table.now) ++ cutter_faults (table_view table.now) ++ relation_faults (job_from (table_view table.now)))) (job_from (table_view table.now)) }
-    ensures in_range { IfOk result IsJob }
-{
-    job_in(table, unit(table)?)
-}
-
-/// The same in a unit, whatever the document says of it.
+/// The job of a document that has no unknown key, in a unit, whatever the document says of it.
 fn job_in(table: &Table, unit: Unit) -> Result<Job, JobFault>
     ensures value { result ≡ checked (first (key_faults_in unit (table_view table.now) ++ cutter_faults (table_view table.now) ++ relation_faults (job_with unit (table_view table.now)))) (job_with unit (table_view table.now)) }
     ensures in_range { IfOk result IsJob }
@@ -126,6 +118,6 @@ pub fn read_job(alloc: Global, text: &[u8]) -> Result<Job, JobFault>
     let table = read_document(alloc, text)?;
     match first_unknown(&table, &JOB_KEYS) {
         Some(key) => Err(JobFault::Unknown(Name::copied(alloc, key.as_str())?)),
-        None => job(&table),
+        None => job_in(&table, unit(&table)?),
     }
 }

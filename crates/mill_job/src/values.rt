@@ -51,7 +51,7 @@ pub fn as_coordinate(number: i64, key: Key, unit: Unit) -> Result<i32, JobFault>
 }
 
 /// The whole number from `low` to `high` that a value is.
-fn whole_number(value: &Value, key: Key, low: i32, high: i32) -> Result<i32, JobFault>
+pub fn whole_number(value: &Value, key: Key, low: i32, high: i32) -> Result<i32, JobFault>
     ensures ok { IfOk result (λ n. (kind_fault key (is_from low high) (as_integer (view value.now)) ≡ None) × (as_integer (view value.now) ≡ Some n)) }
     ensures err { IfErr result (λ fault. kind_fault key (is_from low high) (as_integer (view value.now)) ≡ Some fault) }
     ensures in_range { IfOk result (IsFrom low high) }
@@ -69,9 +69,7 @@ pub fn number(table: &Table, key: Key, low: i32, high: i32) -> Result<i32, JobFa
     ensures err { IfErr result (λ fault. number_fault key low high (table_view table.now) ≡ Some fault) }
     ensures in_range { IfOk result (IsFrom low high) }
 {
-    let Some(value) = find(table, key) else {
-        return Err(JobFault::Missing(key));
-    };
+    let value = find(table, key).ok_or(JobFault::Missing(key))?;
     whole_number(value, key, low, high)
 }
 
@@ -83,10 +81,7 @@ pub fn number_or(table: &Table, key: Key, low: i32, high: i32, other: i32) -> Re
     ensures err { IfErr result (λ fault. number_fault_if_there key low high (table_view table.now) ≡ Some fault) }
     ensures in_range { IfOk result (IsFrom low high) }
 {
-    match find(table, key) {
-        Some(value) => whole_number(value, key, low, high),
-        None => Ok(other),
-    }
+    Ok(number_if_there(table, key, low, high)?.unwrap_or(other))
 }
 
 /// The whole number from `low` to `high` at a key, if the document has the key.

@@ -3,10 +3,10 @@ use Rattle.std.proofs.Common.{◌≡◌, Bool, true, false, List, [], ◌∷◌,
 use Rattle.std.specs.Prelude.{if◌then◌else◌, ℤ, slice_get, Some, Result, Ok, Err, IfErr}
 use Rattle.std.proofs.lemmas.List.{map-append}
 use Rattle.mill_base.specs.declared.points.Pt3.{Pt3}
+use Rattle.mill_links.specs.declared.visit.Visit.{Visit}
 use Rattle.mill_paths.specs.Limits.{IsListFault}
 use Rattle.mill_paths.specs.Visits.{outline_visits}
 use Rattle.mill_paths.specs.declared.fault.PathFault.{PathFault}
-use Rattle.mill_paths.specs.declared.visit.Visit.{Visit}
 use Rattle.mill_paths.specs.inner.Levels.{point_visit}
 use Rattle.mill_paths.proofs.Changes.{fault_stays}
 

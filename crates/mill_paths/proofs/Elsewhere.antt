@@ -14,9 +14,9 @@ use Rattle.mill_base.specs.declared.points.Tri.{Tri}
 use Rattle.mill_drop.specs.Paths.{path_places, tip_over}
 use Rattle.mill_drop.proofs.Halving.{GoStraight, later_places, path_goes}
 use Rattle.mill_job.specs.declared.job.Job.{Job}
+use Rattle.mill_links.specs.declared.visit.Visit.{Visit}
 use Rattle.mill_paths.specs.Lattices.{finish_lattice}
 use Rattle.mill_paths.specs.Visits.{IsRowPath, in_turn, point_visit, point_visits, row_visits_from, step_from, visits_after}
-use Rattle.mill_paths.specs.declared.visit.Visit.{Visit}
 use Rattle.mill_paths.proofs.RowPoints.{all_in_turn, all_reverse}
 
 -- ---- lists of which each item stands in a relation to all later ones

@@ -9,12 +9,12 @@ use Rattle.mill_base.specs.Units.{greatest_of}
 use Rattle.mill_base.specs.declared.limits.TheConstants.{MAX_NODES}
 use Rattle.mill_base.specs.declared.lattice.Lattice.{Lattice}
 use Rattle.mill_base.specs.declared.unit.Unit.{Unit}
-use Rattle.mill_paths.proofs.Kept.{unit_coordinate}
+use Rattle.mill_links.proofs.Kept.{unit_coordinate}
+use Rattle.mill_links.specs.declared.visit.Visit.{Visit}
 use Rattle.mill_paths.specs.Limits.{change_count, most_changes, HasManyNodes, IsHeightsFault, IsListFault}
 use Rattle.mill_paths.specs.inner.Rows.{IsFinishFault}
 use Rattle.mill_paths.specs.declared.fault.PathFault.{PathFault}
 use Rattle.mill_paths.specs.declared.fault.PathFault.TheVariants.{TooManyNodes, TooManyVisits, WantOfMemory}
-use Rattle.mill_paths.specs.declared.visit.Visit.{Visit}
 
 same_fault : {T : Type 0} (r : Result T PathFault) (a b : PathFault) → r ≡ Err a → r ≡ Err b → a ≡ b
 same_fault r a b is e = cc

@@ -5,10 +5,10 @@ use Rattle.std.proofs.Common.{sym, subst}
 use Rattle.mill_base.specs.declared.points.Tri.{Tri}
 use Rattle.mill_job.specs.Jobs.{IsJob}
 use Rattle.mill_job.specs.declared.job.Job.{Job}
+use Rattle.mill_links.specs.declared.visit.Visit.{Visit}
 use Rattle.mill_paths.specs.Limits.{change_count, most_changes}
 use Rattle.mill_paths.specs.Visits.{AreFinishVisits, AreNodeVisits, AreRowVisits, HaveManyFinishVisits, IsVisit}
 use Rattle.mill_paths.specs.declared.fault.PathFault.{PathFault}
-use Rattle.mill_paths.specs.declared.visit.Visit.{Visit}
 use Rattle.mill_paths.proofs.Many.{few_finish}
 use Rattle.mill_paths.proofs.VisitLemmas.{finish_visits_are_free}
 

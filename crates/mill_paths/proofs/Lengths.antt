@@ -16,13 +16,14 @@ use Rattle.mill_job.specs.Columns.{home}
 use Rattle.mill_job.specs.Jobs.{tool_of}
 use Rattle.mill_job.specs.declared.job.Job.{Job}
 use Rattle.mill_level.specs.Waterlines.{Outline}
+use Rattle.mill_links.specs.Links.{is_same_point, IsLink, climb, cross, descend, pecks, plunge, way_home}
+use Rattle.mill_links.specs.Tours.{AreLinks, IsTour, last_place}
+use Rattle.mill_links.specs.declared.visit.Visit.{Visit}
 use Rattle.mill_paths.specs.Lattices.{finish_lattice, rough_lattice, zigzag_of}
-use Rattle.mill_paths.specs.Limits.{change_count, changes_after, is_same_point, is_same_visit, most_changes}
-use Rattle.mill_paths.specs.Links.{IsLink, climb, cross, descend, pecks, plunge, way_home}
-use Rattle.mill_paths.specs.Tours.{AreLinks, IsPlan, IsTour, last_place}
+use Rattle.mill_paths.specs.Limits.{change_count, changes_after, is_same_visit, most_changes}
+use Rattle.mill_paths.specs.Plans.{IsPlan}
 use Rattle.mill_paths.specs.Unique.{ManyFinishVisitsMakeMoves, ManyLevelVisitsMakeMoves, ManyRoughVisitsMakeMoves, PlanIsLonger}
 use Rattle.mill_paths.specs.Visits.{AreNodeVisits, AreRowVisits, HaveManyNodeVisits, HaveManyRowVisits, finish_visit, finish_visits_of, height_at, level_visits_of, outline_visits, rough_levels, rough_visit, rough_visits_of, rough_visits_on, row_visits_from, visit_at, visit_if}
-use Rattle.mill_paths.specs.declared.visit.Visit.{Visit}
 use Rattle.mill_paths.proofs.Uniqueness.{first_changes, one_level, one_link, one_rough, one_visits}
 use Rattle.mill_paths.proofs.Elsewhere.{Apart, Elsewhere, all_elsewhere}
 use Rattle.mill_paths.proofs.OutlineLemmas.{all_given}

@@ -1,12 +1,5 @@
 mod Rows
-mod Pecks
-mod Plunging
-mod Ranged
-mod Straight
-mod Joining
 mod ToolLemmas
-pub mod Going
-mod Points
 pub mod Changes
 pub mod Adding
 pub mod PathLemmas
@@ -17,7 +10,6 @@ pub mod RowPoints
 pub mod VisitLemmas
 pub mod OutlineLemmas
 pub mod FaultLemmas
-pub mod Steps
 pub mod Uniqueness
 mod Elsewhere
 pub mod Lengths

@@ -10,10 +10,10 @@ use Rattle.mill_drop.proofs.Uniqueness.{one_map}
 use Rattle.mill_job.specs.Jobs.{tool_of}
 use Rattle.mill_job.specs.declared.job.Job.{Job}
 use Rattle.mill_level.specs.Waterlines.{IsWaterline, Outline}
+use Rattle.mill_links.specs.declared.visit.Visit.{Visit}
 use Rattle.mill_paths.specs.Lattices.{finish_lattice, rough_lattice}
 use Rattle.mill_paths.specs.Limits.{change_count, most_changes}
 use Rattle.mill_paths.specs.Visits.{AreFinishVisits, AreNodeVisits, AreRowVisits, AreWaterlines, HaveManyFinishVisits, HaveManyLevelVisits, HaveManyNodeVisits, HaveManyRoughVisits, HaveManyRowVisits, finish_visits_of, level_visits_of, rough_visits_of, rough_visits_on, row_visits_from}
-use Rattle.mill_paths.specs.declared.visit.Visit.{Visit}
 use Rattle.mill_paths.proofs.LevelLemmas.{no_levels}
 use Rattle.mill_paths.proofs.Uniqueness.{first_changes, one_waterlines}
 

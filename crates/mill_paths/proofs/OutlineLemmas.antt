@@ -26,9 +26,9 @@ use Rattle.mill_level.specs.Waterlines.{IsWaterline, Outline, outline}
 use Rattle.mill_level.proofs.Members.{IsIn, member_counts}
 use Rattle.mill_level.proofs.Positions.{positions_rise}
 use Rattle.mill_level.proofs.SameChain.{IsOn, times_from_on}
+use Rattle.mill_links.specs.declared.visit.Visit.{Visit}
 use Rattle.mill_paths.specs.Lattices.{finish_lattice}
 use Rattle.mill_paths.specs.Visits.{AreWaterlines, IsVisit, LevelVisitsAreFree, level_visits_of, outline_visits}
-use Rattle.mill_paths.specs.declared.visit.Visit.{Visit}
 use Rattle.mill_paths.proofs.ToolLemmas.{gouges_lower}
 use Rattle.mill_paths.proofs.VisitLemmas.{IsJobLattice, area_in_range, positions_within, wider_step}
 

@@ -6,12 +6,12 @@ use Rattle.mill_base.specs.declared.lattice.Lattice.{Lattice}
 use Rattle.mill_base.specs.Points.{point_at}
 use Rattle.mill_base.specs.Lattices.{node_at}
 use Rattle.mill_job.specs.declared.job.Job.{Job}
+use Rattle.mill_links.specs.declared.visit.Visit.{Visit}
 use Rattle.mill_paths.specs.Lattices.{finish_lattice, rough_lattice}
 use Rattle.mill_paths.specs.Visits.{height_at, visit_at, visit_if}
 use Rattle.mill_paths.specs.inner.Paths.{path_height, path_lattice, path_visit}
 use Rattle.mill_paths.specs.declared.path.Path.{Path}
 use Rattle.mill_paths.specs.declared.path.Path.TheVariants.{Level, Finish}
-use Rattle.mill_paths.specs.declared.visit.Visit.{Visit}
 
 -- the visit at these coordinates
 abbrev pub made : ℤ → ℤ → ℤ → ℤ → Visit

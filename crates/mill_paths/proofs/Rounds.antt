@@ -7,13 +7,13 @@ use Rattle.mill_base.specs.declared.points.Tri.{Tri}
 use Rattle.mill_job.specs.Columns.{home}
 use Rattle.mill_job.specs.Jobs.{IsJob}
 use Rattle.mill_job.specs.declared.job.Job.{Job}
-use Rattle.mill_paths.specs.Links.{way_home}
-use Rattle.mill_paths.specs.Safety.{GoSafely, IsFreePlace, IsReached}
-use Rattle.mill_paths.specs.Tours.{last_place}
+use Rattle.mill_links.specs.Links.{way_home}
+use Rattle.mill_links.specs.Safety.{GoSafely, IsFreePlace, IsReached}
+use Rattle.mill_links.specs.Tours.{last_place}
+use Rattle.mill_links.specs.declared.visit.Visit.{Visit}
+use Rattle.mill_links.proofs.Going.{go_on, tour_is_safe, way_home_is_safe}
 use Rattle.mill_paths.specs.Unique.{RoundIsSafe}
 use Rattle.mill_paths.specs.Visits.{IsVisit}
-use Rattle.mill_paths.specs.declared.visit.Visit.{Visit}
-use Rattle.mill_paths.proofs.Going.{go_on, tour_is_safe, way_home_is_safe}
 
 level : (z : ℤ) → z ≤ℤ z
 level z = omega (arith, ints)

@@ -19,8 +19,8 @@ use Rattle.mill_drop.specs.Paths.{GoesOn, IsTip, KeepsTolerance}
 use Rattle.mill_drop.proofs.PathLemmas.{path_keeps}
 use Rattle.mill_job.specs.Jobs.{IsFrom, IsJob, tool_of}
 use Rattle.mill_job.specs.declared.job.Job.{Job}
+use Rattle.mill_links.specs.declared.visit.Visit.{Visit}
 use Rattle.mill_paths.specs.Visits.{IsVisit, in_turn, point_visit, point_visits, step_from, visits_after}
-use Rattle.mill_paths.specs.declared.visit.Visit.{Visit}
 use Rattle.mill_paths.specs.RowPaths.{IsTurnedPath, row_y}
 use Rattle.mill_paths.specs.inner.Rows.{IsInArea}
 

@@ -9,12 +9,12 @@ use Rattle.mill_base.specs.Points.{point_at}
 use Rattle.mill_base.specs.declared.points.Pt3.{Pt3}
 use Rattle.mill_base.specs.declared.points.Tri.{Tri}
 use Rattle.mill_job.specs.declared.job.Job.{Job}
+use Rattle.mill_links.specs.declared.visit.Visit.{Visit}
 use Rattle.mill_paths.specs.Lattices.{finish_lattice}
 use Rattle.mill_paths.specs.Limits.{IsListFault, change_count, most_changes}
 use Rattle.mill_paths.specs.Visits.{AreRowVisits, HaveManyRowVisits, IsRowPath, in_turn, point_visit, point_visits, row_visits_from, step_from, visits_after}
 use Rattle.mill_paths.specs.declared.fault.PathFault.{PathFault}
 use Rattle.mill_paths.specs.declared.path.Path.TheVariants.{Finish}
-use Rattle.mill_paths.specs.declared.visit.Visit.{Visit}
 use Rattle.mill_paths.specs.inner.Paths.{path_height}
 use Rattle.mill_paths.specs.RowPaths.{IsTurnedPath, row_y}
 use Rattle.mill_paths.specs.inner.Rows.{AreFirstVisits, last_point}

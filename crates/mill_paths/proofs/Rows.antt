@@ -1,17 +1,15 @@
--- Worked visits over three by three nodes of a plate, and worked ways down to a place.
-use Rattle.std.proofs.Common.{◌≡◌, ℤ, List, [], ◌∷◌, length, map, replicate, refl}
-use Rattle.std.specs.Prelude.{pos, negsuc, None}
+-- Worked visits over three by three nodes of a plate.
+use Rattle.std.proofs.Common.{◌≡◌, ℤ, List, [], ◌∷◌, length, replicate, refl}
+use Rattle.std.specs.Prelude.{pos, None}
 use Rattle.mill_base.specs.Points.{point_at}
 use Rattle.mill_base.specs.declared.cutter.Cutter.TheVariants.{Flat}
-use Rattle.mill_base.specs.declared.motion.Move.{Move}
 use Rattle.mill_base.specs.declared.unit.Unit.TheVariants.{Hundredth}
 use Rattle.mill_decimal.specs.declared.snap.Snap.TheVariants.{Nearest}
 use Rattle.mill_job.specs.declared.job.Job.{Job}
+use Rattle.mill_links.specs.declared.visit.Visit.{Visit}
 use Rattle.mill_paths.specs.Lattices.{finish_lattice, zigzag_of}
 use Rattle.mill_paths.specs.Limits.{change_count}
-use Rattle.mill_paths.specs.Links.{feed_to, peck_count, plunge}
 use Rattle.mill_paths.specs.Visits.{rough_levels, rough_visits_of, finish_visits_of}
-use Rattle.mill_paths.specs.declared.visit.Visit.{Visit}
 
 abbrev plate : ℤ → ℤ → Job
 plate layer lift = record { unit = Hundredth; cutter = Flat (pos 150); floor = pos 0; top = pos 300; clear = pos 400; area = record { x0 = pos 0; y0 = pos 0; x1 = pos 200; y1 = pos 200 }; home = record { x = pos 100; y = pos 100 }; pitch = pos 100; sample = pos 50; allowance = pos 0; band = pos 0; lift = lift; raster = pos 100; rough_raster = pos 100; layer = layer; rough_stock = pos 0; levels = []; snap = Nearest; max_cut = pos 0; holder = None; path_tol = None }
@@ -57,20 +55,3 @@ changes = refl
 
 no_change : change_count (visit (pos 0) (pos 0) (pos 299) ∷ visit (pos 0) (pos 0) (pos 299) ∷ []) ≡ 0
 no_change = refl
-
--- so many pecks end over a place 200 under the top, and the last feed ends there; at the top, over it, and without a limit there is that feed alone
-peck_counts : map (λ depth. peck_count depth (pos 200)) (pos 0 ∷ pos 50 ∷ pos 150 ∷ pos 199 ∷ pos 200 ∷ []) ≡ 0 ∷ 3 ∷ 1 ∷ 1 ∷ 0 ∷ []
-peck_counts = refl
-
-no_pecks : map (peck_count (pos 50)) (pos 0 ∷ negsuc 0 ∷ negsuc 199 ∷ []) ≡ 0 ∷ 0 ∷ 0 ∷ []
-no_pecks = refl
-
-abbrev down : ℤ → ℤ → Move
-down z low = feed_to (point_at (pos 0) (pos 0) z) (point_at (pos 0) (pos 0) low)
-
-limited : plunge (record (plate (pos 0) (pos 0)) { max_cut = pos 80 }) (point_at (pos 0) (pos 0) (pos 100))
-    ≡ down (pos 300) (pos 220) ∷ down (pos 220) (pos 140) ∷ down (pos 140) (pos 100) ∷ []
-limited = refl
-
-unlimited : plunge (plate (pos 0) (pos 0)) (point_at (pos 0) (pos 0) (pos 100)) ≡ down (pos 300) (pos 100) ∷ []
-unlimited = refl

@@ -16,13 +16,14 @@ use Rattle.mill_job.specs.declared.job.Job.{Job}
 use Rattle.mill_level.specs.Waterlines.{IsWaterline, Outline}
 use Rattle.mill_level.proofs.Apart.{joins_are_apart}
 use Rattle.mill_level.proofs.OneWaterline.{one_waterline}
+use Rattle.mill_links.specs.Links.{IsLink, way_home}
+use Rattle.mill_links.specs.Tours.{AreLinks, IsTour, last_place}
+use Rattle.mill_links.specs.declared.visit.Visit.{Visit}
 use Rattle.mill_paths.specs.Lattices.{finish_lattice, rough_lattice}
 use Rattle.mill_paths.specs.Limits.{change_count}
-use Rattle.mill_paths.specs.Links.{IsLink, way_home}
-use Rattle.mill_paths.specs.Tours.{AreLinks, ArePlanVisits, IsTour, last_place}
+use Rattle.mill_paths.specs.Plans.{ArePlanVisits}
 use Rattle.mill_paths.specs.Unique.{OnePlan}
 use Rattle.mill_paths.specs.Visits.{AreFinishVisits, AreFirstPaths, AreLevelVisits, AreNodeVisits, AreRoughVisits, AreRowPaths, AreRowVisits, AreWaterlines, IsRowPath, finish_visits_of, level_count, level_visits_of, rough_visits_of, rough_visits_on, row_visits_from}
-use Rattle.mill_paths.specs.declared.visit.Visit.{Visit}
 use Rattle.mill_paths.proofs.Changes.{more_changes}
 use Rattle.mill_paths.proofs.RowVisits.{rows_join}
 

@@ -22,9 +22,9 @@ use Rattle.mill_base.proofs.NodeLemmas.{length-rows, get_or-rows, row_within, le
 use Rattle.mill_job.specs.Jobs.{IsFrom, IsJob, tool_of}
 use Rattle.mill_job.specs.Tables.{IsArea}
 use Rattle.mill_job.specs.declared.job.Job.{Job}
+use Rattle.mill_links.specs.declared.visit.Visit.{Visit}
 use Rattle.mill_paths.specs.Lattices.{finish_lattice, rough_lattice, zigzag_of, zigzag_row}
 use Rattle.mill_paths.specs.Visits.{FinishVisitsAreFree, RoughVisitsAreFree, AreNodeVisits, AreRowVisits, IsRowPath, IsVisit, in_turn, point_visits, row_visits_from, finish_visit, finish_visits_of, height_at, rough_levels, rough_visit, rough_visits_of, rough_visits_on, visit_at, visit_if}
-use Rattle.mill_paths.specs.declared.visit.Visit.{Visit}
 use Rattle.mill_paths.proofs.Adding.{flat_map-nested}
 use Rattle.mill_paths.proofs.RowPoints.{turned_ok}
 use Rattle.mill_paths.proofs.LevelLemmas.{IsLevel, is_level, no_levels}

@@ -2,8 +2,6 @@ pub mod Lattices
 pub mod Limits
 pub mod Visits
 pub mod RowPaths
-pub mod Links
-pub mod Tours
-pub mod Safety
+pub mod Plans
 pub mod Unique
 pub mod inner

@@ -4,18 +4,14 @@ use Rattle.std.specs.Ordering.{int_eq}
 use Rattle.mill_base.specs.Lattices.{node_count}
 use Rattle.mill_base.specs.declared.limits.TheConstants.{MAX_MOVES, MAX_NODES}
 use Rattle.mill_base.specs.declared.lattice.Lattice.{Lattice}
-use Rattle.mill_base.specs.declared.points.Pt3.{Pt3}
+use Rattle.mill_links.specs.Links.{is_same_point}
+use Rattle.mill_links.specs.declared.visit.Visit.{Visit}
 use Rattle.mill_paths.specs.declared.fault.PathFault.{PathFault}
 use Rattle.mill_paths.specs.declared.fault.PathFault.TheVariants.{TooManyNodes, TooManyVisits, WantOfMemory}
-use Rattle.mill_paths.specs.declared.visit.Visit.{Visit}
 
 -- the most visits of a list that differ from the one before them
 abbrev pub most_changes : ℕ
 most_changes = MAX_MOVES
-
--- two places are one
-abbrev pub is_same_point : Pt3 → Pt3 → Bool
-is_same_point p q = int_eq p.x q.x && (int_eq p.y q.y && int_eq p.z q.z)
 
 -- two visits are at one place, and on lattices of one step
 abbrev pub is_same_visit : Visit → Visit → Bool

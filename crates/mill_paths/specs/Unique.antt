@@ -7,12 +7,13 @@ use Rattle.mill_base.specs.declared.motion.Move.{Move}
 use Rattle.mill_job.specs.Columns.{home}
 use Rattle.mill_job.specs.Jobs.{IsJob}
 use Rattle.mill_job.specs.declared.job.Job.{Job}
+use Rattle.mill_links.specs.Links.{way_home}
+use Rattle.mill_links.specs.Safety.{GoSafely}
+use Rattle.mill_links.specs.Tours.{IsTour, last_place}
+use Rattle.mill_links.specs.declared.visit.Visit.{Visit}
 use Rattle.mill_paths.specs.Limits.{most_changes}
-use Rattle.mill_paths.specs.Links.{way_home}
-use Rattle.mill_paths.specs.Safety.{GoSafely}
-use Rattle.mill_paths.specs.Tours.{ArePlanVisits, IsTour, IsPlan, last_place}
+use Rattle.mill_paths.specs.Plans.{ArePlanVisits, IsPlan}
 use Rattle.mill_paths.specs.Visits.{HaveManyRoughVisits, HaveManyLevelVisits, HaveManyFinishVisits, IsVisit}
-use Rattle.mill_paths.specs.declared.visit.Visit.{Visit}
 
 -- a job and a part have at most one plan
 abbrev pub OnePlan : Type 0

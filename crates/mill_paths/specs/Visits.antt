@@ -15,9 +15,9 @@ use Rattle.mill_drop.specs.Paths.{IsPath}
 use Rattle.mill_job.specs.Jobs.{IsFrom, IsJob, tool_of}
 use Rattle.mill_job.specs.declared.job.Job.{Job}
 use Rattle.mill_level.specs.Waterlines.{IsWaterline, Outline}
+use Rattle.mill_links.specs.declared.visit.Visit.{Visit}
 use Rattle.mill_paths.specs.Lattices.{finish_lattice, rough_lattice, zigzag_of}
 use Rattle.mill_paths.specs.Limits.{change_count, most_changes}
-use Rattle.mill_paths.specs.declared.visit.Visit.{Visit}
 
 -- the visit over the node of this number at height z
 abbrev pub visit_at : Lattice → ℕ → ℤ → Visit

@@ -1,31 +1,26 @@
-//! The paths of a plan: the places that the cutter comes to, in their order, and the moves between.
+//! The paths of a plan: the places that the cutter comes to, in their order.
 //!
 //! It stands on the job (mill_job), on the drop heights of its tool over a lattice and its paths along
-//! rows (mill_drop) and on the tool's waterlines at heights (mill_level), and the links between the places
-//! on `mill_gouge`, which tries the tool on one move against the part, and on `mill_dexel`, whose rows are
-//! the stock that the moves so far leave. A tool is the cutter, and its holder if the job has one.
+//! rows (mill_drop), on the tool's waterlines at heights (mill_level), and on the moves that link these
+//! places (mill_links). A tool is the cutter, and its holder if the job has one.
 //! A [`Crew`] works out the heights, waterlines and paths: the threads of a runtime, or the calling thread
 //! alone. What comes of it is the same.
 //!
 //! `specs/Lattices` says which lattices the paths go over and in which order, `specs/Visits` which
 //! places they come to, and how high, `specs/RowPaths` in which order the points of rows are come to,
-//! `specs/Limits` how many the visits may be, `specs/Links` which moves link one place to the next, and
-//! `specs/Tours` which moves make a plan. `specs/Safety` says what each of these moves keeps, and
-//! `specs/Unique` that a job and a part have one plan at most; what lies in `specs/inner` serves the
-//! functions within.
+//! `specs/Limits` how many the visits may be, and `specs/Plans` which moves make a plan. `specs/Unique`
+//! says that a job and a part have one plan at most; what lies in `specs/inner` serves the functions
+//! within.
 #![tactic(auto)]
 
 mod crew;
 mod fault;
 mod lattices;
 mod levels;
-mod link_laws;
-mod links;
 mod path;
 mod plan_laws;
 mod row_paths;
 mod row_visits;
-mod visit;
 mod visit_list;
 mod visits;
 mod waterlines;
@@ -35,10 +30,8 @@ pub use crew::{Alone, Crew, Threaded};
 pub use fault::PathFault;
 pub use lattices::{finish_lattice, rough_lattice};
 pub use levels::level_visits;
-pub use link_laws::{link_is_safe, tour_is_safe, way_home_is_safe};
-pub use links::{goes_clear, home, link, link_known};
+pub use mill_links::Visit;
 pub use plan_laws::{
     many_visits_make_moves, one_plan, plan_is_longer, round_is_safe, visits_are_free,
 };
-pub use visit::Visit;
 pub use visits::{finish_visits, rough_visits};

@@ -4,9 +4,9 @@ ghost use Rattle.mill_job.specs.Jobs.{IsJob};
 ghost use Rattle.mill_paths.specs.inner.Paths.{path_height, path_lattice, path_visit};
 
 use crate::lattices::{finish_lattice, rough_lattice};
-use crate::visit::Visit;
 use mill_base::{Lattice, Pt3};
 use mill_job::Job;
+use mill_links::Visit;
 
 /// A path over a lattice.
 #[derive(Clone, Copy, Debug, PartialEq, Eq)]

@@ -14,11 +14,11 @@ use crate::crew::Crew;
 use crate::fault::PathFault;
 use crate::lattices::finish_lattice;
 use crate::path::{Path, tip_height};
-use crate::visit::Visit;
 use crate::visit_list::VisitList;
 use mill_base::{MAX_NODES, Pt3};
 use mill_cells::Cells;
 use mill_job::Job;
+use mill_links::Visit;
 use mill_part::Part;
 use std::alloc::Global;
 

@@ -2,7 +2,7 @@ ghost use Rattle.std.specs.Prelude.{◌≡◌, ◌+◌, ◌≤◌, ◌++◌, [],
 ghost use Rattle.mill_paths.specs.Limits.{change_count, most_changes, IsListFault};
 
 use crate::fault::PathFault;
-use crate::visit::Visit;
+use mill_links::Visit;
 use std::alloc::Global;
 
 /// The most visits that differ from the one before them.

@@ -14,12 +14,12 @@ use crate::crew::Crew;
 use crate::fault::PathFault;
 use crate::path::Path;
 use crate::row_visits::row_visits;
-use crate::visit::Visit;
 use crate::visit_list::VisitList;
 use crate::zigzag::add_path;
 use mill_base::{Lattice, MAX_NODES};
 use mill_cells::Cells;
 use mill_job::Job;
+use mill_links::Visit;
 use mill_part::Part;
 use std::alloc::Global;
 

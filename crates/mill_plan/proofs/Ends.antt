@@ -10,11 +10,12 @@ use Rattle.mill_base.specs.declared.points.Tri.{Tri}
 use Rattle.mill_job.specs.Columns.{home}
 use Rattle.mill_job.specs.Jobs.{IsJob}
 use Rattle.mill_job.specs.declared.job.Job.{Job}
-use Rattle.mill_paths.specs.Links.{IsLink, at_height, climb, cross, descend, feed_to, peck_count, pecks, plunge, way_home}
-use Rattle.mill_paths.specs.Safety.{IsEndOf}
-use Rattle.mill_paths.specs.Tours.{AreLinks, IsPlan, last_place}
+use Rattle.mill_links.specs.Links.{IsLink, at_height, climb, cross, descend, feed_to, peck_count, pecks, plunge, way_home}
+use Rattle.mill_links.specs.Safety.{IsEndOf}
+use Rattle.mill_links.specs.Tours.{AreLinks, last_place}
+use Rattle.mill_links.specs.declared.visit.Visit.{Visit}
+use Rattle.mill_paths.specs.Plans.{IsPlan}
 use Rattle.mill_paths.specs.Visits.{IsVisit}
-use Rattle.mill_paths.specs.declared.visit.Visit.{Visit}
 use Rattle.mill_paths.proofs.VisitLemmas.{finish_visits_are_free}
 
 -- a move of a list ends there, also where others stand before or after the list

@@ -7,8 +7,8 @@ use Rattle.std.proofs.lemmas.Slice.Zip.{all_zipped_more}
 use Rattle.mill_base.specs.declared.points.Pt3.{Pt3}
 use Rattle.mill_base.specs.declared.points.Tri.{Tri}
 use Rattle.mill_job.specs.declared.job.Job.{Job}
-use Rattle.mill_paths.specs.Links.{SaysClear}
-use Rattle.mill_paths.specs.declared.visit.Visit.{Visit}
+use Rattle.mill_links.specs.Links.{SaysClear}
+use Rattle.mill_links.specs.declared.visit.Visit.{Visit}
 use Rattle.mill_paths.proofs.Gathered.{numbers_more}
 use Rattle.mill_plan.specs.inner.Feeds.{SayClear, SaysClearTo, no_visit, place_before}
 

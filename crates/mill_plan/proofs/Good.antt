@@ -18,7 +18,7 @@ use Rattle.mill_sweep.specs.Halving.{PassesPoint}
 use Rattle.mill_sweep.specs.Holders.{HolderPassesPoint}
 use Rattle.mill_sweep.specs.declared.leaf.Leaf.{Leaf}
 use Rattle.mill_dexel.specs.Tops.{ClearsColumns, HolderClearsColumns, IsTested, tested_point, top_point}
-use Rattle.mill_paths.specs.Safety.{AreSafe, Connect, GoSafely, IsSafeMove}
+use Rattle.mill_links.specs.Safety.{AreSafe, Connect, GoSafely, IsSafeMove}
 use Rattle.mill_verify.specs.Tests.{ClearsPart, ClearsStock, GoodBefore, HolderClearsPart, IsOverFloor}
 use Rattle.mill_dexel.specs.Turns.{move_at}
 use Rattle.mill_verify.specs.Verdicts.{FailsHolder, FailsStock, IsRejection}

@@ -13,7 +13,7 @@ use Rattle.mill_base.proofs.Ranges.{within_of_unit}
 use Rattle.mill_job.specs.Columns.{home}
 use Rattle.mill_job.specs.Jobs.{IsJob}
 use Rattle.mill_job.specs.declared.job.Job.{Job}
-use Rattle.mill_paths.specs.Links.{at_height, climb, cross, is_over_place, rapid_to, way_home}
+use Rattle.mill_links.specs.Links.{at_height, climb, cross, is_over_place, rapid_to, way_home}
 
 -- what stands past the old moves is what was added to them
 pub past_old : (old added new : List Move) (first : ℕ) → first ≡ length old → new ≡ old ++ added → take (length new - first) (drop first new) ≡ added

@@ -6,8 +6,8 @@ use Rattle.mill_base.specs.Covers.{IsUnder}
 use Rattle.mill_job.specs.Columns.{home}
 use Rattle.mill_job.specs.Jobs.{IsJob}
 use Rattle.mill_job.specs.declared.job.Job.{Job}
-use Rattle.mill_paths.specs.Safety.{GoSafely}
-use Rattle.mill_paths.specs.Tours.{IsPlan}
+use Rattle.mill_links.specs.Safety.{GoSafely}
+use Rattle.mill_paths.specs.Plans.{IsPlan}
 use Rattle.mill_paths.specs.Unique.{RoundIsSafe}
 use Rattle.mill_paths.specs.Visits.{FinishVisitsAreFree, LevelVisitsAreFree, RoughVisitsAreFree}
 use Rattle.mill_plan.specs.Laws.{PlanNeverFails}

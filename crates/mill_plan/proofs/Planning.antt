@@ -9,14 +9,14 @@ use Rattle.mill_base.specs.declared.points.Tri.{Tri}
 use Rattle.mill_job.specs.Columns.{home}
 use Rattle.mill_job.specs.Jobs.{IsJob}
 use Rattle.mill_job.specs.declared.job.Job.{Job}
+use Rattle.mill_links.specs.Safety.{GoSafely}
+use Rattle.mill_links.specs.declared.visit.Visit.{Visit}
 use Rattle.mill_paths.specs.Lattices.{finish_lattice, rough_lattice}
 use Rattle.mill_paths.specs.Limits.{HasManyNodes}
-use Rattle.mill_paths.specs.Safety.{GoSafely}
-use Rattle.mill_paths.specs.Tours.{ArePlanVisits, IsPlan}
+use Rattle.mill_paths.specs.Plans.{ArePlanVisits, IsPlan}
 use Rattle.mill_paths.specs.Visits.{AreFinishVisits, AreLevelVisits, AreRoughVisits, HaveManyFinishVisits, HaveManyLevelVisits, HaveManyRoughVisits, IsVisit}
 use Rattle.mill_paths.specs.declared.fault.PathFault.{PathFault}
 use Rattle.mill_paths.specs.declared.fault.PathFault.TheVariants as path
-use Rattle.mill_paths.specs.declared.visit.Visit.{Visit}
 use Rattle.mill_paths.proofs.Lengths.{many_finish, many_level, many_rough, plan_is_longer}
 use Rattle.mill_paths.proofs.Rounds.{round_is_safe}
 use Rattle.mill_paths.proofs.Uniqueness.{one_plan}

@@ -17,9 +17,9 @@ use Rattle.mill_job.specs.Columns.{column_x, column_y}
 use Rattle.mill_job.specs.Jobs.{IsJob}
 use Rattle.mill_job.specs.declared.job.Job.{Job}
 use Rattle.mill_part.proofs.Below.{covered_below}
+use Rattle.mill_links.specs.Safety.{IsEndOf}
+use Rattle.mill_links.specs.declared.visit.Visit.{Visit}
 use Rattle.mill_paths.proofs.Uniqueness.{one_finish}
-use Rattle.mill_paths.specs.Safety.{IsEndOf}
-use Rattle.mill_paths.specs.declared.visit.Visit.{Visit}
 use Rattle.mill_shape.proofs.Over.{holds_over}
 use Rattle.mill_verify.specs.Tests.{GoodBefore}
 use Rattle.mill_verify.specs.Verdicts.{FailsCut}

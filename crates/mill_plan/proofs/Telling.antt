@@ -5,7 +5,7 @@ use Rattle.mill_base.specs.declared.points.Tri.{Tri}
 use Rattle.mill_job.specs.Columns.{home}
 use Rattle.mill_job.specs.Jobs.{IsJob}
 use Rattle.mill_job.specs.declared.job.Job.{Job}
-use Rattle.mill_paths.specs.Safety.{GoSafely}
+use Rattle.mill_links.specs.Safety.{GoSafely}
 use Rattle.mill_post.specs.Readings.{ReadsBack}
 use Rattle.mill_post.specs.Texts.{program_text}
 use Rattle.mill_sweep.specs.declared.leaf.Leaf.{Leaf}

@@ -8,10 +8,10 @@ use Rattle.mill_base.specs.declared.points.Tri.{Tri}
 use Rattle.mill_dexel.specs.Rows.{RowState}
 use Rattle.mill_job.specs.Columns.{home}
 use Rattle.mill_job.specs.declared.job.Job.{Job}
-use Rattle.mill_paths.specs.Links.{AddsLink, FollowStock, IsLink, way_home}
-use Rattle.mill_paths.specs.Tours.{IsTour, last_place}
-use Rattle.mill_paths.specs.declared.visit.Visit.{Visit}
-use Rattle.mill_paths.proofs.Steps.{last_snoc, tour_snoc}
+use Rattle.mill_links.specs.Links.{AddsLink, FollowStock, IsLink, way_home}
+use Rattle.mill_links.specs.Tours.{IsTour, last_place}
+use Rattle.mill_links.specs.declared.visit.Visit.{Visit}
+use Rattle.mill_links.proofs.Steps.{last_snoc, tour_snoc}
 use Rattle.mill_base.specs.declared.limits.TheConstants.{MAX_MOVES}
 use Rattle.mill_plan.specs.inner.Feeds.{place_before}
 use Rattle.mill_plan.specs.inner.Steps.{IsLongRound, IsRound, IsTourOver}

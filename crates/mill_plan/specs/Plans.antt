@@ -11,11 +11,11 @@ use Rattle.mill_base.specs.declared.motion.Move.{Move}
 use Rattle.mill_job.specs.Columns.{home, column_x, column_y}
 use Rattle.mill_job.specs.declared.job.Job.{Job}
 use Rattle.mill_ngc.specs.Programs.{program_of}
+use Rattle.mill_links.specs.declared.visit.Visit.{Visit}
 use Rattle.mill_paths.specs.Lattices.{finish_lattice, rough_lattice}
 use Rattle.mill_paths.specs.Limits.{HasManyNodes}
-use Rattle.mill_paths.specs.Tours.{IsPlan}
+use Rattle.mill_paths.specs.Plans.{IsPlan}
 use Rattle.mill_paths.specs.Visits.{AreFinishVisits}
-use Rattle.mill_paths.specs.declared.visit.Visit.{Visit}
 use Rattle.mill_post.specs.Texts.{program_text}
 use Rattle.mill_verify.specs.Claims.{CutsSafely}
 use Rattle.mill_verify.specs.Verdicts.{IsVerdict}

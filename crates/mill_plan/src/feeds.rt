@@ -9,8 +9,8 @@ ghost use Rattle.mill_plan.specs.inner.Feeds.{IsLinkTask, SayClear, SaysClearTo,
 use mill_base::{Pt3, WantOfMemory};
 use mill_cells::Cells;
 use mill_job::Job;
+use mill_links::{Visit, goes_clear};
 use mill_part::Part;
-use mill_paths::{Visit, goes_clear};
 use rayon::prelude::*;
 use std::alloc::Global;
 use std::thread::Threads;

@@ -8,9 +8,9 @@ ghost use Rattle.mill_cells.specs.Sorted.{sorted_of};
 ghost use Rattle.mill_dexel.specs.Rows.{IsRowOf};
 ghost use Rattle.mill_job.specs.Columns.{home as home_of};
 ghost use Rattle.mill_job.specs.Jobs.{IsJob};
-ghost use Rattle.mill_paths.specs.Links.{FollowStock};
-ghost use Rattle.mill_paths.specs.Safety.{GoSafely};
-ghost use Rattle.mill_paths.specs.Tours.{ArePlanVisits};
+ghost use Rattle.mill_links.specs.Links.{FollowStock};
+ghost use Rattle.mill_links.specs.Safety.{GoSafely};
+ghost use Rattle.mill_paths.specs.Plans.{ArePlanVisits};
 ghost use Rattle.mill_paths.specs.Visits.{IsVisit};
 ghost use Rattle.mill_plan.specs.Plans.{HasFewNodes, HasPlan, IsPlanFault};
 ghost use Rattle.mill_plan.specs.inner.Conditions.{AreFirstRows};
@@ -23,11 +23,9 @@ use mill_base::{MAX_MOVES, MAX_NODES, Move, WantOfMemory};
 use mill_cells::Cells;
 use mill_dexel::{Row, cut_rows, uncut_rows};
 use mill_job::Job;
+use mill_links::{Visit, home, link_known};
 use mill_part::Part;
-use mill_paths::{
-    Crew, Visit, finish_lattice, finish_visits, home, level_visits, link_known, rough_lattice,
-    rough_visits,
-};
+use mill_paths::{Crew, finish_lattice, finish_visits, level_visits, rough_lattice, rough_visits};
 use std::alloc::Global;
 
 /// Whether each lattice that the paths go over has at most 4,000,000 nodes: the finishing one, over

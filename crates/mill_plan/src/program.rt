@@ -4,8 +4,8 @@ ghost use Rattle.mill_base.specs.Covers.{IsUnder};
 ghost use Rattle.mill_cells.specs.Sorted.{sorted_of};
 ghost use Rattle.mill_job.specs.Columns.{home};
 ghost use Rattle.mill_job.specs.Jobs.{IsJob};
-ghost use Rattle.mill_paths.specs.Links.{FollowStock};
-ghost use Rattle.mill_paths.specs.Safety.{GoSafely};
+ghost use Rattle.mill_links.specs.Links.{FollowStock};
+ghost use Rattle.mill_links.specs.Safety.{GoSafely};
 ghost use Rattle.mill_verify.specs.Claims.{CutsSafely};
 ghost use Rattle.mill_verify.specs.Verdicts.{IsVerdict};
 ghost use Rattle.mill_plan.specs.Plans.{HasPlan, IsOverNodes, IsPlanAnswer, IsPlanFault, answer_of};
@@ -31,8 +31,9 @@ use std::thread::Threads;
 ///
 /// The cutter starts at the job's home, comes to the visits of its roughing, then to those along the
 /// waterlines at its levels, each closed one round to its first point again, and then to those of its
-/// finishing path (mill_paths), each by its link, and goes home. The text is that of `mill_post` in the
-/// job's unit; it reads back as these moves, which the verifier accepts, with the numbers that are told.
+/// finishing path (mill_paths), each by its link (mill_links), and goes home. The text is that of
+/// `mill_post` in the job's unit; it reads back as these moves, which the verifier accepts, with the
+/// numbers that are told.
 ///
 /// Where the job limits the depth of cut (`max_cut`), the way down to a place goes by pecks, none of
 /// them deeper, and a straight feed is made only where it cuts no column deeper than that, as the moves

@@ -5,7 +5,7 @@ use Rattle.mill_base.specs.declared.points.Tri.{Tri}
 use Rattle.mill_cells.specs.Sorted.{Sorted, sorted_of}
 use Rattle.mill_job.specs.Jobs.{IsJob}
 use Rattle.mill_job.specs.declared.job.Job.{Job}
-use Rattle.mill_paths.specs.declared.visit.Visit.{Visit}
+use Rattle.mill_links.specs.declared.visit.Visit.{Visit}
 
 -- the level of this number
 abbrev pub level_at : Job → ℕ → ℤ

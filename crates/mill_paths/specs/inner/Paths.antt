@@ -3,11 +3,11 @@ use Rattle.std.specs.Prelude.{ℕ, if◌then◌else◌, ℤ, ◌+ℤ◌, int_lt,
 use Rattle.std.specs.List.{flat_map}
 use Rattle.mill_base.specs.declared.lattice.Lattice.{Lattice}
 use Rattle.mill_job.specs.declared.job.Job.{Job}
+use Rattle.mill_links.specs.declared.visit.Visit.{Visit}
 use Rattle.mill_paths.specs.Lattices.{finish_lattice, rough_lattice, zigzag_of}
 use Rattle.mill_paths.specs.Visits.{rough_visit, finish_visit}
 use Rattle.mill_paths.specs.declared.path.Path.{Path}
 use Rattle.mill_paths.specs.declared.path.Path.TheVariants.{Level, Finish}
-use Rattle.mill_paths.specs.declared.visit.Visit.{Visit}
 
 -- the lattice that a path goes over
 abbrev pub path_lattice : Job → Path → Lattice

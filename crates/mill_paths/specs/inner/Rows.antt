@@ -9,12 +9,12 @@ use Rattle.mill_cells.specs.Sorted.{Sorted, sorted_of}
 use Rattle.mill_job.specs.Jobs.{IsFrom, IsJob}
 use Rattle.mill_job.specs.declared.job.Job.{Job}
 use Rattle.mill_job.specs.declared.limits.TheConstants.{MAX_DISTANCE}
+use Rattle.mill_links.specs.declared.visit.Visit.{Visit}
 use Rattle.mill_paths.specs.Lattices.{finish_lattice}
 use Rattle.mill_paths.specs.Limits.{HasManyNodes}
 use Rattle.mill_paths.specs.Visits.{AreFirstPaths, row_visits_from, visits_after}
 use Rattle.mill_paths.specs.declared.fault.PathFault.{PathFault}
 use Rattle.mill_paths.specs.declared.fault.PathFault.TheVariants.{TooManyNodes, TooManyVisits, WantOfMemory}
-use Rattle.mill_paths.specs.declared.visit.Visit.{Visit}
 
 -- the point lies over the job's area in x
 pub record IsInArea (job : Job) (p : Pt3) : Type 0 where

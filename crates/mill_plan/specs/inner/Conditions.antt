@@ -4,7 +4,7 @@ use Rattle.mill_base.specs.declared.limits.TheConstants.{MAX_WORKERS}
 use Rattle.mill_dexel.specs.Rows.{IsRowOf}
 use Rattle.mill_dexel.specs.declared.row.Row.{Row}
 use Rattle.mill_job.specs.declared.job.Job.{Job}
-use Rattle.mill_paths.specs.Links.{FollowStock}
+use Rattle.mill_links.specs.Links.{FollowStock}
 
 -- a number of workers that may share the work
 pub record AreWorkers (workers : ℕ) : Type 0 where

@@ -8,10 +8,10 @@ use Rattle.mill_cells.specs.Sorted.{Sorted, sorted_of}
 use Rattle.mill_job.specs.Columns.{home}
 use Rattle.mill_job.specs.Jobs.{IsJob}
 use Rattle.mill_job.specs.declared.job.Job.{Job}
-use Rattle.mill_paths.specs.Links.{SaysClear}
-use Rattle.mill_paths.specs.Tours.{last_place}
+use Rattle.mill_links.specs.Links.{SaysClear}
+use Rattle.mill_links.specs.Tours.{last_place}
+use Rattle.mill_links.specs.declared.visit.Visit.{Visit}
 use Rattle.mill_paths.specs.Visits.{IsVisit}
-use Rattle.mill_paths.specs.declared.visit.Visit.{Visit}
 
 -- what stands past the end of a list of visits; it is never looked at
 abbrev pub no_visit : Visit

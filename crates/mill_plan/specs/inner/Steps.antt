@@ -4,10 +4,10 @@ use Rattle.mill_base.specs.declared.points.Tri.{Tri}
 use Rattle.mill_base.specs.declared.motion.Move.{Move}
 use Rattle.mill_job.specs.Columns.{home}
 use Rattle.mill_job.specs.declared.job.Job.{Job}
-use Rattle.mill_paths.specs.Links.{way_home}
-use Rattle.mill_paths.specs.Tours.{IsTour, last_place}
+use Rattle.mill_links.specs.Links.{way_home}
+use Rattle.mill_links.specs.Tours.{IsTour, last_place}
+use Rattle.mill_links.specs.declared.visit.Visit.{Visit}
 use Rattle.mill_paths.specs.Unique.{BeginsTour}
-use Rattle.mill_paths.specs.declared.visit.Visit.{Visit}
 use Rattle.mill_plan.specs.Plans.{IsOverNodes}
 use Rattle.mill_base.specs.declared.limits.TheConstants.{MAX_MOVES}
 use Rattle.mill_plan.specs.declared.fault.PlanFault.{PlanFault}

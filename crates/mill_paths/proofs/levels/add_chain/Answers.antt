@@ -1,8 +1,8 @@
 use Rattle.std.proofs.Common.{◌≡◌, ◌∙◌, sym, ap}
 use Rattle.std.specs.Prelude.{slice_get, option_copied, Some}
 use Rattle.std.proofs.lemmas.Result.{err_from_is_err_and}
+use Rattle.mill_links.proofs.Joining.{ok_gives}
 use Rattle.mill_paths.proofs.Along.{closed_chain, fault_gives, first_fault, open_chain, points_fault}
-use Rattle.mill_paths.proofs.Joining.{ok_gives}
 use Rattle.mill_paths.proofs.levels.add_chain.Goals as goal
 
 pub returns-in_err-add_points-clause-fault : goal.returns-in_err-add_points-clause-fault

@@ -3,8 +3,8 @@ use Rattle.std.specs.Prelude.{pos}
 use Rattle.std.proofs.lemmas.List.Concat.{flat_map_single}
 use Rattle.std.proofs.lemmas.Result.{err_from_is_err_and}
 use Rattle.mill_base.specs.Points.{point_at}
+use Rattle.mill_links.specs.declared.visit.Visit.{Visit}
 use Rattle.mill_paths.specs.Limits.{IsListFault}
-use Rattle.mill_paths.specs.declared.visit.Visit.{Visit}
 use Rattle.mill_paths.specs.inner.Levels.{point_visit}
 use Rattle.mill_paths.proofs.Adding.{adds_all, adds_fault}
 use Rattle.mill_paths.proofs.levels.add_points.Goals as goal

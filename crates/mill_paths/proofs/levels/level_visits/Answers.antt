@@ -2,9 +2,9 @@ use Rattle.std.proofs.Common.{◌≡◌, ◌∙◌, List, [], map, refl, sym, su
 use Rattle.std.specs.Prelude.{All, Err}
 use Rattle.std.proofs.lemmas.Result.{err_from_is_err_and}
 use Rattle.mill_level.specs.Waterlines.{Outline, seen}
+use Rattle.mill_links.specs.declared.visit.Visit.{Visit}
 use Rattle.mill_paths.specs.Limits.{IsListFault}
 use Rattle.mill_paths.specs.Visits.{IsVisit, level_visits_of}
-use Rattle.mill_paths.specs.declared.visit.Visit.{Visit}
 use Rattle.mill_paths.proofs.FaultLemmas.{list_fault_visits}
 use Rattle.mill_paths.proofs.Many.{few_level, no_level, no_waterlines, none_level}
 use Rattle.mill_paths.proofs.OutlineLemmas.{level_visits_ok}

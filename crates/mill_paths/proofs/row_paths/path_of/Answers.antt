@@ -2,8 +2,8 @@ use Rattle.mill_base.specs.Numbers.{Within}
 use Rattle.mill_base.specs.declared.limits.TheConstants.{MAX_COORDINATE}
 use Rattle.mill_base.proofs.Ranges.{coordinate, within_of_unit}
 use Rattle.mill_part.proofs.Stored.{band_kept}
+use Rattle.mill_links.proofs.Kept.{unit_coordinate}
 use Rattle.mill_paths.specs.RowPaths.{row_y}
-use Rattle.mill_paths.proofs.Kept.{unit_coordinate}
 use Rattle.mill_paths.proofs.VisitLemmas.{row_in_range}
 use Rattle.mill_paths.proofs.row_paths.path_of.Goals as goal
 

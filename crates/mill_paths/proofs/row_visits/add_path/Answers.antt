@@ -4,9 +4,9 @@ use Rattle.std.proofs.lemmas.List.Elements.{All-head}
 use Rattle.std.proofs.lemmas.Result.{err_from_is_err_and}
 use Rattle.mill_base.specs.Points.{point_at}
 use Rattle.mill_base.specs.declared.points.Pt3.{Pt3}
+use Rattle.mill_links.specs.declared.visit.Visit.{Visit}
 use Rattle.mill_paths.specs.Limits.{IsListFault}
 use Rattle.mill_paths.specs.Visits.{visits_after}
-use Rattle.mill_paths.specs.declared.visit.Visit.{Visit}
 use Rattle.mill_paths.specs.inner.Rows.{IsInArea}
 use Rattle.mill_paths.proofs.RowVisits.{from_first, last_is, point_fault, point_more}
 use Rattle.mill_paths.proofs.row_visits.add_path.Goals as goal

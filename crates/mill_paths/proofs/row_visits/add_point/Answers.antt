@@ -2,9 +2,9 @@ use Rattle.std.proofs.Common.{◌≡◌, ◌∙◌, ◌++◌, List, sym, ap, app
 use Rattle.std.specs.Prelude.{ℤ, Some, None, IfErr, OnOk}
 use Rattle.std.proofs.lemmas.Int.{to_z-of_z}
 use Rattle.mill_base.proofs.Machine.{stored}
+use Rattle.mill_links.specs.declared.visit.Visit.{Visit}
 use Rattle.mill_paths.specs.Limits.{IsListFault}
 use Rattle.mill_paths.specs.declared.path.Path.TheVariants.{Finish}
-use Rattle.mill_paths.specs.declared.visit.Visit.{Visit}
 use Rattle.mill_paths.specs.inner.Paths.{path_height}
 use Rattle.mill_paths.proofs.RowVisits.{point_nowhere, point_there}
 use Rattle.mill_paths.proofs.row_visits.add_point.Goals as goal

@@ -4,10 +4,10 @@ use Rattle.std.proofs.lemmas.Result.{err_from_is_err_and}
 use Rattle.mill_base.specs.Lattices.{lattice_ys}
 use Rattle.mill_base.specs.declared.points.Pt3.{Pt3}
 use Rattle.mill_part.proofs.Stored.{band_kept}
+use Rattle.mill_links.specs.declared.visit.Visit.{Visit}
 use Rattle.mill_paths.specs.Lattices.{finish_lattice}
 use Rattle.mill_paths.specs.Limits.{IsListFault}
 use Rattle.mill_paths.specs.Visits.{AreRowVisits, HaveManyRowVisits, point_visits}
-use Rattle.mill_paths.specs.declared.visit.Visit.{Visit}
 use Rattle.mill_paths.specs.inner.Rows.{AreFirstVisits}
 use Rattle.mill_paths.proofs.FaultLemmas.{from_list}
 use Rattle.mill_paths.proofs.RowPoints.{all_inside}

@@ -1,6 +1,7 @@
 use Rattle.std.proofs.Common.{◌≡◌, ◌≤◌, FitsSigned, rules, w32, arith}
 use Rattle.std.proofs.lemmas.Int.{to_z-of_z}
-use Rattle.mill_paths.proofs.Kept.{is_lattice, unit_coordinate}
+use Rattle.mill_links.proofs.Kept.{unit_coordinate}
+use Rattle.mill_paths.proofs.Kept.{is_lattice}
 use Rattle.mill_paths.specs.Lattices.{lattice_by}
 use Rattle.mill_base.specs.Lattices.{node_count}
 use Rattle.mill_base.specs.declared.limits.TheConstants.{MAX_NODES}

@@ -2,7 +2,7 @@ use Rattle.std.proofs.Common.{◌≡◌, ℕ, ◌<◌, ◌≤◌, sym, w32, arit
 use Rattle.std.specs.Prelude.{nat_abs, pos, ◌-ℤ◌}
 use Rattle.std.proofs.lemmas.Int.{ints, to_z-of_z, to_z_pos}
 use mir.Val.{to_z}
-use Rattle.mill_paths.proofs.Kept.{unit_coordinate}
+use Rattle.mill_links.proofs.Kept.{unit_coordinate}
 use Rattle.mill_paths.proofs.LevelLemmas.{IsLowered, is_lowered, layer_within, level_fits, level_is, lowering}
 use Rattle.mill_paths.proofs.visits.level.Goals as goal
 

@@ -1,6 +1,6 @@
 use Rattle.std.proofs.Common.{◌≡◌, ◌-◌, sym}
 use Rattle.std.specs.Prelude.{nat_abs, ◌-ℤ◌}
-use Rattle.mill_paths.proofs.Kept.{unit_coordinate}
+use Rattle.mill_links.proofs.Kept.{unit_coordinate}
 use Rattle.mill_paths.proofs.LevelLemmas.{layer_within, length-rough_levels}
 use Rattle.mill_paths.proofs.visits.level_count.Goals as goal
 

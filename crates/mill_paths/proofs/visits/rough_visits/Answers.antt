@@ -8,10 +8,10 @@ use Rattle.mill_base.specs.Lattices.{nodes_of, IsMapLattice}
 use Rattle.mill_drop.specs.Maps.{AreDropHeights, IsHeightAt}
 use Rattle.mill_job.specs.Jobs.{tool_of}
 use Rattle.mill_part.proofs.Stored.{band_kept}
+use Rattle.mill_links.specs.declared.visit.Visit.{Visit}
 use Rattle.mill_paths.specs.Lattices.{rough_lattice}
 use Rattle.mill_paths.specs.Limits.{IsHeightsFault, IsListFault}
 use Rattle.mill_paths.specs.Visits.{IsVisit, rough_visits_of, rough_visits_on}
-use Rattle.mill_paths.specs.declared.visit.Visit.{Visit}
 use Rattle.mill_paths.proofs.FaultLemmas.{heights_fault, heights_fault_visits, list_fault, list_fault_visits, list_there, step_least, layer_none, layer_some, list_without_layer, no_layer, with_layer}
 use Rattle.mill_paths.proofs.LevelLemmas.{layer_within, no_levels}
 use Rattle.mill_paths.proofs.Many.{few_rough, none_rough}

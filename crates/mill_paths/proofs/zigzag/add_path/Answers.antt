@@ -3,10 +3,10 @@ use Rattle.std.specs.List.{flat_map}
 use Rattle.std.proofs.lemmas.Result.{err_from_is_err_and}
 use Rattle.mill_base.specs.Lattices.{lattice_xs, lattice_ys}
 use Rattle.mill_base.specs.declared.lattice.Lattice.{Lattice}
+use Rattle.mill_links.specs.declared.visit.Visit.{Visit}
 use Rattle.mill_paths.specs.Lattices.{zigzag_row}
 use Rattle.mill_paths.specs.Limits.{IsListFault}
 use Rattle.mill_paths.specs.inner.Paths.{path_lattice, path_visit}
-use Rattle.mill_paths.specs.declared.visit.Visit.{Visit}
 use Rattle.mill_paths.proofs.Adding.{counts_all, counts_fault, counts_more}
 use Rattle.mill_paths.proofs.ZigzagLemmas.{by_rows}
 use Rattle.mill_paths.proofs.zigzag.add_path.Goals as goal

@@ -1,7 +1,7 @@
 use Rattle.std.proofs.Common.{[]}
 use Rattle.std.proofs.lemmas.Result.{IfErr-weaker, IfOk-weaker}
 use Rattle.mill_job.specs.Columns.{home}
-use Rattle.mill_paths.specs.Safety.{GoSafely}
+use Rattle.mill_links.specs.Safety.{GoSafely}
 use Rattle.mill_plan.specs.Plans.{IsPlanFault}
 use Rattle.mill_plan.specs.inner.Steps.{IsRound, IsRoundFault}
 use Rattle.mill_plan.proofs.Planning.{plan_goes, plan_if_made, round_told}

@@ -8,9 +8,9 @@ use Rattle.mill_base.specs.declared.points.Tri.{Tri}
 use Rattle.mill_base.specs.declared.limits.TheConstants.{MAX_MOVES}
 use Rattle.mill_dexel.specs.Stocks.{IsStock}
 use Rattle.mill_job.specs.Columns.{home}
-use Rattle.mill_paths.specs.Links.{way_home}
-use Rattle.mill_paths.specs.Tours.{IsTour}
-use Rattle.mill_paths.proofs.Steps.{tour_nil}
+use Rattle.mill_links.specs.Links.{way_home}
+use Rattle.mill_links.specs.Tours.{IsTour}
+use Rattle.mill_links.proofs.Steps.{tour_nil}
 use Rattle.mill_plan.specs.inner.Feeds.{SayClear}
 use Rattle.mill_plan.specs.inner.Steps.{IsRound}
 use Rattle.mill_plan.proofs.Feeding.{says_at}

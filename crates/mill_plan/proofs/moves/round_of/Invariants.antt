@@ -3,8 +3,8 @@ use Rattle.mill_base.specs.Ranges.{IsInUnitRange}
 use Rattle.mill_base.specs.declared.points.Tri.{Tri}
 use Rattle.mill_dexel.specs.Rows.{IsRowOf}
 use Rattle.mill_job.specs.Columns.{home}
-use Rattle.mill_paths.specs.Links.{FollowStock}
-use Rattle.mill_paths.specs.Tours.{IsTour}
+use Rattle.mill_links.specs.Links.{FollowStock}
+use Rattle.mill_links.specs.Tours.{IsTour}
 use Rattle.mill_plan.specs.inner.Feeds.{SayClear, place_before}
 use Rattle.mill_plan.proofs.moves.round_of.Given as goal
 

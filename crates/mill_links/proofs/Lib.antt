@@ -1,0 +1,11 @@
+pub mod Kept
+mod Ways
+mod Points
+mod Pecks
+pub mod Joining
+mod Plunging
+mod Ranged
+mod Straight
+mod ToolLemmas
+pub mod Going
+pub mod Steps

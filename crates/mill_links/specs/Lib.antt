@@ -1,0 +1,4 @@
+pub mod Links
+pub mod Tours
+pub mod Safety
+pub mod inner

@@ -1,0 +1,372 @@
+ghost use Rattle.std.specs.Prelude.{◌≡◌, List, [], ◌∷◌, ◌++◌, ◌-ℤ◌, ◌*ℤ◌, ◌<◌, ◌<ℤ◌, ◌≤ℤ◌, pos, false, take, All, OnOk, OnErr, IsTrue};
+ghost use Rattle.mill_base.specs.Ranges.{IsInRange, MovesInRange};
+ghost use Rattle.mill_base.specs.declared.motion.Move.{Move as OneMove};
+ghost use Rattle.mill_base.specs.declared.points.Tri.{Tri};
+ghost use Rattle.mill_cells.specs.Sorted.{sorted_of};
+ghost use Rattle.mill_dexel.specs.Rows.{IsRowOf};
+ghost use Rattle.mill_job.specs.Jobs.{IsJob};
+ghost use Rattle.mill_links.specs.Links.{AddsLink, FollowStock, IsClear, IsNearBy, SaysClear, at_height as at_height_of, climb as climb_of, cross as cross_of, descend as descend_of, detour as detour_of, distance, feed_to as feed_of, peck_count as peck_count_of, plunge as plunge_of, rapid_to as rapid_of, way_home};
+ghost use Rattle.mill_links.specs.inner.Linking.{GoesOn, SaysStraight, link_moves};
+
+use crate::visit::Visit;
+use mill_base::{Kind, Move, Pt3, WantOfMemory};
+use mill_cells::Cells;
+use mill_dexel::{Row, cut_rows, keeps_depth};
+use mill_gouge::tool_clears;
+use mill_job::Job;
+use mill_part::Part;
+
+/// Adds the moves that link the place `from`, where the cutter is, to the visit.
+///
+/// There are none where the cutter is at the visit already. A visit that is at most twice its step
+/// away in x and in y is fed to straight, where on that feed the cutter, and its holder if it has one,
+/// passes each triangle of the part, and no column of the stock is cut deeper than the job allows.
+/// Whether the holder passes the stock isn't looked at. To each other visit the cutter goes round: up to
+/// the clear height, across, down to the top of the stock, and then by feeds straight down to the visit,
+/// none of which is longer than the job's greatest depth of cut. The cells are those of the part's
+/// triangles.
+///
+/// Where the job limits the depth of cut, the rows are to be those of the stock as the moves so far
+/// leave it, and then they are as the added moves leave it. Where it doesn't, they aren't looked at
+/// and may be none.
+///
+/// Coordinates are in the job's units, of at most 524,287 in magnitude.
+///
+/// # Errors
+///
+/// Only want of memory. The moves and the rows are as they were then.
+pub fn link(
+    job: &Job,
+    part: &Part,
+    cells: &Cells,
+    rows: &mut [Row],
+    from: Pt3,
+    to: Visit,
+    out: &mut Vec<Move>,
+) -> Result<(), WantOfMemory>
+    requires job_ok { IsJob job.now }
+    requires cells_ok { cells.now ≡ sorted_of part.now }
+    requires rows_ok { All (IsRowOf job.now) rows.old }
+    requires from_ok { IsInRange from }
+    requires to_ok { IsInRange to.at }
+    ensures ok { (done : List OneMove) → FollowStock job.now done rows.old
+        → OnOk result (AddsLink job.now part.now done from to out.old.items out.new.items) }
+    ensures stock { (done added : List OneMove) → FollowStock job.now done rows.old → out.new.items ≡ out.old.items ++ added
+        → OnOk result (FollowStock job.now (done ++ added) rows.new) }
+    ensures rows_ok { All (IsRowOf job.now) rows.new }
+    ensures err { OnErr result (out.new.items ≡ out.old.items) }
+    ensures err_rows { OnErr result (rows.new ≡ rows.old) }
+{
+    let clear = goes_clear(job, part, cells, from, to);
+    link_known(job, rows, from, to, clear, out)
+}
+
+/// Whether nothing but the stock may stand in the way of the link from the place `from`, where the
+/// cutter is, to the visit: it is no move, or the straight feed is short enough, and on it the cutter, and
+/// its holder if it has one, passes the part. The cells are those of the part's triangles.
+///
+/// Coordinates are in the job's units, of at most 524,287 in magnitude.
+pub fn goes_clear(job: &Job, part: &Part, cells: &Cells, from: Pt3, to: Visit) -> bool
+    requires job_ok { IsJob job.now }
+    requires cells_ok { cells.now ≡ sorted_of part.now }
+    requires from_ok { IsInRange from }
+    requires to_ok { IsInRange to.at }
+    ensures { SaysClear job.now part.now from to result }
+{
+    if to.at == from {
+        return true;
+    }
+    is_clear(job, part, cells, from, to)
+}
+
+/// Adds the moves that `link` adds, where it is known what `goes_clear` says of the link: for each part
+/// of which `clear` says it, they are the link's. The rows are those that `link` takes, and become
+/// what it makes of them.
+///
+/// # Errors
+///
+/// Only want of memory. The moves and the rows are as they were then.
+pub fn link_known(
+    job: &Job,
+    rows: &mut [Row],
+    from: Pt3,
+    to: Visit,
+    clear: bool,
+    out: &mut Vec<Move>,
+) -> Result<(), WantOfMemory>
+    requires job_ok { IsJob job.now }
+    requires rows_ok { All (IsRowOf job.now) rows.old }
+    requires from_ok { IsInRange from }
+    requires to_ok { IsInRange to.at }
+    ensures ok { (part : List Tri) (done : List OneMove) → SaysClear job.now part from to clear → FollowStock job.now done rows.old
+        → OnOk result (AddsLink job.now part done from to out.old.items out.new.items) }
+    ensures stock { (done added : List OneMove) → FollowStock job.now done rows.old → out.new.items ≡ out.old.items ++ added
+        → OnOk result (FollowStock job.now (done ++ added) rows.new) }
+    ensures rows_ok { All (IsRowOf job.now) rows.new }
+    ensures err { OnErr result (out.new.items ≡ out.old.items) }
+    ensures err_rows { OnErr result (rows.new ≡ rows.old) }
+{
+    let straight = goes_straight(job, rows, from, to, clear);
+    let first = out.len();
+    add_link(job, from, to, straight, out)?;
+    cut(job, rows, &out[first..]);
+    Ok(())
+}
+
+/// Adds the way home from the place `from`: up to the clear height, and across.
+///
+/// # Errors
+///
+/// Only want of memory. The moves are as they were then.
+pub fn home(job: &Job, from: Pt3, out: &mut Vec<Move>) -> Result<(), WantOfMemory>
+    requires { IsJob job.now }
+    ensures ok { OnOk result (out.new.items ≡ out.old.items ++ way_home job.now from) }
+    ensures err { OnErr result (out.new.items ≡ out.old.items) }
+{
+    let first = out.len();
+    let added = go_home(job, from, out);
+    all_or_none(added, first, out)
+}
+
+/// Whether the straight feed to the visit is clear.
+fn is_clear(job: &Job, part: &Part, cells: &Cells, from: Pt3, to: Visit) -> bool
+    requires job_ok { IsJob job.now }
+    requires cells_ok { cells.now ≡ sorted_of part.now }
+    requires from_ok { IsInRange from }
+    requires to_ok { IsInRange to.at }
+    ensures yes { IsTrue result → IsClear job.now part.now from to }
+    ensures no { result ≡ false → ¬ IsClear job.now part.now from to }
+{
+    if !is_near_by(from, to) {
+        return false;
+    }
+    tool_clears(&job.tool(), part, cells, &feed_to(from, to.at))
+}
+
+/// Whether the visit is at most twice its step away from the place, in x and in y.
+fn is_near_by(from: Pt3, to: Visit) -> bool
+    ensures yes { IsTrue result → IsNearBy from to }
+    ensures no { result ≡ false → ¬ IsNearBy from to }
+{
+    if !is_within(to.at.x, from.x, to.step) {
+        return false;
+    }
+    is_within(to.at.y, from.y, to.step)
+}
+
+/// Whether two coordinates lie at most two steps apart.
+fn is_within(a: i32, b: i32, step: i32) -> bool
+    ensures yes { IsTrue result → distance a b ≤ℤ (pos 2 *ℤ step) }
+    ensures no { result ≡ false → ¬ (distance a b ≤ℤ (pos 2 *ℤ step)) }
+{
+    i64::from(a.abs_diff(b)) <= 2 * i64::from(step)
+}
+
+/// Whether the link needs no way round, where `clear` says what `goes_clear` says of it, and the rows are
+/// the stock's.
+fn goes_straight(job: &Job, rows: &[Row], from: Pt3, to: Visit, clear: bool) -> bool
+    requires job_ok { IsJob job.now }
+    requires rows_ok { All (IsRowOf job.now) rows.now }
+    requires from_ok { IsInRange from }
+    requires to_ok { IsInRange to.at }
+    ensures { (part : List Tri) (done : List OneMove) → SaysClear job.now part from to clear → FollowStock job.now done rows.now
+        → SaysStraight job.now part done from to result }
+{
+    if !clear {
+        return false;
+    }
+    if job.max_cut == 0 || to.at == from {
+        return true;
+    }
+    keeps_depth(job, rows, &feed_to(from, to.at))
+}
+
+/// Lowers the rows of the stock to what the cutter leaves after these moves, where the job limits the
+/// depth of cut.
+fn cut(job: &Job, rows: &mut [Row], moves: &[Move])
+    requires job_ok { IsJob job.now }
+    requires rows_ok { All (IsRowOf job.now) rows.old }
+    requires moves_ok { MovesInRange moves.now }
+    ensures stock { (done : List OneMove) → FollowStock job.now done rows.old → FollowStock job.now (done ++ moves.now) rows.new }
+    ensures rows_ok { All (IsRowOf job.now) rows.new }
+{
+    if job.max_cut == 0 {
+        return;
+    }
+    for step in moves {
+        cut_rows(job, rows, step);
+    }
+}
+
+/// Adds the moves of a link, where it is known whether it goes straight.
+fn add_link(
+    job: &Job,
+    from: Pt3,
+    to: Visit,
+    straight: bool,
+    out: &mut Vec<Move>,
+) -> Result<(), WantOfMemory>
+    requires job_ok { IsJob job.now }
+    requires to_ok { IsInRange to.at }
+    ensures ok { OnOk
+        result
+        (out.new.items ≡ out.old.items ++ link_moves job.now from to straight) }
+    ensures err { OnErr result (out.new.items ≡ out.old.items) }
+{
+    if to.at == from {
+        return Ok(());
+    }
+    if straight {
+        return add(feed_to(from, to.at), out);
+    }
+    let first = out.len();
+    let added = go_round(job, from, to.at, out);
+    all_or_none(added, first, out)
+}
+
+/// Takes back what was added from the move of number `first` on, where not all was added.
+fn all_or_none(
+    added: Result<(), WantOfMemory>,
+    first: usize,
+    out: &mut Vec<Move>,
+) -> Result<(), WantOfMemory>
+    ensures same { result ≡ added }
+    ensures ok { OnOk result (out.new.items ≡ out.old.items) }
+    ensures err { OnErr result (out.new.items ≡ take first out.old.items) }
+{
+    if added.is_err() {
+        out.truncate(first);
+    }
+    added
+}
+
+/// Adds the first moves of the way home, and where the memory suffices all of them.
+fn go_home(job: &Job, from: Pt3, out: &mut Vec<Move>) -> Result<(), WantOfMemory>
+    requires { IsJob job.now }
+    ensures ok { OnOk result (out.new.items ≡ out.old.items ++ way_home job.now from) }
+    ensures on { GoesOn out.old.items out.new.items }
+{
+    climb(job, from, out)?;
+    cross(job, from, job.home(), out)
+}
+
+/// Adds the first moves of the way round over everything to a place, and where the memory suffices all
+/// of them: up, across, down to the top of the stock, and from there to the place.
+fn go_round(job: &Job, from: Pt3, at: Pt3, out: &mut Vec<Move>) -> Result<(), WantOfMemory>
+    requires job_ok { IsJob job.now }
+    requires at_ok { IsInRange at }
+    ensures ok { OnOk result (out.new.items ≡ out.old.items ++ detour_of job.now from at) }
+    ensures on { GoesOn out.old.items out.new.items }
+{
+    climb(job, from, out)?;
+    cross(job, from, at, out)?;
+    descend(job, at, out)?;
+    plunge(job, at, out)
+}
+
+/// Adds the rapid up to the clear height, where the place is under it.
+fn climb(job: &Job, from: Pt3, out: &mut Vec<Move>) -> Result<(), WantOfMemory>
+    ensures ok { OnOk result (out.new.items ≡ out.old.items ++ climb_of job.now from) }
+    ensures err { OnErr result (out.new.items ≡ out.old.items) }
+{
+    if from.z >= job.clear {
+        return Ok(());
+    }
+    add(rapid_to(from, at_height(from, job.clear)), out)
+}
+
+/// Adds the rapid across at the clear height, where the places differ in x or y.
+fn cross(job: &Job, from: Pt3, at: Pt3, out: &mut Vec<Move>) -> Result<(), WantOfMemory>
+    ensures ok { OnOk result (out.new.items ≡ out.old.items ++ cross_of job.now from at) }
+    ensures err { OnErr result (out.new.items ≡ out.old.items) }
+{
+    let start = at_height(from, job.clear);
+    let end = at_height(at, job.clear);
+    if start == end {
+        return Ok(());
+    }
+    add(rapid_to(start, end), out)
+}
+
+/// Adds the rapid down from the clear height to the top of the stock, where that is lower.
+fn descend(job: &Job, at: Pt3, out: &mut Vec<Move>) -> Result<(), WantOfMemory>
+    ensures ok { OnOk result (out.new.items ≡ out.old.items ++ descend_of job.now at) }
+    ensures err { OnErr result (out.new.items ≡ out.old.items) }
+{
+    if job.top >= job.clear {
+        return Ok(());
+    }
+    add(
+        rapid_to(at_height(at, job.clear), at_height(at, job.top)),
+        out,
+    )
+}
+
+/// Adds the first feeds of those from the top of the stock straight down to a place, and where the memory
+/// suffices all of them. Each but the last goes down by the job's greatest depth of cut.
+fn plunge(job: &Job, at: Pt3, out: &mut Vec<Move>) -> Result<(), WantOfMemory>
+    requires job_ok { IsJob job.now }
+    requires at_ok { IsInRange at }
+    ensures ok { OnOk result (out.new.items ≡ out.old.items ++ plunge_of job.now at) }
+    ensures on { GoesOn out.old.items out.new.items }
+{
+    let mut z = job.top;
+    for _ in 0..peck_count(job, at) {
+        let low = z - job.max_cut;
+        add(feed_to(at_height(at, z), at_height(at, low)), out)?;
+        z = low;
+    }
+    add(feed_to(at_height(at, z), at), out)
+}
+
+/// How many feeds down to a place from the top of the stock go down by the job's greatest depth of cut,
+/// and end over the place.
+fn peck_count(job: &Job, at: Pt3) -> u32
+    requires job_ok { IsJob job.now }
+    requires at_ok { IsInRange at }
+    ensures value { result ≡ peck_count_of job.now.max_cut (job.now.top -ℤ at.z) }
+    ensures under { 0 < result → at.z <ℤ job.now.top }
+{
+    if job.max_cut == 0 || at.z >= job.top {
+        return 0;
+    }
+    (job.top.abs_diff(at.z) - 1) / job.max_cut.unsigned_abs()
+}
+
+/// Adds one move.
+fn add(step: Move, out: &mut Vec<Move>) -> Result<(), WantOfMemory>
+    ensures ok { OnOk result (out.new.items ≡ out.old.items ++ step ∷ []) }
+    ensures err { OnErr result (out.new.items ≡ out.old.items) }
+{
+    out.push(step)?;
+    Ok(())
+}
+
+/// The feed from one place to another.
+fn feed_to(from: Pt3, to: Pt3) -> Move
+    ensures { result ≡ feed_of from to }
+{
+    Move {
+        kind: Kind::Feed,
+        from,
+        to,
+    }
+}
+
+/// The rapid from one place to another.
+fn rapid_to(from: Pt3, to: Pt3) -> Move
+    ensures { result ≡ rapid_of from to }
+{
+    Move {
+        kind: Kind::Rapid,
+        from,
+        to,
+    }
+}
+
+/// The place at this height over or under another.
+fn at_height(place: Pt3, z: i32) -> Pt3
+    ensures { result ≡ at_height_of place z }
+{
+    Pt3 { z, ..place }
+}

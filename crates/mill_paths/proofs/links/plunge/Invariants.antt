@@ -1,6 +1,0 @@
-use Rattle.std.specs.Prelude.{◌-◌}
-use Rattle.mill_paths.proofs.Plunging.{Plunges}
-use Rattle.mill_paths.proofs.links.plunge.Given as goal
-
-abbrev pub invariant-loop : goal.invariant-loop
-invariant-loop l = Plunges l.job l.at l.fn.out.items l.out.items (l.end - l.counter) l.z
