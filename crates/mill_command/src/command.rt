@@ -152,15 +152,15 @@ impl<'a> Command<'a> {
     }
 }
 
-/// The word that is the value under this id.
-fn value<'a>(matches: &ArgMatches<'a>, id: &str) -> Option<&'a str>
+/// The word that is the value under this id, or the first of them; none where there is none.
+pub fn value<'a>(matches: &ArgMatches<'a>, id: &str) -> Option<&'a str>
     ensures { option_map (λ s. s.now) result ≡ first_of id.now (rows_of (found_of matches.now)) }
 {
     matches.get_str(id)
 }
 
-/// The number that is the value under this id.
-fn number(matches: &ArgMatches<'_>, id: &str) -> Option<u32>
+/// The number that this value stands for; none where there is none, or it stands for no number of 32 bits.
+pub fn number(matches: &ArgMatches<'_>, id: &str) -> Option<u32>
     ensures { result ≡ number_in id.now (rows_of (found_of matches.now)) }
 {
     matches.get_one(id)

@@ -4,6 +4,10 @@
 //! clap's own test takes the words for this set of commands, with the values that clap's definition
 //! gives; else clap's text, and whether it is help or a mistake.
 //! `specs/Set.antt` defines the set, and `specs/Requests.antt` what words ask for.
+//!
+//! What another program's words take of it stands by itself: [`place`] and [`workers`] are arguments,
+//! which [`with_arg`] adds to a command; [`value`] and [`number`] read what clap has matched, and
+//! [`refusal_of`] says what an error of clap's is.
 #![tactic(auto)]
 
 mod command;
@@ -11,6 +15,7 @@ mod refusal;
 mod set;
 mod words;
 
-pub use command::Command;
+pub use command::{Command, number, value};
 pub use refusal::Refusal;
-pub use words::read_words;
+pub use set::{place, with_arg, workers};
+pub use words::{read_words, refusal_of};

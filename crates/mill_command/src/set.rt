@@ -215,8 +215,8 @@ fn command<'a>(alloc: Global, name: &'static str, about: &'static str) -> Comman
     Command::new(alloc, name).about(about)
 }
 
-/// A word that must stand at its place. Help calls it by its name.
-fn place<'a>(alloc: Global, id: &'static str, name: &'static str, help: &'static str) -> Arg<'a>
+/// A word that must stand at its place. Its value is under this id, and help calls it by its name.
+pub fn place<'a>(alloc: Global, id: &'static str, name: &'static str, help: &'static str) -> Arg<'a>
     ensures { (rule_of result ≡ place id.entry.now) × (result.global ≡ false) }
 {
     Arg::new(alloc, id)
@@ -245,8 +245,9 @@ fn size<'a>(alloc: Global) -> Arg<'a>
     .value_parser(size_parser())
 }
 
-/// `--workers=W`, which may be left out.
-fn workers<'a>(alloc: Global) -> Arg<'a>
+/// `--workers=W`, a number from 1 to 64, which is 1 where it is left out. Its value is under the id
+/// `workers`.
+pub fn workers<'a>(alloc: Global) -> Arg<'a>
     ensures { (rule_of result ≡ workers) × (result.global ≡ false) }
 {
     Arg::new(alloc, "workers")
@@ -271,8 +272,10 @@ fn size_parser<'a>() -> ValueParser<'a>
     value_parser!(u32).range(1..=100)
 }
 
-/// The command with one more argument.
-fn with_arg<'a>(command: Command<'a>, arg: Arg<'a>) -> Result<Command<'a>, AllocError>
+/// The command with one more argument, which isn't one that subcommands take too.
+///
+/// The only error is want of memory.
+pub fn with_arg<'a>(command: Command<'a>, arg: Arg<'a>) -> Result<Command<'a>, AllocError>
     requires { arg.global ≡ false }
     ensures { IfOk result (λ c. (a : App) (r : Rule) → Is a command.entry → rule_of arg.entry ≡ r → Is (with_rule a r) c) }
 {

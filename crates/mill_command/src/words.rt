@@ -49,8 +49,9 @@ fn command_of<'a>(matches: &ArgMatches<'a>) -> Option<Command<'a>>
     Command::from_matches(name, found)
 }
 
-/// The refusal that an error of clap's stands for, with its text.
-fn refusal_of(alloc: Global, error: &Error) -> Refusal
+/// The refusal that an error of clap's stands for, with its text: `Help` for help and the version, and
+/// else `NotTaken`. It is `WantOfMemory` where clap's error is that, or there is no memory for the text.
+pub fn refusal_of(alloc: Global, error: &Error) -> Refusal
     ensures { (kinds : Kinds) → HasKind kinds error.now → Refuses kinds result }
 {
     if error.kind() == ErrorKind::OutOfMemory {

@@ -7,7 +7,7 @@
 //! of `specs/Laws` say what they have to do with the verdict: its reason is the first of them, and a
 //! program is accepted where there is none.
 //!
-//! `all_findings` finds both, on one thread. First each row of the stock goes through all moves (`pass`), which
+//! `all_findings` finds both, on one thread, and `all_findings_with_cells` by cells that are there. First each row of the stock goes through all moves (`pass`), which
 //! leaves the cut rows and where the stock stopped each move. Then the other tests of each move are made (`step`,
 //! `moves`), and `left` tests the columns. What stands in `specs/inner` serves the functions within.
 #![tactic(auto)]
@@ -24,4 +24,4 @@ pub use laws::{
     one_list, verdict_is_first,
 };
 pub use left::{LeftColumn, LeftColumns, MAX_LEFT};
-pub use report::{Findings, all_findings};
+pub use report::{Findings, all_findings, all_findings_with_cells};

@@ -1,6 +1,7 @@
-ghost use Rattle.std.specs.Prelude.{◌≤◌, All, length, IfOk};
+ghost use Rattle.std.specs.Prelude.{◌≡◌, ◌≤◌, All, length, IfOk};
 ghost use Rattle.mill_base.specs.declared.limits.TheConstants.{MAX_MOVES};
 ghost use Rattle.mill_base.specs.Ranges.{MovesInRange};
+ghost use Rattle.mill_cells.specs.Sorted.{sorted_of};
 ghost use Rattle.mill_job.specs.Jobs.{IsJob};
 ghost use Rattle.mill_dexel.specs.Tops.{uncut};
 ghost use Rattle.mill_verify.specs.Verdicts.{NamesLeaf};
@@ -11,6 +12,7 @@ use crate::left::{LeftColumns, columns_left};
 use crate::moves::failing_moves;
 use crate::pass::go_through;
 use mill_base::{Move, WantOfMemory};
+use mill_cells::Cells;
 use mill_job::Job;
 use mill_part::{Part, SortedPart};
 use mill_verify::Reason;
@@ -47,8 +49,27 @@ pub fn all_findings(
     ensures left { IfOk result (λ found. IsLeftAfter job.now part.now moves.now found.left.shown.items found.left.total) }
 {
     let sorted = SortedPart::new(alloc, part)?;
+    all_findings_with_cells(alloc, job, part, sorted.cells(), moves)
+}
+
+/// The findings of [`all_findings`], by cells that the part's triangles are sorted into already.
+pub fn all_findings_with_cells(
+    alloc: Global,
+    job: &Job,
+    part: &Part,
+    cells: &Cells,
+    moves: &[Move],
+) -> Result<Findings, WantOfMemory>
+    requires job_ok { IsJob job.now }
+    requires cells_ok { cells.now ≡ sorted_of part.now }
+    requires moves_ok { MovesInRange moves.now }
+    requires few { length moves.now ≤ MAX_MOVES }
+    ensures failing { IfOk result (λ found. AreFindings job.now part.now moves.now found.failing.items) }
+    ensures blocked { IfOk result (λ found. All (NamesLeaf job.now part.now (uncut job.now) moves.now) found.failing.items) }
+    ensures left { IfOk result (λ found. IsLeftAfter job.now part.now moves.now found.left.shown.items found.left.total) }
+{
     let passage = go_through(alloc, job, moves)?;
-    let failing = failing_moves(alloc, job, part, sorted.cells(), moves, &passage.stops)?;
-    let left = columns_left(alloc, job, part, sorted.cells(), &passage.rows)?;
+    let failing = failing_moves(alloc, job, part, cells, moves, &passage.stops)?;
+    let left = columns_left(alloc, job, part, cells, &passage.rows)?;
     Ok(Findings { failing, left })
 }

@@ -1,6 +1,6 @@
 -- What was read of the three files, or why it wasn't.
 use Rattle.std.proofs.Common.{◌≡◌, ℕ, List, Option, Some, None, Result, Ok, Err, sym, subst, arith}
-use Rattle.std.specs.Prelude.{IfSome}
+use Rattle.std.specs.Prelude.{IfErr, IfOk, IfSome}
 use Rattle.std.specs.Global.{Vec}
 use Rattle.mill_base.specs.declared.motion.Move.{Move}
 use Rattle.mill_base.specs.declared.points.Tri.{Tri}
@@ -20,7 +20,7 @@ use Rattle.mill_load.specs.declared.load.Unfit.TheVariants.{TooLong, JobRefused,
 use Rattle.mill_report_run.specs.Outcomes.{AreTextsOf}
 use Rattle.mill_report_run.specs.declared.load.JobRead.{JobRead}
 use Rattle.mill_report_run.specs.declared.load.SetupRead.{SetupRead}
-use Rattle.mill_report_run.specs.inner.Loads.{AreSetupTexts, HoldsJob, HoldsSetup, IsOfThree, Loads, ReadsPart, ReadsSetup}
+use Rattle.mill_report_run.specs.inner.Loads.{AreSetupTexts, HoldsJob, HoldsSetup, IsOfThree, Loads, ReadsPart, ReadsSetup, ReadsSource}
 use Rattle.mill_report_text.specs.Reports.{Read, Texts}
 use Rattle.mill_run.specs.Verify.{IsReadBeforeProgram, IsUnfitProgram, Reads, Texts as ToldTexts}
 
@@ -30,6 +30,12 @@ use Rattle.mill_run.specs.Verify.{IsReadBeforeProgram, IsUnfitProgram, Reads, Te
 pub if_told : (P : List ℕ → Type 0) (told : Option (List ℕ)) (text : List ℕ) → IfSome told (λ bytes. text ≡ bytes) → P text → IfSome told P
 if_told P None text same p = tt
 if_told P (Some bytes) text same p = subst P same p
+
+-- the text that was read of a file, or no memory for it
+pub source_read : (told : Option (List ℕ)) (file : File) (text : List ℕ) (r : Result (List ℕ) LoadFault) → IfSome told (λ bytes. text ≡ bytes) → IfOk r (λ source. source ≡ text) → IfErr r (λ fault. fault ≡ Memory)
+    → ReadsSource told file r
+source_read told file text (Ok source) same is short = subst (λ (t : List ℕ). IfSome told (λ bytes. t ≡ bytes)) (sym is) same
+source_read told file text (Err fault) same is short = subst (λ (x : LoadFault). (let r : Result (Vec ℕ) LoadFault = Err x in ReadsFile told file r)) (sym short) tt
 
 -- ---- why a file has no text
 
@@ -141,8 +147,8 @@ of_three told (Unfit fault) h = tt
 -- job and part are those of their files
 pub both_read : (told : ToldTexts) (r : SetupRead) → AreSetupTexts told.setup r → HoldsSetup r → ReadsBoth told.setup r.setup.job r.setup.part
 both_read told r agree holds = record {
-  job_is = if_told (λ text. IsJobText text r.setup.job) told.setup.job r.job.items agree.job holds.job_is;
-  part_is = if_told (λ text. IsPartText r.setup.job text r.setup.part) told.setup.part r.part.items agree.part holds.part_is;
+  job_is = if_told (λ text. IsJobText text r.setup.job) told.setup.job r.job agree.job holds.job_is;
+  part_is = if_told (λ text. IsPartText r.setup.job text r.setup.part) told.setup.part r.part agree.part holds.part_is;
   under = holds.setup_ok.under;
 }
 
@@ -158,21 +164,21 @@ all_read told texts job part moves agree read = record {
 }
 
 -- the part that was put to the job leaves both as their texts read
-pub joined_holds : (before : JobRead) (part : List Tri) (r : SetupRead) → HoldsJob before → IsPartText before.job r.part.items part → r.job.items ≡ before.text.items → IsSetup r.setup
+pub joined_holds : (before : JobRead) (part : List Tri) (r : SetupRead) → HoldsJob before → IsPartText before.job r.part part → r.job ≡ before.source → IsSetup r.setup
     → (let s : Result Setup LoadFault = Ok r.setup in JoinsPart before.job part s) → HoldsSetup r
 joined_holds before part r holds is stays setup_ok h = record {
   setup_ok = setup_ok;
-  job_is = subst (λ (text : List ℕ). IsJobText text r.setup.job) (sym stays) (subst (λ (j : Job). IsJobText before.text.items j) (sym h.0) holds.is);
-  part_is = subst (λ (j : Job). IsPartText j r.part.items r.setup.part) (sym h.0) (subst (λ (p : List Tri). IsPartText before.job r.part.items p) (sym h.1) is);
+  job_is = subst (λ (text : List ℕ). IsJobText text r.setup.job) (sym stays) (subst (λ (j : Job). IsJobText before.source j) (sym h.0) holds.is);
+  part_is = subst (λ (j : Job). IsPartText j r.part r.setup.part) (sym h.0) (subst (λ (p : List Tri). IsPartText before.job r.part p) (sym h.1) is);
 }
 
 -- the job was read, and this is what the part's file came to
-pub setup_read : (told : SetupTexts) (before : JobRead) (r : Result SetupRead LoadFault) → IfSome told.job (λ bytes. before.text.items ≡ bytes) → HoldsJob before
+pub setup_read : (told : SetupTexts) (before : JobRead) (r : Result SetupRead LoadFault) → IfSome told.job (λ bytes. before.source ≡ bytes) → HoldsJob before
     → ReadsPart before told.part r → ReadsSetup told r
 setup_read told before (Ok s) same holds h =
     record { job = subst (λ (items : List ℕ). IfSome told.job (λ bytes. items ≡ bytes)) (sym h.stays) same; part = h.same }
 setup_read told before (Err fault) same holds h =
-    under_loads told before.job (Err fault) (if_told (λ text. IsJobText text before.job) told.job before.text.items same holds.is) h
+    under_loads told before.job (Err fault) (if_told (λ text. IsJobText text before.job) told.job before.source same holds.is) h
 
 -- ---- the store
 

@@ -95,8 +95,8 @@ fn serve<R: Threads + Sync, S: Shelf, O: Sink>(
     ensures { Serves (request_of asked.entry).files (call_of result
         (S.shows shelf.old) (S.shows shelf.new) (O.shows out.old) (O.shows out.new)) }
 {
-    match load(alloc, shelf, asked.job, asked.part, asked.program) {
-        Ok(loaded) => tell_report(rt, alloc, &loaded, asked.workers, out),
+    match load(rt, alloc, shelf, asked.job, asked.part, asked.program) {
+        Ok(loaded) => tell_report(rt, alloc, loaded, asked.workers, out),
         Err(fault) => tell_fault(alloc, &fault, out),
     }
 }

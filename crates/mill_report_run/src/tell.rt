@@ -17,21 +17,21 @@ use std::thread::Threads;
 pub fn tell_report<R: Threads + Sync, O: Sink>(
     rt: &R,
     alloc: Global,
-    loaded: &Loaded,
+    loaded: Loaded,
     workers: u32,
     out: &mut O,
 ) -> Status
     requires some { 1 ≤ workers }
     requires few { workers ≤ 64 }
-    requires ready { IsReady loaded.now }
+    requires ready { IsReady loaded }
     requires prints { (O.shows out.old).faults < 2 ^ 64 - 1 }
-    ensures { TriesReport loaded.now (status_code result) (O.shows out.old) (O.shows out.new) }
+    ensures { TriesReport loaded (status_code result) (O.shows out.old) (O.shows out.new) }
 {
     let setup = &loaded.setup;
     match report(
         rt,
         alloc,
-        &loaded.sources,
+        loaded.sources,
         &setup.job,
         &setup.part,
         &loaded.moves,

@@ -1,14 +1,11 @@
 //! The words of the command line: the names of three files, and how many threads share the work.
-ghost use Rattle.std.specs.Prelude.{◌≡◌, false, IfOk, is_some, map, option_map, string_bytes};
-ghost use Rattle.clap.specs.Words.{App, FailsBy, HasKind, Kinds, Rule, first_of, found_of, matches_of, rows_of, rule_of, with_rule};
-ghost use Rattle.mill_command.specs.Requests.{Refuses, number_in};
-ghost use Rattle.mill_command.specs.Set.{Is, count_parser, place, workers};
+ghost use Rattle.std.specs.Prelude.{◌≡◌, IfOk, is_some, map, option_map, string_bytes};
+ghost use Rattle.clap.specs.Words.{FailsBy, found_of, matches_of, rows_of};
+ghost use Rattle.mill_command.specs.Set.{Is};
 ghost use Rattle.mill_report_run.specs.Words.{IsBounded, ReadsWords, faults, is_taken, plain, request, request_in, request_of, taken_words, with_setup, with_workers};
 
-use clap::builder::ValueParser;
-use clap::error::ErrorKind;
-use clap::{Arg, ArgMatches, Command, Error, value_parser};
-use mill_command::Refusal;
+use clap::{ArgMatches, Command, Error};
+use mill_command::{Refusal, number, place, refusal_of, value, with_arg, workers};
 use std::alloc::{AllocError, Global};
 
 /// What `--version` shows.
@@ -78,37 +75,6 @@ fn asked_of<'a>(matches: &ArgMatches<'a>) -> Option<Asked<'a>>
     })
 }
 
-/// The word that is the value under this id.
-fn value<'a>(matches: &ArgMatches<'a>, id: &str) -> Option<&'a str>
-    ensures { option_map (λ s. s.now) result ≡ first_of id.now (rows_of (found_of matches.now)) }
-{
-    matches.get_str(id)
-}
-
-/// The number that is the value under this id.
-fn number(matches: &ArgMatches<'_>, id: &str) -> Option<u32>
-    ensures { result ≡ number_in id.now (rows_of (found_of matches.now)) }
-{
-    matches.get_one(id)
-}
-
-/// The refusal that an error of clap's stands for, with its text.
-fn refusal_of(alloc: Global, error: &Error) -> Refusal
-    ensures { (kinds : Kinds) → HasKind kinds error.now → Refuses kinds result }
-{
-    if error.kind() == ErrorKind::OutOfMemory {
-        return Refusal::WantOfMemory;
-    }
-    let Ok(text) = format!(in alloc; "{error}") else {
-        return Refusal::WantOfMemory;
-    };
-    if error.use_stderr() {
-        Refusal::NotTaken { text }
-    } else {
-        Refusal::Help { text }
-    }
-}
-
 /// The words that the program takes, ready to be built by a parse.
 // The words are added by twos, since each that may fail costs a proof that all before it are dropped.
 fn command<'a>(alloc: Global) -> Result<Command<'a>, AllocError>
@@ -153,41 +119,4 @@ fn plain<'a>(alloc: Global) -> Result<Command<'a>, AllocError>
         .version(VERSION)
         .no_binary_name(true)
         .bin_name("camreport")
-}
-
-/// A word that must stand at its place. Help calls it by its name.
-fn place<'a>(alloc: Global, id: &'static str, name: &'static str, help: &'static str) -> Arg<'a>
-    ensures { (rule_of result ≡ place id.entry.now) × (result.global ≡ false) }
-{
-    Arg::new(alloc, id)
-        .required(true)
-        .value_name(name)
-        .help(help)
-}
-
-/// `--workers=W`, which may be left out.
-fn workers<'a>(alloc: Global) -> Arg<'a>
-    ensures { (rule_of result ≡ workers) × (result.global ≡ false) }
-{
-    Arg::new(alloc, "workers")
-        .long("workers")
-        .value_parser(count_parser())
-        .default_value("1")
-        .value_name("W")
-        .help("How many threads share the work, from 1 to 64")
-}
-
-/// How many workers there can be.
-fn count_parser<'a>() -> ValueParser<'a>
-    ensures { result ≡ count_parser }
-{
-    value_parser!(u32).range(1..=64)
-}
-
-/// The command with one more argument.
-fn with_arg<'a>(command: Command<'a>, arg: Arg<'a>) -> Result<Command<'a>, AllocError>
-    requires { arg.global ≡ false }
-    ensures { IfOk result (λ c. (a : App) (r : Rule) → Is a command.entry → rule_of arg.entry ≡ r → Is (with_rule a r) c) }
-{
-    command.arg(arg)
 }

@@ -3,4 +3,4 @@ use Rattle.mill_report_text.specs.Reports.{Texts}
 use Rattle.mill_report_text.specs.declared.texts.Sources.{Sources}
 
 abbrev pub texts_of_sources : Sources → Texts
-texts_of_sources sources = record { job = sources.job.items; part = sources.part.items; program = sources.program.items }
+texts_of_sources sources = record { job = sources.job; part = sources.part; program = sources.program }

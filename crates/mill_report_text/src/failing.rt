@@ -1,6 +1,7 @@
 //! The items of all moves that fail.
 ghost use Rattle.std.specs.Prelude.{◌≡◌, All, IfOk, List, Ok, false, length, map};
 ghost use Rattle.mill_base.specs.declared.motion.Move.{Move as OneMove};
+ghost use Rattle.mill_cells.specs.Sorted.{sorted_of};
 ghost use Rattle.mill_job.specs.Columns.{home};
 ghost use Rattle.mill_job.specs.Jobs.{IsJob};
 ghost use Rattle.mill_load.specs.Loads.{AreMoves};
@@ -17,6 +18,7 @@ ghost use Rattle.serde_json.specs.Written.{has_float};
 use crate::lifts::lifts_of;
 use crate::texts::Sources;
 use mill_base::{Move, WantOfMemory};
+use mill_cells::Cells;
 use mill_details::{failing_values, tops_met};
 use mill_job::Job;
 use mill_part::Part;
@@ -31,11 +33,13 @@ pub(crate) fn failing_items(
     sources: &Sources,
     job: &Job,
     part: &Part,
+    cells: &Cells,
     moves: &[Move],
     found: &[Reason],
 ) -> Result<Vec<Value>, WantOfMemory>
     requires job_ok { IsJob job.now }
-    requires read { IsProgramText job.now sources.now.program.items moves.now }
+    requires cells_ok { cells.now ≡ sorted_of part.now }
+    requires read { IsProgramText job.now sources.now.program moves.now }
     requires moves_ok { AreMoves job.now moves.now }
     requires found { AreFindings job.now part.now moves.now found.now }
     ensures are { IfOk result (λ values.
@@ -45,7 +49,7 @@ pub(crate) fn failing_items(
     if found.is_empty() {
         return Ok(Vec::new(alloc));
     }
-    told_items(alloc, sources, job, part, moves, found)
+    told_items(alloc, sources, job, part, cells, moves, found)
 }
 
 /// The items of these findings: each with its place in the program's text, its lift, and the top in its way.
@@ -54,11 +58,13 @@ fn told_items(
     sources: &Sources,
     job: &Job,
     part: &Part,
+    cells: &Cells,
     moves: &[Move],
     found: &[Reason],
 ) -> Result<Vec<Value>, WantOfMemory>
     requires job_ok { IsJob job.now }
-    requires read { IsProgramText job.now sources.now.program.items moves.now }
+    requires cells_ok { cells.now ≡ sorted_of part.now }
+    requires read { IsProgramText job.now sources.now.program moves.now }
     requires moves_ok { AreMoves job.now moves.now }
     requires found { AreFindings job.now part.now moves.now found.now }
     ensures are { IfOk result (λ values.
@@ -66,14 +72,14 @@ fn told_items(
     ensures plain { IfOk result (λ values. All (λ v. has_float (view v) ≡ false) values.items) }
 {
     let places = places_of(alloc, sources, job)?;
-    let lifts = lifts_of(alloc, job, part, moves, found)?;
+    let lifts = lifts_of(alloc, job, part, cells, moves, found)?;
     let tops = tops_met(alloc, job, part, moves, found)?;
     failing_values(
         alloc,
         job,
         part,
         moves,
-        &sources.program,
+        sources.program.text(),
         &places,
         found,
         &tops,
@@ -84,12 +90,12 @@ fn told_items(
 /// The place of each move in the program's text.
 fn places_of(alloc: Global, sources: &Sources, job: &Job) -> Result<Vec<Place>, WantOfMemory>
     requires job_ok { IsJob job.now }
-    requires fits { Fits sources.now.program.items }
+    requires fits { Fits sources.now.program }
     ensures are { IfOk result (λ places.
-        ArePlaces (home job.now) job.now.unit sources.now.program.items places.items) }
+        ArePlaces (home job.now) job.now.unit sources.now.program places.items) }
     ensures all { IfOk result (λ places. (moves : List OneMove)
-        → program_of (home job.now) job.now.unit sources.now.program.items ≡ Ok moves
+        → program_of (home job.now) job.now.unit sources.now.program ≡ Ok moves
         → length places.items ≡ length moves) }
 {
-    places(alloc, &sources.program, job.home(), job.unit)
+    places(alloc, sources.program.text(), job.home(), job.unit)
 }

@@ -5,11 +5,12 @@
 //! the program, on `mill_details` and `mill_document` for the document, and on `sha2` for the checksums.
 //! `report` makes the document of a verdict, and `fault_report` that of what keeps a report from its files;
 //! `memory_report` and `read_fault_report` have those that take no memory. `specs/Reports` says what they
-//! tell.
+//! tell. A [`Source`] is the text of a file, whose checksum a thread of its own makes meanwhile.
 //!
 //! The whole stands in `whole`: first the verdict, then its two lists (`lists`), which are empty where the
 //! program is accepted, and else have all findings (`failing`, with the lifts of `lifts`). `line` has the
-//! answer's line and `sums` the checksums. What stands in `specs/inner` serves the functions within.
+//! answer's line, and `source` and `sums` the checksums. What stands in `specs/inner` serves the functions
+//! within.
 #![tactic(auto)]
 
 mod failing;
@@ -17,10 +18,12 @@ mod fault;
 mod lifts;
 mod line;
 mod lists;
+mod source;
 mod sums;
 mod texts;
 mod whole;
 
 pub use fault::{fault_report, memory_report, read_fault_report};
+pub use source::Source;
 pub use texts::{Report, Sources};
 pub use whole::report;

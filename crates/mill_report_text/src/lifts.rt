@@ -14,30 +14,13 @@ use mill_base::{Move, Tool, WantOfMemory};
 use mill_cells::Cells;
 use mill_job::Job;
 use mill_lift::{has_room, least_lift, over_part_passes, passes_from_lift};
-use mill_part::{Part, SortedPart};
+use mill_part::Part;
 use mill_verify::Reason;
 use std::alloc::Global;
 
 /// The lift of each finding, in units: the least with which its move passes the part, where it fails
-/// against that, and can be raised so far; else none.
+/// against that, and can be raised so far; else none. The part's triangles are sorted into the cells.
 pub(crate) fn lifts_of(
-    alloc: Global,
-    job: &Job,
-    part: &Part,
-    moves: &[Move],
-    found: &[Reason],
-) -> Result<Vec<Option<i32>>, WantOfMemory>
-    requires job_ok { IsJob job.now }
-    requires moves_ok { MovesInRange moves.now }
-    requires found { All (IsFinding job.now part.now moves.now) found.now }
-    ensures { IfOk result (λ lifts. AllZip (IsLift job.now part.now moves.now) found.now lifts.items) }
-{
-    let sorted = SortedPart::new(alloc, part)?;
-    lifts_by(alloc, job, part, sorted.cells(), moves, found)
-}
-
-/// The same, by the cells that the part's triangles are sorted into.
-fn lifts_by(
     alloc: Global,
     job: &Job,
     part: &Part,

@@ -1,5 +1,6 @@
 //! The two lists of a report: the moves that fail, and the columns left too high.
 ghost use Rattle.std.specs.Prelude.{◌≡◌, [], IfOk};
+ghost use Rattle.mill_cells.specs.Sorted.{sorted_of};
 ghost use Rattle.mill_job.specs.Jobs.{IsJob};
 ghost use Rattle.mill_load.specs.Loads.{AreMoves};
 ghost use Rattle.mill_load.specs.Programs.{IsProgramText};
@@ -11,10 +12,13 @@ ghost use Rattle.mill_verify.specs.declared.verdict.Reason.{Reason as Why};
 use crate::failing::failing_items;
 use crate::texts::Sources;
 use mill_base::{Move, WantOfMemory};
+use mill_cells::Cells;
 use mill_details::left_values;
 use mill_job::Job;
 use mill_part::Part;
-use mill_report::{all_findings, first_is_verdict, first_left_is_verdict, verdict_is_first};
+use mill_report::{
+    all_findings_with_cells, first_is_verdict, first_left_is_verdict, verdict_is_first,
+};
 use mill_verify::{Verdict, one_verdict};
 use serde_json::Value;
 use std::alloc::Global;
@@ -28,24 +32,27 @@ pub(crate) struct Lists {
     pub(crate) too_high: u64,
 }
 
-/// The lists of a verdict. Where the program is accepted nothing is looked for.
+/// The lists of a verdict, by the cells that the part's triangles are sorted into. Where the program is
+/// accepted nothing is looked for.
 pub(crate) fn lists_of(
     alloc: Global,
     sources: &Sources,
     job: &Job,
     part: &Part,
+    cells: &Cells,
     moves: &[Move],
     verdict: Verdict,
 ) -> Result<Lists, WantOfMemory>
     requires job_ok { IsJob job.now }
-    requires read { IsProgramText job.now sources.now.program.items moves.now }
+    requires cells_ok { cells.now ≡ sorted_of part.now }
+    requires read { IsProgramText job.now sources.now.program moves.now }
     requires moves_ok { AreMoves job.now moves.now }
     requires verdict { IsVerdict job.now part.now moves.now verdict }
     ensures { IfOk result (AreLists (texts_of_sources sources.now) job.now part.now moves.now verdict) }
 {
     match verdict {
         Verdict::Accept { .. } => Ok(no_lists(alloc)),
-        Verdict::Reject(_) => finding_lists(alloc, sources, job, part, moves),
+        Verdict::Reject(_) => finding_lists(alloc, sources, job, part, cells, moves),
     }
 }
 
@@ -67,10 +74,12 @@ fn finding_lists(
     sources: &Sources,
     job: &Job,
     part: &Part,
+    cells: &Cells,
     moves: &[Move],
 ) -> Result<Lists, WantOfMemory>
     requires job_ok { IsJob job.now }
-    requires read { IsProgramText job.now sources.now.program.items moves.now }
+    requires cells_ok { cells.now ≡ sorted_of part.now }
+    requires read { IsProgramText job.now sources.now.program moves.now }
     requires moves_ok { AreMoves job.now moves.now }
     ensures { IfOk result (λ lists. (reason : Why) → IsVerdict job.now part.now moves.now (Verdict.Reject reason)
         → AreLists (texts_of_sources sources.now) job.now part.now moves.now (Verdict.Reject reason) lists) }
@@ -80,8 +89,8 @@ fn finding_lists(
     first_is_verdict();
     verdict_is_first();
     first_left_is_verdict();
-    let found = all_findings(alloc, job, part, moves)?;
-    let failing = failing_items(alloc, sources, job, part, moves, &found.failing)?;
+    let found = all_findings_with_cells(alloc, job, part, cells, moves)?;
+    let failing = failing_items(alloc, sources, job, part, cells, moves, &found.failing)?;
     let left = left_values(alloc, job, &found.left.shown)?;
     Ok(Lists {
         failing,

@@ -2,25 +2,18 @@
 ghost use Rattle.std.specs.Prelude.{◌≡◌};
 ghost use Rattle.mill_report_text.specs.Reports.{sums_of as sums_of_texts};
 ghost use Rattle.mill_report_text.specs.Sources.{texts_of_sources};
-ghost use Rattle.sha2.specs.Sha256.{sha256};
 
 use crate::texts::Sources;
 use mill_document::Sums;
-use sha2::{Digest, Sha256};
+use std::thread::Threads;
 
-/// The SHA-256 of the three texts.
-pub(crate) fn sums_of(sources: &Sources) -> Sums
-    ensures { result ≡ sums_of_texts (texts_of_sources sources.now) }
+/// The SHA-256 of the three texts, which are let go.
+pub(crate) fn sums_of<R: Threads>(rt: &R, sources: Sources) -> Sums
+    ensures { result ≡ sums_of_texts (texts_of_sources sources) }
 {
     Sums {
-        job: sum_of(&sources.job),
-        part: sum_of(&sources.part),
-        program: sum_of(&sources.program),
+        job: sources.job.sum(rt),
+        part: sources.part.sum(rt),
+        program: sources.program.sum(rt),
     }
-}
-
-fn sum_of(text: &[u8]) -> [u8; 32]
-    ensures { result ≡ sha256 text.now }
-{
-    Sha256::digest(text)
 }

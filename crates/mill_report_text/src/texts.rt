@@ -1,12 +1,13 @@
 //! The texts that a report is made of, and its own.
+use crate::source::Source;
 use mill_load::Status;
 
 /// The texts of the three files, as they were read.
-#[derive(Debug, Drop)]
+#[derive(Drop)]
 pub struct Sources {
-    pub job: Vec<u8>,
-    pub part: Vec<u8>,
-    pub program: Vec<u8>,
+    pub job: Source,
+    pub part: Source,
+    pub program: Source,
 }
 
 /// A report's text, and the exit status that goes with it.

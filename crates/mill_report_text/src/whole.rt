@@ -1,29 +1,30 @@
 //! The whole report.
 ghost use Rattle.std.specs.Prelude.{◌≡◌, ◌≤◌, IfOk, map};
 ghost use Rattle.mill_base.specs.declared.limits.TheConstants.{MAX_WORKERS};
+ghost use Rattle.mill_cells.specs.Sorted.{sorted_of};
 ghost use Rattle.mill_document.specs.Documents.{report_data, text_of};
 ghost use Rattle.mill_job.specs.Jobs.{IsJob};
 ghost use Rattle.mill_load.specs.Loads.{AreMoves};
 ghost use Rattle.mill_load.specs.Statuses.{status_code};
-ghost use Rattle.mill_report_text.specs.Reports.{IsReportText, Read, most_left as most_left_of, sums_of as sums_of_texts, summary_of as summary_of_verdict};
+ghost use Rattle.mill_report_text.specs.Reports.{IsReportText, Read, most_left as most_left_of, summary_of as summary_of_verdict};
 ghost use Rattle.mill_report_text.specs.Sources.{texts_of_sources};
 ghost use Rattle.mill_report_text.specs.inner.Judged.{IsJudged, IsReady};
 ghost use Rattle.mill_report_text.specs.inner.Lists.{ArePlain};
 ghost use Rattle.serde_json.specs.View.{view};
-ghost use denote.Param.Send.{IsSync};
 
 use crate::line::verdict_words;
 use crate::lists::{Lists, lists_of};
 use crate::sums::sums_of;
 use crate::texts::{Report, Sources};
 use mill_base::{Move, WantOfMemory};
+use mill_cells::Cells;
 use mill_document::{Summary, Sums, report_text};
 use mill_job::Job;
-use mill_part::Part;
+use mill_part::{Part, SortedPart};
 use mill_run::status_of_verdict;
-use mill_verify::{Verdict, verify};
+use mill_verify::{Verdict, verify_with_cells};
 use std::alloc::Global;
-use std::thread::{Threads, join};
+use std::thread::Threads;
 
 /// The report on a program: its verdict, with the line that `verify` prints, and all that is wrong with it.
 ///
@@ -32,94 +33,80 @@ use std::thread::{Threads, join};
 /// every move before it has cut; and of the columns left too high the first 10,000, with the number of all.
 /// Where the program is accepted both lists are empty, and nothing is looked for beyond the verdict.
 ///
-/// The work of the verdict is shared by `workers` threads, from 1 to 64, and beside them one makes the
-/// checksums. The report doesn't depend on their number. The only error is want of memory.
+/// The work of the verdict is shared by `workers` threads, from 1 to 64. The report doesn't depend on their
+/// number. The only error is want of memory.
 pub fn report<R: Threads + Sync>(
     rt: &R,
     alloc: Global,
-    sources: &Sources,
+    sources: Sources,
     job: &Job,
     part: &Part,
     moves: &[Move],
     workers: u32,
 ) -> Result<Report, WantOfMemory>
-    requires read { Read (texts_of_sources sources.now) job.now part.now moves.now }
+    requires read { Read (texts_of_sources sources) job.now part.now moves.now }
     requires job_ok { IsJob job.now }
     requires moves_ok { AreMoves job.now moves.now }
     requires some_workers { 1 ≤ workers }
     requires few_workers { workers ≤ MAX_WORKERS }
-    ensures { IfOk result (λ report. IsReportText (texts_of_sources sources.now) job.now part.now moves.now
+    ensures { IfOk result (λ report. IsReportText (texts_of_sources sources) job.now part.now moves.now
         report.text.items (status_code report.status)) }
 {
-    let (verdict, sums) = verdict_and_sums(rt, alloc, sources, job, part, moves, workers);
-    report_of_verdict(alloc, sources, job, part, moves, verdict?, &sums)
-}
-
-/// The verdict, and beside it, on a thread of its own, the checksums: they take as long as a verdict that is
-/// little more than reading.
-fn verdict_and_sums<R: Threads + Sync>(
-    rt: &R,
-    alloc: Global,
-    sources: &Sources,
-    job: &Job,
-    part: &Part,
-    moves: &[Move],
-    workers: u32,
-) -> (Result<Verdict, WantOfMemory>, Sums)
-    requires ready { IsReady job.now part.now moves.now workers }
-    ensures verdict { IfOk result.0 (IsJudged job.now part.now moves.now) }
-    ensures sums { result.1 ≡ sums_of_texts (texts_of_sources sources.now) }
-{
-    join(
+    let sorted = SortedPart::new(alloc, part)?;
+    let verdict = judged(rt, alloc, job, part, sorted.cells(), moves, workers)?;
+    report_of_verdict(
         rt,
-        || -> Result<Verdict, WantOfMemory>
-            requires sync { IsSync R.row }
-            requires ready { IsReady job.now part.now moves.now workers }
-            ensures { IfOk result (IsJudged job.entry.now part.entry.now moves.entry.now) }
-        { judged(rt, alloc, job, part, moves, workers) },
-        || -> Sums
-            ensures { result ≡ sums_of_texts (texts_of_sources sources.entry.now) }
-        { sums_of(sources) },
+        alloc,
+        sources,
+        job,
+        part,
+        sorted.cells(),
+        moves,
+        verdict,
     )
 }
 
-/// The verdict.
+/// The verdict, by the cells that the part's triangles are sorted into.
 fn judged<R: Threads + Sync>(
     rt: &R,
     alloc: Global,
     job: &Job,
     part: &Part,
+    cells: &Cells,
     moves: &[Move],
     workers: u32,
 ) -> Result<Verdict, WantOfMemory>
     requires ready { IsReady job.now part.now moves.now workers }
+    requires cells_ok { cells.now ≡ sorted_of part.now }
     ensures { IfOk result (IsJudged job.now part.now moves.now) }
 {
-    let verdict = verify(rt, alloc, job, part, moves, workers)?;
+    let verdict = verify_with_cells(rt, alloc, job, part, cells, moves, workers)?;
     Ok(verdict)
 }
 
-/// The report on a program that has this verdict, and on texts that have these checksums.
-fn report_of_verdict(
+/// The report on a program that has this verdict.
+fn report_of_verdict<R: Threads>(
+    rt: &R,
     alloc: Global,
-    sources: &Sources,
+    sources: Sources,
     job: &Job,
     part: &Part,
+    cells: &Cells,
     moves: &[Move],
     verdict: Verdict,
-    sums: &Sums,
 ) -> Result<Report, WantOfMemory>
-    requires read { Read (texts_of_sources sources.now) job.now part.now moves.now }
+    requires read { Read (texts_of_sources sources) job.now part.now moves.now }
     requires job_ok { IsJob job.now }
+    requires cells_ok { cells.now ≡ sorted_of part.now }
     requires moves_ok { AreMoves job.now moves.now }
     requires judged { IsJudged job.now part.now moves.now verdict }
-    requires sums { sums.now ≡ sums_of_texts (texts_of_sources sources.now) }
-    ensures { IfOk result (λ report. IsReportText (texts_of_sources sources.now) job.now part.now moves.now
+    ensures { IfOk result (λ report. IsReportText (texts_of_sources sources) job.now part.now moves.now
         report.text.items (status_code report.status)) }
 {
-    let lists = lists_of(alloc, sources, job, part, moves, verdict)?;
+    let lists = lists_of(alloc, &sources, job, part, cells, moves, verdict)?;
     let line = verdict_words(alloc, job, moves, verdict)?;
-    let text = document(alloc, sums, job, moves, verdict, &line, lists)?;
+    let sums = sums_of(rt, sources);
+    let text = document(alloc, &sums, job, moves, verdict, &line, lists)?;
     Ok(Report {
         text,
         status: status_of_verdict(verdict),

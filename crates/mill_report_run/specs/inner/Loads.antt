@@ -1,8 +1,10 @@
 -- What reading the files, and keeping their texts, comes to.
+use Rattle.std.specs.Global.{Vec}
 use Rattle.std.specs.Prelude.{◌≡◌, ℕ, List, Option, IfSome, Result, Ok, Err}
 use Rattle.mill_job.specs.Jobs.{IsJob}
-use Rattle.mill_load.specs.Loads.{AreMoves, IsSetup, LoadsJob, LoadsSetup, LoadsUnder}
+use Rattle.mill_load.specs.Loads.{AreMoves, IsSetup, LoadsJob, LoadsSetup, LoadsUnder, ReadsFile}
 use Rattle.mill_load.specs.Setup.{IsJobText, IsPartText, SetupTexts}
+use Rattle.mill_load.specs.declared.file.File.{File}
 use Rattle.mill_load.specs.declared.load.LoadFault.{LoadFault}
 use Rattle.mill_load.specs.declared.load.LoadFault.TheVariants.{Memory, ReadFault, Unfit}
 use Rattle.mill_report_run.specs.Outcomes.{AreTextsOf}
@@ -14,16 +16,23 @@ use Rattle.mill_report_text.specs.Reports.{Read}
 use Rattle.mill_report_text.specs.Sources.{texts_of_sources}
 use Rattle.mill_run.specs.Verify.{IsReadBeforeProgram, IsUnfitProgram, Texts as ToldTexts}
 
+-- ---- one text
+
+-- the text of a file, where it is told, or why it has none
+abbrev pub ReadsSource : Option (List ℕ) → File → Result (List ℕ) LoadFault → Type 0
+ReadsSource told file (Ok source) = IfSome told (λ text. source ≡ text)
+ReadsSource told file (Err fault) = (let r : Result (Vec ℕ) LoadFault = Err fault in ReadsFile told file r)
+
 -- ---- the job
 
 -- the text reads as the job, which is in its ranges
 pub record HoldsJob (r : JobRead) : Type 0 where
   pub job_ok : IsJob r.job
-  pub is : IsJobText r.text.items r.job
+  pub is : IsJobText r.source r.job
 
 -- the text of the job's file, where it is told, or why there is no job
 abbrev pub ReadsJob : Option (List ℕ) → Result JobRead LoadFault → Type 0
-ReadsJob told (Ok r) = IfSome told (λ text. r.text.items ≡ text)
+ReadsJob told (Ok r) = IfSome told (λ text. r.source ≡ text)
 ReadsJob told (Err fault) = LoadsJob told (Err fault)
 
 -- ---- the part
@@ -31,13 +40,13 @@ ReadsJob told (Err fault) = LoadsJob told (Err fault)
 -- the texts read as the job and the part, which isn't over the job's top
 pub record HoldsSetup (r : SetupRead) : Type 0 where
   pub setup_ok : IsSetup r.setup
-  pub job_is : IsJobText r.job.items r.setup.job
-  pub part_is : IsPartText r.setup.job r.part.items r.setup.part
+  pub job_is : IsJobText r.job r.setup.job
+  pub part_is : IsPartText r.setup.job r.part r.setup.part
 
 -- the job's text stays, and to it comes that of the part's file, where it is told
 pub record AddsPart (before : JobRead) (told : Option (List ℕ)) (r : SetupRead) : Type 0 where
-  pub stays : r.job.items ≡ before.text.items
-  pub same : IfSome told (λ text. r.part.items ≡ text)
+  pub stays : r.job ≡ before.source
+  pub same : IfSome told (λ text. r.part ≡ text)
 
 -- the text of the part's file for a job, or why there is no part
 abbrev pub ReadsPart : JobRead → Option (List ℕ) → Result SetupRead LoadFault → Type 0
@@ -46,8 +55,8 @@ ReadsPart before told (Err fault) = LoadsUnder before.job told (Err fault)
 
 -- each of the two texts is that of its file, where it is told
 pub record AreSetupTexts (told : SetupTexts) (r : SetupRead) : Type 0 where
-  pub job : IfSome told.job (λ text. r.job.items ≡ text)
-  pub part : IfSome told.part (λ text. r.part.items ≡ text)
+  pub job : IfSome told.job (λ text. r.job ≡ text)
+  pub part : IfSome told.part (λ text. r.part ≡ text)
 
 -- the texts of both files, or why there are no job and part
 abbrev pub ReadsSetup : SetupTexts → Result SetupRead LoadFault → Type 0

@@ -7,9 +7,9 @@ pub returns-in-Ok-clause-told : goal.returns-in-Ok-clause-told
 returns-in-Ok-clause-told c = λ told same. same
 
 pub returns-in-Ok-clause-ready : goal.returns-in-Ok-clause-ready
-returns-in-Ok-clause-ready c = record { job_ok = c.in-Ok.ensures.in_range; is = rw c.deref.ensures.value at c.in-Ok.ensures.told }
+returns-in-Ok-clause-ready c = record { job_ok = c.in-Ok.ensures.in_range; is = rw c.text.ensures at c.in-Ok.ensures.told }
 
 pub returns-in-Err-clause-told : goal.returns-in-Err-clause-told
 returns-in-Err-clause-told c = λ told same.
-    job_told told c.args.text.items (Err c.in-Err.fault) same
-    (subst (λ (text : List ℕ). LoadsJob (Some text) (Err c.in-Err.fault)) c.deref.ensures.value c.in-Err.ensures.told)
+    job_told told c.args.source (Err c.in-Err.fault) same
+    (subst (λ (text : List ℕ). LoadsJob (Some text) (Err c.in-Err.fault)) c.text.ensures c.in-Err.ensures.told)

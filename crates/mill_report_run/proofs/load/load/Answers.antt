@@ -18,18 +18,18 @@ returns-in-Err-clause-of_three g c =
     let told : ToldTexts = texts_of (g.S.Shelf.shows c.args.shelf.now).contents (record { job = c.args.job.now; part = c.args.part.now; program = c.args.program.now }) in
     of_three told c.in-Err.fault (no_setup told c.in-Err.fault c.in-Err.ensures.told)
 
-pub returns-in-Ok-read_file-clause-told : goal.returns-in-Ok-read_file-clause-told
-returns-in-Ok-read_file-clause-told g c =
+pub returns-in-Ok-read_source-clause-told : goal.returns-in-Ok-read_source-clause-told
+returns-in-Ok-read_source-clause-told g c =
     let told : ToldTexts = texts_of (g.S.Shelf.shows c.args.shelf.now).contents (record { job = c.args.job.now; part = c.args.part.now; program = c.args.program.now }) in
     c.with_program.ensures.told told c.in-Ok.ensures.told
-    (subst (λ (o : Option (List ℕ)). IfSome o (λ bytes. c.in-Ok-read_file.text.items ≡ bytes)) (c.in-Ok.ensures.store.only.contents c.args.program.now) c.in-Ok-read_file.ensures.told)
+    (subst (λ (o : Option (List ℕ)). IfSome o (λ bytes. c.in-Ok-read_source.source ≡ bytes)) (c.in-Ok.ensures.store.only.contents c.args.program.now) c.in-Ok-read_source.ensures.told)
 
-pub returns-in-Err-read_file-clause-told : goal.returns-in-Err-read_file-clause-told
-returns-in-Err-read_file-clause-told g c =
+pub returns-in-Err-read_source-clause-told : goal.returns-in-Err-read_source-clause-told
+returns-in-Err-read_source-clause-told g c =
     let told : ToldTexts = texts_of (g.S.Shelf.shows c.args.shelf.now).contents (record { job = c.args.job.now; part = c.args.part.now; program = c.args.program.now }) in
     let later : Option (List ℕ) = (g.S.Shelf.shows c.load_setup.new.shelf).contents c.args.program.now in
     let setup = c.in-Ok.read.setup in
-    let fault = c.in-Err-read_file.fault in
+    let fault = c.in-Err-read_source.fault in
     no_moves told setup.job setup.part fault (both_read told c.in-Ok.read c.in-Ok.ensures.told c.in-Ok.ensures.ready)
     (subst (λ (o : Option (List ℕ)). (let r : Result (Vec Move) LoadFault = Err fault in LoadsProgram setup.job o ProgramFile r)) (c.in-Ok.ensures.store.only.contents c.args.program.now)
-    (no_program_text setup.job later fault c.in-Err-read_file.ensures.told))
+    (no_program_text setup.job later fault c.in-Err-read_source.ensures.told))

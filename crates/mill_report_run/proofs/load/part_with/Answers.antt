@@ -5,10 +5,10 @@ use Rattle.mill_report_run.proofs.Loading.{part_under}
 use Rattle.mill_report_run.proofs.load.part_with.Goals as goal
 
 pub joined-requires-clause-part_is : goal.joined-requires-clause-part_is
-joined-requires-clause-part_is c = rw c.deref.ensures.value at c.in-Ok.ensures.told
+joined-requires-clause-part_is c = rw c.text.ensures at c.in-Ok.ensures.told
 
 pub returns-in-Err-clause-told : goal.returns-in-Err-clause-told
 returns-in-Err-clause-told c = λ told same.
     part_under c.args.before.job told c.in-Err.fault
-    (part_told c.args.before.job told c.args.text.items (Err c.in-Err.fault) same
-    (subst (λ (text : List ℕ). LoadsPart c.args.before.job (Some text) (Err c.in-Err.fault)) c.deref.ensures.value c.in-Err.ensures.told))
+    (part_told c.args.before.job told c.args.source (Err c.in-Err.fault) same
+    (subst (λ (text : List ℕ). LoadsPart c.args.before.job (Some text) (Err c.in-Err.fault)) c.text.ensures c.in-Err.ensures.told))

@@ -3,7 +3,7 @@ use Rattle.std.proofs.Common.{sym, subst}
 use Rattle.mill_dexel.specs.Rows.{RowState}
 use Rattle.mill_dexel.specs.Stocks.{IsStock}
 use Rattle.mill_report.specs.inner.Stops.{AreTold}
-use Rattle.mill_report.proofs.report.all_findings.Goals as goal
+use Rattle.mill_report.proofs.report.all_findings_with_cells.Goals as goal
 
 pub failing_moves-requires-clause-told : goal.failing_moves-requires-clause-told
 failing_moves-requires-clause-told c = subst (AreTold c.args.job.now c.args.moves.now) (sym c.deref.ensures.value) c.in_ok-passage.ensures.told

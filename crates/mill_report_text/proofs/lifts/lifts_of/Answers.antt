@@ -5,7 +5,7 @@ use Rattle.std.specs.Prelude.{List}
 use Rattle.mill_report_text.proofs.LiftLemmas.{zip_more}
 use Rattle.mill_report_text.specs.Reports.{IsLift}
 use Rattle.mill_verify.specs.declared.verdict.Reason.{Reason}
-use Rattle.mill_report_text.proofs.lifts.lifts_by.Goals as goal
+use Rattle.mill_report_text.proofs.lifts.lifts_of.Goals as goal
 
 pub loop-index-preserved : goal.loop-index-preserved
 loop-index-preserved c =
