@@ -1,6 +1,6 @@
 use Rattle.std.proofs.Common.{◌∙◌, ap, rules, arith}
 use Rattle.mill_dexel.specs.Rows.{RowState}
-use Rattle.mill_stock_tests.proofs.dexel.rows.turned.Goals as goal
+use Rattle.mill_stock_tests.proofs.row.turned.Goals as goal
 
 pub loop-t-preserved : goal.loop-t-preserved
 loop-t-preserved c =

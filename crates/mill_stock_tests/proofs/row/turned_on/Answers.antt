@@ -5,7 +5,7 @@ use Rattle.mill_job.specs.declared.job.Job.{Job}
 use Rattle.mill_dexel.specs.Rows.{RowState}
 use Rattle.mill_dexel.specs.Turns.{IsLeftBy, move_at, tops_after, turned}
 use Rattle.mill_dexel.proofs.RunLaws.{left_next}
-use Rattle.mill_stock_tests.proofs.dexel.rows.turned_on.Goals as goal
+use Rattle.mill_stock_tests.proofs.row.turned_on.Goals as goal
 
 -- a row of which no move is done is what no move has left of it
 left_none : (job : Job) (moves : List Move) (r : RowState) → r.done ≡ 0 → IsLeftBy job moves 0 r
