@@ -19,8 +19,6 @@ mod gate;
 mod laws;
 mod rule;
 mod seat;
-#[cfg(test)]
-mod tests;
 mod turns;
 mod view;
 mod work;

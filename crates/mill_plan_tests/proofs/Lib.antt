@@ -1,1 +1,1 @@
-pub mod SampleLevels
+pub mod Tops

@@ -4,10 +4,12 @@
 #![tactic(auto)]
 
 #[cfg(test)]
-mod jobs;
+mod links;
 #[cfg(test)]
 mod parts;
 #[cfg(test)]
-mod paths;
+mod plans;
 #[cfg(test)]
-mod plan;
+mod tables;
+#[cfg(test)]
+mod visits;

@@ -1,74 +1,82 @@
 //! The parts of the tests.
-ghost use Rattle.std.specs.Prelude.{◌≡◌, pos, IfOk};
+ghost use Rattle.std.specs.Prelude.{IfOk, IsTrue};
 ghost use Rattle.mill_base.specs.Covers.{IsUnder};
-ghost use Rattle.mill_base.specs.Numbers.{Within};
-ghost use Rattle.mill_base.specs.Points.{point_at};
-ghost use Rattle.mill_base.specs.declared.limits.TheConstants.{MAX_TEXT_COORDINATE};
+ghost use Rattle.mill_base.specs.Ranges.{TriInRange};
 
-use mill_base::{Pt3, Tri, WantOfMemory};
+use crate::tables::{fits, point};
+use mill_base::Tri;
 use mill_part::Part;
 use std::alloc::Global;
+use std::test::Fail;
 
-fn place(x: i32, y: i32, z: i32) -> Pt3
-    ensures { result ≡ point_at x y z }
-{
-    Pt3 { x, y, z }
+/// A plate at the height 200 over the square, of two triangles.
+const PLATE: &str = "0 0 200, 300 0 200, 300 300 200; 0 0 200, 300 300 200, 0 300 200";
+
+/// The same with a gap between the two.
+const PARTED: &str = "150 0 200, 300 0 200, 300 300 200; 0 0 200, 50 300 200, 0 300 200";
+
+/// One triangle at the height 201, which covers the square that is far out.
+const FAR_PLATE: &str = "199900 -100 201, 200200 -100 201, 199900 200 201";
+
+/// The triangles of a part by its name. A peak is one point at the height 300.
+fn corners_of(name: &str) -> Result<&'static str, Fail> {
+    match name {
+        "plate" => Ok(PLATE),
+        "parted" => Ok(PARTED),
+        "far-plate" => Ok(FAR_PLATE),
+        "peak" => Ok("500 500 300, 500 500 300, 500 500 300"),
+        "corner-peak" => Ok("0 0 300, 0 0 300, 0 0 300"),
+        "middle-peak" => Ok("1000 1000 300, 1000 1000 300, 1000 1000 300"),
+        "nothing" => Ok(""),
+        _ => Err(Fail::from("no such part")),
+    }
 }
 
-/// The part of one point at this place, at the height 300.
-pub(crate) fn peak(alloc: Global, x: i32, y: i32) -> Result<Part, WantOfMemory>
-    requires x_ok { Within MAX_TEXT_COORDINATE x }
-    requires y_ok { Within MAX_TEXT_COORDINATE y }
-    ensures { IfOk result (λ part. IsUnder part (pos 400)) }
+/// A triangle by its three corners.
+fn triangle(text: &str) -> Result<Tri, Fail>
+    ensures { IfOk result (λ tri. TriInRange tri) }
 {
-    let place = place(x, y, 300);
+    let (a, others) = text.split_once(", ").ok_or("a triangle of one corner")?;
+    let (b, c) = others.split_once(", ").ok_or("a triangle of two corners")?;
+    let (a, b, c) = (point(a)?, point(b)?, point(c)?);
+    Ok(Tri { a, b, c })
+}
+
+fn tri_fits(tri: &Tri) -> bool
+    ensures { IsTrue result → TriInRange tri.now }
+{
+    fits(tri.a) && fits(tri.b) && fits(tri.c)
+}
+
+/// The part of this name.
+pub(crate) fn part_of(alloc: Global, name: &str) -> Result<Part, Fail> {
+    let text = corners_of(name)?;
+    if text.is_empty() {
+        return Ok(Part::new(Vec::new(alloc)));
+    }
     let mut tris = Vec::new(alloc);
-    tris.push(Tri {
-        a: place,
-        b: place,
-        c: place,
-    })?;
+    for corners in text.split("; ") {
+        tris.push(triangle(corners)?)?;
+    }
+    if tris.len() > 9 || !tris.iter().all(tri_fits) {
+        return Err(Fail::from("too many triangles"));
+    }
     Ok(Part::new(tris))
 }
 
-/// The part of one triangle at the height 201, which covers the square of `thousandths_job`.
-pub(crate) fn far_plate(alloc: Global) -> Result<Part, WantOfMemory>
-    ensures { IfOk result (λ part. IsUnder part (pos 300)) }
+fn is_under(part: &Part, most: i32) -> bool
+    ensures { IsTrue result → IsUnder part.now most }
 {
-    let mut tris = Vec::new(alloc);
-    tris.push(Tri {
-        a: place(199_900, -100, 201),
-        b: place(200_200, -100, 201),
-        c: place(199_900, 200, 201),
-    })?;
-    Ok(Part::new(tris))
+    part.top().unwrap_or(most) <= most
 }
 
-fn corner(x: i32, y: i32) -> Pt3
-    requires x_ok { Within MAX_TEXT_COORDINATE x }
-    requires y_ok { Within MAX_TEXT_COORDINATE y }
-    ensures { result ≡ point_at x y (pos 200) }
+/// The part of this name, of which nothing comes over this height.
+pub(crate) fn part_under(alloc: Global, most: i32, name: &str) -> Result<Part, Fail>
+    ensures { IfOk result (λ part. IsUnder part most) }
 {
-    Pt3 { x, y, z: 200 }
-}
-
-/// A plate at the height 200: the triangle from the x of `east` to (300, 0) and (300, 300), and that
-/// from (0, 0) to the x of `west` at y = 300 and to (0, 300).
-pub(crate) fn plate(alloc: Global, east: i32, west: i32) -> Result<Part, WantOfMemory>
-    requires east_ok { Within MAX_TEXT_COORDINATE east }
-    requires west_ok { Within MAX_TEXT_COORDINATE west }
-    ensures { IfOk result (λ part. IsUnder part (pos 300)) }
-{
-    let mut tris = Vec::new(alloc);
-    tris.push(Tri {
-        a: corner(east, 0),
-        b: corner(300, 0),
-        c: corner(300, 300),
-    })?;
-    tris.push(Tri {
-        a: corner(0, 0),
-        b: corner(west, 300),
-        c: corner(0, 300),
-    })?;
-    Ok(Part::new(tris))
+    let part = part_of(alloc, name)?;
+    if !is_under(&part, most) {
+        return Err(Fail::from("a part over the stock"));
+    }
+    Ok(part)
 }

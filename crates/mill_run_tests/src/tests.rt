@@ -3,8 +3,13 @@
 // Each table is one text: the proof of a test then costs the same however many rows there are. A row
 // is a line with a command's words, and behind `=>` the status and what is printed, but for its last
 // line's end. In a row `\n` is a line's end. A text between `<` and `>` in the place of the last word
-// becomes the file `program`.
+// becomes the file `program`; it may have several parts, with ` + ` between them, and a part may stand
+// there so many times, as in `3 * M2`.
+//
+// A row is looked at by a function of its own, and functions with a loop do nothing else: the proof of
+// a test costs the more, the more values are alive beside a loop and a `?`.
 ghost use Rattle.std.specs.Prelude.{◌≡◌, IfOk};
+ghost use Rattle.mill_run.specs.Calls.{CanCount};
 
 use mill_io::{MemFile, MemShelf, MemSink, Shelf, Sink, read_whole};
 use mill_run::run;
@@ -15,7 +20,6 @@ use std::thread::Threads;
 
 mod drops;
 mod failures;
-mod faults;
 mod levels;
 mod missing;
 mod plans;
@@ -300,41 +304,59 @@ fn text_of(name: &str) -> Result<&'static str, Fail> {
     Err("no such file".into())
 }
 
+/// A text after one change.
+fn changed(alloc: Global, text: &str, change: &str) -> Result<String, Fail> {
+    let (old, new) = change.split_once(" -> ").ok_or("a change without ->")?;
+    Ok(text.replace(alloc, old, new)?)
+}
+
 /// The text of a row of MADE.
 fn made_text(alloc: Global, of: &str, changes: &str) -> Result<String, Fail> {
     let mut text = String::from_str(alloc, text_of(of)?)?;
-    for change in with_lines(alloc, changes)?.split("; ") {
-        let (old, new) = change.split_once(" -> ").ok_or("a change without ->")?;
-        text = text.replace(alloc, old, new)?;
+    for change in changes.split("; ") {
+        text = changed(alloc, &text, change)?;
     }
     Ok(text)
 }
 
-fn file(alloc: Global, name: &str, bytes: &[u8]) -> Result<MemFile, AllocError> {
-    Ok(MemFile {
-        name: Vec::from_slice(alloc, name.as_bytes())?,
-        bytes: Vec::from_slice(alloc, bytes)?,
-    })
+fn add_file(
+    alloc: Global,
+    files: &mut Vec<MemFile>,
+    name: &str,
+    bytes: &[u8],
+) -> Result<(), AllocError> {
+    let name = Vec::from_slice(alloc, name.as_bytes())?;
+    let bytes = Vec::from_slice(alloc, bytes)?;
+    Ok(files.push(MemFile { name, bytes })?)
+}
+
+/// Adds a file of FILES.
+fn add_given(alloc: Global, files: &mut Vec<MemFile>, file: &str) -> Result<(), AllocError> {
+    match file.split_once('\n') {
+        Some((name, text)) => add_file(alloc, files, name, text.as_bytes()),
+        None => Ok(()),
+    }
+}
+
+/// Adds a file of MADE.
+fn add_made(alloc: Global, files: &mut Vec<MemFile>, row: &str) -> Result<(), Fail> {
+    let (name, rest) = row.split_once(": ").ok_or("a row without a file")?;
+    let (of, changes) = rest.split_once(": ").ok_or("a row without changes")?;
+    let changes = with_lines(alloc, changes)?;
+    let text = made_text(alloc, of, &changes)?;
+    Ok(add_file(alloc, files, name, text.as_bytes())?)
 }
 
 /// All files: `program` with these bytes, `garbled`, which isn't a text, FILES and MADE.
-fn files(alloc: Global, program: Vec<u8>) -> Result<Vec<MemFile>, Fail> {
+fn files(alloc: Global, program: &[u8]) -> Result<Vec<MemFile>, Fail> {
     let mut files = Vec::new(alloc);
-    files.push(MemFile {
-        name: Vec::from_slice(alloc, b"program")?,
-        bytes: program,
-    })?;
-    files.push(file(alloc, "garbled", b"\xff")?)?;
-    for text in FILES.split("# ") {
-        if let Some((name, text)) = text.split_once('\n') {
-            files.push(file(alloc, name, text.as_bytes())?)?;
-        }
+    add_file(alloc, &mut files, "program", program)?;
+    add_file(alloc, &mut files, "garbled", b"\xff")?;
+    for file in FILES.split("# ") {
+        add_given(alloc, &mut files, file)?;
     }
     for row in MADE.lines() {
-        let (name, rest) = row.split_once(": ").ok_or("a row without a file")?;
-        let (of, changes) = rest.split_once(": ").ok_or("a row without changes")?;
-        let text = made_text(alloc, of, changes)?;
-        files.push(file(alloc, name, text.as_bytes())?)?;
+        add_made(alloc, &mut files, row)?;
     }
     Ok(files)
 }
@@ -351,23 +373,40 @@ fn numbers(alloc: Global, words: &str) -> Result<Vec<u64>, Fail> {
     Ok(all)
 }
 
-fn store(alloc: Global, program: Vec<u8>, allowed: &str) -> Result<MemShelf, Fail>
+/// A room, and the numbers of the calls that fail.
+fn limits(alloc: Global, words: &str) -> Result<(usize, Vec<u64>), Fail> {
+    let (room, fails) = words.split_once(' ').unwrap_or((words, ""));
+    Ok((room.parse()?, numbers(alloc, fails)?))
+}
+
+fn store(alloc: Global, program: &[u8], allowed: &str) -> Result<MemShelf, Fail>
     ensures reads { IfOk result (λ s. (⟦<MemShelf as Shelf>⟧.shows s).read_faults ≡ 0) }
     ensures writes { IfOk result (λ s. (⟦<MemShelf as Shelf>⟧.shows s).write_faults ≡ 0) }
 {
-    let (out, limits) = allowed.split_once(' ').ok_or("a store without a room")?;
-    let limits = numbers(alloc, limits)?;
-    let (room, fails) = limits.split_first().ok_or("a store without a room")?;
+    let (out, words) = allowed.split_once(' ').ok_or("a store without a room")?;
+    let (room, fails) = limits(alloc, words)?;
     let files = files(alloc, program)?;
-    Ok(MemShelf::new(alloc, files, out, *room as usize, fails)?)
+    Ok(MemShelf::new(alloc, files, out, room, &fails)?)
 }
 
 fn sink(alloc: Global, allowed: &str) -> Result<MemSink, Fail>
     ensures { IfOk result (λ s. (⟦<MemSink as Sink>⟧.shows s).faults ≡ 0) }
 {
-    let limits = numbers(alloc, allowed)?;
-    let (room, fails) = limits.split_first().ok_or("a sink without a room")?;
-    Ok(MemSink::new(alloc, *room as usize, fails)?)
+    let (room, fails) = limits(alloc, allowed)?;
+    Ok(MemSink::new(alloc, room, &fails)?)
+}
+
+/// The status of a call. What else its contract says isn't needed here, and is met in this place alone.
+fn code_of<R: Threads + Sync>(
+    rt: &R,
+    alloc: Global,
+    words: &[String],
+    shelf: &mut MemShelf,
+    sink: &mut MemSink,
+) -> u8
+    requires { CanCount (⟦<MemShelf as Shelf>⟧.shows shelf.old) (⟦<MemSink as Sink>⟧.shows sink.old) }
+{
+    run(rt, alloc, words, shelf, sink).code()
 }
 
 /// The status and what was printed, as in a row, and the store as it was left.
@@ -377,10 +416,10 @@ struct Ended {
     shelf: MemShelf,
 }
 
-/// The text that a file holds at the end.
-fn held(alloc: Global, shelf: &mut MemShelf, name: &str) -> Result<String, Fail> {
-    let bytes = read_whole(alloc, shelf, name, 1000)?;
-    Ok(String::from_str(alloc, str::from_utf8(&bytes)?)?)
+/// The status and what a sink holds.
+fn told(alloc: Global, code: u8, sink: &MemSink) -> Result<String, Fail> {
+    let printed = str::from_utf8(sink.written())?;
+    Ok(format!(in alloc; "{code} {printed}")?)
 }
 
 /// Calls the program, with these bytes as the file `program`.
@@ -388,15 +427,14 @@ fn call<R: Threads + Sync>(
     rt: &R,
     alloc: Global,
     words: &[String],
-    program: Vec<u8>,
+    program: &[u8],
     allowed: &str,
 ) -> Result<Ended, Fail> {
     let (to_store, to_sink) = allowed.split_once(", ").ok_or("nothing of the sink")?;
     let mut shelf = store(alloc, program, to_store)?;
     let mut sink = sink(alloc, to_sink)?;
-    let code = run(rt, alloc, words, &mut shelf, &mut sink).code();
-    let printed = str::from_utf8(sink.written())?;
-    let told = format!(in alloc; "{code} {printed}")?;
+    let code = code_of(rt, alloc, words, &mut shelf, &mut sink);
+    let told = told(alloc, code, &sink)?;
     Ok(Ended { told, shelf })
 }
 
@@ -408,6 +446,22 @@ fn words(alloc: Global, command: &str) -> Result<Vec<String>, Fail> {
     Ok(all)
 }
 
+/// A part of a program's text, as often as it stands there.
+fn part_of(alloc: Global, part: &str) -> Result<String, Fail> {
+    let (count, text) = part.split_once(" * ").unwrap_or(("1", part));
+    Ok(text.repeat(alloc, count.parse()?)?)
+}
+
+/// The text of a program by a row.
+fn program(alloc: Global, row: &str) -> Result<String, Fail> {
+    let row = with_lines(alloc, row.trim_end_matches('>'))?;
+    let mut text = String::new(alloc);
+    for part in row.split(" + ") {
+        text.push_str(&part_of(alloc, part)?)?;
+    }
+    Ok(text)
+}
+
 /// Calls the program with a row's words.
 fn answer<R: Threads + Sync>(
     rt: &R,
@@ -415,25 +469,84 @@ fn answer<R: Threads + Sync>(
     command: &str,
     allowed: &str,
 ) -> Result<Ended, Fail> {
-    let Some((command, program)) = command.split_once('<') else {
-        return call(rt, alloc, &words(alloc, command)?, Vec::new(alloc), allowed);
+    let Some((command, text)) = command.split_once('<') else {
+        return call(rt, alloc, &words(alloc, command)?, b"", allowed);
     };
-    let mut words = words(alloc, command)?;
-    words.push(String::from_str(alloc, "program")?)?;
-    let program = with_lines(alloc, program.trim_end_matches('>'))?;
-    call(rt, alloc, &words, program.into_bytes(), allowed)
+    let command = format!(in alloc; "{command} program")?;
+    let text = program(alloc, text)?;
+    call(
+        rt,
+        alloc,
+        &words(alloc, &command)?,
+        text.as_bytes(),
+        allowed,
+    )
 }
 
-/// Asserts that each row says what is told, and that `out` is left as it was.
+/// The text that a file holds at the end.
+fn held(alloc: Global, shelf: &mut MemShelf, name: &str) -> Result<String, Fail> {
+    let bytes = read_whole(alloc, shelf, name, 1000)?;
+    Ok(String::from_str(alloc, str::from_utf8(&bytes)?)?)
+}
+
+/// What was told, and behind a bar what this file holds now.
+fn told_and_left(alloc: Global, ended: &mut Ended, file: &str) -> Result<String, Fail> {
+    let left = held(alloc, &mut ended.shelf, file)?;
+    Ok(format!(in alloc; "{}|{left}", ended.told)?)
+}
+
+fn same<R: Abort>(rt: &R, told: &str, wanted: &str, row: &str) {
+    assert_eq!(rt; told, wanted, "{row}");
+}
+
+/// Looks at a row: that it says what is told, and that `out` is left as it was.
+fn look<R: Threads + Sync + Abort>(rt: &R, alloc: Global, row: &str) -> Result<(), Fail> {
+    let (command, says) = row.split_once(" => ").ok_or("a row without =>")?;
+    let mut ended = answer(rt, alloc, command, SOUND)?;
+    let told = told_and_left(alloc, &mut ended, "out")?;
+    let says = with_lines(alloc, says)?;
+    let wanted = format!(in alloc; "{says}\n|{}", text_of("out")?)?;
+    same(rt, &told, &wanted, row);
+    Ok(())
+}
+
+/// Looks at each row of a table.
 fn each_says<R: Threads + Sync + Abort>(rt: &R, alloc: Global, table: &str) -> Result<(), Fail> {
     for row in table.lines() {
-        let (command, says) = row.split_once(" => ").ok_or("a row without =>")?;
-        let says = with_lines(alloc, says)?;
-        let mut ended = answer(rt, alloc, command, SOUND)?;
-        let told = ended.told.strip_suffix('\n');
-        assert_eq!(rt; told, Some(says.as_str()), "{row}");
-        let left = held(alloc, &mut ended.shelf, "out")?;
-        assert_eq!(rt; left.as_str(), text_of("out")?, "{row}");
+        look(rt, alloc, row)?;
+    }
+    Ok(())
+}
+
+/// What a row that stores a text should tell, and the text that OUT should hold: that of another file.
+fn stored_as(alloc: Global, ended: &mut Ended, rest: &str) -> Result<String, Fail> {
+    let (says, file) = rest.split_once(" => ").ok_or("a row without a file")?;
+    let text = held(alloc, &mut ended.shelf, file)?;
+    Ok(format!(in alloc; "0 {says}\n|{text}")?)
+}
+
+/// Looks at a row with a command whose last word is OUT, which may be written; with what it tells, and with
+/// the file whose text OUT holds then.
+fn look_at_stored<R: Threads + Sync + Abort>(rt: &R, alloc: Global, row: &str) -> Result<(), Fail> {
+    let (command, rest) = row.split_once(" => ").ok_or("a row without =>")?;
+    let (_, out) = command.rsplit_once(' ').ok_or("a row without OUT")?;
+    let allowed = format!(in alloc; "{out} 1000, 200")?;
+    let mut ended = answer(rt, alloc, command, &allowed)?;
+    let told = told_and_left(alloc, &mut ended, out)?;
+    same(rt, &told, &stored_as(alloc, &mut ended, rest)?, row);
+    same(
+        rt,
+        &held(alloc, &mut ended.shelf, "plate")?,
+        text_of("plate")?,
+        row,
+    );
+    Ok(())
+}
+
+/// Looks at each row of a table of texts that are stored.
+fn each_stores<R: Threads + Sync + Abort>(rt: &R, alloc: Global, table: &str) -> Result<(), Fail> {
+    for row in table.lines() {
+        look_at_stored(rt, alloc, row)?;
     }
     Ok(())
 }

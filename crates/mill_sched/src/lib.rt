@@ -16,8 +16,6 @@
 mod event;
 mod piece;
 mod state;
-#[cfg(test)]
-mod tests;
 mod worker;
 
 pub use event::{Event, Outcome};

@@ -4,8 +4,10 @@
 #![tactic(auto)]
 
 #[cfg(test)]
-mod dexel;
+mod row;
 #[cfg(test)]
-mod surface;
+mod runs;
+#[cfg(test)]
+mod stock;
 #[cfg(test)]
 mod tables;

@@ -13,11 +13,43 @@ use mill_base::{Kind, MAX_COORDINATE, Move, Pt3};
 use mill_job::{Job, read_job};
 use mill_sweep::Leaf;
 use std::alloc::Global;
+use std::process::Abort;
 use std::test::Fail;
+
+/// One row of three columns at x = 0, 100 and 200, from 0 to 300.
+const THREE_COLUMNS: &str = "cutter = 'flat'; radius = 150; floor = 0; top = 300; clear = 400; \
+    area = [0, 0, 200, 0]; home = [0, 0]; pitch = 100; sample = 100; allowance = 0; band = 0";
+
+/// One row of 41 columns, 5 apart, from 0 to 300, sampled at least every 50.
+const LONG_ROW: &str = "floor = 0; top = 300; clear = 400; area = [0, 0, 200, 0]; home = [0, 0]; \
+    pitch = 5; sample = 50; allowance = 0; band = 0";
+
+/// Stock over the whole range in thousandths: 105 rows of 105 columns, 10,000 apart.
+const WHOLE_RANGE: &str = "unit = 'thousandth'; floor = -524287; top = 524287; clear = 524287; \
+    area = [-524287, -524287, 524287, 524287]; home = [-524287, -524287]; pitch = 10000; \
+    sample = 10000; allowance = 0; band = 0";
+
+/// Five rows, at y = 0, 100, 200, 300 and 400, of three columns each, from 0 to 300.
+const FIVE_ROWS: &str = "cutter = 'flat'; radius = 150; floor = 0; top = 300; clear = 400; \
+    area = [0, 0, 200, 400]; home = [0, 0]; pitch = 100; sample = 100; allowance = 0; band = 0";
+
+/// Seven rows, at y = 0, 100 and so on up to 600, of three columns each, from 0 to 300.
+const SEVEN_ROWS: &str = "cutter = 'flat'; radius = 150; floor = 0; top = 300; clear = 400; \
+    area = [0, 0, 200, 600]; home = [0, 0]; pitch = 100; sample = 100; allowance = 0; band = 0";
+
+/// A stock from 0 to 300 in height.
+const BLOCK: &str =
+    "cutter = 'flat'; radius = 150; floor = 0; top = 300; clear = 400; home = [0, 0]; \
+    sample = 100; allowance = 0; band = 0";
 
 /// What stands before the `=>` of a row, and what behind it.
 pub(crate) fn halves(row: &str) -> Result<(&str, &str), Fail> {
     Ok(row.split_once(" => ").ok_or("a row without =>")?)
+}
+
+/// Looks at what is told of a row.
+pub(crate) fn same<R: Abort>(rt: &R, told: &str, wanted: &str, row: &str) {
+    assert_eq!(rt; told, wanted, "{row}");
 }
 
 /// The first word and the others.
@@ -25,15 +57,25 @@ pub(crate) fn first_word(text: &str) -> Result<(&str, &str), Fail> {
     Ok(text.split_once(' ').ok_or("a row with too few words")?)
 }
 
-/// What stands before the bar of a row, and what behind it; without a bar nothing stands before it.
-pub(crate) fn barred(text: &str) -> (&str, &str) {
-    text.split_once(" | ").unwrap_or(("", text))
+/// The keys of a job by its name.
+fn keys_of(name: &str) -> Result<&'static str, Fail> {
+    match name {
+        "three" => Ok(THREE_COLUMNS),
+        "long" => Ok(LONG_ROW),
+        "whole" => Ok(WHOLE_RANGE),
+        "five" => Ok(FIVE_ROWS),
+        "seven" => Ok(SEVEN_ROWS),
+        "block" => Ok(BLOCK),
+        _ => Err(Fail::from("no such job")),
+    }
 }
 
-/// A job by the keys of its document, with a semicolon between them.
-pub(crate) fn job(alloc: Global, keys: &str, more: &str) -> Result<Job, Fail>
+/// A job by its name and more keys, with a semicolon between them.
+pub(crate) fn job(alloc: Global, text: &str) -> Result<Job, Fail>
     ensures { IfOk result IsJob }
 {
+    let (name, more) = text.split_once(' ').unwrap_or((text, ""));
+    let keys = keys_of(name)?;
     let text = format!(in alloc; "{keys}; {more}")?;
     let lines = text.replace(alloc, "; ", "\n")?;
     Ok(read_job(alloc, lines.as_bytes())?)
@@ -59,26 +101,10 @@ fn point(text: &str) -> Result<Pt3, Fail>
     Ok(Pt3 { x, y, z })
 }
 
-/// A move straight down at x and y, from 400 to a height.
-fn down(kind: Kind, place: &str, height: &str) -> Result<Move, Fail>
-    ensures { IfOk result (λ step. MoveInRange step) }
-{
-    let (x, y) = first_word(place)?;
-    let (x, y, z) = (coordinate(x)?, coordinate(y)?, coordinate(height)?);
-    Ok(Move {
-        kind,
-        from: Pt3 { x, y, z: 400 },
-        to: Pt3 { x, y, z },
-    })
-}
-
-/// A move from one point to another, or down from 400.
+/// A move from one point to another.
 pub(crate) fn step(kind: Kind, text: &str) -> Result<Move, Fail>
     ensures { IfOk result (λ step. MoveInRange step) }
 {
-    if let Some((place, height)) = text.split_once(" down to ") {
-        return down(kind, place, height);
-    }
     let (from, to) = text.split_once(" to ").ok_or("a move without an end")?;
     let (from, to) = (point(from)?, point(to)?);
     Ok(Move { kind, from, to })
@@ -118,13 +144,13 @@ fn any_step(text: &str) -> Result<Move, Fail>
 
 fn all_steps(alloc: Global, text: &str) -> Result<Vec<Move>, Fail> {
     let mut moves = Vec::new(alloc);
-    for each in text.split("; ") {
+    for each in text.split(" then ") {
         moves.push(any_step(each)?)?;
     }
     Ok(moves)
 }
 
-/// The moves of a program, with a semicolon between them.
+/// The moves of a program, with `then` between them.
 pub(crate) fn moves_of(alloc: Global, text: &str) -> Result<Vec<Move>, Fail>
     ensures { IfOk result (λ moves. MovesInRange moves.items) }
 {

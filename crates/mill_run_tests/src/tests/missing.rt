@@ -1,6 +1,9 @@
 // What is said of a file where a later one is missing: there is no file `absent`.
-use crate::tests::{SOUND, call, each_says, words};
+use crate::tests::{SOUND, call, each_says, same, words};
+use std::alloc::Global;
+use std::process::Abort;
 use std::test::Fail;
+use std::thread::Threads;
 
 const MISSING: &str = r"verify garbled plate absent => 4 refused job syntax
 verify job cut-short absent => 4 refused part line 2 cut-short
@@ -25,13 +28,36 @@ fn refuses_before_a_missing_file(rt: HostRuntime) -> Result<(), Fail> {
     each_says(&rt, rt.alloc(), MISSING)
 }
 
-// The part is one byte longer than the greatest size.
-#[test]
-fn refuses_a_long_part_before_a_missing_program(rt: HostRuntime) -> Result<(), Fail> {
-    let alloc = rt.alloc();
-    let part = vec![in alloc; b' '; 67_108_865]?;
-    let words = words(alloc, "verify job program absent")?;
-    let ended = call(&rt, alloc, &words, part, SOUND)?;
-    assert_eq!(rt; ended.told.as_str(), "4 refused too-long part\n");
+fn look_at_long<R: Threads + Sync + Abort>(
+    rt: &R,
+    alloc: Global,
+    long: &[u8],
+    command: &str,
+    says: &str,
+) -> Result<(), Fail> {
+    let ended = call(rt, alloc, &words(alloc, command)?, long, SOUND)?;
+    same(rt, &ended.told, says, command);
     Ok(())
+}
+
+// A file of one byte more than the greatest size is refused for that, and not for its text; a part also where
+// the program is missing.
+#[test]
+fn refuses_a_long_file(rt: HostRuntime) -> Result<(), Fail> {
+    let alloc = rt.alloc();
+    let long = vec![in alloc; b'?'; 67_108_865]?;
+    look_at_long(
+        &rt,
+        alloc,
+        &long,
+        "verify job plate program",
+        "4 refused too-long program\n",
+    )?;
+    look_at_long(
+        &rt,
+        alloc,
+        &long,
+        "verify job program absent",
+        "4 refused too-long part\n",
+    )
 }

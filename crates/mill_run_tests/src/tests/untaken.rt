@@ -1,7 +1,10 @@
 // Words that aren't taken as a command. Clap's text isn't part of any promise: a row has only a piece
 // of it.
-use crate::tests::{answer, with_lines};
+use crate::tests::{answer, same, with_lines};
+use std::alloc::Global;
+use std::process::Abort;
 use std::test::Fail;
+use std::thread::Threads;
 
 const UNTAKEN: &str = r"--help => 0 Usage: camtool <COMMAND>
 -h => 0 Usage: camtool <COMMAND>
@@ -38,19 +41,26 @@ sample => 2 <N>
 sample 0 => 2 0 is not in 1..=100
 sample 101 => 2 101 is not in 1..=100";
 
+// Looks at a row. Every read would fail: no file is read.
+fn look<R: Threads + Sync + Abort>(rt: &R, alloc: Global, row: &str) -> Result<(), Fail> {
+    let (command, says) = row.split_once("=> ").ok_or("a row without =>")?;
+    let (code, piece) = says.split_once(' ').ok_or("a row without a status")?;
+    let piece = with_lines(alloc, piece)?;
+    let ended = answer(rt, alloc, command, "out 1000 0 1 2 3 4 5, 2000")?;
+    let (told, text) = ended.told.split_once(' ').ok_or("no status")?;
+    same(rt, told, code, row);
+    holds(rt, text, &piece, row);
+    Ok(())
+}
+
+fn holds<R: Abort>(rt: &R, text: &str, piece: &str, row: &str) {
+    assert!(rt; text.contains(piece), "{row}: {text}");
+}
+
 #[test]
 fn answers_untaken_words(rt: HostRuntime) -> Result<(), Fail> {
-    let alloc = rt.alloc();
-    // Every read would fail: no file is read.
-    let allowed = "out 1000 0 1 2 3 4 5, 2000";
     for row in UNTAKEN.lines() {
-        let (command, says) = row.split_once("=> ").ok_or("a row without =>")?;
-        let (code, piece) = says.split_once(' ').ok_or("a row without a status")?;
-        let piece = with_lines(alloc, piece)?;
-        let ended = answer(&rt, alloc, command, allowed)?;
-        let (told, text) = ended.told.split_once(' ').ok_or("no status")?;
-        assert_eq!(&rt; told, code, "{row}");
-        assert!(&rt; text.contains(piece.as_str()), "{row}: {text}");
+        look(&rt, rt.alloc(), row)?;
     }
     Ok(())
 }

@@ -1,5 +1,5 @@
 // `verify`: the line and the status of each answer.
-use crate::tests::{SOUND, call, each_says, words};
+use crate::tests::each_says;
 use std::test::Fail;
 
 const VERDICTS: &str =
@@ -62,19 +62,10 @@ fn answers_alike_for_each_number_of_workers(rt: HostRuntime) -> Result<(), Fail>
 }
 
 // A program of two pieces, with a line across their border.
+const TWO_PIECES: &str =
+    r"verify job plate <G21 G90\n + 10000 * G1 Z2\nG0 Z4\n + M2\n> => 0 accepted moves 20000 columns 9 left 0.00 band 0.00 allowance 0.00";
+
 #[test]
 fn reads_a_program_of_two_pieces(rt: HostRuntime) -> Result<(), Fail> {
-    let alloc = rt.alloc();
-    let mut program = Vec::from_slice(alloc, b"G21 G90\n")?;
-    for _ in 0..10_000 {
-        program.extend_from_slice(b"G1 Z2\nG0 Z4\n")?;
-    }
-    program.extend_from_slice(b"M2\n")?;
-    let words = words(alloc, "verify job plate program")?;
-    let ended = call(&rt, alloc, &words, program, SOUND)?;
-    assert_eq!(rt;
-        ended.told.as_str(),
-        "0 accepted moves 20000 columns 9 left 0.00 band 0.00 allowance 0.00\n"
-    );
-    Ok(())
+    each_says(&rt, rt.alloc(), TWO_PIECES)
 }
