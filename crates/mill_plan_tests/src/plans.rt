@@ -48,9 +48,9 @@ fn plans_of<R: Threads + Sync>(
     alloc: Global,
     given: &str,
 ) -> Result<(Result<Planned, PlanFault>, Result<Planned, PlanFault>), Fail> {
-    let (keys, part) = given.split_once(" | ").ok_or("a row without a part")?;
+    let (keys, name) = given.split_once(" | ").ok_or("a row without a part")?;
     let job = job(alloc, keys)?;
-    let part = part_under(alloc, job.top, part)?;
+    let part = part_under(alloc, job.top, name)?;
     Ok(plans(rt, alloc, &job, &part))
 }
 

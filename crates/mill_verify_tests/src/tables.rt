@@ -30,11 +30,6 @@ pub(crate) fn first_word(text: &str) -> Result<(&str, &str), Fail> {
     Ok(text.split_once(' ').ok_or("a row with too few words")?)
 }
 
-/// What stands before the bar of a row, and what behind it; without a bar nothing stands before it.
-pub(crate) fn barred(text: &str) -> (&str, &str) {
-    text.split_once(" | ").unwrap_or(("", text))
-}
-
 /// A job by the keys of its document, with a semicolon between them.
 pub(crate) fn job(alloc: Global, keys: &str, more: &str) -> Result<Job, Fail>
     ensures { IfOk result IsJob }

@@ -114,23 +114,17 @@ fn look<R: Threads + Sync + AllocGlobal + Abort>(rt: &R, row: &str) -> Result<()
     Ok(())
 }
 
-// Two moves are one block, and there are three rows: each has its two turns once.
+// Two moves are one block, and there are three rows: each has its two turns once. The narrow cutter stays far away
+// from the first row and the last, which go over both moves at once; each turn passes the gate all the same.
+const MEETINGS: &str = "\
+cutter = 'flat'; radius = 150; band = 0; allowance = 0 => \
+    Accept { moves: 2, columns: 9, most_left: 0 }
+cutter = 'flat'; radius = 40; band = 0; allowance = 0 => Reject(Left { row: 0, col: 0, top: 300 })";
+
 #[test]
 fn two_threads_meet(rt: HostRuntime) -> Result<(), Fail> {
-    look(
-        &rt,
-        "cutter = 'flat'; radius = 150; band = 0; allowance = 0 => \
-        Accept { moves: 2, columns: 9, most_left: 0 }",
-    )
-}
-
-// The narrow cutter stays far away from the first row and the last, which go over both moves at once. Each
-// turn passes the gate all the same.
-#[test]
-fn turns_that_are_gone_over_pass_the_gate(rt: HostRuntime) -> Result<(), Fail> {
-    look(
-        &rt,
-        "cutter = 'flat'; radius = 40; band = 0; allowance = 0 => \
-        Reject(Left { row: 0, col: 0, top: 300 })",
-    )
+    for row in MEETINGS.lines() {
+        look(&rt, row)?;
+    }
+    Ok(())
 }
