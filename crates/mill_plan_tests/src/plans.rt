@@ -135,17 +135,17 @@ const THOUSANDTHS: &[u8] =
     b"%\nG17 G21 G90\nG1 X200.000 Y0.000 Z0.201\nG1 X200.005 Y0.000 Z0.201\nG1 X200.005 Y0.005 Z0.201\nG1 X200.000 Y0.005 Z0.201\nG0 X200.000 Y0.005 Z0.405\nG0 X200.000 Y0.000 Z0.405\nM2\n%\n";
 
 /// The first and the last of six moves: straight down from home, and home.
-const ENDS: &str = "\
+const ENDS: &str = "6: \
     Move { kind: Feed, from: Pt3 { x: 200000, y: 0, z: 405 }, to: Pt3 { x: 200000, y: 0, z: 201 } }, \
     Move { kind: Rapid, from: Pt3 { x: 200000, y: 5, z: 405 }, to: Pt3 { x: 200000, y: 0, z: 405 } }";
 
 #[test]
 fn reads_thousandths_back(rt: HostRuntime) -> Result<(), Fail> {
     let moves = read_back(rt.alloc(), &job(rt.alloc(), "far")?, THOUSANDTHS)?;
-    let (Some(first), Some(last)) = (moves.first(), moves.get(5)) else {
-        return Err(Fail::from("too few moves"));
+    let (Some(first), Some(last)) = (moves.first(), moves.last()) else {
+        return Err(Fail::from("no moves"));
     };
-    let told = format!(in rt.alloc(); "{first:?}, {last:?}")?;
+    let told = format!(in rt.alloc(); "{}: {first:?}, {last:?}", moves.len())?;
     same(&rt, &told, ENDS, "far");
     Ok(())
 }
