@@ -108,21 +108,11 @@ flat 100 at 0 over 0 0 to 1000 0 by 100: 500 0 300 => open (400 0), open (600 0)
 flat 100 at 0 over 0 0 to 0 1000 by 100: 0 500 300 => open (0 400), open (0 600)
 flat 100 at 0 over 0 0 to 0 0 by 100: 0 0 300 => none";
 
-#[test]
-fn one_blocked_node(rt: HostRuntime) -> Result<(), Fail> {
-    each_waterline(&rt, ONE_BLOCKED_NODE)
-}
-
 // All nodes free, all blocked, and no triangle.
 const NO_CROSSING: &str = "\
 flat 100 at 0 over 0 0 to 1000 1000 by 100: -200 0 300 => none
 flat 800 at 0 over 0 0 to 1000 1000 by 100: 500 500 300 => none
 flat 100 at 0 over 0 0 to 1000 1000 by 100: nothing => none";
-
-#[test]
-fn no_crossing(rt: HostRuntime) -> Result<(), Fail> {
-    each_waterline(&rt, NO_CROSSING)
-}
 
 // More than one blocked stretch between two nodes: the crossing is the last free place on the way from
 // the free node. Two free nodes have none, nor have two blocked ones. Then a shorter last step.
@@ -133,11 +123,6 @@ flat 100 at 0 over 0 0 to 1000 0 by 1000: 500 0 300 => none
 flat 100 at 0 over 0 0 to 1000 0 by 1000: 0 0 300; 1000 0 300 => none
 flat 50 at 0 over 0 0 to 1000 0 by 300: 1000 0 300 => open (950 0)";
 
-#[test]
-fn between_nodes(rt: HostRuntime) -> Result<(), Fail> {
-    each_waterline(&rt, BETWEEN_NODES)
-}
-
 // Squares with four crossings: the blocked corners stay apart, also where crossings have equal points.
 const FOUR_CROSSINGS: &str = "\
 flat 100 at 0 over 0 0 to 1000 1000 by 1000: 0 0 300; 1000 1000 300 => \
@@ -147,11 +132,6 @@ flat 100 at 0 over 0 0 to 1000 1000 by 1000: 1000 0 300; 0 1000 300 => \
 flat 1 at 0 over 0 0 to 3 3 by 1: 1 1 300; 2 2 300 => \
     closed (0 1) (1 0) (2 1) (1 2), closed (1 2) (2 1) (3 2) (2 3)";
 
-#[test]
-fn four_crossings(rt: HostRuntime) -> Result<(), Fail> {
-    each_waterline(&rt, FOUR_CROSSINGS)
-}
-
 // A ring of blocked nodes: the line round it, and the line round the free node inside, whose four
 // crossings are all at that node.
 const RING: &str = "\
@@ -160,17 +140,22 @@ flat 1 at 0 over 0 0 to 4 4 by 1: \
     closed (0 1) (1 0) (2 0) (3 0) (4 1) (4 2) (4 3) (3 4) (2 4) (1 4) (0 3) (0 2), \
     closed (2 2) (2 2) (2 2) (2 2)";
 
-#[test]
-fn ring(rt: HostRuntime) -> Result<(), Fail> {
-    each_waterline(&rt, RING)
-}
-
 const TOO_MANY_NODES: &str = "\
 flat 100 at 0 over 0 0 to 20010 20010 by 10: 0 0 300 => TooManyNodes { nodes: 4008004 }";
 
 #[test]
-fn too_many_nodes(rt: HostRuntime) -> Result<(), Fail> {
-    each_waterline(&rt, TOO_MANY_NODES)?;
+fn waterlines(rt: HostRuntime) -> Result<(), Fail> {
+    let tables = [
+        ONE_BLOCKED_NODE,
+        NO_CROSSING,
+        BETWEEN_NODES,
+        FOUR_CROSSINGS,
+        RING,
+        TOO_MANY_NODES,
+    ];
+    for table in tables {
+        each_waterline(&rt, table)?;
+    }
     joins_are_apart();
     one_waterline();
     Ok(())

@@ -4,8 +4,8 @@ ghost use Rattle.mill_base.specs.declared.limits.TheConstants.{MAX_COORDINATE};
 ghost use Rattle.mill_base.specs.Tools.{IsTool};
 ghost use Rattle.mill_push.specs.Touches.{IsFiber};
 
-use crate::tables::{coordinate, first_word, halves, part_of, tool};
-use mill_base::{Cutter, Steps, Tool};
+use crate::tables::{coordinate, first_word, halves, part_of, place, tool};
+use mill_base::{Steps, Tool};
 use mill_part::{Part, SortedPart};
 use mill_push::{Axis, Fiber, Run, one_list_of_runs, one_stretch, push, runs_hold_blocked};
 use std::alloc::Global;
@@ -21,9 +21,8 @@ fn fiber_of(text: &str) -> Result<Fiber, Fail>
     ensures { IfOk result (λ fiber. IsFiber fiber) }
 {
     let (axis, others) = first_word(text)?;
+    let (at, z) = place(others)?;
     let axis = if axis == "x" { Axis::X } else { Axis::Y };
-    let (at, z) = first_word(others)?;
-    let (at, z) = (coordinate(at)?, coordinate(z)?);
     Ok(Fiber { axis, at, z })
 }
 
@@ -237,11 +236,16 @@ fn holder_near_a_point(rt: HostRuntime) -> Result<(), Fail> {
     each_fiber(&rt, "flat 100 in 200 50", POINT, HELD)
 }
 
+/// What the runs of a flat cutter along one fiber over a part come to.
+fn told_over(alloc: Global, part: &str) -> Result<String, Fail> {
+    let flat = tool("flat 100")?;
+    let part = part_of(alloc, part)?;
+    told_of(alloc, &flat, &part, "x 0 0")
+}
+
 fn look_at_part<R: Abort + AllocGlobal>(rt: &R, row: &str) -> Result<(), Fail> {
     let (part, wanted) = halves(row)?;
-    let flat = Tool::bare(Cutter::Flat { radius: 100 });
-    let part = part_of(rt.alloc(), part)?;
-    let found = told_of(rt.alloc(), &flat, &part, "x 0 0")?;
+    let found = told_over(rt.alloc(), part)?;
     assert_eq!(rt; found.as_str(), wanted, "{row}");
     Ok(())
 }

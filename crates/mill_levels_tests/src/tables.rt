@@ -1,10 +1,10 @@
 //! Tables of cases, a case a row, and what stands in their rows. A table is one text, so that a test's
 //! proof costs the same however many rows there are.
-ghost use Rattle.std.specs.Prelude.{◌≤ℤ◌, pos, IsTrue, IfOk};
+ghost use Rattle.std.specs.Prelude.{◌≤ℤ◌, IsTrue, IfOk};
 ghost use Rattle.mill_base.specs.Lattices.{IsLattice};
 ghost use Rattle.mill_base.specs.Numbers.{Within};
 ghost use Rattle.mill_base.specs.Ranges.{IsInRange, TriInRange};
-ghost use Rattle.mill_base.specs.Sizes.{HasRadius, IsCutter};
+ghost use Rattle.mill_base.specs.Sizes.{IsCutter};
 ghost use Rattle.mill_base.specs.Tools.{IsHolder, IsTool};
 ghost use Rattle.mill_base.specs.declared.limits.TheConstants.{MAX_COORDINATE, MAX_RADIUS};
 
@@ -20,7 +20,7 @@ pub(crate) fn halves(row: &str) -> Result<(&str, &str), Fail> {
 
 /// The first word and the others.
 pub(crate) fn first_word(text: &str) -> Result<(&str, &str), Fail> {
-    Ok(text.split_once(' ').ok_or("a row with too few words")?)
+    Ok(text.split_once(" ").ok_or("a row with too few words")?)
 }
 
 pub(crate) fn coordinate(text: &str) -> Result<i32, Fail>
@@ -94,14 +94,16 @@ pub(crate) fn part_of(alloc: Global, text: &str) -> Result<Part, Fail> {
     Ok(Part::new(tris))
 }
 
-fn radius(text: &str) -> Result<i32, Fail>
-    ensures { IfOk result (λ radius. HasRadius radius MAX_RADIUS) }
+/// A number from `least` to `most`.
+fn number(text: &str, least: i32, most: i32) -> Result<i32, Fail>
+    ensures least { IfOk result (λ number. least ≤ℤ number) }
+    ensures most { IfOk result (λ number. number ≤ℤ most) }
 {
-    let radius: i32 = text.parse()?;
-    if radius < 1 || radius > MAX_RADIUS {
+    let number: i32 = text.parse()?;
+    if number < least || number > most {
         return Err(Fail::from("out of range"));
     }
-    Ok(radius)
+    Ok(number)
 }
 
 /// A cone by its radius, its rise and its run.
@@ -110,9 +112,9 @@ fn cone(text: &str) -> Result<Cutter, Fail>
 {
     let (size, slope) = first_word(text)?;
     let (rise, run) = first_word(slope)?;
-    let radius = radius(size)?;
-    let (rise, run): (i32, i32) = (rise.parse()?, run.parse()?);
-    if rise < 1 || rise > 100 || run < 1 || run > 100 || rise > 16 * run {
+    let radius = number(size, 1, MAX_RADIUS)?;
+    let (rise, run) = (number(rise, 1, 100)?, number(run, 1, 100)?);
+    if rise > 16 * run {
         return Err(Fail::from("out of range"));
     }
     Ok(Cutter::Cone { radius, rise, run })
@@ -125,10 +127,10 @@ fn cutter(text: &str) -> Result<Cutter, Fail>
     let (kind, size) = first_word(text)?;
     match kind {
         "flat" => Ok(Cutter::Flat {
-            radius: radius(size)?,
+            radius: number(size, 1, MAX_RADIUS)?,
         }),
         "ball" => Ok(Cutter::Ball {
-            radius: radius(size)?,
+            radius: number(size, 1, MAX_RADIUS)?,
         }),
         "cone" => cone(size),
         _ => Err(Fail::from("no such cutter")),
@@ -140,11 +142,8 @@ fn holder(text: &str) -> Result<Holder, Fail>
     ensures { IfOk result (λ holder. IsHolder holder) }
 {
     let (size, stickout) = first_word(text)?;
-    let radius = radius(size)?;
-    let stickout = coordinate(stickout)?;
-    if stickout < 1 {
-        return Err(Fail::from("out of range"));
-    }
+    let radius = number(size, 1, MAX_RADIUS)?;
+    let stickout = number(stickout, 1, MAX_COORDINATE as i32)?;
     Ok(Holder { radius, stickout })
 }
 
@@ -164,6 +163,15 @@ pub(crate) fn tool(text: &str) -> Result<Tool, Fail>
     }
 }
 
+/// A place by two coordinates.
+pub(crate) fn place(text: &str) -> Result<(i32, i32), Fail>
+    ensures x { IfOk result (λ place. Within MAX_COORDINATE place.0) }
+    ensures y { IfOk result (λ place. Within MAX_COORDINATE place.1) }
+{
+    let (x, y) = first_word(text)?;
+    Ok((coordinate(x)?, coordinate(y)?))
+}
+
 /// A lattice by its first node, its last one and its step.
 pub(crate) fn lattice(text: &str) -> Result<Lattice, Fail>
     ensures { IfOk result (λ lattice. IsLattice lattice) }
@@ -172,11 +180,9 @@ pub(crate) fn lattice(text: &str) -> Result<Lattice, Fail>
         .split_once(" to ")
         .ok_or("a lattice without a last node")?;
     let (last, step) = others.split_once(" by ").ok_or("a lattice without a step")?;
-    let ((x0, y0), (x1, y1)) = (first_word(first)?, first_word(last)?);
-    let (x0, y0) = (coordinate(x0)?, coordinate(y0)?);
-    let (x1, y1) = (coordinate(x1)?, coordinate(y1)?);
-    let step: i32 = step.parse()?;
-    if x0 > x1 || y0 > y1 || step < 1 {
+    let ((x0, y0), (x1, y1)) = (place(first)?, place(last)?);
+    let step = number(step, 1, i32::MAX)?;
+    if x0 > x1 || y0 > y1 {
         return Err(Fail::from("no lattice"));
     }
     let area = Box2 { x0, y0, x1, y1 };

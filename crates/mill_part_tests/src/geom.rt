@@ -5,7 +5,8 @@ ghost use Rattle.mill_base.specs.declared.limits.TheConstants.{MAX_WIDE_RADIUS};
 ghost use Rattle.mill_geom.specs.Offsets.{OffsetInRange};
 ghost use Rattle.mill_geom.specs.Widths.{farthest};
 
-use crate::tables::{corners, first_word, halves, radius, side_word};
+use crate::tables::{corners, first_word, halves, number, side_word};
+use mill_base::MAX_WIDE_RADIUS;
 use mill_geom::{Offset, Spot, box_gap, box_side, highest, spot_below, touches_triangle};
 use std::process::Abort;
 use std::test::Fail;
@@ -53,7 +54,12 @@ fn look_at_touches<R: Abort>(rt: &R, row: &str) -> Result<(), Fail> {
     let (text, wanted) = halves(row)?;
     let (text, by) = text.split_once(" by ").ok_or("a row without a radius")?;
     let (a, b, c) = corners(text);
-    let found = touches_from_each(offset(a)?, offset(b)?, offset(c)?, radius(by)?);
+    let found = touches_from_each(
+        offset(a)?,
+        offset(b)?,
+        offset(c)?,
+        number(by, 1, MAX_WIDE_RADIUS)?,
+    );
     let touches = wanted == "true";
     assert_eq!(rt; found, (touches, touches, touches), "{row}");
     Ok(())

@@ -2,24 +2,13 @@ ghost use Rattle.std.specs.Prelude.{◌≤ℤ◌, pos, IfOk};
 ghost use Rattle.mill_base.specs.Numbers.{Within};
 ghost use Rattle.mill_base.specs.declared.limits.TheConstants.{MAX_COORDINATE, MAX_RADIUS};
 
-use crate::tables::{coordinate, first_word, halves, part_of, placed};
+use crate::tables::{coordinate, first_word, halves, number, part_of, placed};
 use mill_base::MAX_RADIUS;
 use mill_cells::Cells;
 use mill_part::{Part, SortedPart, covered_below};
 use std::alloc::Global;
 use std::process::Abort;
 use std::test::Fail;
-
-fn band_of(text: &str) -> Result<i32, Fail>
-    ensures least { IfOk result (λ band. pos 0 ≤ℤ band) }
-    ensures most { IfOk result (λ band. band ≤ℤ MAX_RADIUS) }
-{
-    let band: i32 = text.parse()?;
-    if band < 0 || band > MAX_RADIUS {
-        return Err(Fail::from("out of range"));
-    }
-    Ok(band)
-}
 
 /// The height up to which a column is covered, and whether it's covered up to `height` and up to one more.
 type Cover = (i32, bool, bool);
@@ -66,7 +55,7 @@ fn column_of(text: &str) -> Result<(i32, i32, i32), Fail>
 {
     let (x, others) = first_word(text)?;
     let (y, band) = first_word(others)?;
-    Ok((coordinate(x)?, coordinate(y)?, band_of(band)?))
+    Ok((coordinate(x)?, coordinate(y)?, number(band, 0, MAX_RADIUS)?))
 }
 
 /// How a column is covered by all triangles, and by those near it.

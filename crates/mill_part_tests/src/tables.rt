@@ -1,13 +1,12 @@
 //! Tables of cases, a case a row, and what stands in their rows. A table is one text, so that a test's
 //! proof costs the same however many rows there are.
-ghost use Rattle.std.specs.Prelude.{◌≤ℤ◌, pos, IsTrue, IfOk};
+ghost use Rattle.std.specs.Prelude.{◌≤ℤ◌, IsTrue, IfOk};
 ghost use Rattle.mill_base.specs.Numbers.{Within};
 ghost use Rattle.mill_base.specs.Ranges.{IsInRange, TriInRange};
-ghost use Rattle.mill_base.specs.declared.limits.TheConstants.{LOWEST_TIP, MAX_COORDINATE, MAX_WIDE_RADIUS};
-ghost use Rattle.mill_base.specs.Sizes.{HasRadius};
+ghost use Rattle.mill_base.specs.declared.limits.TheConstants.{LOWEST_TIP, MAX_COORDINATE};
 ghost use Rattle.mill_geom.specs.Offsets.{IsCentre};
 
-use mill_base::{LOWEST_TIP, MAX_COORDINATE, MAX_WIDE_RADIUS, Pt3, Tri};
+use mill_base::{LOWEST_TIP, MAX_COORDINATE, Pt3, Tri};
 use mill_geom::Side;
 use mill_part::Part;
 use std::alloc::Global;
@@ -20,7 +19,7 @@ pub(crate) fn halves(row: &str) -> Result<(&str, &str), Fail> {
 
 /// The first word and the others.
 pub(crate) fn first_word(text: &str) -> Result<(&str, &str), Fail> {
-    Ok(text.split_once(' ').ok_or("a row with too few words")?)
+    Ok(text.split_once(" ").ok_or("a row with too few words")?)
 }
 
 pub(crate) fn coordinate(text: &str) -> Result<i32, Fail>
@@ -43,24 +42,26 @@ fn point(text: &str) -> Result<Pt3, Fail>
     Ok(Pt3 { x, y, z })
 }
 
-/// The height of a tip, which may be lower than any point.
-fn tip_height(text: &str) -> Result<i32, Fail>
-    ensures from { IfOk result (λ number. LOWEST_TIP ≤ℤ number) }
-    ensures to { IfOk result (λ number. number ≤ℤ pos MAX_COORDINATE) }
+/// A number from `least` to `most`.
+pub(crate) fn number(text: &str, least: i32, most: i32) -> Result<i32, Fail>
+    ensures least { IfOk result (λ number. least ≤ℤ number) }
+    ensures most { IfOk result (λ number. number ≤ℤ most) }
 {
     let number: i32 = text.parse()?;
-    if number < LOWEST_TIP || number > MAX_COORDINATE as i32 {
+    if number < least || number > most {
         return Err(Fail::from("out of range"));
     }
     Ok(number)
 }
 
+/// A tip, which may be lower than any point.
 pub(crate) fn tip(text: &str) -> Result<Pt3, Fail>
     ensures { IfOk result (λ tip. IsCentre tip) }
 {
     let (x, others) = first_word(text)?;
     let (y, z) = first_word(others)?;
-    let (x, y, z) = (coordinate(x)?, coordinate(y)?, tip_height(z)?);
+    let (x, y) = (coordinate(x)?, coordinate(y)?);
+    let z = number(z, LOWEST_TIP, MAX_COORDINATE as i32)?;
     Ok(Pt3 { x, y, z })
 }
 
@@ -83,17 +84,6 @@ pub(crate) fn triangle(text: &str) -> Result<Tri, Fail>
 /// A row's corners, and the tip's place: the origin, if it says none.
 pub(crate) fn placed(text: &str) -> (&str, &str) {
     text.split_once(" at ").unwrap_or((text, "0 0 0"))
-}
-
-/// A cutter's radius.
-pub(crate) fn radius(text: &str) -> Result<i32, Fail>
-    ensures { IfOk result (λ radius. HasRadius radius MAX_WIDE_RADIUS) }
-{
-    let radius: i32 = text.parse()?;
-    if radius < 1 || radius > MAX_WIDE_RADIUS {
-        return Err(Fail::from("out of range"));
-    }
-    Ok(radius)
 }
 
 fn fits(point: Pt3) -> bool

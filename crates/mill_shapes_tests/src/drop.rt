@@ -1,4 +1,4 @@
-ghost use Rattle.std.specs.Prelude.{pos};
+ghost use Rattle.std.specs.Prelude.{pos, IfOk};
 ghost use Rattle.mill_base.specs.Numbers.{Within};
 ghost use Rattle.mill_base.specs.Tools.{IsTool};
 ghost use Rattle.mill_base.specs.declared.limits.TheConstants.{MAX_COORDINATE};
@@ -35,13 +35,22 @@ fn drops(
     Ok((height, drop_once(&part, held, x, y, floor)))
 }
 
+/// A place by its x and y, and the floor.
+fn place_over(text: &str) -> Result<(i32, i32, i32), Fail>
+    ensures x { IfOk result (λ place. Within MAX_COORDINATE place.0) }
+    ensures y { IfOk result (λ place. Within MAX_COORDINATE place.1) }
+    ensures floor { IfOk result (λ place. Within MAX_COORDINATE place.2) }
+{
+    let (place, floor) = text.split_once(" over ").ok_or("a row without a floor")?;
+    let (x, y) = first_word(place)?;
+    Ok((coordinate(x)?, coordinate(y)?, coordinate(floor)?))
+}
+
 /// The drop heights of a row's text: of which tool, at which place, over which floor, and over which part.
 fn drops_of(alloc: Global, text: &str) -> Result<(i32, i32), Fail> {
     let (held, others) = text.split_once(" at ").ok_or("a row without a place")?;
-    let (place, others) = others.split_once(" over ").ok_or("a row without a floor")?;
-    let (floor, tris) = others.split_once(": ").ok_or("a row without a part")?;
-    let (x, y) = first_word(place)?;
-    let (x, y, floor) = (coordinate(x)?, coordinate(y)?, coordinate(floor)?);
+    let (place, tris) = others.split_once(": ").ok_or("a row without a part")?;
+    let (x, y, floor) = place_over(place)?;
     drops(alloc, tris, &tool(held)?, x, y, floor)
 }
 

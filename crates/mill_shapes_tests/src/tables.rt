@@ -1,9 +1,9 @@
 //! Tables of cases, a case a row, and what stands in their rows. A table is one text, so that a test's
 //! proof costs the same however many rows there are.
-ghost use Rattle.std.specs.Prelude.{◌≤ℤ◌, pos, IsTrue, IfOk};
+ghost use Rattle.std.specs.Prelude.{◌≤ℤ◌, IsTrue, IfOk};
 ghost use Rattle.mill_base.specs.Numbers.{Within};
 ghost use Rattle.mill_base.specs.Ranges.{IsInRange, MoveInRange, TriInRange};
-ghost use Rattle.mill_base.specs.Sizes.{HasRadius, IsCutter};
+ghost use Rattle.mill_base.specs.Sizes.{IsCutter};
 ghost use Rattle.mill_base.specs.Tools.{IsHolder, IsTool};
 ghost use Rattle.mill_base.specs.declared.limits.TheConstants.{MAX_COORDINATE, MAX_RADIUS};
 
@@ -20,7 +20,7 @@ pub(crate) fn halves(row: &str) -> Result<(&str, &str), Fail> {
 
 /// The first word and the others.
 pub(crate) fn first_word(text: &str) -> Result<(&str, &str), Fail> {
-    Ok(text.split_once(' ').ok_or("a row with too few words")?)
+    Ok(text.split_once(" ").ok_or("a row with too few words")?)
 }
 
 pub(crate) fn coordinate(text: &str) -> Result<i32, Fail>
@@ -90,14 +90,16 @@ pub(crate) fn part_of(alloc: Global, text: &str) -> Result<Part, Fail> {
     Ok(Part::new(tris))
 }
 
-fn radius(text: &str) -> Result<i32, Fail>
-    ensures { IfOk result (λ radius. HasRadius radius MAX_RADIUS) }
+/// A number from `least` to `most`.
+fn number(text: &str, least: i32, most: i32) -> Result<i32, Fail>
+    ensures least { IfOk result (λ number. least ≤ℤ number) }
+    ensures most { IfOk result (λ number. number ≤ℤ most) }
 {
-    let radius: i32 = text.parse()?;
-    if radius < 1 || radius > MAX_RADIUS {
+    let number: i32 = text.parse()?;
+    if number < least || number > most {
         return Err(Fail::from("out of range"));
     }
-    Ok(radius)
+    Ok(number)
 }
 
 /// A cone by its radius, its rise and its run.
@@ -106,9 +108,9 @@ fn cone(text: &str) -> Result<Cutter, Fail>
 {
     let (size, slope) = first_word(text)?;
     let (rise, run) = first_word(slope)?;
-    let radius = radius(size)?;
-    let (rise, run): (i32, i32) = (rise.parse()?, run.parse()?);
-    if rise < 1 || rise > 100 || run < 1 || run > 100 || rise > 16 * run {
+    let radius = number(size, 1, MAX_RADIUS)?;
+    let (rise, run) = (number(rise, 1, 100)?, number(run, 1, 100)?);
+    if rise > 16 * run {
         return Err(Fail::from("out of range"));
     }
     Ok(Cutter::Cone { radius, rise, run })
@@ -121,10 +123,10 @@ pub(crate) fn cutter(text: &str) -> Result<Cutter, Fail>
     let (kind, size) = first_word(text)?;
     match kind {
         "flat" => Ok(Cutter::Flat {
-            radius: radius(size)?,
+            radius: number(size, 1, MAX_RADIUS)?,
         }),
         "ball" => Ok(Cutter::Ball {
-            radius: radius(size)?,
+            radius: number(size, 1, MAX_RADIUS)?,
         }),
         "cone" => cone(size),
         _ => Err(Fail::from("no such cutter")),
@@ -136,11 +138,8 @@ pub(crate) fn holder(text: &str) -> Result<Holder, Fail>
     ensures { IfOk result (λ holder. IsHolder holder) }
 {
     let (size, stickout) = first_word(text)?;
-    let radius = radius(size)?;
-    let stickout = coordinate(stickout)?;
-    if stickout < 1 {
-        return Err(Fail::from("out of range"));
-    }
+    let radius = number(size, 1, MAX_RADIUS)?;
+    let stickout = number(stickout, 1, MAX_COORDINATE as i32)?;
     Ok(Holder { radius, stickout })
 }
 

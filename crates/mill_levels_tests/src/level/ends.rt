@@ -37,11 +37,6 @@ flat 10000 at -524287 over -524287 -524287 to 524287 524287 by 524287: \
     -524287 -524287 -524287, 524287 -524287 524287, 0 524287 0 => \
     open (-11181 524287) (-273324 0) (-524287 -501926), open (524287 -501926) (273324 0) (11181 524287)";
 
-#[test]
-fn ends_of_the_range(rt: HostRuntime) -> Result<(), Fail> {
-    each_waterline(&rt, ENDS_OF_THE_RANGE)
-}
-
 // At 4,000 over their tips the ball and the cone of the greatest radius reach 8,000 from their axes.
 const GREATEST_CUTTERS: &str = "\
 ball 10000 at 520287 over -524287 -524287 to 524287 524287 by 524287: 524287 524287 524287 => \
@@ -50,6 +45,9 @@ cone 10000 1 2 at 520287 over -524287 -524287 to 524287 524287 by 524287: 524287
     open (516287 524287) (524287 516287)";
 
 #[test]
-fn greatest_cutters(rt: HostRuntime) -> Result<(), Fail> {
-    each_waterline(&rt, GREATEST_CUTTERS)
+fn waterlines_at_the_limits(rt: HostRuntime) -> Result<(), Fail> {
+    for table in [ENDS_OF_THE_RANGE, GREATEST_CUTTERS] {
+        each_waterline(&rt, table)?;
+    }
+    Ok(())
 }

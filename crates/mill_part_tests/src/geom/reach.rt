@@ -1,4 +1,5 @@
-use crate::tables::{halves, placed, radius, tip, triangle};
+use crate::tables::{halves, number, placed, tip, triangle};
+use mill_base::MAX_WIDE_RADIUS;
 use mill_geom::reaches_cylinder;
 use std::process::Abort;
 use std::test::Fail;
@@ -21,7 +22,11 @@ fn look<R: Abort>(rt: &R, row: &str) -> Result<(), Fail> {
     let (text, wanted) = halves(row)?;
     let (text, centre) = placed(text);
     let (text, by) = text.split_once(" by ").ok_or("a row without a radius")?;
-    let reaches = reaches_cylinder(&triangle(text)?, radius(by)?, tip(centre)?);
+    let reaches = reaches_cylinder(
+        &triangle(text)?,
+        number(by, 1, MAX_WIDE_RADIUS)?,
+        tip(centre)?,
+    );
     assert_eq!(rt; reaches, wanted == "true", "{row}");
     Ok(())
 }
