@@ -1,7 +1,8 @@
 //! The set of commands. All that words can name stands here; a new command or option is added here,
 //! in `specs/Set.antt`, and where matches are read.
-ghost use Rattle.std.specs.Prelude.{◌≡◌, false, IfOk};
+ghost use Rattle.std.specs.Prelude.{◌≡◌, false, IfOk, Some};
 ghost use Rattle.clap.specs.Words.{App, Rule, new_app, rule_of, with_rule, with_subcommand};
+ghost use Rattle.clap.specs.declared.builder.texts.Texts.TheVariants.{One};
 ghost use Rattle.mill_command.specs.Set.{Is, commands, count_parser, drop as drop_command, level, option, place, plan, program, rest, sample, size, size_parser, stock, verify, with_files, with_job, with_others, with_parts, with_programs, with_verdicts, workers};
 
 use clap::builder::ValueParser;
@@ -215,9 +216,10 @@ fn command<'a>(alloc: Global, name: &'static str, about: &'static str) -> Comman
     Command::new(alloc, name).about(about)
 }
 
-/// A word that must stand at its place. Its value is under this id, and help calls it by its name.
+/// A word that must stand at its place. Its value is under this id; help calls it by this name, with this text.
 pub fn place<'a>(alloc: Global, id: &'static str, name: &'static str, help: &'static str) -> Arg<'a>
-    ensures { (rule_of result ≡ place id.entry.now) × (result.global ≡ false) }
+    ensures rule { (rule_of result ≡ place id.entry.now) × (result.global ≡ false) }
+    ensures shown { (result.val_names ≡ One name.entry) × (result.help ≡ Some help.entry) }
 {
     Arg::new(alloc, id)
         .required(true)

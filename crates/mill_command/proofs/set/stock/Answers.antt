@@ -2,4 +2,4 @@ use Rattle.std.proofs.lemmas.Result.{IfOk-weaker}
 use Rattle.mill_command.proofs.set.stock.Goals as goal
 
 pub returns : goal.returns
-returns c = IfOk-weaker c.with_arg-2.result _ _ (λ r h. h _ _ (c.in_ok-command-2.ensures _ _ c.in_ok-command.ensures c.place.ensures.0) c.place-2.ensures.0) c.with_arg-2.ensures
+returns c = IfOk-weaker c.with_arg-2.result _ _ (λ r h. h _ _ (c.in_ok-command-2.ensures _ _ c.in_ok-command.ensures c.place.ensures.rule.0) c.place-2.ensures.rule.0) c.with_arg-2.ensures
