@@ -27,16 +27,12 @@ pub fn tell_report<R: Threads + Sync, O: Sink>(
     requires prints { (O.shows out.old).faults < 2 ^ 64 - 1 }
     ensures { TriesReport loaded (status_code result) (O.shows out.old) (O.shows out.new) }
 {
-    let setup = &loaded.setup;
-    match report(
-        rt,
-        alloc,
-        loaded.sources,
-        &setup.job,
-        &setup.part,
-        &loaded.moves,
-        workers,
-    ) {
+    let Loaded {
+        sources,
+        setup,
+        moves,
+    } = loaded;
+    match report(rt, alloc, sources, &setup.job, &setup.part, &moves, workers) {
         Ok(made) => tell(out, &made.text, made.status),
         Err(WantOfMemory) => tell_memory(out),
     }
