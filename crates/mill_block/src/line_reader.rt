@@ -97,13 +97,14 @@ impl LineReader {
             add(out, Some(made))?;
             return Ok(());
         }
-        self.read_other_line(line, out)
+        self.read_any_line(line, out)
     }
 
-    // The same of a line that isn't spelled as most are. It is kept apart, so that those need not
-    // make room for what it needs.
+    /// The same as `read_line`, word for word. It costs more for a line that is only a move, and stands
+    /// in one place of the program: it is for lines that come seldom.
+    // (lines of other spellings come here too, so that those of `read_line` need not make room for them)
     #[inline(never)]
-    fn read_other_line(&mut self, line: &[u8], out: &mut Vec<Move>) -> Result<(), NgcFault>
+    pub fn read_any_line(&mut self, line: &[u8], out: &mut Vec<Move>) -> Result<(), NgcFault>
         requires here { IsInUnitRange self.old.unit self.old.here }
         requires number { self.old.line < 2 ^ 63 }
         ensures ok { OnOk result (AddsLine self.old line.now out.old.items self.new out.new.items) }

@@ -94,7 +94,7 @@ impl TextReader {
             });
         }
         self.unfinished.extend(bytes);
-        self.lines.read_line(self.unfinished.as_bytes(), out)?;
+        self.lines.read_any_line(self.unfinished.as_bytes(), out)?;
         self.unfinished.clear();
         Ok(())
     }
@@ -132,7 +132,7 @@ impl TextReader {
             return Ok(());
         }
         let last = self.unfinished.as_bytes();
-        self.lines.read_line(last, out)?;
+        self.lines.read_any_line(last, out)?;
         if self.lines.has_ended() {
             return Ok(());
         }

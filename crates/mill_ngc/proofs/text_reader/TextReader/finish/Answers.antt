@@ -6,17 +6,17 @@ use Rattle.mill_ngc.proofs.text_reader.TextReader.finish.Goals as goal
 pub returns-then-has_ended-2-clause-sound : goal.returns-then-has_ended-2-clause-sound
 returns-then-has_ended-2-clause-sound c =
     let p = c.args.self.now.lines in
-    let q = c.read_line.new.self in
+    let q = c.read_any_line.new.self in
     let moves = c.args.out.now.items in
-    let adds = c.in_ok-read_line.ensures.ok in
+    let adds = c.in_ok-read_any_line.ensures.ok in
     rw adds.added (λ start unit s. are_sound start unit q (moves ++ made_list adds.made)
     (so_far-line start unit (line_begun p) q moves adds.made (so_far-begun start unit p moves s) adds.keeps))
 
 pub returns-clause-sound : goal.returns-clause-sound
 returns-clause-sound c =
     let p = c.args.self.now.lines in
-    let q = c.read_line.new.self in
+    let q = c.read_any_line.new.self in
     let moves = c.args.out.now.items in
-    let adds = c.in_ok-read_line.ensures.ok in
+    let adds = c.in_ok-read_any_line.ensures.ok in
     rw adds.added (λ start unit s. are_sound start unit q (moves ++ made_list adds.made)
     (so_far-line start unit (line_begun p) q moves adds.made (so_far-begun start unit p moves s) adds.keeps))
