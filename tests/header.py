@@ -1,6 +1,6 @@
 #!/usr/bin/env python3
-"""Compares include/camtool.h with what mill_c exports: each function with its arguments, each struct with its
-fields, each status and the limit. It prints what differs, and ends with 0 where nothing does.
+"""Compares include/camtool.h with what mill_c exports, of mill_c_data's types: each function with its arguments,
+each struct with its fields, each status and the limit. It prints what differs, and ends with 0 where nothing does.
 
 Pass the exported symbols, a line each, on standard input (nm -g --defined-only).
 """
@@ -9,7 +9,8 @@ import re
 import sys
 
 ROOT = os.path.dirname(os.path.dirname(os.path.abspath(__file__)))
-CRATE = os.path.join(ROOT, "crates", "mill_c", "src")
+CALLS = os.path.join(ROOT, "crates", "mill_c", "src")
+TYPES = os.path.join(ROOT, "crates", "mill_c_data", "src")
 
 
 def text_of(*path):
@@ -39,9 +40,9 @@ def c_argument(argument):
 def exports():
     """What the crate's sources declare for C, as C declares it."""
     declared = {}
-    for file in sorted(os.listdir(CRATE)):
+    for file in sorted(os.listdir(CALLS)):
         if file.endswith(".rt"):
-            text = text_of(CRATE, file)
+            text = text_of(CALLS, file)
             for name, arguments in re.findall(r'pub extern "C" fn (\w+)\(([^)]*)\) -> i32', text):
                 given = [argument for argument in arguments.split(",") if argument.strip()]
                 declared[name] = ", ".join(word for argument in given for word in c_argument(argument))
@@ -73,9 +74,9 @@ def main():
     compare("symbols", sorted(declared), sorted(name for name in symbols if not name.startswith("rattle_")))
 
     found = re.findall(r"typedef struct (\w+) \{ (.*?) \} \1;", header)
-    compare("structs", structs(text_of(CRATE, "raw.rt")), {name: [field.strip() for field in fields.split(";") if field.strip()] for name, fields in found})
+    compare("structs", structs(text_of(TYPES, "raw.rt")), {name: [field.strip() for field in fields.split(";") if field.strip()] for name, fields in found})
 
-    codes = re.findall(r"Fault::(\w+) => (\d+),", text_of(CRATE, "fault.rt"))
+    codes = re.findall(r"Fault::(\w+) => (\d+),", text_of(TYPES, "fault.rt"))
     ours = [("CAMTOOL_OK", "0")] + [(c_name(name).upper(), code) for name, code in codes]
     listed = re.search(r"enum camtool_status \{(.*?)\}", header).group(1)
     compare("statuses", ours, re.findall(r"(\w+) = (\d+)", listed))

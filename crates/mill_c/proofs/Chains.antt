@@ -5,10 +5,10 @@ use Rattle.std.specs.List.{flat_map}
 use Rattle.std.specs.Prelude.{List, [], ◌∷◌, ◌++◌, map}
 use Rattle.mill_base.specs.declared.points.Pt3.{Pt3}
 use Rattle.mill_level.specs.Waterlines.{Outline}
+use Rattle.mill_c_data.specs.Raw.{corner_of}
+use Rattle.mill_c_data.specs.declared.raw.RawChain.{RawChain}
+use Rattle.mill_c_data.specs.declared.raw.RawPoint.{RawPoint}
 use Rattle.mill_c.specs.Levels.{AreOutlines, head_of}
-use Rattle.mill_c.specs.Raw.{corner_of}
-use Rattle.mill_c.specs.declared.raw.RawChain.{RawChain}
-use Rattle.mill_c.specs.declared.raw.RawPoint.{RawPoint}
 
 pub outlines_start : AreOutlines [] [] []
 outlines_start = record { heads = refl; all = refl }

@@ -6,9 +6,9 @@ use Rattle.std.specs.List.{AllZip}
 use Rattle.mill_base.specs.declared.points.Tri.{Tri}
 use Rattle.mill_base.specs.declared.tool.Tool.{Tool}
 use Rattle.mill_push.specs.declared.fiber.Run.{Run}
+use Rattle.mill_c_data.specs.declared.raw.RawFiber.{RawFiber}
+use Rattle.mill_c_data.specs.declared.raw.RawRun.{RawRun}
 use Rattle.mill_c.specs.Fibers.{AreRunsAt, IsRunsOf, joined, run_of}
-use Rattle.mill_c.specs.declared.raw.RawFiber.{RawFiber}
-use Rattle.mill_c.specs.declared.raw.RawRun.{RawRun}
 
 pub runs_start : (tool : Tool) (part : List Tri) → AreRunsAt tool part [] [] []
 runs_start tool part = record { lists = []; each = tt; counted = refl; all = refl }

@@ -1,6 +1,5 @@
 pub mod Chains
 pub mod Fibers
 pub mod Nodes
-pub mod Parts
 pub mod Setups
 pub mod Written

@@ -8,9 +8,10 @@ use Rattle.mill_base.specs.declared.points.Tri.{Tri}
 use Rattle.mill_base.specs.declared.tool.Tool.{Tool}
 use Rattle.mill_drop.specs.Maps.{AreDropHeights, IsHeightAt}
 use Rattle.mill_drop.proofs.RowLemmas.{zip_length}
-use Rattle.mill_c.specs.Lattices.{AreSoundNodes, nodes_in}
-use Rattle.mill_c.specs.declared.raw.RawLattice.{RawLattice}
-use Rattle.mill_c.specs.declared.raw.RawTriangle.{RawTriangle}
+use Rattle.mill_c_data.specs.Raw.{nodes_in}
+use Rattle.mill_c_data.specs.declared.raw.RawLattice.{RawLattice}
+use Rattle.mill_c_data.specs.declared.raw.RawTriangle.{RawTriangle}
+use Rattle.mill_c.specs.Lattices.{AreSoundNodes}
 use Rattle.mill_c.specs.inner.Testing.{AreSoundBeside}
 
 -- there is one for each node

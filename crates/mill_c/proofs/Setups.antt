@@ -12,10 +12,10 @@ use Rattle.mill_block.specs.declared.fault.NgcFault.{NgcFault}
 use Rattle.mill_stl.specs.Parts.{Fails, part_of}
 use Rattle.mill_stl.specs.declared.fault.StlFault.{StlFault}
 use Rattle.mill_stl.specs.declared.fault.StlFault.TheVariants as part_fault
+use Rattle.mill_c_data.specs.declared.fault.Fault.{Fault}
+use Rattle.mill_c_data.specs.declared.raw.RawVerdict.{RawVerdict}
 use Rattle.mill_c.specs.Judged.{IsSetupCause, IsVerdictCause, ReadsSetup, fault_of_job, untold}
 use Rattle.mill_c.specs.Texts.{fault_of, line_of}
-use Rattle.mill_c.specs.declared.fault.Fault.{Fault}
-use Rattle.mill_c.specs.declared.raw.RawVerdict.{RawVerdict}
 use Rattle.mill_c.specs.inner.Reading.{IsJobCause, IsPartCause, IsProgramCause}
 
 -- why a job's text gives no job

@@ -6,18 +6,13 @@ use Rattle.mill_base.specs.declared.limits.TheConstants.{MAX_COORDINATE}
 use Rattle.mill_base.specs.declared.points.Tri.{Tri}
 use Rattle.mill_base.specs.declared.tool.Tool.{Tool}
 use Rattle.mill_drop.specs.Drops.{IsDropHeight}
-use Rattle.mill_c.specs.Faults.{fault_code}
-use Rattle.mill_c.specs.Raw.{IsPlace, IsTriangle, SaysCutter, SaysHolder}
-use Rattle.mill_c.specs.declared.fault.Fault.{Fault}
-use Rattle.mill_c.specs.declared.fault.Fault.TheVariants as fault
-use Rattle.mill_c.specs.declared.raw.RawPlace.{RawPlace}
-use Rattle.mill_c.specs.declared.raw.RawTool.{RawTool}
-use Rattle.mill_c.specs.declared.raw.RawTriangle.{RawTriangle}
-
--- the tool's numbers are those of a tool
-pub record IsSoundTool (tool : RawTool) : Type 0 where
-  pub cutter_ok : SaysCutter tool
-  pub holder_ok : SaysHolder tool
+use Rattle.mill_c_data.specs.Faults.{fault_code}
+use Rattle.mill_c_data.specs.Raw.{IsPlace, IsSoundTool, IsTriangle, SaysCutter, SaysHolder}
+use Rattle.mill_c_data.specs.declared.fault.Fault.{Fault}
+use Rattle.mill_c_data.specs.declared.fault.Fault.TheVariants as fault
+use Rattle.mill_c_data.specs.declared.raw.RawPlace.{RawPlace}
+use Rattle.mill_c_data.specs.declared.raw.RawTool.{RawTool}
+use Rattle.mill_c_data.specs.declared.raw.RawTriangle.{RawTriangle}
 
 -- each other argument is in its range, and the array for the results is as long as they are many
 pub record AreSound (triangles : List RawTriangle) (places : List RawPlace) (floor : ℤ) (room : ℕ) : Type 0 where

@@ -10,14 +10,13 @@ use Rattle.mill_geom.specs.declared.touch.Axis.TheVariants.{X, Y}
 use Rattle.mill_push.specs.Runs.{AreRuns}
 use Rattle.mill_push.specs.declared.fiber.Fiber.{Fiber}
 use Rattle.mill_push.specs.declared.fiber.Run.{Run}
-use Rattle.mill_c.specs.Asked.{IsSoundTool}
-use Rattle.mill_c.specs.Raw.{IsTriangle, SaysCutter, SaysHolder, tool_of, tris_of}
-use Rattle.mill_c.specs.declared.fault.Fault.{Fault}
-use Rattle.mill_c.specs.declared.fault.Fault.TheVariants as fault
-use Rattle.mill_c.specs.declared.raw.RawFiber.{RawFiber}
-use Rattle.mill_c.specs.declared.raw.RawRun.{RawRun}
-use Rattle.mill_c.specs.declared.raw.RawTool.{RawTool}
-use Rattle.mill_c.specs.declared.raw.RawTriangle.{RawTriangle}
+use Rattle.mill_c_data.specs.Raw.{IsSoundTool, IsTriangle, SaysCutter, SaysHolder, tool_of, tris_of}
+use Rattle.mill_c_data.specs.declared.fault.Fault.{Fault}
+use Rattle.mill_c_data.specs.declared.fault.Fault.TheVariants as fault
+use Rattle.mill_c_data.specs.declared.raw.RawFiber.{RawFiber}
+use Rattle.mill_c_data.specs.declared.raw.RawRun.{RawRun}
+use Rattle.mill_c_data.specs.declared.raw.RawTool.{RawTool}
+use Rattle.mill_c_data.specs.declared.raw.RawTriangle.{RawTriangle}
 
 -- the fiber of these numbers: axis 1 is along x, and 2 along y
 abbrev pub fiber_of : RawFiber → Fiber

@@ -1,24 +1,14 @@
--- A lattice of a caller's numbers, and the drop heights over one: when each fault comes, and what is answered.
+-- What a call for drop heights over a lattice is asked for, and when each fault comes.
 use Rattle.std.specs.Prelude.{◌≡◌, ◌≢◌, ◌<◌, ◌≤◌, ◌^◌, ℕ, ℤ, List, length, All}
-use Rattle.mill_base.specs.Lattices.{IsLattice, IsMapLattice, node_count}
+use Rattle.mill_base.specs.Lattices.{IsLattice, IsMapLattice}
 use Rattle.mill_base.specs.Numbers.{Within}
-use Rattle.mill_base.specs.declared.lattice.Lattice.{Lattice}
 use Rattle.mill_base.specs.declared.limits.TheConstants.{MAX_COORDINATE, MAX_NODES}
-use Rattle.mill_c.specs.Asked.{IsSoundTool}
-use Rattle.mill_c.specs.Raw.{IsTriangle, SaysCutter, SaysHolder}
-use Rattle.mill_c.specs.declared.fault.Fault.{Fault}
-use Rattle.mill_c.specs.declared.fault.Fault.TheVariants as fault
-use Rattle.mill_c.specs.declared.raw.RawLattice.{RawLattice}
-use Rattle.mill_c.specs.declared.raw.RawTool.{RawTool}
-use Rattle.mill_c.specs.declared.raw.RawTriangle.{RawTriangle}
-
--- the lattice of these numbers
-abbrev pub lattice_of : RawLattice → Lattice
-lattice_of raw = record { area = record { x0 = raw.x0; y0 = raw.y0; x1 = raw.x1; y1 = raw.y1 }; step = raw.step }
-
--- how many nodes it has
-abbrev pub nodes_in : RawLattice → ℕ
-nodes_in raw = node_count (lattice_of raw)
+use Rattle.mill_c_data.specs.Raw.{IsSoundTool, IsTriangle, SaysCutter, SaysHolder, lattice_of, nodes_in}
+use Rattle.mill_c_data.specs.declared.fault.Fault.{Fault}
+use Rattle.mill_c_data.specs.declared.fault.Fault.TheVariants as fault
+use Rattle.mill_c_data.specs.declared.raw.RawLattice.{RawLattice}
+use Rattle.mill_c_data.specs.declared.raw.RawTool.{RawTool}
+use Rattle.mill_c_data.specs.declared.raw.RawTriangle.{RawTriangle}
 
 -- each argument but the tool is in its range, and the array for the heights is as long as the nodes are many
 pub record AreSoundNodes (triangles : List RawTriangle) (lattice : RawLattice) (floor : ℤ) (room : ℕ) : Type 0 where

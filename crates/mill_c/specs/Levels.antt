@@ -8,17 +8,15 @@ use Rattle.mill_base.specs.declared.limits.TheConstants.{MAX_COORDINATE, MAX_NOD
 use Rattle.mill_base.specs.declared.points.Tri.{Tri}
 use Rattle.mill_base.specs.declared.tool.Tool.{Tool}
 use Rattle.mill_level.specs.Waterlines.{IsWaterline, Outline}
-use Rattle.mill_c.specs.Asked.{IsSoundTool}
-use Rattle.mill_c.specs.Lattices.{lattice_of, nodes_in}
-use Rattle.mill_c.specs.Raw.{IsTriangle, SaysCutter, SaysHolder, corner_of, tool_of, tris_of}
-use Rattle.mill_c.specs.declared.fault.Fault.{Fault}
-use Rattle.mill_c.specs.declared.fault.Fault.TheVariants as fault
-use Rattle.mill_c.specs.declared.raw.RawChain.{RawChain}
-use Rattle.mill_c.specs.declared.raw.RawCounts.{RawCounts}
-use Rattle.mill_c.specs.declared.raw.RawLattice.{RawLattice}
-use Rattle.mill_c.specs.declared.raw.RawPoint.{RawPoint}
-use Rattle.mill_c.specs.declared.raw.RawTool.{RawTool}
-use Rattle.mill_c.specs.declared.raw.RawTriangle.{RawTriangle}
+use Rattle.mill_c_data.specs.Raw.{IsSoundTool, IsTriangle, SaysCutter, SaysHolder, corner_of, lattice_of, nodes_in, tool_of, tris_of}
+use Rattle.mill_c_data.specs.declared.fault.Fault.{Fault}
+use Rattle.mill_c_data.specs.declared.fault.Fault.TheVariants as fault
+use Rattle.mill_c_data.specs.declared.raw.RawChain.{RawChain}
+use Rattle.mill_c_data.specs.declared.raw.RawCounts.{RawCounts}
+use Rattle.mill_c_data.specs.declared.raw.RawLattice.{RawLattice}
+use Rattle.mill_c_data.specs.declared.raw.RawPoint.{RawPoint}
+use Rattle.mill_c_data.specs.declared.raw.RawTool.{RawTool}
+use Rattle.mill_c_data.specs.declared.raw.RawTriangle.{RawTriangle}
 
 -- each argument but the tool is in its range
 pub record AreSoundLevel (triangles : List RawTriangle) (z : ℤ) (lattice : RawLattice) : Type 0 where

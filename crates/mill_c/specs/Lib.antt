@@ -1,10 +1,8 @@
 pub mod Asked
-pub mod Faults
 pub mod Fibers
 pub mod Judged
 pub mod Lattices
 pub mod Levels
 pub mod Plans
-pub mod Raw
 pub mod Texts
 pub mod inner

@@ -5,11 +5,11 @@ use Rattle.mill_job.specs.declared.job.Job.{Job}
 use Rattle.mill_plan.specs.Plans.{PlanAnswer, IsPlanAnswer, IsPlanFault, done}
 use Rattle.mill_plan.specs.declared.fault.PlanFault.{PlanFault}
 use Rattle.mill_plan.specs.declared.fault.PlanFault.TheVariants as plan_fault
+use Rattle.mill_c_data.specs.declared.fault.Fault.{Fault}
+use Rattle.mill_c_data.specs.declared.fault.Fault.TheVariants as fault
+use Rattle.mill_c_data.specs.declared.raw.RawPlanned.{RawPlanned}
+use Rattle.mill_c_data.specs.declared.raw.RawVerdict.{RawVerdict}
 use Rattle.mill_c.specs.Judged.{IsSetupCause, ReadsSetup}
-use Rattle.mill_c.specs.declared.fault.Fault.{Fault}
-use Rattle.mill_c.specs.declared.fault.Fault.TheVariants as fault
-use Rattle.mill_c.specs.declared.raw.RawPlanned.{RawPlanned}
-use Rattle.mill_c.specs.declared.raw.RawVerdict.{RawVerdict}
 
 -- ---- what is told
 

@@ -8,11 +8,11 @@ use Rattle.mill_decimal.specs.declared.snap.Snap.TheVariants.{Nearest, Exact}
 use Rattle.mill_stl.specs.Parts.{Part, part_of}
 use Rattle.mill_stl.specs.declared.fault.StlFault.{StlFault}
 use Rattle.mill_stl.specs.declared.fault.StlFault.TheVariants.{Expected, Coord, TooManyTriangles, CutShort, WantOfMemory}
-use Rattle.mill_c.specs.Raw.{tris_of}
-use Rattle.mill_c.specs.declared.fault.Fault.{Fault}
-use Rattle.mill_c.specs.declared.fault.Fault.TheVariants as fault
-use Rattle.mill_c.specs.declared.raw.RawReading.{RawReading}
-use Rattle.mill_c.specs.declared.raw.RawTriangle.{RawTriangle}
+use Rattle.mill_c_data.specs.Raw.{tris_of}
+use Rattle.mill_c_data.specs.declared.fault.Fault.{Fault}
+use Rattle.mill_c_data.specs.declared.fault.Fault.TheVariants as fault
+use Rattle.mill_c_data.specs.declared.raw.RawReading.{RawReading}
+use Rattle.mill_c_data.specs.declared.raw.RawTriangle.{RawTriangle}
 
 -- the unit of this number, which is how many decimals of a millimetre stand for whole units
 abbrev pub unit_of : ℤ → Option Unit

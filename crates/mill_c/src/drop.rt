@@ -2,15 +2,15 @@ ghost use Rattle.std.specs.Prelude.{◌≡◌, ◌≢◌, pos, length, All, OnOk
 ghost use Rattle.mill_base.specs.Numbers.{Within};
 ghost use Rattle.mill_base.specs.declared.limits.TheConstants.{MAX_COORDINATE};
 ghost use Rattle.mill_base.specs.Tools.{IsTool};
-ghost use Rattle.mill_c.specs.Asked.{AreHeightsAt, AreSound, IsCause, IsHeightAt, IsSoundTool, IsToldFor};
-ghost use Rattle.mill_c.specs.Raw.{IsPlace, tool_of, tris_of};
+ghost use Rattle.mill_c_data.specs.Raw.{IsPlace, IsSoundTool, tool_of, tris_of};
+ghost use Rattle.mill_c.specs.Asked.{AreHeightsAt, AreSound, IsCause, IsHeightAt, IsToldFor};
 ghost use Rattle.mill_c.specs.inner.Testing.{IsCauseBeside};
 
-use crate::fault::Fault;
-use crate::part::{are_places, are_triangles, is_coordinate, part_from};
-use crate::raw::{RawPlace, RawTool, RawTriangle};
-use crate::tool::tool_from;
 use mill_base::Tool;
+use mill_c_data::{
+    Fault, RawPlace, RawTool, RawTriangle, are_places, are_triangles, is_coordinate, part_from,
+    tool_from,
+};
 use mill_drop::drop_at;
 use mill_part::SortedPart;
 use std::alloc::Global;

@@ -4,21 +4,19 @@ ghost use Rattle.mill_base.specs.Numbers.{Within};
 ghost use Rattle.mill_base.specs.Tools.{IsTool};
 ghost use Rattle.mill_base.specs.declared.limits.TheConstants.{MAX_COORDINATE};
 ghost use Rattle.mill_level.specs.Waterlines.{IsWaterline, seen};
-ghost use Rattle.mill_c.specs.Asked.{IsSoundTool, IsToldFor};
-ghost use Rattle.mill_c.specs.Faults.{fault_code};
-ghost use Rattle.mill_c.specs.Lattices.{lattice_of};
+ghost use Rattle.mill_c_data.specs.Faults.{fault_code};
+ghost use Rattle.mill_c_data.specs.Raw.{IsSoundTool, corner_of, lattice_of, tool_of, tris_of};
+ghost use Rattle.mill_c_data.specs.declared.fault.Fault.TheVariants as fault;
+ghost use Rattle.mill_c.specs.Asked.{IsToldFor};
 ghost use Rattle.mill_c.specs.Levels.{AreChainsAt, AreOutlines, AreSoundLevel, IsLevelCause, counts_of, head_of};
-ghost use Rattle.mill_c.specs.Raw.{corner_of, tool_of, tris_of};
-ghost use Rattle.mill_c.specs.declared.fault.Fault.TheVariants as fault;
 ghost use Rattle.mill_c.specs.inner.Testing.{IsCauseBesideLevel};
 
-use crate::fault::Fault;
-use crate::lattice::lattice_from;
-use crate::part::{are_triangles, is_coordinate, part_from};
-use crate::raw::{RawChain, RawCounts, RawLattice, RawPoint, RawTool, RawTriangle};
 use crate::text::raw_corner;
-use crate::tool::tool_from;
 use mill_base::{Lattice, Pt3, Tool, WantOfMemory};
+use mill_c_data::{
+    Fault, RawChain, RawCounts, RawLattice, RawPoint, RawTool, RawTriangle, are_triangles,
+    is_coordinate, lattice_from, part_from, tool_from,
+};
 use mill_level::{Chain, waterline};
 use mill_part::{Part, SortedPart};
 use std::alloc::Global;

@@ -4,19 +4,18 @@ ghost use Rattle.mill_base.specs.Numbers.{Within};
 ghost use Rattle.mill_base.specs.Tools.{IsTool};
 ghost use Rattle.mill_base.specs.declared.limits.TheConstants.{MAX_COORDINATE};
 ghost use Rattle.mill_drop.specs.Maps.{AreDropHeights};
-ghost use Rattle.mill_c.specs.Asked.{IsSoundTool, IsToldFor};
-ghost use Rattle.mill_c.specs.Faults.{fault_code};
-ghost use Rattle.mill_c.specs.Lattices.{AreSoundNodes, IsNodesCause, lattice_of, nodes_in};
-ghost use Rattle.mill_c.specs.Raw.{tool_of, tris_of};
-ghost use Rattle.mill_c.specs.declared.fault.Fault.TheVariants as fault;
+ghost use Rattle.mill_c_data.specs.Faults.{fault_code};
+ghost use Rattle.mill_c_data.specs.Raw.{IsSoundTool, lattice_of, nodes_in, tool_of, tris_of};
+ghost use Rattle.mill_c_data.specs.declared.fault.Fault.TheVariants as fault;
+ghost use Rattle.mill_c.specs.Asked.{IsToldFor};
+ghost use Rattle.mill_c.specs.Lattices.{AreSoundNodes, IsNodesCause};
 ghost use Rattle.mill_c.specs.inner.Testing.{AreSoundBeside, IsCauseBesideNodes};
 
-use crate::fault::Fault;
-use crate::lattice::lattice_from;
-use crate::part::{are_triangles, is_coordinate, part_from};
-use crate::raw::{RawLattice, RawTool, RawTriangle};
-use crate::tool::tool_from;
 use mill_base::{Lattice, Tool, WantOfMemory};
+use mill_c_data::{
+    Fault, RawLattice, RawTool, RawTriangle, are_triangles, is_coordinate, lattice_from, part_from,
+    tool_from,
+};
 use mill_drop::drop_map_alone;
 use mill_part::{Part, SortedPart};
 use std::alloc::Global;

@@ -3,9 +3,8 @@ ghost use Rattle.mill_plan.specs.Plans.{answer_of};
 ghost use Rattle.mill_c.specs.Asked.{IsToldFor};
 ghost use Rattle.mill_c.specs.Plans.{IsPlanCause, IsPlanned, IsPlannedFor, IsUnplanned, IsUnread, fault_of_plan, told_of_plan, told_of_plan_fault, told_of_setup, unplanned};
 
-use crate::fault::Fault;
-use crate::raw::RawPlanned;
 use crate::setup::{Stop, setup_from};
+use mill_c_data::{Fault, RawPlanned};
 use mill_plan::{PlanFault, Planned, plan_alone};
 use std::alloc::Global;
 

@@ -1,18 +1,18 @@
 ghost use Rattle.std.specs.Prelude.{◌≡◌, ◌≢◌, ◌<◌, ◌++◌, pos, false, length, map, All, IsTrue, IfOk, OnOk, IfErr, OnErr, IsSomeAnd};
 ghost use Rattle.mill_base.specs.Tools.{IsTool};
 ghost use Rattle.mill_push.specs.Runs.{AreRuns};
-ghost use Rattle.mill_c.specs.Asked.{IsSoundTool, IsToldFor};
-ghost use Rattle.mill_c.specs.Faults.{fault_code};
+ghost use Rattle.mill_c_data.specs.Faults.{fault_code};
+ghost use Rattle.mill_c_data.specs.Raw.{IsSoundTool, tool_of, tris_of};
+ghost use Rattle.mill_c_data.specs.declared.fault.Fault.TheVariants as fault;
+ghost use Rattle.mill_c.specs.Asked.{IsToldFor};
 ghost use Rattle.mill_c.specs.Fibers.{AreRunsAt, AreSoundFibers, IsAxis, IsFiberCause, IsLine, IsSoundFiber, IsStretch, fiber_of, run_of};
-ghost use Rattle.mill_c.specs.Raw.{tool_of, tris_of};
-ghost use Rattle.mill_c.specs.declared.fault.Fault.TheVariants as fault;
 ghost use Rattle.mill_c.specs.inner.Testing.{IsCauseBesideFibers};
 
-use crate::fault::Fault;
-use crate::part::{are_triangles, is_coordinate, part_from};
-use crate::raw::{RawFiber, RawRun, RawTool, RawTriangle};
-use crate::tool::tool_from;
 use mill_base::{Steps, Tool, WantOfMemory};
+use mill_c_data::{
+    Fault, RawFiber, RawRun, RawTool, RawTriangle, are_triangles, is_coordinate, part_from,
+    tool_from,
+};
 use mill_part::{Part, SortedPart};
 use mill_push::{Axis, Fiber, Run, push};
 use std::alloc::Global;

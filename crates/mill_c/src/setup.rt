@@ -8,14 +8,13 @@ ghost use Rattle.mill_job.specs.Jobs.{IsJob};
 ghost use Rattle.mill_ngc.specs.Pieces.{AreSound};
 ghost use Rattle.mill_ngc.specs.Programs.{program_of};
 ghost use Rattle.mill_block.specs.declared.fault.NgcFault.TheVariants as program_fault;
+ghost use Rattle.mill_c_data.specs.declared.fault.Fault.TheVariants as fault;
 ghost use Rattle.mill_c.specs.Judged.{IsSetupCause, ReadsSetup, fault_of_job, line_of_program, untold};
-ghost use Rattle.mill_c.specs.declared.fault.Fault.TheVariants as fault;
 ghost use Rattle.mill_c.specs.inner.Reading.{IsJobCause, IsPartCause, IsProgramCause, IsHighFor, IsPartText};
 
-use crate::fault::Fault;
-use crate::raw::RawVerdict;
 use crate::text::{fault_from, line_from};
 use mill_base::{Move, Pt3, Unit, WantOfMemory};
+use mill_c_data::{Fault, RawVerdict};
 use mill_job::{Job, JobFault, read_job};
 use mill_ngc::{NgcFault, Reader};
 use mill_part::Part;

@@ -1,11 +1,10 @@
 ghost use Rattle.std.specs.Prelude.{◌≡◌, ◌≢◌, pos, length, OnOk, IfErr, OnErr};
+ghost use Rattle.mill_c_data.specs.Raw.{corner_of, tri_of, tris_of};
 ghost use Rattle.mill_c.specs.Asked.{IsToldFor};
-ghost use Rattle.mill_c.specs.Raw.{corner_of, tri_of, tris_of};
 ghost use Rattle.mill_c.specs.Texts.{IsRead, IsReadCause, fault_of, line_of, snap_of, unit_of};
 
-use crate::fault::Fault;
-use crate::raw::{RawPoint, RawReading, RawTriangle};
 use mill_base::{Pt3, Tri, Unit};
+use mill_c_data::{Fault, RawPoint, RawReading, RawTriangle};
 use mill_decimal::Snap;
 use mill_stl::{StlFault, read_stl};
 use std::alloc::Global;

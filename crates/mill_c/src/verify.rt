@@ -2,8 +2,8 @@ ghost use Rattle.std.specs.Prelude.{◌≡◌, ◌≢◌, pos, IfOk, IfErr};
 ghost use Rattle.mill_c.specs.Asked.{IsToldFor};
 ghost use Rattle.mill_c.specs.Judged.{IsJudged, IsVerdictCause, IsVerdictFor, told_of_column, told_of_reason, told_of_triangle, told_of_verdict};
 
-use crate::raw::RawVerdict;
 use crate::setup::{Stop, moves_for, nothing, setup_from};
+use mill_c_data::RawVerdict;
 use mill_sweep::Leaf;
 use mill_verify::{Reason, Verdict, verify_alone};
 use std::alloc::Global;

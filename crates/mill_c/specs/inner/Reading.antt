@@ -8,11 +8,11 @@ use Rattle.mill_block.specs.declared.fault.NgcFault.{NgcFault}
 use Rattle.mill_part.specs.Tops.{IsTop}
 use Rattle.mill_stl.specs.Parts.{part_of}
 use Rattle.mill_stl.specs.declared.fault.StlFault.{StlFault}
+use Rattle.mill_c_data.specs.declared.fault.Fault.{Fault}
+use Rattle.mill_c_data.specs.declared.fault.Fault.TheVariants as fault
+use Rattle.mill_c_data.specs.declared.raw.RawVerdict.{RawVerdict}
 use Rattle.mill_c.specs.Judged.{IsOutOfMemory, IsRefusedJob, line_of_program, untold}
 use Rattle.mill_c.specs.Texts.{fault_of, line_of}
-use Rattle.mill_c.specs.declared.fault.Fault.{Fault}
-use Rattle.mill_c.specs.declared.fault.Fault.TheVariants as fault
-use Rattle.mill_c.specs.declared.raw.RawVerdict.{RawVerdict}
 
 -- the text reads as this part in the job's unit and by its snap
 pub record IsPartText (job : Job) (text : List ℕ) (part : List Tri) : Type 0 where

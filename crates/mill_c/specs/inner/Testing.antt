@@ -1,29 +1,16 @@
 -- The parts of a test.
-use Rattle.std.specs.Prelude.{◌≢◌, ◌<◌, ◌≤◌, ◌^◌, ℕ, ℤ, pos, ◌≤ℤ◌, List, length, All}
+use Rattle.std.specs.Prelude.{◌≢◌, ◌<◌, ◌≤◌, ◌^◌, ℕ, ℤ, List, length, All}
 use Rattle.mill_base.specs.Numbers.{Within}
 use Rattle.mill_base.specs.Lattices.{IsLattice, IsMapLattice}
 use Rattle.mill_base.specs.declared.limits.TheConstants.{MAX_COORDINATE, MAX_NODES}
+use Rattle.mill_c_data.specs.Raw.{IsPlace, IsTriangle, lattice_of, nodes_in}
+use Rattle.mill_c_data.specs.declared.fault.Fault.{Fault}
+use Rattle.mill_c_data.specs.declared.fault.Fault.TheVariants as fault
+use Rattle.mill_c_data.specs.declared.raw.RawFiber.{RawFiber}
+use Rattle.mill_c_data.specs.declared.raw.RawLattice.{RawLattice}
+use Rattle.mill_c_data.specs.declared.raw.RawPlace.{RawPlace}
+use Rattle.mill_c_data.specs.declared.raw.RawTriangle.{RawTriangle}
 use Rattle.mill_c.specs.Fibers.{IsSoundFiber}
-use Rattle.mill_c.specs.Lattices.{lattice_of, nodes_in}
-use Rattle.mill_c.specs.Raw.{IsPlace, IsTriangle, SaysCutter, SaysHolder}
-use Rattle.mill_c.specs.declared.fault.Fault.{Fault}
-use Rattle.mill_c.specs.declared.fault.Fault.TheVariants as fault
-use Rattle.mill_c.specs.declared.raw.RawFiber.{RawFiber}
-use Rattle.mill_c.specs.declared.raw.RawLattice.{RawLattice}
-use Rattle.mill_c.specs.declared.raw.RawPlace.{RawPlace}
-use Rattle.mill_c.specs.declared.raw.RawTool.{RawTool}
-use Rattle.mill_c.specs.declared.raw.RawTriangle.{RawTriangle}
-
--- a holder's lower face is in range over the tip
-pub record IsStickout (stickout : ℤ) : Type 0 where
-  pub some : (pos 1) ≤ℤ stickout
-  pub within : stickout ≤ℤ pos MAX_COORDINATE
-
--- what is so when a tool's numbers are refused with a fault
-abbrev pub IsToolCause : RawTool → Fault → Type 0
-IsToolCause raw fault.Cutter = ¬ SaysCutter raw
-IsToolCause raw fault.Holder = ¬ SaysHolder raw
-IsToolCause raw _ = ⊥
 
 -- what is so when the other arguments are refused with a fault
 abbrev pub IsCauseBeside : List RawTriangle → List RawPlace → ℤ → ℕ → Fault → Type 0
@@ -41,25 +28,6 @@ IsCauseBesideFibers triangles fibers room fault.TooManyTriangles = 2 ^ 32 ≤ le
 IsCauseBesideFibers triangles fibers room fault.Fiber = ¬ All IsSoundFiber fibers
 IsCauseBesideFibers triangles fibers room fault.CountsRoom = room ≢ length fibers
 IsCauseBesideFibers triangles fibers room _ = ⊥
-
--- what is so when the numbers of a lattice are refused with a fault
-abbrev pub IsLatticeCause : RawLattice → Fault → Type 0
-IsLatticeCause lattice fault.Lattice = ¬ IsLattice (lattice_of lattice)
-IsLatticeCause lattice fault.TooManyNodes = MAX_NODES < nodes_in lattice
-IsLatticeCause lattice _ = ⊥
-
--- the ends of a lattice are in range
-pub record IsCorners (raw : RawLattice) : Type 0 where
-  pub x0_ok : Within MAX_COORDINATE raw.x0
-  pub x1_ok : Within MAX_COORDINATE raw.x1
-  pub y0_ok : Within MAX_COORDINATE raw.y0
-  pub y1_ok : Within MAX_COORDINATE raw.y1
-
--- they are the right way round, and the step is at least one unit
-pub record IsInOrder (raw : RawLattice) : Type 0 where
-  pub x_order : raw.x0 ≤ℤ raw.x1
-  pub y_order : raw.y0 ≤ℤ raw.y1
-  pub step_ok : (pos 1) ≤ℤ raw.step
 
 -- the arguments of a call for drop heights over a lattice, but tool and array, are in their ranges
 pub record AreSoundBeside (triangles : List RawTriangle) (lattice : RawLattice) (floor : ℤ) : Type 0 where

@@ -1,7 +1,7 @@
 use Rattle.std.proofs.Common.{sym, subst, rules, ◌≡◌}
 use Rattle.std.specs.Prelude.{Option, Some, IsSomeAnd}
 use Rattle.mill_base.specs.declared.tool.Tool.{Tool}
-use Rattle.mill_c.specs.Raw.{tool_of, tris_of}
+use Rattle.mill_c_data.specs.Raw.{tool_of, tris_of}
 use Rattle.mill_c.specs.Asked.{AreHeightsAt}
 use Rattle.mill_c.proofs.drop.drop_into.Goals as goal
 

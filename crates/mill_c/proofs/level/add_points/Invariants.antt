@@ -1,5 +1,5 @@
 use Rattle.std.specs.Prelude.{◌≡◌, ◌++◌, map, take}
-use Rattle.mill_c.specs.Raw.{corner_of}
+use Rattle.mill_c_data.specs.Raw.{corner_of}
 use Rattle.mill_c.proofs.level.add_points.Given as goal
 
 abbrev pub invariant-loop-point : goal.invariant-loop-point

@@ -1,11 +1,9 @@
 use Rattle.std.proofs.Common.{rules, ◌≡◌, ◌≢◌, inl, inr, length, sym, subst}
 use Rattle.std.specs.Prelude.{Option, Some, IsSomeAnd}
 use Rattle.mill_base.specs.declared.tool.Tool.{Tool}
-use Rattle.mill_c.specs.Asked.{IsSoundTool}
-use Rattle.mill_c.specs.Lattices.{lattice_of}
+use Rattle.mill_c_data.specs.Raw.{IsSoundTool, lattice_of, tool_of, tris_of}
+use Rattle.mill_c_data.specs.declared.raw.RawCounts.{RawCounts}
 use Rattle.mill_c.specs.Levels.{AreChainsAt, AreSoundLevel, HasOtherRooms, counts_of}
-use Rattle.mill_c.specs.Raw.{tool_of, tris_of}
-use Rattle.mill_c.specs.declared.raw.RawCounts.{RawCounts}
 use Rattle.mill_c.proofs.level.chains_into.Goals as goal
 
 pub returns-in_err-found-clause-cause : goal.returns-in_err-found-clause-cause

@@ -3,8 +3,8 @@ use Rattle.std.specs.Prelude.{[], ◌∷◌, ◌++◌, map, take}
 use Rattle.std.proofs.lemmas.List.{map_more}
 use Rattle.mill_level.specs.Waterlines.{seen}
 use Rattle.mill_level.specs.declared.chain.Chain.{Chain}
+use Rattle.mill_c_data.specs.Raw.{corner_of}
 use Rattle.mill_c.specs.Levels.{head_of}
-use Rattle.mill_c.specs.Raw.{corner_of}
 use Rattle.mill_c.proofs.Chains.{outlines_more}
 use Rattle.mill_c.proofs.level.told_chains.Goals as goal
 

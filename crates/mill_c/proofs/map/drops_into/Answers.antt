@@ -1,5 +1,6 @@
 use Rattle.std.proofs.Common.{rules, ◌≡◌, length}
-use Rattle.mill_c.specs.Lattices.{AreSoundNodes, nodes_in}
+use Rattle.mill_c_data.specs.Raw.{nodes_in}
+use Rattle.mill_c.specs.Lattices.{AreSoundNodes}
 use Rattle.mill_c.specs.inner.Testing.{AreSoundBeside}
 use Rattle.mill_c.proofs.Nodes.{sound_nodes}
 use Rattle.mill_c.proofs.map.drops_into.Goals as goal

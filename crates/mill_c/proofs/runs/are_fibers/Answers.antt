@@ -2,8 +2,8 @@ use Rattle.std.proofs.Common.{subst}
 use Rattle.std.specs.Prelude.{List, All}
 use Rattle.std.proofs.lemmas.List.{take_all}
 use Rattle.std.proofs.lemmas.List.Elements.{All-more}
+use Rattle.mill_c_data.specs.declared.raw.RawFiber.{RawFiber}
 use Rattle.mill_c.specs.Fibers.{IsSoundFiber}
-use Rattle.mill_c.specs.declared.raw.RawFiber.{RawFiber}
 use Rattle.mill_c.proofs.runs.are_fibers.Goals as goal
 
 pub loop-raw-preserved : goal.loop-raw-preserved

@@ -1,8 +1,8 @@
 use Rattle.std.proofs.Common.{rules, ◌≡◌, ◌+◌, ◌∙◌, ap}
 use Rattle.std.specs.Prelude.{pos, [], ◌∷◌, ◌++◌, length, map, take, slice_index_or}
 use Rattle.std.proofs.lemmas.List.{take_all, take_more}
+use Rattle.mill_c_data.specs.declared.raw.RawFiber.{RawFiber}
 use Rattle.mill_c.specs.Fibers.{IsRunsOf, run_of}
-use Rattle.mill_c.specs.declared.raw.RawFiber.{RawFiber}
 use Rattle.mill_c.proofs.Fibers.{length-counts, runs_more}
 use Rattle.mill_c.proofs.runs.found_runs.Goals as goal
 

@@ -1,5 +1,5 @@
 use Rattle.std.proofs.Common.{refl}
-use Rattle.mill_c.proofs.Parts.{IsTriOf, tris_of-zip}
+use Rattle.mill_c_data.proofs.Parts.{IsTriOf, tris_of-zip}
 use Rattle.mill_c.proofs.Written.{written_end, written_more}
 use Rattle.mill_c.proofs.text.write_all.Goals as goal
 

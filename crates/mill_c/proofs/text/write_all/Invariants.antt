@@ -1,4 +1,4 @@
-use Rattle.mill_c.proofs.Parts.{IsTriOf}
+use Rattle.mill_c_data.proofs.Parts.{IsTriOf}
 use Rattle.mill_c.proofs.Written.{AreWrittenTo}
 use Rattle.mill_c.proofs.text.write_all.Given as goal
 

@@ -3,9 +3,9 @@ use Rattle.std.proofs.lemmas.Grind.{common_steps}
 use Rattle.std.specs.Prelude.{List}
 use Rattle.mill_base.specs.Ranges.{TrisInRange}
 use Rattle.mill_base.specs.declared.points.Tri.{Tri}
-use Rattle.mill_c.specs.Raw.{tris_of}
-use Rattle.mill_c.proofs.Parts.{in_range_of, length-tris_of}
-use Rattle.mill_c.proofs.part.part_from.Goals as goal
+use Rattle.mill_c_data.specs.Raw.{tris_of}
+use Rattle.mill_c_data.proofs.Parts.{in_range_of, length-tris_of}
+use Rattle.mill_c_data.proofs.part.part_from.Goals as goal
 
 pub new-requires-clause-in_range : goal.new-requires-clause-in_range
 new-requires-clause-in_range c =

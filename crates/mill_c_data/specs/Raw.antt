@@ -1,10 +1,12 @@
 -- What a caller's numbers stand for.
-use Rattle.std.specs.Prelude.{pos, if◌then◌else◌, List, map, Option, Some, None, option_map, IfSome, IsSomeAnd}
+use Rattle.std.specs.Prelude.{ℕ, pos, if◌then◌else◌, List, map, Option, Some, None, option_map, IfSome, IsSomeAnd}
 use Rattle.std.specs.Ordering.{int_eq}
+use Rattle.mill_base.specs.Lattices.{node_count}
 use Rattle.mill_base.specs.Numbers.{Within}
 use Rattle.mill_base.specs.Ranges.{TriInRange}
 use Rattle.mill_base.specs.Sizes.{IsCutter}
 use Rattle.mill_base.specs.Tools.{IsHolder}
+use Rattle.mill_base.specs.declared.lattice.Lattice.{Lattice}
 use Rattle.mill_base.specs.declared.limits.TheConstants.{MAX_COORDINATE}
 use Rattle.mill_base.specs.declared.points.Pt3.{Pt3}
 use Rattle.mill_base.specs.declared.points.Tri.{Tri}
@@ -12,10 +14,11 @@ use Rattle.mill_base.specs.declared.cutter.Cutter.{Cutter}
 use Rattle.mill_base.specs.declared.cutter.Cutter.TheVariants.{Flat, Ball, Cone}
 use Rattle.mill_base.specs.declared.tool.Holder.{Holder}
 use Rattle.mill_base.specs.declared.tool.Tool.{Tool}
-use Rattle.mill_c.specs.declared.raw.RawPlace.{RawPlace}
-use Rattle.mill_c.specs.declared.raw.RawPoint.{RawPoint}
-use Rattle.mill_c.specs.declared.raw.RawTool.{RawTool}
-use Rattle.mill_c.specs.declared.raw.RawTriangle.{RawTriangle}
+use Rattle.mill_c_data.specs.declared.raw.RawLattice.{RawLattice}
+use Rattle.mill_c_data.specs.declared.raw.RawPlace.{RawPlace}
+use Rattle.mill_c_data.specs.declared.raw.RawPoint.{RawPoint}
+use Rattle.mill_c_data.specs.declared.raw.RawTool.{RawTool}
+use Rattle.mill_c_data.specs.declared.raw.RawTriangle.{RawTriangle}
 
 -- a corner, a triangle and a part of these coordinates
 abbrev pub corner_of : RawPoint → Pt3
@@ -54,3 +57,16 @@ SaysCutter raw = IsSomeAnd (cutter_of raw) IsCutter
 
 abbrev pub SaysHolder : RawTool → Type 0
 SaysHolder raw = IfSome (holder_of raw) IsHolder
+
+-- the tool's numbers are those of a tool
+pub record IsSoundTool (tool : RawTool) : Type 0 where
+  pub cutter_ok : SaysCutter tool
+  pub holder_ok : SaysHolder tool
+
+-- the lattice of these numbers
+abbrev pub lattice_of : RawLattice → Lattice
+lattice_of raw = record { area = record { x0 = raw.x0; y0 = raw.y0; x1 = raw.x1; y1 = raw.y1 }; step = raw.step }
+
+-- how many nodes it has
+abbrev pub nodes_in : RawLattice → ℕ
+nodes_in raw = node_count (lattice_of raw)

@@ -1,6 +1,6 @@
 use Rattle.std.proofs.Common.{rules}
-use Rattle.mill_c.specs.inner.Testing.{IsCorners, IsInOrder}
-use Rattle.mill_c.proofs.lattice.is_lattice.Goals as goal
+use Rattle.mill_c_data.specs.inner.Testing.{IsCorners, IsInOrder}
+use Rattle.mill_c_data.proofs.lattice.is_lattice.Goals as goal
 
 pub returns-clause-yes : goal.returns-clause-yes
 returns-clause-yes c = λ fine.

@@ -2,7 +2,7 @@ ghost use Rattle.std.specs.Prelude.{◌≡◌, ◌<◌, ◌^◌, length, false, 
 ghost use Rattle.mill_base.specs.Numbers.{Within};
 ghost use Rattle.mill_base.specs.declared.limits.TheConstants.{MAX_COORDINATE};
 ghost use Rattle.mill_base.specs.Ranges.{IsInRange};
-ghost use Rattle.mill_c.specs.Raw.{IsPlace, IsTriangle, corner_of, tri_of, tris_of};
+ghost use Rattle.mill_c_data.specs.Raw.{IsPlace, IsTriangle, corner_of, tri_of, tris_of};
 
 use crate::raw::{RawPlace, RawPoint, RawTriangle};
 use mill_base::{MAX_COORDINATE, Pt3, Tri, WantOfMemory};

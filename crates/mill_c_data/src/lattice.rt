@@ -1,7 +1,8 @@
 ghost use Rattle.std.specs.Prelude.{◌≡◌, false, IsTrue, IfOk, OnOk, IfErr};
 ghost use Rattle.mill_base.specs.Lattices.{IsLattice, IsMapLattice};
-ghost use Rattle.mill_c.specs.Lattices.{lattice_of};
-ghost use Rattle.mill_c.specs.inner.Testing.{IsCorners, IsInOrder, IsLatticeCause};
+ghost use Rattle.mill_c_data.specs.Raw.{lattice_of};
+ghost use Rattle.mill_c_data.specs.Tests.{IsLatticeCause};
+ghost use Rattle.mill_c_data.specs.inner.Testing.{IsCorners, IsInOrder};
 
 use crate::fault::Fault;
 use crate::part::is_coordinate;

@@ -1,7 +1,7 @@
 -- The statuses of a call.
 use Rattle.std.specs.Prelude.{ℤ, pos}
-use Rattle.mill_c.specs.declared.fault.Fault.{Fault}
-use Rattle.mill_c.specs.declared.fault.Fault.TheVariants as fault
+use Rattle.mill_c_data.specs.declared.fault.Fault.{Fault}
+use Rattle.mill_c_data.specs.declared.fault.Fault.TheVariants as fault
 
 -- the status that tells a fault
 abbrev pub fault_code : Fault → ℤ

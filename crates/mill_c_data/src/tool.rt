@@ -2,9 +2,9 @@ ghost use Rattle.std.specs.Prelude.{◌≡◌, false, IsTrue, IfOk, OnOk, IfErr,
 ghost use Rattle.mill_base.specs.declared.limits.TheConstants.{MAX_RADIUS};
 ghost use Rattle.mill_base.specs.Sizes.{HasRadius, IsCutter, IsSlope};
 ghost use Rattle.mill_base.specs.Tools.{IsHolder, IsTool};
-ghost use Rattle.mill_c.specs.Asked.{IsSoundTool};
-ghost use Rattle.mill_c.specs.Raw.{cutter_of, holder_of, tool_of};
-ghost use Rattle.mill_c.specs.inner.Testing.{IsStickout, IsToolCause};
+ghost use Rattle.mill_c_data.specs.Raw.{IsSoundTool, cutter_of, holder_of, tool_of};
+ghost use Rattle.mill_c_data.specs.Tests.{IsToolCause};
+ghost use Rattle.mill_c_data.specs.inner.Testing.{IsStickout};
 
 use crate::fault::Fault;
 use crate::raw::RawTool;

@@ -1,5 +1,5 @@
 ghost use Rattle.std.specs.Prelude.{◌≡◌};
-ghost use Rattle.mill_c.specs.declared.fault.Fault.TheVariants as fault;
+ghost use Rattle.mill_c_data.specs.declared.fault.Fault.TheVariants as fault;
 
 use mill_base::WantOfMemory;
 
@@ -70,7 +70,7 @@ pub enum Fault {
 
 impl Fault {
     ghost use Rattle.std.specs.Prelude.{◌<ℤ◌, pos};
-    ghost use Rattle.mill_c.specs.Faults.{fault_code};
+    ghost use Rattle.mill_c_data.specs.Faults.{fault_code};
 
     /// The status that tells it, which is over 0.
     pub fn code(self) -> i32

@@ -1,0 +1,4 @@
+pub mod Faults
+pub mod Raw
+pub mod Tests
+pub mod inner
