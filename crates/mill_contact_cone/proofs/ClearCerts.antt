@@ -24,3 +24,6 @@ corner_weights x y z = ring (x ∷ y ∷ z ∷ []) (Add (Add (Mul (Num (pos 1)) 
 -- vars q r; hyp h: q < r*r; goal q < (r*r)*(1*1)
 pub corner_near : (q r : ℤ) → q <ℤ (r *ℤ r) → q <ℤ ((r *ℤ r) *ℤ ((pos 1) *ℤ (pos 1)))
 corner_near q r h = prove_lt_by (q ∷ r ∷ []) (Lt (Var 0) (Mul (Var 1) (Var 1)) ∷ []) (Var 0) (Mul (Mul (Var 1) (Var 1)) (Mul (Num (pos 1)) (Num (pos 1)))) (Plus (Hyp 0) (Hyp 1)) 0 (h, tt) refl
+
+pub edge_weights : (x y : ℤ) → (((pos 1) *ℤ x) +ℤ ((pos 0) *ℤ y)) ≡ x
+edge_weights x y = ring (x ∷ y ∷ []) (Add (Mul (Num (pos 1)) (Var 0)) (Mul (Num (pos 0)) (Var 1))) (Var 0) refl

@@ -8,11 +8,11 @@ use Rattle.mill_geom.specs.Offsets.{mean3}
 use Rattle.mill_geom.specs.Gaps.{AllApart, AllUpTo}
 use Rattle.mill_contact_cone.specs.declared.corner.Cone.{Cone}
 use Rattle.mill_contact_cone.specs.declared.corner.Corner.{Corner}
-use Rattle.mill_contact_cone.specs.Cones.{plain, TouchesCone}
+use Rattle.mill_contact_cone.specs.Cones.{plain, TouchesEdge, TouchesCone}
 use Rattle.mill_contact_cone.specs.inner.Clears.{apart_of, across_of, upward_of, HoldsCorner}
 use Rattle.mill_contact_cone.proofs.Zones.{same_inside}
 use Rattle.mill_contact_cone.proofs.Whole.{zero_ok}
-use Rattle.mill_contact_cone.proofs.ClearCerts.{low_box, far_box, wall_box, corner_weights, corner_near}
+use Rattle.mill_contact_cone.proofs.ClearCerts.{low_box, far_box, wall_box, corner_weights, corner_near, edge_weights}
 
 -- no corner is over the tip
 pub low_clear : (k : Cone) (a b c : Corner) (top : ℤ) → AllUpTo top (plain a) (plain b) (plain c) → top ≤ℤ pos 0 → TouchesCone k a b c → ⊥
@@ -51,6 +51,21 @@ corner_touch k a b c h = record {
       (sym (corner_weights a.z b.z c.z)) (record { near = corner_near _ k.radius h.near; over = h.over; steep = h.steep });
 }
 
+edge_some : (pos 0) <ℤ (pos 1 +ℤ pos 0)
+edge_some = omega (arith, ints)
+
+-- the first end inside
+pub corner_edge : (k : Cone) (p q : Corner) → HoldsCorner k p → TouchesEdge k p q
+corner_edge k p q h = record {
+  u = pos 1;
+  v = pos 0;
+  u_ok = one_ok;
+  v_ok = zero_ok;
+  some = edge_some;
+  inside = same_inside k.radius k.rise k.run (pos 1) (pos 1 +ℤ pos 0) _ _ _ _ _ _ refl (sym (edge_weights p.x q.x)) (sym (edge_weights p.y q.y)) (sym (edge_weights p.z q.z))
+      (record { near = corner_near _ k.radius h.near; over = h.over; steep = h.steep });
+}
+
 -- ---- as the program compares them
 
 at_most : (x y : ℤ) → le_z x y ≡ true → x ≤ℤ y
@@ -61,6 +76,12 @@ less x y e = omega (e, arith, ints)
 
 greater : (x y : ℤ) → le_z x y ≡ false → y <ℤ x
 greater x y e = omega (e, arith, ints)
+
+not_less : (x y : ℤ) → lt_z x y ≡ false → y ≤ℤ x
+not_less x y e = omega (e, arith, ints)
+
+clash : (x y : ℤ) → x ≤ℤ y → y <ℤ x → ⊥
+clash x y h k = omega (arith, ints)
 
 -- the offsets are those of the corners
 pub record Offsets (p q s : Offset) (a b c : Corner) : Type 0 where
@@ -94,3 +115,14 @@ corner_shown k p apart radius across upward ep er ea eu over near steep = record
   near = subst (λ r. apart_of p <ℤ r) er (subst (λ r. r <ℤ radius) ep (greater _ _ near));
   steep = subst (λ r. across_of k r <ℤ upward_of k p.z) ep (subst (λ r. across_of k apart <ℤ r) eu (subst (λ r. r <ℤ upward) ea (less _ _ steep)));
 }
+
+-- a corner that isn't shown to be inside isn't
+pub corner_low : (k : Cone) (p : Corner) → le_z p.z (pos 0) ≡ true → HoldsCorner k p → ⊥
+corner_low k p e h = clash _ _ (at_most _ _ e) h.over
+
+pub corner_far : (k : Cone) (p : Corner) (apart radius : ℤ) → apart ≡ apart_of p → radius ≡ k.radius *ℤ k.radius → le_z radius apart ≡ true → HoldsCorner k p → ⊥
+corner_far k p apart radius ep er e h = clash _ _ (subst (λ r. r ≤ℤ apart_of p) er (subst (λ r. radius ≤ℤ r) ep (at_most _ _ e))) h.near
+
+pub corner_flat : (k : Cone) (p : Corner) (apart across upward : ℤ) → apart ≡ apart_of p → across ≡ across_of k apart → upward ≡ upward_of k p.z → lt_z across upward ≡ false → HoldsCorner k p → ⊥
+corner_flat k p apart across upward ep ea eu e h =
+    clash _ _ (subst (λ r. upward_of k p.z ≤ℤ across_of k r) ep (subst (λ r. upward_of k p.z ≤ℤ r) ea (subst (λ r. r ≤ℤ across) eu (not_less _ _ e)))) h.steep

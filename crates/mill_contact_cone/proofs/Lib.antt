@@ -13,3 +13,5 @@ pub mod Bearings
 pub mod Splits
 pub mod ClearCerts
 pub mod Clears
+pub mod PassCerts
+pub mod Passes

@@ -123,7 +123,7 @@ upper_inside k n d c hn near level =
       steep = upper_steep (apart d) k.rise k.run k.radius n d.z near (rise_positive k c) (radius_positive k c) some level;
     }
 
-squares : (x y : ℤ) → (pos 0) ≤ℤ (x *ℤ x +ℤ y *ℤ y)
+pub squares : (x y : ℤ) → (pos 0) ≤ℤ (x *ℤ x +ℤ y *ℤ y)
 squares x y = let a = sq-ℤ x in let b = sq-ℤ y in omega (arith, ints)
 
 -- at or under it, what is in the cone is in the cutter

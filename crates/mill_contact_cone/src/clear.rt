@@ -3,7 +3,7 @@ ghost use Rattle.mill_base.specs.Numbers.{Within};
 ghost use Rattle.mill_geom.specs.Widths.{farthest, widest, most_area};
 ghost use Rattle.mill_contact_cone.specs.inner.Widths.{most_steep};
 ghost use Rattle.mill_contact_cone.specs.Cones.{IsCone, CornerInRange, TouchesCone};
-ghost use Rattle.mill_contact_cone.specs.inner.Clears.{apart_of, across_of, upward_of, HoldsCorner};
+ghost use Rattle.mill_contact_cone.specs.inner.Clears.{apart_of, across_of, upward_of, HoldsCorner, HoldsNone};
 
 use crate::corner::{Cone, Corner, offset_of};
 use mill_geom::{box_gap, highest};
@@ -71,10 +71,11 @@ pub fn is_clear(a: Corner, b: Corner, c: Corner, cone: Cone) -> bool
 }
 
 /// Whether the corner is strictly inside the cone cutter.
-fn holds(p: Corner, cone: Cone) -> bool
+pub fn holds(p: Corner, cone: Cone) -> bool
     requires p_ok { CornerInRange p }
     requires cone_ok { IsCone cone }
-    ensures { IsTrue result → HoldsCorner cone p }
+    ensures yes { IsTrue result → HoldsCorner cone p }
+    ensures no { result ≡ false → ¬ HoldsCorner cone p }
 {
     if p.z <= 0 {
         return false;
@@ -92,7 +93,8 @@ pub fn holds_corner(a: Corner, b: Corner, c: Corner, cone: Cone) -> bool
     requires b_ok { CornerInRange b }
     requires c_ok { CornerInRange c }
     requires cone_ok { IsCone cone }
-    ensures { IsTrue result → TouchesCone cone a b c }
+    ensures yes { IsTrue result → TouchesCone cone a b c }
+    ensures no { result ≡ false → HoldsNone cone a b c }
 {
     if holds(a, cone) {
         return true;

@@ -7,6 +7,7 @@ ghost use Rattle.mill_base.specs.declared.cutter.Cutter.TheVariants.{Cone as Con
 ghost use Rattle.mill_geom.specs.Offsets.{IsCentre};
 ghost use Rattle.mill_geom.specs.Sides.{IsTouch, along};
 ghost use Rattle.mill_contact_cone.specs.Cones.{IsCone, IsConical, IsCornerOf, CornerInRange, TouchesCone, EdgesFree};
+ghost use Rattle.mill_contact_cone.specs.inner.Clears.{HoldsNone};
 ghost use Rattle.mill_contact_cone.specs.inner.Positions.{ConeAt};
 
 use crate::clear::{holds_corner, is_clear};
@@ -16,7 +17,7 @@ use crate::side::side;
 use mill_base::{Cutter, Pt3, Tri};
 use mill_geom::{Axis, Touch, box_side, is_pierced, touches_on_level};
 
-/// Whether some edge has a point strictly inside the cone cutter.
+/// Whether some edge has a point strictly inside the cone cutter, where no corner is.
 fn touches_some_edge(a: Corner, b: Corner, c: Corner, cone: Cone) -> bool
     requires a_ok { CornerInRange a }
     requires b_ok { CornerInRange b }
@@ -25,6 +26,7 @@ fn touches_some_edge(a: Corner, b: Corner, c: Corner, cone: Cone) -> bool
     requires a_is { IsCornerOf cone a }
     requires b_is { IsCornerOf cone b }
     requires c_is { IsCornerOf cone c }
+    requires out { HoldsNone cone a b c }
     ensures yes { IsTrue result → TouchesCone cone a b c }
     ensures no { result ≡ false → EdgesFree cone a b c }
 {
@@ -37,7 +39,7 @@ fn touches_some_edge(a: Corner, b: Corner, c: Corner, cone: Cone) -> bool
     touches_edge(c, a, cone)
 }
 
-/// Whether some point of the triangle is strictly inside the cone cutter.
+/// Whether some point of the triangle is strictly inside the cone cutter, where no corner is.
 fn touches_cone(a: Corner, b: Corner, c: Corner, cone: Cone) -> bool
     requires a_ok { CornerInRange a }
     requires b_ok { CornerInRange b }
@@ -46,6 +48,7 @@ fn touches_cone(a: Corner, b: Corner, c: Corner, cone: Cone) -> bool
     requires a_is { IsCornerOf cone a }
     requires b_is { IsCornerOf cone b }
     requires c_is { IsCornerOf cone c }
+    requires out { HoldsNone cone a b c }
     ensures yes { IsTrue result → TouchesCone cone a b c }
     ensures no { result ≡ false → ¬ TouchesCone cone a b c }
 {

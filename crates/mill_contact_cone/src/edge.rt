@@ -1,12 +1,13 @@
 ghost use Rattle.std.specs.Prelude.{◌≡◌, ◌⊎◌, ◌<ℤ◌, ◌≤ℤ◌, pos, false, IsTrue};
 ghost use Rattle.mill_base.specs.Numbers.{Within};
 ghost use Rattle.mill_geom.specs.Widths.{most_lift};
-ghost use Rattle.mill_contact_cone.specs.inner.Widths.{most_cone_form};
+ghost use Rattle.mill_contact_cone.specs.inner.Widths.{most_cone_form, most_slant};
 ghost use Rattle.mill_contact_cone.specs.Cones.{IsCone, IsCornerOf, CornerInRange, TouchesEdge, HitsUpper, HitsLower};
-ghost use Rattle.mill_contact_cone.specs.inner.Quadratics.{FormInRange, BlendInRange, IsUpperForm, IsLowerForm, upper_of, lower_of, IsStart};
+ghost use Rattle.mill_contact_cone.specs.inner.Clears.{HoldsCorner};
+ghost use Rattle.mill_contact_cone.specs.inner.Quadratics.{FormInRange, BlendInRange, IsUpperForm, IsLowerForm, upper_of, lower_of, slant_of, IsStart};
 
 use crate::corner::{Cone, Corner};
-use crate::quadratic::{Blend, Form, hits_between};
+use crate::quadratic::{Blend, Form, has_both_signs, hits_between};
 
 /// The dot product of two corners in x and y, less the square of the radius.
 fn upper_product(p: Corner, q: Corner, cone: Cone) -> i64
@@ -58,6 +59,17 @@ fn lower_form(p: Corner, q: Corner, cone: Cone) -> Form
     let h = lower_product(p, q, cone);
     let b = lower_product(q, q, cone);
     Form { a, h, b }
+}
+
+/// The dot product in x and y of the point of the segment at the height of the tip and the last end,
+/// times how much higher than the first the last end is: the sign of the lower form's product of them.
+fn slant(p: Corner, q: Corner) -> i64
+    requires p_ok { CornerInRange p }
+    requires q_ok { CornerInRange q }
+    ensures value { result ≡ slant_of p q }
+    ensures bound { Within most_slant result }
+{
+    q.z * (p.x * q.x + p.y * q.y) - p.z * (q.x * q.x + q.y * q.y)
 }
 
 /// Where a quantity that is `f` at the first end and `g` at the last begins not to be negative.
@@ -128,8 +140,95 @@ fn hits_lower(p: Corner, q: Corner, cone: Cone) -> bool
     hits_between(form, from, turned(back))
 }
 
+/// Whether a point of the segment is inside the cutter's cylinder, where both ends are at or over the
+/// height of the rim and neither is in the cutter.
+fn passes_cylinder(p: Corner, q: Corner, cone: Cone) -> bool
+    requires p_ok { CornerInRange p }
+    requires q_ok { CornerInRange q }
+    requires cone_ok { IsCone cone }
+    requires p_is { IsCornerOf cone p }
+    requires q_is { IsCornerOf cone q }
+    requires p_over { pos 0 ≤ℤ p.over }
+    requires q_over { pos 0 <ℤ q.over }
+    requires p_out { ¬ HoldsCorner cone p }
+    requires q_out { ¬ HoldsCorner cone q }
+    ensures yes { IsTrue result → HitsUpper cone p q }
+    ensures no { result ≡ false → ¬ HitsUpper cone p q }
+{
+    if upper_product(p, q, cone) >= 0 {
+        return false;
+    }
+    has_both_signs(upper_form(p, q, cone))
+}
+
+/// Whether a point of the segment is inside the cutter's cone, where both ends are between the heights
+/// of the tip and of the rim and neither is in the cutter.
+fn passes_cone(p: Corner, q: Corner, cone: Cone) -> bool
+    requires p_ok { CornerInRange p }
+    requires q_ok { CornerInRange q }
+    requires cone_ok { IsCone cone }
+    requires p_is { IsCornerOf cone p }
+    requires q_is { IsCornerOf cone q }
+    requires p_up { pos 0 ≤ℤ p.z }
+    requires rising { p.z ≤ℤ q.z }
+    requires q_up { pos 0 <ℤ q.z }
+    requires under { q.over ≤ℤ pos 0 }
+    requires p_out { ¬ HoldsCorner cone p }
+    requires q_out { ¬ HoldsCorner cone q }
+    ensures yes { IsTrue result → HitsLower cone p q }
+    ensures no { result ≡ false → ¬ HitsLower cone p q }
+{
+    if lower_product(p, q, cone) >= 0 {
+        return false;
+    }
+    has_both_signs(lower_form(p, q, cone))
+}
+
+/// Whether a point of the segment is inside the cutter's cone, where the first end is under the tip
+/// and the last between the heights of the tip and of the rim, and not in the cutter.
+fn enters_cone(p: Corner, q: Corner, cone: Cone) -> bool
+    requires p_ok { CornerInRange p }
+    requires q_ok { CornerInRange q }
+    requires cone_ok { IsCone cone }
+    requires p_is { IsCornerOf cone p }
+    requires q_is { IsCornerOf cone q }
+    requires p_down { p.z <ℤ pos 0 }
+    requires q_up { pos 0 <ℤ q.z }
+    requires under { q.over ≤ℤ pos 0 }
+    requires q_out { ¬ HoldsCorner cone q }
+    ensures yes { IsTrue result → HitsLower cone p q }
+    ensures no { result ≡ false → ¬ HitsLower cone p q }
+{
+    if slant(p, q) >= 0 {
+        return false;
+    }
+    has_both_signs(lower_form(p, q, cone))
+}
+
+/// Whether a point of the segment is inside the cutter's cone, where the last end is over the tip, not
+/// over the height of the rim and not under the first, and no end is in the cutter.
+fn crosses_cone(p: Corner, q: Corner, cone: Cone) -> bool
+    requires p_ok { CornerInRange p }
+    requires q_ok { CornerInRange q }
+    requires cone_ok { IsCone cone }
+    requires p_is { IsCornerOf cone p }
+    requires q_is { IsCornerOf cone q }
+    requires rising { p.z ≤ℤ q.z }
+    requires q_up { pos 0 <ℤ q.z }
+    requires under { q.over ≤ℤ pos 0 }
+    requires p_out { ¬ HoldsCorner cone p }
+    requires q_out { ¬ HoldsCorner cone q }
+    ensures yes { IsTrue result → HitsLower cone p q }
+    ensures no { result ≡ false → ¬ HitsLower cone p q }
+{
+    if p.z < 0 {
+        return enters_cone(p, q, cone);
+    }
+    passes_cone(p, q, cone)
+}
+
 /// Whether some point of the segment is strictly inside the cone cutter, where its last end isn't
-/// lower than its first.
+/// lower than its first, and neither is in the cutter.
 fn touches_rising(p: Corner, q: Corner, cone: Cone) -> bool
     requires p_ok { CornerInRange p }
     requires q_ok { CornerInRange q }
@@ -137,6 +236,8 @@ fn touches_rising(p: Corner, q: Corner, cone: Cone) -> bool
     requires p_is { IsCornerOf cone p }
     requires q_is { IsCornerOf cone q }
     requires rising { p.z ≤ℤ q.z }
+    requires p_out { ¬ HoldsCorner cone p }
+    requires q_out { ¬ HoldsCorner cone q }
     ensures yes { IsTrue result → TouchesEdge cone p q }
     ensures no { result ≡ false → ¬ TouchesEdge cone p q }
 {
@@ -144,24 +245,26 @@ fn touches_rising(p: Corner, q: Corner, cone: Cone) -> bool
         return false;
     }
     if q.over <= 0 {
-        return hits_lower(p, q, cone);
+        return crosses_cone(p, q, cone);
+    }
+    if p.over >= 0 {
+        return passes_cylinder(p, q, cone);
     }
     if hits_upper(p, q, cone) {
         return true;
     }
-    if p.over >= 0 {
-        return false;
-    }
     hits_lower(p, q, cone)
 }
 
-/// Whether some point of the segment is strictly inside the cone cutter.
+/// Whether some point of the segment is strictly inside the cone cutter, where neither end is.
 pub fn touches_edge(p: Corner, q: Corner, cone: Cone) -> bool
     requires p_ok { CornerInRange p }
     requires q_ok { CornerInRange q }
     requires cone_ok { IsCone cone }
     requires p_is { IsCornerOf cone p }
     requires q_is { IsCornerOf cone q }
+    requires p_out { ¬ HoldsCorner cone p }
+    requires q_out { ¬ HoldsCorner cone q }
     ensures yes { IsTrue result → TouchesEdge cone p q }
     ensures no { result ≡ false → ¬ TouchesEdge cone p q }
 {

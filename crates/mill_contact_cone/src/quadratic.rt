@@ -33,7 +33,7 @@ fn polar(form: Form, p: Blend, q: Blend) -> i128
 }
 
 /// Whether the form takes both signs.
-fn has_both_signs(form: Form) -> bool
+pub fn has_both_signs(form: Form) -> bool
     requires form_ok { FormInRange form }
     ensures { IsTrue result ↔ ((form.a *ℤ form.b) <ℤ (form.h *ℤ form.h)) }
 {

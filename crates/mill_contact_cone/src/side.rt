@@ -4,8 +4,10 @@ ghost use Rattle.mill_geom.specs.Sides.{IsOnSide};
 ghost use Rattle.mill_geom.specs.Widths.{farthest};
 ghost use Rattle.mill_contact_cone.specs.inner.Widths.{most_bound};
 ghost use Rattle.mill_contact_cone.specs.Cones.{IsCone, IsCornerOf, CornerInRange, TouchesEdge, TouchesCone};
+ghost use Rattle.mill_contact_cone.specs.inner.Clears.{HoldsCorner, HoldsNone};
 ghost use Rattle.mill_contact_cone.specs.inner.Positions.{ConeAt, flattened as flattened_of, IsSeenOn, HoldsBefore, IsBefore};
 
+use crate::clear::holds;
 use crate::corner::{Cone, Corner};
 use crate::edge::touches_edge;
 use mill_geom::Side;
@@ -24,13 +26,26 @@ fn flattened(p: Corner) -> Corner
     }
 }
 
-/// Whether some point of the segment comes into the cutter at some position along x.
+/// Whether the corner comes into the cutter at some position along x.
+fn is_corner_seen(p: Corner, cone: Cone) -> bool
+    requires p_ok { CornerInRange p }
+    requires cone_ok { IsCone cone }
+    ensures yes { IsTrue result → HoldsCorner cone (flattened_of p) }
+    ensures no { result ≡ false → ¬ HoldsCorner cone (flattened_of p) }
+{
+    holds(flattened(p), cone)
+}
+
+/// Whether some point of the segment comes into the cutter at some position along x, where no end
+/// does.
 fn is_seen(p: Corner, q: Corner, cone: Cone) -> bool
     requires p_ok { CornerInRange p }
     requires q_ok { CornerInRange q }
     requires cone_ok { IsCone cone }
     requires p_is { IsCornerOf cone p }
     requires q_is { IsCornerOf cone q }
+    requires p_out { ¬ HoldsCorner cone (flattened_of p) }
+    requires q_out { ¬ HoldsCorner cone (flattened_of q) }
     ensures yes { IsTrue result → TouchesEdge cone (flattened_of p) (flattened_of q) }
     ensures no { result ≡ false → ¬ TouchesEdge cone (flattened_of p) (flattened_of q) }
 {
@@ -147,8 +162,9 @@ fn edge_side(p: Corner, q: Corner, cone: Cone) -> Side
     Side::More
 }
 
-/// On which side of the tip along x a triangle is that has no point in the cutter.
-pub fn side(a: Corner, b: Corner, c: Corner, cone: Cone) -> Side
+/// On which side of the tip along x a triangle is that has no point in the cutter, where no corner
+/// comes into it at any position.
+fn side_of_edges(a: Corner, b: Corner, c: Corner, cone: Cone) -> Side
     requires a_ok { CornerInRange a }
     requires b_ok { CornerInRange b }
     requires c_ok { CornerInRange c }
@@ -156,6 +172,7 @@ pub fn side(a: Corner, b: Corner, c: Corner, cone: Cone) -> Side
     requires a_is { IsCornerOf cone a }
     requires b_is { IsCornerOf cone b }
     requires c_is { IsCornerOf cone c }
+    requires out { HoldsNone cone (flattened_of a) (flattened_of b) (flattened_of c) }
     requires apart { ¬ TouchesCone cone a b c }
     ensures { IsOnSide result (ConeAt cone a b c) }
 {
@@ -169,4 +186,28 @@ pub fn side(a: Corner, b: Corner, c: Corner, cone: Cone) -> Side
         return edge_side(c, a, cone);
     }
     Side::Never
+}
+
+/// On which side of the tip along x a triangle is that has no point in the cutter.
+pub fn side(a: Corner, b: Corner, c: Corner, cone: Cone) -> Side
+    requires a_ok { CornerInRange a }
+    requires b_ok { CornerInRange b }
+    requires c_ok { CornerInRange c }
+    requires cone_ok { IsCone cone }
+    requires a_is { IsCornerOf cone a }
+    requires b_is { IsCornerOf cone b }
+    requires c_is { IsCornerOf cone c }
+    requires apart { ¬ TouchesCone cone a b c }
+    ensures { IsOnSide result (ConeAt cone a b c) }
+{
+    if is_corner_seen(a, cone) {
+        return edge_side(a, b, cone);
+    }
+    if is_corner_seen(b, cone) {
+        return edge_side(b, c, cone);
+    }
+    if is_corner_seen(c, cone) {
+        return edge_side(c, a, cone);
+    }
+    side_of_edges(a, b, c, cone)
 }

@@ -21,3 +21,9 @@ pub record HoldsCorner (k : Cone) (p : Corner) : Type 0 where
   pub over : (pos 0) <ℤ p.z
   pub near : apart_of p <ℤ (k.radius *ℤ k.radius)
   pub steep : across_of k (apart_of p) <ℤ upward_of k p.z
+
+-- no corner is strictly inside the cone cutter
+pub record HoldsNone (k : Cone) (a b c : Corner) : Type 0 where
+  pub a_out : ¬ HoldsCorner k a
+  pub b_out : ¬ HoldsCorner k b
+  pub c_out : ¬ HoldsCorner k c

@@ -63,6 +63,10 @@ pub record IsLowerForm (k : Cone) (p q : Corner) (f : Form) : Type 0 where
   pub h_is : f.h ≡ lower_of k p q
   pub b_is : f.b ≡ lower_of k q q
 
+-- times the square of the rise, the product that decides under the height of the rim of the last end and of the point of the segment at the height of the tip, where the first end is under that
+abbrev pub slant_of : Corner → Corner → ℤ
+slant_of p q = q.z *ℤ (p.x *ℤ q.x +ℤ p.y *ℤ q.y) -ℤ p.z *ℤ (q.x *ℤ q.x +ℤ q.y *ℤ q.y)
+
 -- where a quantity that is f at the first end and g at the last begins not to be negative: at the first end, or where it is 0
 abbrev pub IsStart : ℤ → ℤ → Blend → Type 0
 IsStart f g p = (((pos 0) ≤ℤ f) × ((p.u ≡ pos 1) × (p.v ≡ pos 0))) ⊎ ((f <ℤ pos 0) × ((p.u ≡ g) × (p.v ≡ pos 0 -ℤ f)))

@@ -21,3 +21,7 @@ most_cone_form = most_steep + steepest * steepest * (farthest * farthest)
 -- of the bilinear form of two blends, of which each weight is at most a corner's number: a sum of four products of a form and two weights: less than 2^111
 abbrev pub most_blend_form : ℕ
 most_blend_form = 4 * (most_lift * most_lift * most_cone_form)
+
+-- of a sum of two products of a height and an area: less than 2^63
+abbrev pub most_slant : ℕ
+most_slant = 2 * (farthest * most_area)

@@ -11,3 +11,9 @@ returns-clause-yes c = λ h. rw (c.flattened.ensures.value, c.flattened-2.ensure
 
 pub returns-clause-no : goal.returns-clause-no
 returns-clause-no c = λ h. rw (c.flattened.ensures.value, c.flattened-2.ensures.value) at (c.touches_edge.ensures.no h)
+
+pub touches_edge-requires-clause-p_out : goal.touches_edge-requires-clause-p_out
+touches_edge-requires-clause-p_out c = rw c.flattened.ensures.value c.requires.p_out
+
+pub touches_edge-requires-clause-q_out : goal.touches_edge-requires-clause-q_out
+touches_edge-requires-clause-q_out c = rw c.flattened-2.ensures.value c.requires.q_out
