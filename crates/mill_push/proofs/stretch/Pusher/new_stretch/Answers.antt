@@ -1,6 +1,6 @@
 use Rattle.std.proofs.Common.{rules, w32, arith}
 use Rattle.std.proofs.lemmas.Int.{ints, to_z-of_z}
-use Rattle.mill_push.proofs.Cutting.{all_known, new_answer, cost_of_half, cost_of_rest, spans_in_range}
+use Rattle.mill_push.proofs.Cutting.{all_known, new_answer, cost_from_start, cost_of_rest, cost_with_room, spans_in_range}
 use Rattle.mill_push.proofs.Stored.{stored, through}
 use Rattle.mill_push.proofs.stretch.Pusher.new_stretch.Goals as goal
 
@@ -24,9 +24,9 @@ returns-in-Some-clause-stretch g c =
 pub returns-in-Some-clause-cost : goal.returns-in-Some-clause-cost
 returns-in-Some-clause-cost g c =
     let rest = c.cut-rest.result in
-    let start = rw (stored c.args.from c.requires.from_ok, stored c.args.to c.requires.to_ok) at c.in-Some.ensures in
+    let room = rw (stored c.args.from c.requires.from_ok, stored c.args.to c.requires.to_ok) at c.in-Some-spare_touches.ensures in
     let cost = rw (to_z-of_z w32 rest.first (search rules), to_z-of_z w32 rest.last (search rules)) at c.stretch_from.ensures.cost in
-    cost_of_half c.args.from c.args.to rest.first rest.last c.args.steps.now c.stretch_from.new.steps start.narrow cost
+    cost_from_start c.args.from c.args.to rest c.args.steps.now c.stretch_from.new.steps c.at_most.result.probes _ c.at_most.ensures room cost
 
 pub returns-in-None-clause-stretch : goal.returns-in-None-clause-stretch
 returns-in-None-clause-stretch g c =
