@@ -3,7 +3,7 @@ use Rattle.std.proofs.Common.{◌≡◌, ℕ, ◌+◌, ◌*◌, ◌<◌, ◌≤�
 use Rattle.std.specs.Prelude.{◌^◌, Option, Some, None}
 use Rattle.std.specs.List.{Contains}
 use Rattle.std.proofs.lemmas.Int.{ints, by_lt_z}
-use lib.IntN.{ℤ, pos, ◌+ℤ◌, ◌-ℤ◌}
+use lib.IntN.{ℤ}
 use lib.Signed.{◌<ℤ◌, ◌≤ℤ◌}
 use Rattle.mill_base.specs.Numbers.{Within}
 use Rattle.mill_base.specs.declared.limits.TheConstants.{MAX_COORDINATE}
@@ -93,7 +93,7 @@ rest_on known window rest run first last member from to low high r = record {
     stands v at = record { run = run; member = member; first = at.first; last = at.last }
 
 -- the rest has no more positions than there are; no touches near aims are to spare
-pub cost_of_rest : (from to a b : ℤ) (old new probes : ℕ) → from ≤ℤ a → a ≤ℤ b → b ≤ℤ to → probes ≤ 0 → ((n : ℕ) → position_count a b < 2 ^ n → new ≤ old + (2 * n + 2 * probes))
+pub cost_of_rest : (from to a b : ℤ) (old new probes : ℕ) → from ≤ℤ a → a ≤ℤ b → b ≤ℤ to → probes ≡ 0 → ((n : ℕ) → position_count a b < 2 ^ n → new ≤ old + (2 * n + 2 * probes))
     → (n : ℕ) → position_count from to < 2 ^ n → new ≤ old + 2 * n
 cost_of_rest from to a b old new probes h k l none cost n under =
     let fewer : position_count a b ≤ position_count from to = omega (arith, ints) in

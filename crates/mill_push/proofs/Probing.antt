@@ -1,5 +1,5 @@
 -- The search for an end of a triangle's stretch: what touches near its aim leave, and what halving finds in that.
-use Rattle.std.proofs.Common.{◌≡◌, ℕ, ◌+◌, ◌<◌, ◌≤◌, refl, subst, arith}
+use Rattle.std.proofs.Common.{ℕ, ◌+◌, ◌<◌, ◌≤◌, subst, arith}
 use Rattle.std.specs.Prelude.{◌^◌, nat_abs}
 use Rattle.std.proofs.lemmas.Int.{ints, by_lt_z}
 use lib.IntN.{ℤ, pos, ◌+ℤ◌, ◌-ℤ◌}

@@ -1,5 +1,5 @@
 //! A memory of where the ends of each triangle's stretch were found last.
-ghost use Rattle.std.specs.Prelude.{◌≤◌};
+ghost use Rattle.std.specs.Prelude.{◌≡◌, ◌≤◌};
 
 use crate::fiber::Run;
 use mill_base::WantOfMemory;
@@ -124,7 +124,9 @@ impl Mark {
 
 impl Aims {
     /// Nothing is expected.
-    fn none() -> Aims {
+    pub fn none() -> Aims
+        ensures { result.probes ≡ 0 }
+    {
         Aims {
             first: 0,
             last: 0,

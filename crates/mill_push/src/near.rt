@@ -51,15 +51,16 @@ impl Pusher {
     /// Where the triangle is touched from `from` to `to`, as far as that isn't known: a run whose
     /// positions are touched, and beside which none is that doesn't stand in the known runs.
     ///
-    /// Only that part of the triangle's window is searched that the known runs leave, and near the aims
-    /// first.
+    /// Only that part of the triangle's window is searched that the known runs leave, and near the ends
+    /// first that were kept of the triangle of this number.
     fn new_stretch<L: Ledger>(
         self,
         tri: &Tri,
+        number: u32,
         from: i32,
         to: i32,
         known: &[Run],
-        aims: Aims,
+        ends: &Ends,
         steps: &mut Steps<L>,
     ) -> Option<Run>
         requires self_ok { IsPusher self }
@@ -77,9 +78,9 @@ impl Pusher {
             return None;
         }
         let Some(spare) = spare_touches(rest, from, to) else {
-            return self.stretch(tri, rest.first, rest.last, aims.at_most(0), steps);
+            return self.stretch(tri, rest.first, rest.last, Aims::none(), steps);
         };
-        let aims = aims.at_most(spare);
+        let aims = ends.aims(number).at_most(spare);
         match start_in(rest, window, aims) {
             Some(start) => self.stretch_from(tri, rest.first, rest.last, start, aims, steps),
             None => self.stretch(tri, rest.first, rest.last, aims, steps),
@@ -113,8 +114,7 @@ impl Pusher {
         let mut near = cells.near_rising(self.strip(from, to));
         while let Some(number) = near.next_over(self.fiber.z) {
             let tri = &tris[number as usize];
-            let aims = ends.aims(number);
-            let Some(stretch) = self.new_stretch(tri, from, to, &runs, aims, steps) else {
+            let Some(stretch) = self.new_stretch(tri, number, from, to, &runs, ends, steps) else {
                 continue;
             };
             ends.keep(number, stretch);

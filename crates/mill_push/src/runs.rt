@@ -46,9 +46,7 @@ pub fn push<L: Ledger>(
     ensures near { ToolTouchesFew tool.now part.now fiber from to steps.old steps.new }
 {
     let mut ends = Ends::none(alloc);
-    push_after(
-        alloc, part, cells, tool, fiber, from, to, &mut ends, steps,
-    )
+    push_after(alloc, part, cells, tool, fiber, from, to, &mut ends, steps)
 }
 
 /// The same as `push`, after other pushes of the same cutter along fibers beside this one: it looks for

@@ -31,7 +31,7 @@ returns-in_default-clause-cost g c =
     let test = rw (first, last) at c.if-rest.false in
     let after = through c.args.from c.window-window.result.first rest.first window.after c.cut-rest.ensures.after in
     let within = through rest.last c.window-window.result.last c.args.to c.cut-rest.ensures.within window.within in
-    cost_of_rest c.args.from c.args.to rest.first rest.last c.args.steps.now c.stretch.new.steps c.at_most.result.probes after (omega (test, arith, ints)) within c.at_most.ensures cost
+    cost_of_rest c.args.from c.args.to rest.first rest.last c.args.steps.now c.stretch.new.steps c.none.result.probes after (omega (test, arith, ints)) within c.none.ensures cost
 
 pub returns-in-Some-start_in-clause-stretch : goal.returns-in-Some-start_in-clause-stretch
 returns-in-Some-start_in-clause-stretch g c =
