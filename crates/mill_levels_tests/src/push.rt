@@ -53,9 +53,7 @@ fn counted<L: Ledger>(
     let shape = SortedPart::new(alloc, part)?;
     let mut steps = Steps::<L>::new(blank);
     let (part, cells) = (shape.part(), shape.cells());
-    Ok(push_after(
-        alloc, part, cells, tool, fiber, from, to, ends, &mut steps,
-    )?)
+    Ok(push_after(alloc, part, cells, tool, fiber, from, to, ends, &mut steps)?)
 }
 
 fn add(alloc: Global, told: &mut String, run: &Run) -> Result<(), Fail> {
