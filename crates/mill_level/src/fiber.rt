@@ -11,7 +11,7 @@ ghost use Rattle.mill_level.specs.inner.Fibers.{AreAdded, AreAscending, ArePosit
 use crate::cut::Cut;
 use mill_base::{Steps, WantOfMemory};
 use mill_geom::Axis;
-use mill_push::{Fiber, Run, push};
+use mill_push::{Ends, Fiber, Run, push_after};
 use std::alloc::Global;
 use std::marker::Brand;
 use std::sync::ledger::{Blank, Ledger};
@@ -30,6 +30,7 @@ pub fn add_row(
     cut: &Cut<'_>,
     y: i32,
     xs: &[i32],
+    ends: &mut Ends,
     blocked: &mut Vec<bool>,
     places: &mut Vec<i32>,
 ) -> Result<(), WantOfMemory>
@@ -39,7 +40,7 @@ pub fn add_row(
     ensures blocked { IfOk result (λ _. AreAdded (Tells (BlockedOn cut.now X y) xs.now) (length xs.now) blocked.old.items blocked.new.items) }
     ensures places { IfOk result (λ _. AreAdded (Places (BlockedOn cut.now X y) xs.now) (length xs.now) places.old.items places.new.items) }
 {
-    let runs = fiber_runs(alloc, cut, Axis::X, y, xs)?;
+    let runs = fiber_runs(alloc, cut, Axis::X, y, xs, ends)?;
     add_blocked(&runs, xs, blocked)?;
     add_places(&runs, xs, places)
 }
@@ -51,6 +52,7 @@ pub fn add_column(
     cut: &Cut<'_>,
     x: i32,
     ys: &[i32],
+    ends: &mut Ends,
     places: &mut Vec<i32>,
 ) -> Result<(), WantOfMemory>
     requires cut_ok { IsCut cut.now }
@@ -58,18 +60,19 @@ pub fn add_column(
     requires ys_ok { ArePositions ys.now }
     ensures { IfOk result (λ _. AreAdded (Places (BlockedOn cut.now Y x) ys.now) (length ys.now) places.old.items places.new.items) }
 {
-    let runs = fiber_runs(alloc, cut, Axis::Y, x, ys)?;
+    let runs = fiber_runs(alloc, cut, Axis::Y, x, ys, ends)?;
     add_places(&runs, ys, places)
 }
 
 /// The runs of a fiber, from the first of the positions to the last, at which the tool gouges the
-/// part. The touches aren't counted.
+/// part, looked for near the ends that were kept of the fiber before. The touches aren't counted.
 fn fiber_runs(
     alloc: Global,
     cut: &Cut<'_>,
     axis: Axis,
     at: i32,
     positions: &[i32],
+    ends: &mut Ends,
 ) -> Result<Vec<Run>, WantOfMemory>
     requires cut_ok { IsCut cut.now }
     requires at_ok { Within MAX_COORDINATE at }
@@ -80,7 +83,7 @@ fn fiber_runs(
     let fiber = Fiber { axis, at, z: cut.z };
     let from = positions[0];
     let to = positions[positions.len() - 1];
-    counted_runs::<Brand>(alloc, cut, fiber, from, to, Blank::new(1))
+    counted_runs::<Brand>(alloc, cut, fiber, from, to, ends, Blank::new(1))
 }
 
 /// The runs from one position to another, with a counter of a blank ledger.
@@ -90,6 +93,7 @@ fn counted_runs<L: Ledger>(
     fiber: Fiber,
     from: i32,
     to: i32,
+    ends: &mut Ends,
     blank: Blank,
 ) -> Result<Vec<Run>, WantOfMemory>
     requires cut_ok { IsCut cut.now }
@@ -103,8 +107,8 @@ fn counted_runs<L: Ledger>(
     ensures runs { IfOk result (λ runs. AreRuns cut.now.tool cut.now.part.now fiber from to runs.items) }
 {
     let mut steps = Steps::<L>::new(blank);
-    push(
-        alloc, cut.part, cut.cells, &cut.tool, fiber, from, to, &mut steps,
+    push_after(
+        alloc, cut.part, cut.cells, &cut.tool, fiber, from, to, ends, &mut steps,
     )
 }
 

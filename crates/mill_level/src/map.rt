@@ -8,10 +8,12 @@ use crate::cut::Cut;
 use crate::fiber::{add_column, add_row};
 use crate::grid::LevelMap;
 use mill_base::{Lattice, WantOfMemory};
+use mill_push::Ends;
 use std::alloc::Global;
 
 /// Which nodes of the lattice are blocked at the cut's height, and where its crossings are: by the
-/// runs of one fiber for each row and for each column.
+/// runs of one fiber for each row and for each column. From one row to the next, and from one column to
+/// the next, it is kept where the ends of each triangle's stretch were.
 pub fn level_map(alloc: Global, cut: &Cut<'_>, lattice: &Lattice) -> Result<LevelMap, WantOfMemory>
     requires cut_ok { IsCut cut.now }
     requires lattice_ok { IsMapLattice lattice.now }
@@ -22,11 +24,13 @@ pub fn level_map(alloc: Global, cut: &Cut<'_>, lattice: &Lattice) -> Result<Leve
     let nodes = xs.len() * ys.len();
     let mut blocked = Vec::with_capacity(alloc, nodes)?;
     let mut places = Vec::with_capacity(alloc, 2 * nodes)?;
+    let mut ends = Ends::new(alloc, cut.part.tris().len())?;
     for y in &ys {
-        add_row(alloc, cut, *y, &xs, &mut blocked, &mut places)?;
+        add_row(alloc, cut, *y, &xs, &mut ends, &mut blocked, &mut places)?;
     }
+    ends.forget();
     for x in &xs {
-        add_column(alloc, cut, *x, &ys, &mut places)?;
+        add_column(alloc, cut, *x, &ys, &mut ends, &mut places)?;
     }
     Ok(LevelMap {
         columns: lattice.node_columns(),

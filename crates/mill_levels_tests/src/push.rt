@@ -7,7 +7,9 @@ ghost use Rattle.mill_push.specs.Touches.{IsFiber};
 use crate::tables::{coordinate, first_word, halves, part_of, place, tool};
 use mill_base::{Steps, Tool};
 use mill_part::{Part, SortedPart};
-use mill_push::{Axis, Fiber, Run, one_list_of_runs, one_stretch, push, runs_hold_blocked};
+use mill_push::{
+    Axis, Ends, Fiber, Run, one_list_of_runs, one_stretch, push_after, runs_hold_blocked,
+};
 use std::alloc::Global;
 use std::marker::Brand;
 use std::process::Abort;
@@ -26,7 +28,7 @@ fn fiber_of(text: &str) -> Result<Fiber, Fail>
     Ok(Fiber { axis, at, z })
 }
 
-/// The runs of the tool, by a counter of its own.
+/// The runs of the tool, after other pushes, by a counter of its own.
 fn counted<L: Ledger>(
     alloc: Global,
     part: &Part,
@@ -34,6 +36,7 @@ fn counted<L: Ledger>(
     fiber: Fiber,
     from: i32,
     to: i32,
+    ends: &mut Ends,
     blank: Blank,
 ) -> Result<Vec<Run>, Fail>
     requires tool_ok { IsTool tool.now }
@@ -50,7 +53,7 @@ fn counted<L: Ledger>(
     let shape = SortedPart::new(alloc, part)?;
     let mut steps = Steps::<L>::new(blank);
     let (part, cells) = (shape.part(), shape.cells());
-    Ok(push(alloc, part, cells, tool, fiber, from, to, &mut steps)?)
+    Ok(push_after(alloc, part, cells, tool, fiber, from, to, ends, &mut steps)?)
 }
 
 fn add(alloc: Global, told: &mut String, run: &Run) -> Result<(), Fail> {
@@ -76,14 +79,20 @@ fn told(alloc: Global, runs: &[Run]) -> Result<String, Fail> {
 
 /// What the tool's runs along the fiber of a row's text come to: from -2,000 to 2,000, or over the
 /// window that the row names.
-fn told_of(alloc: Global, tool: &Tool, part: &Part, text: &str) -> Result<String, Fail>
+fn told_of(
+    alloc: Global,
+    tool: &Tool,
+    part: &Part,
+    ends: &mut Ends,
+    text: &str,
+) -> Result<String, Fail>
     requires { IsTool tool.now }
 {
     let (fiber, window) = text.split_once(" from ").unwrap_or((text, "-2000 to 2000"));
     let (from, to) = window.split_once(" to ").ok_or("a window without an end")?;
     let (from, to) = (coordinate(from)?, coordinate(to)?);
     let fiber = fiber_of(fiber)?;
-    let runs = counted::<Brand>(alloc, part, tool, fiber, from, to, Blank::new(1))?;
+    let runs = counted::<Brand>(alloc, part, tool, fiber, from, to, ends, Blank::new(1))?;
     told(alloc, &runs)
 }
 
@@ -91,12 +100,13 @@ fn look_at_fiber<R: Abort + AllocGlobal>(
     rt: &R,
     tool: &Tool,
     part: &Part,
+    ends: &mut Ends,
     row: &str,
 ) -> Result<(), Fail>
     requires { IsTool tool.now }
 {
     let (fiber, wanted) = halves(row)?;
-    let found = told_of(rt.alloc(), tool, part, fiber)?;
+    let found = told_of(rt.alloc(), tool, part, ends, fiber)?;
     assert_eq!(rt; found.as_str(), wanted, "{row}");
     Ok(())
 }
@@ -109,13 +119,15 @@ fn look_at_fibers<R: Abort + AllocGlobal>(
 ) -> Result<(), Fail>
     requires { IsTool tool.now }
 {
+    let mut ends = Ends::new(rt.alloc(), part.tris().len())?;
     for row in table.lines() {
-        look_at_fiber(rt, tool, part, row)?;
+        look_at_fiber(rt, tool, part, &mut ends, row)?;
     }
     Ok(())
 }
 
-/// Looks at the runs of a tool over a part: each row has a fiber, and what they come to.
+/// Looks at the runs of a tool over a part: each row has a fiber, and what they come to. Of each row it
+/// is kept where the ends were, though its fiber isn't beside the next one.
 fn each_fiber<R: Abort + AllocGlobal>(
     rt: &R,
     held: &str,
@@ -152,6 +164,23 @@ x 0 300 from -524287 to 524287 => none";
 #[test]
 fn flat_on_a_point(rt: HostRuntime) -> Result<(), Fail> {
     each_fiber(&rt, "flat 100", POINT, FLAT)
+}
+
+// Fibers side by side, 20 apart, of which one is free: 97² + 20², 91² + 40², 79² + 60² and 59² + 80² are
+// less than 100², and of the next numbers 98, 92, 80 and 60 that isn't so.
+const SIDE_BY_SIDE: &str = "\
+x 0 0 => 401 599
+x 20 0 => 403 597
+x 40 0 => 409 591
+x 60 0 => 421 579
+x 80 0 => 441 559
+x 100 0 => none
+x 80 0 => 441 559
+x 60 0 => 421 579";
+
+#[test]
+fn fibers_side_by_side(rt: HostRuntime) -> Result<(), Fail> {
+    each_fiber(&rt, "flat 100", POINT, SIDE_BY_SIDE)
 }
 
 // The point is at the height 300. A ball of radius 100 whose tip is h under it, for h up to 100, holds
@@ -240,7 +269,8 @@ fn holder_near_a_point(rt: HostRuntime) -> Result<(), Fail> {
 fn told_over(alloc: Global, part: &str) -> Result<String, Fail> {
     let flat = tool("flat 100")?;
     let part = part_of(alloc, part)?;
-    told_of(alloc, &flat, &part, "x 0 0")
+    let mut ends = Ends::new(alloc, 0)?;
+    told_of(alloc, &flat, &part, &mut ends, "x 0 0")
 }
 
 fn look_at_part<R: Abort + AllocGlobal>(rt: &R, row: &str) -> Result<(), Fail> {

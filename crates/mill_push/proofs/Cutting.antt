@@ -1,10 +1,10 @@
 -- A window from whose ends known runs are cut off, and what its triangle's stretch in the rest tells.
-use Rattle.std.proofs.Common.{◌≡◌, ℕ, ◌+◌, ◌*◌, ◌<◌, ◌≤◌, List, false, arith}
+use Rattle.std.proofs.Common.{◌≡◌, ℕ, ◌+◌, ◌*◌, ◌<◌, ◌≤◌, List, arith}
 use Rattle.std.specs.Prelude.{◌^◌, Option, Some, None}
 use Rattle.std.specs.List.{Contains}
 use Rattle.std.proofs.lemmas.Int.{ints, by_lt_z}
-use lib.IntN.{ℤ, pos, ◌+ℤ◌, ◌-ℤ◌, ◌*ℤ◌}
-use lib.Signed.{◌<ℤ◌, ◌≤ℤ◌, lt_z}
+use lib.IntN.{ℤ}
+use lib.Signed.{◌<ℤ◌, ◌≤ℤ◌}
 use Rattle.mill_base.specs.Numbers.{Within}
 use Rattle.mill_base.specs.declared.limits.TheConstants.{MAX_COORDINATE}
 use Rattle.mill_base.specs.declared.points.Tri.{Tri}
@@ -15,9 +15,9 @@ use Rattle.mill_push.specs.Fibers.{IsTouched}
 use Rattle.mill_push.specs.Runs.{StandsIn}
 use Rattle.mill_push.specs.Stretches.{IsStretchAnswer}
 use Rattle.mill_push.specs.Touches.{position_count}
-use Rattle.mill_push.specs.inner.Known.{AreAmong, IsAt, IsKnown, IsNewAnswer, IsRest, IsRunInRange, AreInRange, IsStart, IsWindow}
+use Rattle.mill_push.specs.inner.Known.{AreAmong, HasRoom, IsAt, IsKnown, IsNewAnswer, IsRest, IsRunInRange, AreInRange, IsWindow}
 use Rattle.mill_push.specs.inner.Unions.{AreSpans, IsSpan}
-use Rattle.mill_push.proofs.Halving.{half_under}
+use Rattle.mill_push.proofs.Halving.{under_by}
 use Rattle.mill_push.proofs.Stored.{within_between}
 
 module _ (cutter : Cutter) (tri : Tri) (fiber : Fiber) where
@@ -92,30 +92,32 @@ rest_on known window rest run first last member from to low high r = record {
     stands : (v : ℤ) → IsAt run v → StandsIn known v
     stands v at = record { run = run; member = member; first = at.first; last = at.last }
 
--- the rest has no more positions than there are
-pub cost_of_rest : (from to a b : ℤ) (old new : ℕ) → from ≤ℤ a → a ≤ℤ b → b ≤ℤ to → ((n : ℕ) → position_count a b < 2 ^ n → new ≤ old + 2 * n) → (n : ℕ) → position_count from to < 2 ^ n → new ≤ old + 2 * n
-cost_of_rest from to a b old new h k l cost n under = cost n (let fewer : position_count a b ≤ position_count from to = omega (arith, ints) in omega arith)
-
--- and at most half as many where the search begins at an end
-pub cost_of_half : (from to a b : ℤ) (old new : ℕ) → 2 * position_count a b ≤ position_count from to → ((n : ℕ) → position_count a b < 2 ^ n → new ≤ old + (1 + 2 * n))
+-- the rest has no more positions than there are; no touches near aims are to spare
+pub cost_of_rest : (from to a b : ℤ) (old new probes : ℕ) → from ≤ℤ a → a ≤ℤ b → b ≤ℤ to → probes ≡ 0 → ((n : ℕ) → position_count a b < 2 ^ n → new ≤ old + (2 * n + 2 * probes))
     → (n : ℕ) → position_count from to < 2 ^ n → new ≤ old + 2 * n
-cost_of_half from to a b old new half cost n under =
-    let k = half_under n (position_count from to) (position_count a b) (omega arith) half under in
-    let c = cost k.0 k.2 in
-    let e = k.1 in
+cost_of_rest from to a b old new probes h k l none cost n under =
+    let fewer : position_count a b ≤ position_count from to = omega (arith, ints) in
+    let c = cost n (omega arith) in
     omega arith
 
--- the search begins at an end of the rest
-narrow_is : (from to a b : ℤ) → from ≤ℤ to → a ≤ℤ b → lt_z ((to -ℤ from) +ℤ pos 1) (pos 2 *ℤ ((b -ℤ a) +ℤ pos 1)) ≡ false → 2 * position_count a b ≤ position_count from to
-narrow_is from to a b h k test =
-    let narrow : (pos 2 *ℤ ((b -ℤ a) +ℤ pos 1)) ≤ℤ ((to -ℤ from) +ℤ pos 1) = omega (test, arith, ints) in
-    omega (arith, ints)
+-- they are where it has so few
+module _ (from to : ℤ) (rest : Run) (old new probes spare : ℕ) (few : probes ≤ spare) (room : HasRoom from to rest spare) where
+  under_room : (n : ℕ) → position_count from to < 2 ^ n → (k : ℕ) × (n ≡ k + (spare + 1)) × (position_count rest.first rest.last < 2 ^ k)
+  under_room n under = under_by (spare + 1) n (position_count rest.first rest.last) (position_count from to) (omega arith) room under
 
-pub starts_first : (from to a b : ℤ) → from ≤ℤ to → a ≤ℤ b → lt_z ((to -ℤ from) +ℤ pos 1) (pos 2 *ℤ ((b -ℤ a) +ℤ pos 1)) ≡ false → IsStart from to (record { first = a; last = b }) a
-starts_first from to a b h k test = record { place = record { first = omega (arith, ints); last = k }; narrow = narrow_is from to a b h k test }
+  pub cost_from_start : ((n : ℕ) → position_count rest.first rest.last < 2 ^ n → new ≤ old + (1 + 2 * n + 2 * probes)) → (n : ℕ) → position_count from to < 2 ^ n → new ≤ old + 2 * n
+  cost_from_start cost n under =
+      let k = under_room n under in
+      let c = cost k.0 k.2 in
+      let e = k.1 in
+      omega arith
 
-pub starts_last : (from to a b : ℤ) → from ≤ℤ to → a ≤ℤ b → lt_z ((to -ℤ from) +ℤ pos 1) (pos 2 *ℤ ((b -ℤ a) +ℤ pos 1)) ≡ false → IsStart from to (record { first = a; last = b }) b
-starts_last from to a b h k test = record { place = record { first = k; last = omega (arith, ints) }; narrow = narrow_is from to a b h k test }
+  pub cost_with_room : ((n : ℕ) → position_count rest.first rest.last < 2 ^ n → new ≤ old + (2 * n + 2 * probes)) → (n : ℕ) → position_count from to < 2 ^ n → new ≤ old + 2 * n
+  cost_with_room cost n under =
+      let k = under_room n under in
+      let c = cost k.0 k.2 in
+      let e = k.1 in
+      omega arith
 
 -- runs from one position in range to another are in range
 pub span_in_range : (from to : ℤ) (run : Run) → Within MAX_COORDINATE from → Within MAX_COORDINATE to → IsSpan from to run → IsRunInRange run

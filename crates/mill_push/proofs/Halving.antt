@@ -32,10 +32,14 @@ paid_half {each} {count} {half} {old} {now} {later} {n} touches some le step h =
 pub paid_last : {each count old now n : ℕ} → IsPaid each count old now n → now ≤ old + each * n
 paid_last h = let p = h.paid in omega arith
 
--- after one touch that finds a position, both its ends: each is looked for in a half of its own
-pub paid_ends : {count left right old now found first last n : ℕ} → 0 < count → 2 * left ≤ count → 2 * right ≤ count → found ≡ now + 1
-    → ((k : ℕ) → left < 2 ^ k → first ≤ found + k) → ((k : ℕ) → right < 2 ^ k → last ≤ first + k) → IsPaid 2 count old now n → last ≤ old + 2 * n
-paid_ends {count} {left} {right} some le ri step to_left to_right h =
+-- the same where some touches may come besides
+pub paid_spare : {each count old now n : ℕ} (spare : ℕ) → IsPaid each count old now n → now ≤ old + (each * n + spare)
+paid_spare spare h = let p = h.paid in omega arith
+
+-- after one touch that finds a position, both its ends: each is looked for in a half of its own, with so many touches near its aim besides
+pub paid_ends : {count left right old now found first last n : ℕ} (spare : ℕ) → 0 < count → 2 * left ≤ count → 2 * right ≤ count → found ≡ now + 1
+    → ((k : ℕ) → left < 2 ^ k → first ≤ found + (k + spare)) → ((k : ℕ) → right < 2 ^ k → last ≤ first + (k + spare)) → IsPaid 2 count old now n → last ≤ old + (2 * n + 2 * spare)
+paid_ends {count} {left} {right} spare some le ri step to_left to_right h =
     let a = half_under h.m count left some le h.under in
     let b = half_under h.m count right some ri h.under in
     let p = h.paid in
@@ -44,3 +48,14 @@ paid_ends {count} {left} {right} some le ri step to_left to_right h =
     let c = to_left a.0 a.2 in
     let d = to_right b.0 b.2 in
     omega arith
+
+-- where 2 ^ q times as many positions are fewer than 2 ^ n, they are fewer than the power that is q under it
+pub under_by : (q n rest count : ℕ) → 0 < rest → 2 ^ q * rest ≤ count → count < 2 ^ n → (k : ℕ) × (n ≡ k + q) × (rest < 2 ^ k)
+under_by zero n rest count some few under = (n, omega arith, omega arith)
+under_by (suc q) n rest count some few under =
+    let more : 2 ^ q * 2 * rest ≤ count = subst (λ p. p * rest ≤ count) (pow_more 2 q) (subst (λ m. 2 ^ m * rest ≤ count) (omega arith) few) in
+    let h = under_by q n (2 * rest) count (omega arith) (omega (more, arith)) under in
+    let k = half_under h.0 (2 * rest) rest (omega arith) (omega arith) h.2 in
+    let e = h.1 in
+    let f = k.1 in
+    (k.0, omega arith, k.2)

@@ -3,6 +3,7 @@ pub mod Means
 pub mod OneList
 pub mod Holds
 pub mod Halving
+pub mod Probing
 pub mod Searching
 pub mod Stored
 pub mod Pushing

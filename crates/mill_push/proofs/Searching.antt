@@ -13,7 +13,7 @@ use Rattle.mill_push.specs.declared.fiber.Fiber.{Fiber}
 use Rattle.mill_push.specs.Fibers.{IsTouched}
 use Rattle.mill_push.specs.declared.fiber.Run.{Run}
 use Rattle.mill_push.specs.Stretches.{IsClear, IsHeld, IsStretchAnswer, IsTouchedStretch}
-use Rattle.mill_push.proofs.Halving.{IsPaid, paid_first, paid_half, paid_last, paid_ends}
+use Rattle.mill_push.proofs.Halving.{IsPaid, paid_first, paid_half, paid_spare, paid_ends}
 use Rattle.mill_push.proofs.Means.{touched_between}
 
 -- counted from a position that is touched, the places up to `held` are touched, those past `free` aren't, and the count of the others has been paid for
@@ -195,9 +195,13 @@ module _ (cutter : Cutter) (tri : Tri) (fiber : Fiber) where
   pub window_never : (from to middle : ℤ) → IsOnSide Never (λ t. T (middle +ℤ t)) → IsClear cutter tri fiber from to
   window_never from to middle none = λ v a b t. none (v -ℤ middle) (subst T (omega (arith, ints)) t)
 
-  pub never_cost : {from to low high : ℤ} {old now later : ℕ} → low ≤ℤ high → later ≡ now + 1 → WindowSoFar from to low high old now
-      → (n : ℕ) → (nat_abs (to -ℤ from) + 1) < 2 ^ n → later ≤ old + 2 * n
-  never_cost {low = low} {high} l step h n p = paid_last (paid_half {half = 0} (omega arith) (some_left low high l) (omega arith) step (h.cost n p))
+  pub never_cost : {from to low high : ℤ} {old now later : ℕ} (spare : ℕ) → low ≤ℤ high → later ≡ now + 1 → WindowSoFar from to low high old now
+      → (n : ℕ) → (nat_abs (to -ℤ from) + 1) < 2 ^ n → later ≤ old + (2 * n + 2 * spare)
+  never_cost {low = low} {high} spare l step h n p = paid_spare (2 * spare) (paid_half {half = 0} (omega arith) (some_left low high l) (omega arith) step (h.cost n p))
+
+  pub window_cost : {from to low high : ℤ} {old now : ℕ} (spare : ℕ) → WindowSoFar from to low high old now
+      → (n : ℕ) → (nat_abs (to -ℤ from) + 1) < 2 ^ n → now ≤ old + (2 * n + 2 * spare)
+  window_cost spare h n p = paid_spare (2 * spare) (h.cost n p)
 
   -- no position is left
   pub window_ends : {from to low high : ℤ} {old now : ℕ} → high <ℤ low → WindowSoFar from to low high old now → IsClear cutter tri fiber from to
@@ -216,14 +220,14 @@ module _ (cutter : Cutter) (tri : Tri) (fiber : Fiber) where
     beyond = λ v u w. by_lt_z high v (λ over. h.beyond v (omega (arith, ints)) w) (λ under. clear_right v (omega (arith, ints)) under);
   }
 
-  pub found_cost : {from to low high : ℤ} (middle : ℤ) {old now found first last : ℕ} → low ≤ℤ middle → middle ≤ℤ high
+  pub found_cost : {from to low high : ℤ} (middle : ℤ) {old now found first last : ℕ} (spare : ℕ) → low ≤ℤ middle → middle ≤ℤ high
       → (pos 2 *ℤ (middle -ℤ low)) ≤ℤ (high -ℤ low) → (pos 2 *ℤ (high -ℤ middle)) ≤ℤ ((high -ℤ low) +ℤ pos 1) → found ≡ now + 1
-      → ((k : ℕ) → nat_abs (middle -ℤ low) < 2 ^ k → first ≤ found + k) → ((k : ℕ) → nat_abs (high -ℤ middle) < 2 ^ k → last ≤ first + k)
-      → WindowSoFar from to low high old now → (n : ℕ) → (nat_abs (to -ℤ from) + 1) < 2 ^ n → last ≤ old + 2 * n
-  found_cost {low = low} {high} middle a b left right step to_left to_right h n p =
+      → ((k : ℕ) → nat_abs (middle -ℤ low) < 2 ^ k → first ≤ found + (k + spare)) → ((k : ℕ) → nat_abs (high -ℤ middle) < 2 ^ k → last ≤ first + (k + spare))
+      → WindowSoFar from to low high old now → (n : ℕ) → (nat_abs (to -ℤ from) + 1) < 2 ^ n → last ≤ old + (2 * n + 2 * spare)
+  found_cost {low = low} {high} middle spare a b left right step to_left to_right h n p =
       let before : 2 * nat_abs (middle -ℤ low) ≤ nat_abs ((high +ℤ pos 1) -ℤ low) = omega (arith, ints) in
       let after : 2 * nat_abs (high -ℤ middle) ≤ nat_abs ((high +ℤ pos 1) -ℤ low) = omega (arith, ints) in
-      paid_ends (some_left low high (omega (arith, ints))) before after step to_left to_right (h.cost n p)
+      paid_ends spare (some_left low high (omega (arith, ints))) before after step to_left to_right (h.cost n p)
 
 -- what isn't touched at a position, by whichever side it is told
 pub apart_here : (s : Side) (T : ℤ → Type 0) (v : ℤ) → IsOnSide s (λ t. T (v +ℤ t)) → ¬ T v
@@ -311,18 +315,18 @@ module _ (cutter : Cutter) (tri : Tri) (fiber : Fiber) (from to start : ℤ) whe
   }
 
 -- the touch at `start`, and those of the searches that follow it
-pub start_found_cost : (from to start : ℤ) (old now first last : ℕ) → from ≤ℤ start → start ≤ℤ to → now ≡ old + 1 → ((k : ℕ) → nat_abs (start -ℤ from) < 2 ^ k → first ≤ now + k)
-    → ((k : ℕ) → nat_abs (to -ℤ start) < 2 ^ k → last ≤ first + k) → (n : ℕ) → (nat_abs (to -ℤ from) + 1) < 2 ^ n → last ≤ old + (1 + 2 * n)
-start_found_cost from to start old now first last a b step left right n p =
+pub start_found_cost : (from to start : ℤ) (old now first last spare : ℕ) → from ≤ℤ start → start ≤ℤ to → now ≡ old + 1 → ((k : ℕ) → nat_abs (start -ℤ from) < 2 ^ k → first ≤ now + (k + spare))
+    → ((k : ℕ) → nat_abs (to -ℤ start) < 2 ^ k → last ≤ first + (k + spare)) → (n : ℕ) → (nat_abs (to -ℤ from) + 1) < 2 ^ n → last ≤ old + (1 + 2 * n + 2 * spare)
+start_found_cost from to start old now first last spare a b step left right n p =
     let before : nat_abs (start -ℤ from) ≤ nat_abs (to -ℤ from) = omega (arith, ints) in
     let after : nat_abs (to -ℤ start) ≤ nat_abs (to -ℤ from) = omega (arith, ints) in
     let h = left n (omega arith) in
     let k = right n (omega arith) in
     omega arith
 
-pub start_part_cost : (from to a b : ℤ) (old now later : ℕ) → from ≤ℤ a → a ≤ℤ b → b ≤ℤ to → now ≡ old + 1 → ((k : ℕ) → (nat_abs (b -ℤ a) + 1) < 2 ^ k → later ≤ now + 2 * k)
-    → (n : ℕ) → (nat_abs (to -ℤ from) + 1) < 2 ^ n → later ≤ old + (1 + 2 * n)
-start_part_cost from to a b old now later h k l step part n p =
+pub start_part_cost : (from to a b : ℤ) (old now later spare : ℕ) → from ≤ℤ a → a ≤ℤ b → b ≤ℤ to → now ≡ old + 1 → ((k : ℕ) → (nat_abs (b -ℤ a) + 1) < 2 ^ k → later ≤ now + (2 * k + 2 * spare))
+    → (n : ℕ) → (nat_abs (to -ℤ from) + 1) < 2 ^ n → later ≤ old + (1 + 2 * n + 2 * spare)
+start_part_cost from to a b old now later spare h k l step part n p =
     let fewer : nat_abs (b -ℤ a) ≤ nat_abs (to -ℤ from) = omega (arith, ints) in
     let m = part n (omega arith) in
     omega arith

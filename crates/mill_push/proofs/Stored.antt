@@ -3,7 +3,7 @@ use Rattle.std.proofs.Common.{◌≡◌, ◌<◌, w32, to_z, of_z, FitsSigned, f
 use Rattle.std.specs.Prelude.{nat_abs}
 use Rattle.std.specs.Int.{int_min, int_max}
 use Rattle.std.proofs.lemmas.Int.{ints, to_z-of_z, fits_signed_from_abs}
-use lib.IntN.{ℤ, pos, ◌+ℤ◌, ◌-ℤ◌, ◌*ℤ◌}
+use lib.IntN.{ℤ, pos, ◌+ℤ◌, ◌-ℤ◌}
 use lib.Signed.{◌≤ℤ◌, lt_z}
 use Rattle.mill_base.specs.Numbers.{Within}
 use Rattle.mill_base.specs.declared.limits.TheConstants.{MAX_COORDINATE}
@@ -52,12 +52,6 @@ least_stored m a b fm fa fb e = to_z-of_z w32 m fm ∙ (rw (to_z-of_z w32 a fa, 
 pub most_stored : (m a b : ℤ) → FitsSigned w32 m → FitsSigned w32 a → FitsSigned w32 b → m ≡ int_max (to_z w32 (of_z w32 a)) (to_z w32 (of_z w32 b)) → to_z w32 (of_z w32 m) ≡ int_max a b
 most_stored m a b fm fa fb e = to_z-of_z w32 m fm ∙ (rw (to_z-of_z w32 a fa, to_z-of_z w32 b fb) at e)
 
--- how many positions lie from a to b, and twice as many
+-- how far it is from a to b
 pub difference : (a b : ℤ) → Within MAX_COORDINATE a → Within MAX_COORDINATE b → to_z w32 (of_z w32 (b -ℤ a)) ≡ b -ℤ a
 difference a b h k = let x = h.within in let y = k.within in small (b -ℤ a) (omega (arith, ints))
-
-pub count : (a b : ℤ) → Within MAX_COORDINATE a → Within MAX_COORDINATE b → to_z w32 (of_z w32 ((b -ℤ a) +ℤ pos 1)) ≡ (b -ℤ a) +ℤ pos 1
-count a b h k = let x = h.within in let y = k.within in small ((b -ℤ a) +ℤ pos 1) (omega (arith, ints))
-
-pub twice : (a b : ℤ) → Within MAX_COORDINATE a → Within MAX_COORDINATE b → to_z w32 (of_z w32 (pos 2 *ℤ ((b -ℤ a) +ℤ pos 1))) ≡ pos 2 *ℤ ((b -ℤ a) +ℤ pos 1)
-twice a b h k = let x = h.within in let y = k.within in small (pos 2 *ℤ ((b -ℤ a) +ℤ pos 1)) (omega (arith, ints))

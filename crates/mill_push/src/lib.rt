@@ -3,26 +3,31 @@
 //!
 //! It stands on the part and its cells (mill_part, mill_cells) and on the contact crates. `push`
 //! promises the maximal runs of those positions, exactly, for every triangle and tool, and that it
-//! touches each triangle near the line at most 40 times, and with a holder 80 times. `specs/Fibers`
+//! touches each triangle near the line at most 40 times, and with a holder 80 times. `push_after` promises
+//! the same, and mostly takes fewer touches along lines that lie side by side. `specs/Fibers`
 //! says when a position is blocked, `specs/Runs` what its runs are, and `specs/Touches` which
 //! triangles are touched.
 #![tactic(auto)]
 
 mod contact;
+mod ends;
 mod fiber;
 mod inside;
 mod known;
 mod laws;
 mod near;
+mod probe;
 mod reach;
 mod runs;
 mod solids;
+mod start;
 mod stretch;
 mod union;
 mod window;
 
 pub use contact::counted_touch;
+pub use ends::Ends;
 pub use fiber::{Fiber, Run};
 pub use laws::{one_list_of_runs, one_stretch, runs_hold_blocked};
 pub use mill_geom::{Axis, Side, Touch};
-pub use runs::push;
+pub use runs::{push, push_after};

@@ -10,10 +10,11 @@ ghost use Rattle.mill_push.specs.Touches.{TouchesFew, position_count, strip_alon
 ghost use Rattle.mill_push.specs.inner.Solids.{IsCutterBlocked};
 ghost use Rattle.mill_push.specs.inner.Unions.{AreSpans, AreStretches};
 
+use crate::ends::{Aims, Ends};
 use crate::fiber::Run;
 use crate::known::{add, cut, latest};
+use crate::start::{spare_touches, start_in};
 use crate::stretch::Pusher;
-use crate::window::start_in;
 use mill_base::{Box2, Steps, Tri, WantOfMemory};
 use mill_cells::Cells;
 use mill_geom::Axis;
@@ -50,13 +51,16 @@ impl Pusher {
     /// Where the triangle is touched from `from` to `to`, as far as that isn't known: a run whose
     /// positions are touched, and beside which none is that doesn't stand in the known runs.
     ///
-    /// Only that part of the triangle's window is searched that the known runs leave.
+    /// Only that part of the triangle's window is searched that the known runs leave, and near the ends
+    /// first that were kept of the triangle of this number.
     fn new_stretch<L: Ledger>(
         self,
         tri: &Tri,
+        number: u32,
         from: i32,
         to: i32,
         known: &[Run],
+        ends: &Ends,
         steps: &mut Steps<L>,
     ) -> Option<Run>
         requires self_ok { IsPusher self }
@@ -73,15 +77,19 @@ impl Pusher {
         if rest.first > rest.last {
             return None;
         }
-        match start_in(rest, window, from, to) {
-            Some(start) => self.stretch_from(tri, rest.first, rest.last, start, steps),
-            None => self.stretch(tri, rest.first, rest.last, steps),
+        let Some(spare) = spare_touches(rest, from, to) else {
+            return self.stretch(tri, rest.first, rest.last, Aims::none(), steps);
+        };
+        let aims = ends.aims(number).at_most(spare);
+        match start_in(rest, window, aims) {
+            Some(start) => self.stretch_from(tri, rest.first, rest.last, start, aims, steps),
+            None => self.stretch(tri, rest.first, rest.last, aims, steps),
         }
     }
 
     /// Runs that hold the positions from `from` to `to` at which some triangle is touched, and no
     /// other: by a look at those triangles alone whose boxes meet the strip and that are over the
-    /// fiber's height.
+    /// fiber's height, near the ends that were kept of them.
     pub fn stretches<L: Ledger>(
         self,
         alloc: Global,
@@ -89,6 +97,7 @@ impl Pusher {
         cells: &Cells,
         from: i32,
         to: i32,
+        ends: &mut Ends,
         steps: &mut Steps<L>,
     ) -> Result<Vec<Run>, WantOfMemory>
         requires self_ok { IsPusher self }
@@ -105,9 +114,10 @@ impl Pusher {
         let mut near = cells.near_rising(self.strip(from, to));
         while let Some(number) = near.next_over(self.fiber.z) {
             let tri = &tris[number as usize];
-            let Some(stretch) = self.new_stretch(tri, from, to, &runs, steps) else {
+            let Some(stretch) = self.new_stretch(tri, number, from, to, &runs, ends, steps) else {
                 continue;
             };
+            ends.keep(number, stretch);
             add(&mut runs, stretch)?;
         }
         Ok(runs)

@@ -6,6 +6,7 @@ ghost use Rattle.mill_cells.specs.Sorted.{sorted_of};
 ghost use Rattle.mill_push.specs.Runs.{AreRuns};
 ghost use Rattle.mill_push.specs.Touches.{IsFiber, ToolTouchesFew, most_touches};
 
+use crate::ends::Ends;
 use crate::fiber::{Fiber, Run};
 use crate::solids::tool_stretches;
 use crate::union::union;
@@ -44,7 +45,38 @@ pub fn push<L: Ledger>(
     ensures cost { steps.new ≤ steps.old + most_touches tool.now * length part.now }
     ensures near { ToolTouchesFew tool.now part.now fiber from to steps.old steps.new }
 {
-    let mut stretches = tool_stretches(alloc, part, cells, tool, fiber, from, to, steps)?;
+    let mut ends = Ends::none(alloc);
+    push_after(alloc, part, cells, tool, fiber, from, to, &mut ends, steps)
+}
+
+/// The same as `push`, after other pushes of the same cutter along fibers beside this one: it looks for
+/// the ends of each triangle's stretch where they come from what `ends` kept of the push before, and
+/// keeps where they are. So it mostly takes fewer touches. Of the holder nothing is kept.
+///
+/// `ends` is for the part's count of triangles. Whatever it holds, the runs are the same.
+pub fn push_after<L: Ledger>(
+    alloc: Global,
+    part: &Part,
+    cells: &Cells,
+    tool: &Tool,
+    fiber: Fiber,
+    from: i32,
+    to: i32,
+    ends: &mut Ends,
+    steps: &mut Steps<L>,
+) -> Result<Vec<Run>, WantOfMemory>
+    requires cells_ok { cells.now ≡ sorted_of part.now }
+    requires tool_ok { IsTool tool.now }
+    requires fiber_ok { IsFiber fiber }
+    requires from_ok { Within MAX_COORDINATE from }
+    requires to_ok { Within MAX_COORDINATE to }
+    requires order { from ≤ℤ to }
+    ensures runs { IfOk result (λ runs. AreRuns tool.now part.now fiber from to runs.items) }
+    ensures cost { steps.new ≤ steps.old + most_touches tool.now * length part.now }
+    ensures near { ToolTouchesFew tool.now part.now fiber from to steps.old steps.new }
+{
+    ends.next_turn();
+    let mut stretches = tool_stretches(alloc, part, cells, tool, fiber, from, to, ends, steps)?;
     stretches.sort_by_key(|stretch| stretch.first)?;
     union(alloc, &stretches)
 }

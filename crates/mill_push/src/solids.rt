@@ -11,6 +11,7 @@ ghost use Rattle.mill_push.specs.Touches.{IsFiber, ToolTouchesFew, TouchesFew, l
 ghost use Rattle.mill_push.specs.inner.Solids.{IsCutterBlocked};
 ghost use Rattle.mill_push.specs.inner.Unions.{AreStretches};
 
+use crate::ends::Ends;
 use crate::fiber::{Fiber, Run};
 use crate::reach::reach_over;
 use crate::stretch::Pusher;
@@ -21,7 +22,7 @@ use std::alloc::Global;
 use std::sync::ledger::Ledger;
 
 /// Runs that hold the positions from `from` to `to` at which the tool gouges the part, and no other:
-/// those of the cutter, then those of the holder.
+/// those of the cutter, whose ends are kept, then those of the holder.
 pub fn tool_stretches<L: Ledger>(
     alloc: Global,
     part: &Part,
@@ -30,6 +31,7 @@ pub fn tool_stretches<L: Ledger>(
     fiber: Fiber,
     from: i32,
     to: i32,
+    ends: &mut Ends,
     steps: &mut Steps<L>,
 ) -> Result<Vec<Run>, WantOfMemory>
     requires cells_ok { cells.now ≡ sorted_of part.now }
@@ -41,7 +43,17 @@ pub fn tool_stretches<L: Ledger>(
     ensures stretches { IfOk result (λ runs. AreStretches (IsBlocked tool.now part.now fiber) from to runs.items) }
     ensures cost { ToolTouchesFew tool.now part.now fiber from to steps.old steps.new }
 {
-    let mut stretches = solid_stretches(alloc, part, cells, tool.cutter, fiber, from, to, steps)?;
+    let mut stretches = solid_stretches(
+        alloc,
+        part,
+        cells,
+        tool.cutter,
+        fiber,
+        from,
+        to,
+        ends,
+        steps,
+    )?;
     let Some(holder) = tool.holder else {
         return Ok(stretches);
     };
@@ -75,7 +87,18 @@ fn holder_stretches<L: Ledger>(
     if is_over_all(part, fiber.z) {
         return Ok(Vec::new(alloc));
     }
-    solid_stretches(alloc, part, cells, holder.solid(), fiber, from, to, steps)
+    let mut ends = Ends::none(alloc);
+    solid_stretches(
+        alloc,
+        part,
+        cells,
+        holder.solid(),
+        fiber,
+        from,
+        to,
+        &mut ends,
+        steps,
+    )
 }
 
 /// The stretches of one solid, whose tip is on the fiber.
@@ -87,6 +110,7 @@ fn solid_stretches<L: Ledger>(
     fiber: Fiber,
     from: i32,
     to: i32,
+    ends: &mut Ends,
     steps: &mut Steps<L>,
 ) -> Result<Vec<Run>, WantOfMemory>
     requires cells_ok { cells.now ≡ sorted_of part.now }
@@ -104,7 +128,7 @@ fn solid_stretches<L: Ledger>(
         fiber,
         reach,
     };
-    pusher.stretches(alloc, part, cells, from, to, steps)
+    pusher.stretches(alloc, part, cells, from, to, ends, steps)
 }
 
 /// The fiber of the holder's tip, where the cutter's is on this one.

@@ -9,6 +9,7 @@ ghost use Rattle.mill_push.specs.Stretches.{IsClear, IsHeld, IsStretchAnswer};
 ghost use Rattle.mill_push.specs.Touches.{position_count};
 
 use crate::contact::counted_touch;
+use crate::ends::Aims;
 use crate::fiber::{Fiber, Run};
 use crate::inside::counted_inside;
 use mill_base::{Cutter, Pt3, Steps, Tri};
@@ -59,7 +60,7 @@ impl Pusher {
 
     /// Whether some point of the triangle is strictly inside the cutter at this position, by one
     /// touch, which needn't tell on which side the triangle lies.
-    fn is_touched<L: Ledger>(self, tri: &Tri, at: i32, steps: &mut Steps<L>) -> bool
+    pub fn is_touched<L: Ledger>(self, tri: &Tri, at: i32, steps: &mut Steps<L>) -> bool
         requires self_ok { IsPusher self }
         requires tri_ok { TriInRange tri.now }
         requires at_ok { Within MAX_COORDINATE at }
@@ -71,7 +72,13 @@ impl Pusher {
     }
 
     /// The first position from `low` on at which the triangle is touched, where it is at `found`.
-    fn first_touched<L: Ledger>(self, tri: &Tri, low: i32, found: i32, steps: &mut Steps<L>) -> i32
+    pub fn first_touched<L: Ledger>(
+        self,
+        tri: &Tri,
+        low: i32,
+        found: i32,
+        steps: &mut Steps<L>,
+    ) -> i32
         requires self_ok { IsPusher self }
         requires tri_ok { TriInRange tri.now }
         requires low_ok { Within MAX_COORDINATE low }
@@ -97,7 +104,13 @@ impl Pusher {
     }
 
     /// The last position up to `high` at which the triangle is touched, where it is at `found`.
-    fn last_touched<L: Ledger>(self, tri: &Tri, found: i32, high: i32, steps: &mut Steps<L>) -> i32
+    pub fn last_touched<L: Ledger>(
+        self,
+        tri: &Tri,
+        found: i32,
+        high: i32,
+        steps: &mut Steps<L>,
+    ) -> i32
         requires self_ok { IsPusher self }
         requires tri_ok { TriInRange tri.now }
         requires found_ok { Within MAX_COORDINATE found }
@@ -126,12 +139,13 @@ impl Pusher {
     ///
     /// A touch in the middle of the positions that are left finds one, or leaves half of them: that
     /// a triangle isn't touched tells on which side it may be. From one that is touched each end is
-    /// looked for in its own half.
+    /// looked for in its own half, near its aim first.
     pub fn stretch<L: Ledger>(
         self,
         tri: &Tri,
         from: i32,
         to: i32,
+        aims: Aims,
         steps: &mut Steps<L>,
     ) -> Option<Run>
         requires self_ok { IsPusher self }
@@ -140,7 +154,7 @@ impl Pusher {
         requires to_ok { Within MAX_COORDINATE to }
         requires order { from ≤ℤ to }
         ensures stretch { IsStretchAnswer self.cutter tri.now self.fiber from to result }
-        ensures cost { (n : ℕ) → position_count from to < 2 ^ n → steps.new ≤ steps.old + 2 * n }
+        ensures cost { (n : ℕ) → position_count from to < 2 ^ n → steps.new ≤ steps.old + (2 * n + 2 * aims.probes) }
     {
         let mut low = from;
         let mut high = to;
@@ -148,8 +162,8 @@ impl Pusher {
             let middle = middle(low, high);
             match self.touch_at(tri, middle, steps) {
                 Touch::Inside => {
-                    let first = self.first_touched(tri, low, middle, steps);
-                    let last = self.last_touched(tri, middle, high, steps);
+                    let first = self.first_near(tri, low, middle, aims, steps);
+                    let last = self.last_near(tri, middle, high, aims, steps);
                     return Some(Run { first, last });
                 }
                 Touch::Apart(Side::Less) => high = middle - 1,
@@ -168,6 +182,7 @@ impl Pusher {
         from: i32,
         to: i32,
         start: i32,
+        aims: Aims,
         steps: &mut Steps<L>,
     ) -> Option<Run>
         requires self_ok { IsPusher self }
@@ -177,25 +192,25 @@ impl Pusher {
         requires after { from ≤ℤ start }
         requires before { start ≤ℤ to }
         ensures stretch { IsStretchAnswer self.cutter tri.now self.fiber from to result }
-        ensures cost { (n : ℕ) → position_count from to < 2 ^ n → steps.new ≤ steps.old + (1 + 2 * n) }
+        ensures cost { (n : ℕ) → position_count from to < 2 ^ n → steps.new ≤ steps.old + (1 + 2 * n + 2 * aims.probes) }
     {
         match self.touch_at(tri, start, steps) {
             Touch::Inside => {
-                let first = self.first_touched(tri, from, start, steps);
-                let last = self.last_touched(tri, start, to, steps);
+                let first = self.first_near(tri, from, start, aims, steps);
+                let last = self.last_near(tri, start, to, aims, steps);
                 Some(Run { first, last })
             }
             Touch::Apart(Side::Less) => {
                 if start <= from {
                     return None;
                 }
-                self.stretch(tri, from, start - 1, steps)
+                self.stretch(tri, from, start - 1, aims, steps)
             }
             Touch::Apart(Side::More) => {
                 if to <= start {
                     return None;
                 }
-                self.stretch(tri, start + 1, to, steps)
+                self.stretch(tri, start + 1, to, aims, steps)
             }
             Touch::Apart(Side::Never) => None,
         }

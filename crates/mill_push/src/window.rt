@@ -1,9 +1,9 @@
-ghost use Rattle.std.specs.Prelude.{◌≡◌, ◌≤ℤ◌, ℤ, IfSome, IsTrue};
+ghost use Rattle.std.specs.Prelude.{◌≡◌, ◌≤ℤ◌, ℤ, IsTrue};
 ghost use Rattle.mill_base.specs.Numbers.{Within};
 ghost use Rattle.mill_base.specs.declared.limits.TheConstants.{MAX_COORDINATE};
 ghost use Rattle.mill_base.specs.Ranges.{TriInRange};
 ghost use Rattle.mill_push.specs.Fibers.{IsTouched};
-ghost use Rattle.mill_push.specs.inner.Known.{IsRunInRange, IsStart, IsWindow};
+ghost use Rattle.mill_push.specs.inner.Known.{IsRunInRange, IsWindow};
 ghost use Rattle.mill_push.specs.inner.Pushers.{IsPusher};
 ghost use Rattle.mill_push.specs.inner.Reaches.{IsReachForTri};
 ghost use Rattle.mill_push.specs.inner.Windows.{extent_along, extent_of, other_than};
@@ -97,30 +97,4 @@ fn extent_of_three(a: i32, b: i32, c: i32) -> Run
         first: a.min(b.min(c)),
         last: a.max(b.max(c)),
     }
-}
-
-/// Where the search in the rest of a window begins: at the end that was cut off, since a triangle
-/// mostly reaches on from what is known.
-///
-/// There is none where no end was cut off, nor where the rest is more than half of the positions
-/// from `from` to `to`: if the triangle isn't touched at that end, a search by halves in so many
-/// would take more touches than a triangle may.
-pub fn start_in(rest: Run, window: Run, from: i32, to: i32) -> Option<i32>
-    requires rest_ok { IsRunInRange rest }
-    requires order { rest.first ≤ℤ rest.last }
-    requires from_ok { Within MAX_COORDINATE from }
-    requires to_ok { Within MAX_COORDINATE to }
-    requires from_to { from ≤ℤ to }
-    ensures { IfSome result (IsStart from to rest) }
-{
-    if 2 * (rest.last - rest.first + 1) > to - from + 1 {
-        return None;
-    }
-    if window.first < rest.first {
-        return Some(rest.first);
-    }
-    if rest.last < window.last {
-        return Some(rest.last);
-    }
-    None
 }

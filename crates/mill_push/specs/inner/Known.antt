@@ -1,5 +1,5 @@
 -- What is left to be searched where some runs are known, and lists of known runs that grow.
-use Rattle.std.specs.Prelude.{◌⊎◌, ℕ, ◌*◌, ◌<◌, ◌≤◌, ℤ, pos, ◌+ℤ◌, ◌≤ℤ◌, ◌<ℤ◌, List, length, slice_index_or, Contains, Option, MatchOption}
+use Rattle.std.specs.Prelude.{◌⊎◌, ℕ, ◌+◌, ◌*◌, ◌^◌, ◌<◌, ◌≤◌, ℤ, pos, ◌+ℤ◌, ◌≤ℤ◌, ◌<ℤ◌, List, length, slice_index_or, Contains, Option, MatchOption}
 use Rattle.mill_base.specs.Numbers.{Within}
 use Rattle.mill_base.specs.declared.limits.TheConstants.{MAX_COORDINATE}
 use Rattle.mill_base.specs.declared.points.Tri.{Tri}
@@ -44,10 +44,9 @@ pub record IsRest (known : List Run) (window rest : Run) : Type 0 where
   pub before : (v : ℤ) → window.first ≤ℤ v → v <ℤ rest.first → StandsIn known v
   pub beyond : (v : ℤ) → rest.last <ℤ v → v ≤ℤ window.last → StandsIn known v
 
--- a position of the rest, which is at most half of the positions from `from` to `to`
-pub record IsStart (from to : ℤ) (rest : Run) (start : ℤ) : Type 0 where
-  pub place : IsAt rest start
-  pub narrow : 2 * position_count rest.first rest.last ≤ position_count from to
+-- of the positions from `from` to `to` so few are in the rest that so many touches are to spare at each end, and one at the start
+abbrev pub HasRoom : ℤ → ℤ → Run → ℕ → Type 0
+HasRoom from to rest spare = 2 ^ (spare + 1) * position_count rest.first rest.last ≤ position_count from to
 
 -- each position from a to b at which the triangle is touched stands in known runs
 abbrev pub IsKnown : Cutter → Tri → Fiber → List Run → ℤ → ℤ → Type 0

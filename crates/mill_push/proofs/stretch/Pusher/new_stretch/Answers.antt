@@ -1,6 +1,6 @@
 use Rattle.std.proofs.Common.{rules, w32, arith}
 use Rattle.std.proofs.lemmas.Int.{ints, to_z-of_z}
-use Rattle.mill_push.proofs.Cutting.{all_known, new_answer, cost_of_half, cost_of_rest, spans_in_range}
+use Rattle.mill_push.proofs.Cutting.{all_known, new_answer, cost_from_start, cost_of_rest, cost_with_room, spans_in_range}
 use Rattle.mill_push.proofs.Stored.{stored, through}
 use Rattle.mill_push.proofs.stretch.Pusher.new_stretch.Goals as goal
 
@@ -14,29 +14,15 @@ returns-then-rest-clause-stretch g c =
     let test = rw (to_z-of_z w32 rest.first (search rules), to_z-of_z w32 rest.last (search rules)) at c.if-rest.true in
     all_known c.args.self.cutter c.args.tri.now c.args.self.fiber c.args.from c.args.to c.latest.result.now c.args.known.now c.window-window.result rest window c.cut-rest.ensures c.latest.ensures (omega (test, arith, ints))
 
-pub returns-in-Some-clause-stretch : goal.returns-in-Some-clause-stretch
-returns-in-Some-clause-stretch g c =
-    let window = rw (stored c.args.from c.requires.from_ok, stored c.args.to c.requires.to_ok) at c.window-window.ensures.window in
-    let rest = c.cut-rest.result in
-    let found = rw (to_z-of_z w32 rest.first (search rules), to_z-of_z w32 rest.last (search rules)) at c.stretch_from.ensures.stretch in
-    new_answer c.args.self.cutter c.args.tri.now c.args.self.fiber c.args.from c.args.to c.latest.result.now c.args.known.now c.window-window.result rest c.stretch_from.result window c.cut-rest.ensures c.latest.ensures found
-
-pub returns-in-Some-clause-cost : goal.returns-in-Some-clause-cost
-returns-in-Some-clause-cost g c =
-    let rest = c.cut-rest.result in
-    let start = rw (stored c.args.from c.requires.from_ok, stored c.args.to c.requires.to_ok) at c.in-Some.ensures in
-    let cost = rw (to_z-of_z w32 rest.first (search rules), to_z-of_z w32 rest.last (search rules)) at c.stretch_from.ensures.cost in
-    cost_of_half c.args.from c.args.to rest.first rest.last c.args.steps.now c.stretch_from.new.steps start.narrow cost
-
-pub returns-in-None-clause-stretch : goal.returns-in-None-clause-stretch
-returns-in-None-clause-stretch g c =
+pub returns-in_default-clause-stretch : goal.returns-in_default-clause-stretch
+returns-in_default-clause-stretch g c =
     let window = rw (stored c.args.from c.requires.from_ok, stored c.args.to c.requires.to_ok) at c.window-window.ensures.window in
     let rest = c.cut-rest.result in
     let found = rw (to_z-of_z w32 rest.first (search rules), to_z-of_z w32 rest.last (search rules)) at c.stretch.ensures.stretch in
     new_answer c.args.self.cutter c.args.tri.now c.args.self.fiber c.args.from c.args.to c.latest.result.now c.args.known.now c.window-window.result rest c.stretch.result window c.cut-rest.ensures c.latest.ensures found
 
-pub returns-in-None-clause-cost : goal.returns-in-None-clause-cost
-returns-in-None-clause-cost g c =
+pub returns-in_default-clause-cost : goal.returns-in_default-clause-cost
+returns-in_default-clause-cost g c =
     let window = rw (stored c.args.from c.requires.from_ok, stored c.args.to c.requires.to_ok) at c.window-window.ensures.window in
     let rest = c.cut-rest.result in
     let first = to_z-of_z w32 rest.first (search rules) in
@@ -45,4 +31,32 @@ returns-in-None-clause-cost g c =
     let test = rw (first, last) at c.if-rest.false in
     let after = through c.args.from c.window-window.result.first rest.first window.after c.cut-rest.ensures.after in
     let within = through rest.last c.window-window.result.last c.args.to c.cut-rest.ensures.within window.within in
-    cost_of_rest c.args.from c.args.to rest.first rest.last c.args.steps.now c.stretch.new.steps after (omega (test, arith, ints)) within cost
+    cost_of_rest c.args.from c.args.to rest.first rest.last c.args.steps.now c.stretch.new.steps c.none.result.probes after (omega (test, arith, ints)) within c.none.ensures cost
+
+pub returns-in-Some-start_in-clause-stretch : goal.returns-in-Some-start_in-clause-stretch
+returns-in-Some-start_in-clause-stretch g c =
+    let window = rw (stored c.args.from c.requires.from_ok, stored c.args.to c.requires.to_ok) at c.window-window.ensures.window in
+    let rest = c.cut-rest.result in
+    let found = rw (to_z-of_z w32 rest.first (search rules), to_z-of_z w32 rest.last (search rules)) at c.stretch_from.ensures.stretch in
+    new_answer c.args.self.cutter c.args.tri.now c.args.self.fiber c.args.from c.args.to c.latest.result.now c.args.known.now c.window-window.result rest c.stretch_from.result window c.cut-rest.ensures c.latest.ensures found
+
+pub returns-in-Some-start_in-clause-cost : goal.returns-in-Some-start_in-clause-cost
+returns-in-Some-start_in-clause-cost g c =
+    let rest = c.cut-rest.result in
+    let room = rw (stored c.args.from c.requires.from_ok, stored c.args.to c.requires.to_ok) at c.in-Some.ensures in
+    let cost = rw (to_z-of_z w32 rest.first (search rules), to_z-of_z w32 rest.last (search rules)) at c.stretch_from.ensures.cost in
+    cost_from_start c.args.from c.args.to rest c.args.steps.now c.stretch_from.new.steps c.at_most-aims.result.probes c.in-Some.spare c.at_most-aims.ensures room cost
+
+pub returns-in-None-clause-stretch : goal.returns-in-None-clause-stretch
+returns-in-None-clause-stretch g c =
+    let window = rw (stored c.args.from c.requires.from_ok, stored c.args.to c.requires.to_ok) at c.window-window.ensures.window in
+    let rest = c.cut-rest.result in
+    let found = rw (to_z-of_z w32 rest.first (search rules), to_z-of_z w32 rest.last (search rules)) at c.stretch-in-None.ensures.stretch in
+    new_answer c.args.self.cutter c.args.tri.now c.args.self.fiber c.args.from c.args.to c.latest.result.now c.args.known.now c.window-window.result rest c.stretch-in-None.result window c.cut-rest.ensures c.latest.ensures found
+
+pub returns-in-None-clause-cost : goal.returns-in-None-clause-cost
+returns-in-None-clause-cost g c =
+    let rest = c.cut-rest.result in
+    let room = rw (stored c.args.from c.requires.from_ok, stored c.args.to c.requires.to_ok) at c.in-Some.ensures in
+    let cost = rw (to_z-of_z w32 rest.first (search rules), to_z-of_z w32 rest.last (search rules)) at c.stretch-in-None.ensures.cost in
+    cost_with_room c.args.from c.args.to rest c.args.steps.now c.stretch-in-None.new.steps c.at_most-aims.result.probes c.in-Some.spare c.at_most-aims.ensures room cost

@@ -4,21 +4,21 @@ use lib.IntN.{pos, ◌+ℤ◌, ◌-ℤ◌}
 use lib.Signed.{◌<ℤ◌, ◌≤ℤ◌}
 use Rattle.std.proofs.lemmas.Int.{ints, to_z-of_z}
 use Rattle.mill_push.specs.Fibers.{IsTouched}
-use Rattle.mill_push.proofs.Searching.{touched_here, window_starts, window_less, window_more, window_never, never_cost, window_ends, found_stretch, found_cost, fewer_low, fewer_high}
+use Rattle.mill_push.proofs.Searching.{touched_here, window_starts, window_less, window_more, window_never, never_cost, window_ends, window_cost, found_stretch, found_cost, fewer_low, fewer_high}
 use Rattle.mill_push.proofs.Stored.{stored}
 use Rattle.mill_push.proofs.stretch.Pusher.stretch.Goals as goal
 
 pub loop-low-init : goal.loop-low-init
 loop-low-init g c = rw (stored c.args.from c.requires.from_ok, stored c.args.to c.requires.to_ok) (window_starts c.args.self.cutter c.args.tri.now c.args.self.fiber c.args.from c.args.to c.requires.order)
 
-pub first_touched-first-requires-clause-held : goal.first_touched-first-requires-clause-held
-first_touched-first-requires-clause-held g c =
+pub first_near-first-requires-clause-held : goal.first_near-first-requires-clause-held
+first_near-first-requires-clause-held g c =
     let middle = to_z-of_z w32 c.middle-middle.result (search rules) in
     let h = rw middle at c.in-Inside.ensures.touch in
     rw middle (touched_here (IsTouched c.args.self.cutter c.args.tri.now c.args.self.fiber) c.middle-middle.result h)
 
-pub last_touched-last-requires-clause-held : goal.last_touched-last-requires-clause-held
-last_touched-last-requires-clause-held g c =
+pub last_near-last-requires-clause-held : goal.last_near-last-requires-clause-held
+last_near-last-requires-clause-held g c =
     let middle = to_z-of_z w32 c.middle-middle.result (search rules) in
     let h = rw middle at c.in-Inside.ensures.touch in
     rw middle (touched_here (IsTouched c.args.self.cutter c.args.tri.now c.args.self.fiber) c.middle-middle.result h)
@@ -27,18 +27,18 @@ pub returns-in-Inside-clause-stretch : goal.returns-in-Inside-clause-stretch
 returns-in-Inside-clause-stretch g c =
     let i = rw (stored c.args.from c.requires.from_ok, stored c.args.to c.requires.to_ok) at c.loop-low.invariant in
     let middle = to_z-of_z w32 c.middle-middle.result (search rules) in
-    let left = rw middle at c.first_touched-first.ensures in
-    let right = rw middle at c.last_touched-last.ensures in
-    rw (to_z-of_z w32 c.first_touched-first.result (search rules), to_z-of_z w32 c.last_touched-last.result (search rules)) (found_stretch c.args.self.cutter c.args.tri.now c.args.self.fiber c.middle-middle.result c.first_touched-first.result c.last_touched-last.result left.between.from left.between.to right.between.from right.between.to left.held right.held left.clear right.clear i)
+    let left = rw middle at c.first_near-first.ensures in
+    let right = rw middle at c.last_near-last.ensures in
+    rw (to_z-of_z w32 c.first_near-first.result (search rules), to_z-of_z w32 c.last_near-last.result (search rules)) (found_stretch c.args.self.cutter c.args.tri.now c.args.self.fiber c.middle-middle.result c.first_near-first.result c.last_near-last.result left.between.from left.between.to right.between.from right.between.to left.held right.held left.clear right.clear i)
 
 pub returns-in-Inside-clause-cost : goal.returns-in-Inside-clause-cost
 returns-in-Inside-clause-cost g c =
     let i = rw (stored c.args.from c.requires.from_ok, stored c.args.to c.requires.to_ok) at c.loop-low.invariant in
     let middle = to_z-of_z w32 c.middle-middle.result (search rules) in
     let e = c.middle-middle.ensures in
-    let left = rw middle at c.first_touched-first.ensures.cost in
-    let right = rw middle at c.last_touched-last.ensures.cost in
-    found_cost c.args.self.cutter c.args.tri.now c.args.self.fiber c.middle-middle.result e.from e.to e.before e.after c.touch_at.ensures.step left right i
+    let left = rw middle at c.first_near-first.ensures.cost in
+    let right = rw middle at c.last_near-last.ensures.cost in
+    found_cost c.args.self.cutter c.args.tri.now c.args.self.fiber c.middle-middle.result c.args.aims.probes e.from e.to e.before e.after c.touch_at.ensures.step left right i
 
 pub loop-low-smaller-in-Apart-Less : goal.loop-low-smaller-in-Apart-Less
 loop-low-smaller-in-Apart-Less g c =
@@ -82,7 +82,7 @@ returns-in-Apart-Never-clause-cost g c =
     let high = to_z w32 c.loop-low.high-bits in
     let i = rw (stored c.args.from c.requires.from_ok, stored c.args.to c.requires.to_ok) at c.loop-low.invariant in
     let some : low ≤ℤ high = omega (c.loop-low-test.true, arith, ints) in
-    never_cost c.args.self.cutter c.args.tri.now c.args.self.fiber some c.touch_at.ensures.step i
+    never_cost c.args.self.cutter c.args.tri.now c.args.self.fiber c.args.aims.probes some c.touch_at.ensures.step i
 
 pub returns-clause-stretch : goal.returns-clause-stretch
 returns-clause-stretch g c =
@@ -91,3 +91,8 @@ returns-clause-stretch g c =
     let i = rw (stored c.args.from c.requires.from_ok, stored c.args.to c.requires.to_ok) at c.loop-low.invariant in
     let none : high <ℤ low = omega (c.loop-low-test.false, arith, ints) in
     window_ends c.args.self.cutter c.args.tri.now c.args.self.fiber none i
+
+pub returns-clause-cost : goal.returns-clause-cost
+returns-clause-cost g c =
+    let i = rw (stored c.args.from c.requires.from_ok, stored c.args.to c.requires.to_ok) at c.loop-low.invariant in
+    window_cost c.args.self.cutter c.args.tri.now c.args.self.fiber c.args.aims.probes i

@@ -7,14 +7,14 @@ use Rattle.mill_push.proofs.Searching.{touched_here, window_never, clear_from, c
 use Rattle.mill_push.proofs.Stored.{stored, within_between, less_one, and_one}
 use Rattle.mill_push.proofs.stretch.Pusher.stretch_from.Goals as goal
 
-pub first_touched-first-requires-clause-held : goal.first_touched-first-requires-clause-held
-first_touched-first-requires-clause-held g c =
+pub first_near-first-requires-clause-held : goal.first_near-first-requires-clause-held
+first_near-first-requires-clause-held g c =
     let start = to_z-of_z w32 c.args.start c.ranges.start in
     let h = rw start at c.in-Inside.ensures.touch in
     rw start (touched_here (IsTouched c.args.self.cutter c.args.tri.now c.args.self.fiber) c.args.start h)
 
-pub last_touched-last-requires-clause-held : goal.last_touched-last-requires-clause-held
-last_touched-last-requires-clause-held g c =
+pub last_near-last-requires-clause-held : goal.last_near-last-requires-clause-held
+last_near-last-requires-clause-held g c =
     let start = to_z-of_z w32 c.args.start c.ranges.start in
     let h = rw start at c.in-Inside.ensures.touch in
     rw start (touched_here (IsTouched c.args.self.cutter c.args.tri.now c.args.self.fiber) c.args.start h)
@@ -24,18 +24,18 @@ returns-in-Inside-clause-stretch g c =
     let from = stored c.args.from c.requires.from_ok in
     let to = stored c.args.to c.requires.to_ok in
     let start = to_z-of_z w32 c.args.start c.ranges.start in
-    let left = rw (from, start) at c.first_touched-first.ensures in
-    let right = rw (to, start) at c.last_touched-last.ensures in
-    rw (to_z-of_z w32 c.first_touched-first.result (search rules), to_z-of_z w32 c.last_touched-last.result (search rules)) (start_found c.args.self.cutter c.args.tri.now c.args.self.fiber c.args.from c.args.to c.args.start c.first_touched-first.result c.last_touched-last.result left.between.from left.between.to right.between.from right.between.to left.held right.held left.clear right.clear)
+    let left = rw (from, start) at c.first_near-first.ensures in
+    let right = rw (to, start) at c.last_near-last.ensures in
+    rw (to_z-of_z w32 c.first_near-first.result (search rules), to_z-of_z w32 c.last_near-last.result (search rules)) (start_found c.args.self.cutter c.args.tri.now c.args.self.fiber c.args.from c.args.to c.args.start c.first_near-first.result c.last_near-last.result left.between.from left.between.to right.between.from right.between.to left.held right.held left.clear right.clear)
 
 pub returns-in-Inside-clause-cost : goal.returns-in-Inside-clause-cost
 returns-in-Inside-clause-cost g c =
     let from = stored c.args.from c.requires.from_ok in
     let to = stored c.args.to c.requires.to_ok in
     let start = to_z-of_z w32 c.args.start c.ranges.start in
-    let left = rw (from, start) at c.first_touched-first.ensures.cost in
-    let right = rw (to, start) at c.last_touched-last.ensures.cost in
-    start_found_cost c.args.from c.args.to c.args.start c.args.steps.now c.touch_at.new.steps c.first_touched-first.new.steps c.last_touched-last.new.steps c.requires.after c.requires.before c.touch_at.ensures.step left right
+    let left = rw (from, start) at c.first_near-first.ensures.cost in
+    let right = rw (to, start) at c.last_near-last.ensures.cost in
+    start_found_cost c.args.from c.args.to c.args.start c.args.steps.now c.touch_at.new.steps c.first_near-first.new.steps c.last_near-last.new.steps c.args.aims.probes c.requires.after c.requires.before c.touch_at.ensures.step left right
 
 pub returns-then-start-from-clause-stretch : goal.returns-then-start-from-clause-stretch
 returns-then-start-from-clause-stretch g c =
@@ -68,7 +68,7 @@ returns-else-start-from-clause-cost g c =
     let start = stored c.args.start inside in
     let cost = rw (from, start, less_one c.args.start inside) at c.stretch.ensures.cost in
     let test = rw (from, start) at c.if-start-from.false in
-    start_part_cost c.args.from c.args.to c.args.from (c.args.start -ℤ pos 1) c.args.steps.now c.touch_at.new.steps c.stretch.new.steps (omega (arith, ints)) (omega (test, arith, ints)) (let b = c.requires.before in omega (arith, ints)) c.touch_at.ensures.step cost
+    start_part_cost c.args.from c.args.to c.args.from (c.args.start -ℤ pos 1) c.args.steps.now c.touch_at.new.steps c.stretch.new.steps c.args.aims.probes (omega (arith, ints)) (omega (test, arith, ints)) (let b = c.requires.before in omega (arith, ints)) c.touch_at.ensures.step cost
 
 pub returns-else-to-start-clause-stretch : goal.returns-else-to-start-clause-stretch
 returns-else-to-start-clause-stretch g c =
@@ -85,7 +85,7 @@ returns-else-to-start-clause-cost g c =
     let start = stored c.args.start inside in
     let cost = rw (to, start, and_one c.args.start inside) at c.stretch-in-Apart-More.ensures.cost in
     let test = rw (to, start) at c.if-to-start.false in
-    start_part_cost c.args.from c.args.to (c.args.start +ℤ pos 1) c.args.to c.args.steps.now c.touch_at.new.steps c.stretch-in-Apart-More.new.steps (let a = c.requires.after in omega (arith, ints)) (omega (test, arith, ints)) (omega (arith, ints)) c.touch_at.ensures.step cost
+    start_part_cost c.args.from c.args.to (c.args.start +ℤ pos 1) c.args.to c.args.steps.now c.touch_at.new.steps c.stretch-in-Apart-More.new.steps c.args.aims.probes (let a = c.requires.after in omega (arith, ints)) (omega (test, arith, ints)) (omega (arith, ints)) c.touch_at.ensures.step cost
 
 pub returns-in-Apart-Never-clause-stretch : goal.returns-in-Apart-Never-clause-stretch
 returns-in-Apart-Never-clause-stretch g c =

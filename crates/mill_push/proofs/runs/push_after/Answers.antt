@@ -4,7 +4,7 @@ use Rattle.mill_push.specs.Fibers.{IsBlocked}
 use Rattle.mill_push.proofs.BothSolids.{few_of_both}
 use Rattle.mill_push.proofs.Sorting.{ordered_from_sort, spans_moved, first_within, last_within, runs_from_stretches, IfOk-more}
 use Rattle.mill_push.proofs.Stored.{stored}
-use Rattle.mill_push.proofs.runs.push.Goals as goal
+use Rattle.mill_push.proofs.runs.push_after.Goals as goal
 
 pub returns-in_err-stretches-clause-cost : goal.returns-in_err-stretches-clause-cost
 returns-in_err-stretches-clause-cost g c = few_of_both c.args.tool.now c.args.part.now c.args.fiber c.args.from c.args.to c.args.steps.now c.tool_stretches.new.steps c.requires.from_ok c.requires.to_ok (rw (stored c.args.from c.requires.from_ok, stored c.args.to c.requires.to_ok) at c.tool_stretches.ensures.cost)

@@ -1,0 +1,211 @@
+//! The search for an end of a triangle's stretch, with a few touches near where it is expected.
+ghost use Rattle.std.specs.Prelude.{◌≡◌, ◌+◌, ◌^◌, ◌<◌, ◌≤◌, ◌≤ℤ◌, ◌<ℤ◌, ◌+ℤ◌, ◌-ℤ◌, ℕ, pos, nat_abs, false};
+ghost use Rattle.mill_base.specs.Numbers.{Within};
+ghost use Rattle.mill_base.specs.declared.limits.TheConstants.{MAX_COORDINATE};
+ghost use Rattle.mill_base.specs.Ranges.{TriInRange};
+ghost use Rattle.mill_push.specs.Fibers.{IsTouched};
+ghost use Rattle.mill_push.specs.Stretches.{IsClear, IsHeld};
+ghost use Rattle.mill_push.specs.inner.Probes.{IsLeft, IsSearch, place_in};
+ghost use Rattle.mill_push.specs.inner.Pushers.{IsBetween, IsPusher};
+
+use crate::ends::Aims;
+use crate::stretch::Pusher;
+use mill_base::{Steps, Tri};
+use std::sync::ledger::Ledger;
+
+/// The two ways along a fiber.
+#[derive(Clone, Copy)]
+enum Way {
+    Back,
+    On,
+}
+
+/// A search for an end of a stretch: from a position at which the triangle is touched, up to the one
+/// that is `limit` positions away. Positions are counted from where it begins.
+#[derive(Clone, Copy)]
+struct Search {
+    way: Way,
+    found: i32,
+    limit: i32,
+}
+
+/// What is left of a search: at the position `held` the triangle is touched, and at none beyond `free`.
+#[derive(Clone, Copy)]
+struct Left {
+    held: i32,
+    free: i32,
+}
+
+impl Search {
+    /// The position of this count.
+    fn place(self, count: i32) -> i32
+        requires self_ok { IsSearch self }
+        requires least { (pos 0) ≤ℤ count }
+        requires most { count ≤ℤ self.limit }
+        ensures value { result ≡ place_in self count }
+        ensures in_range { Within MAX_COORDINATE result }
+    {
+        match self.way {
+            Way::Back => self.found - count,
+            Way::On => self.found + count,
+        }
+    }
+}
+
+impl Left {
+    /// Whether halving does as well from here on: the end lies between two touches, or nothing is left.
+    fn is_closed(self, limit: i32) -> bool
+        ensures { result ≡ false → self.held <ℤ self.free }
+    {
+        self.held >= self.free || (self.held > 0 && self.free < limit)
+    }
+
+    /// Where the next touch goes: beyond the last one if that found the triangle, else before it.
+    fn next(self, stride: i32) -> i32 {
+        if self.held > 0 {
+            self.held.saturating_add(stride)
+        } else {
+            self.free.saturating_sub(stride).saturating_add(1)
+        }
+    }
+
+    /// The position that is nearest to this one and still open.
+    fn nearest(self, at: i32) -> i32
+        requires { self.held <ℤ self.free }
+        ensures after { self.held <ℤ result }
+        ensures within { result ≤ℤ self.free }
+    {
+        at.clamp(self.held + 1, self.free)
+    }
+}
+
+impl Pusher {
+    /// The same as `first_touched`, with the touches near the aim besides.
+    pub fn first_near<L: Ledger>(
+        self,
+        tri: &Tri,
+        low: i32,
+        found: i32,
+        aims: Aims,
+        steps: &mut Steps<L>,
+    ) -> i32
+        requires self_ok { IsPusher self }
+        requires tri_ok { TriInRange tri.now }
+        requires low_ok { Within MAX_COORDINATE low }
+        requires found_ok { Within MAX_COORDINATE found }
+        requires order { low ≤ℤ found }
+        requires held { IsTouched self.cutter tri.now self.fiber found }
+        ensures between { IsBetween low found result }
+        ensures held { IsHeld self.cutter tri.now self.fiber result found }
+        ensures clear { IsClear self.cutter tri.now self.fiber low (result -ℤ pos 1) }
+        ensures cost { (n : ℕ) → nat_abs (found -ℤ low) < 2 ^ n → steps.new ≤ steps.old + (n + aims.probes) }
+    {
+        let search = Search {
+            way: Way::Back,
+            found,
+            limit: found - low,
+        };
+        let aim = found.saturating_sub(aims.first);
+        let left = self.near_end(tri, search, aim, aims, steps);
+        let first = search.place(left.free);
+        let held = search.place(left.held);
+        self.first_touched(tri, first, held, steps)
+    }
+
+    /// The same as `last_touched`, with the touches near the aim besides.
+    pub fn last_near<L: Ledger>(
+        self,
+        tri: &Tri,
+        found: i32,
+        high: i32,
+        aims: Aims,
+        steps: &mut Steps<L>,
+    ) -> i32
+        requires self_ok { IsPusher self }
+        requires tri_ok { TriInRange tri.now }
+        requires found_ok { Within MAX_COORDINATE found }
+        requires high_ok { Within MAX_COORDINATE high }
+        requires order { found ≤ℤ high }
+        requires held { IsTouched self.cutter tri.now self.fiber found }
+        ensures between { IsBetween found high result }
+        ensures held { IsHeld self.cutter tri.now self.fiber found result }
+        ensures clear { IsClear self.cutter tri.now self.fiber (result +ℤ pos 1) high }
+        ensures cost { (n : ℕ) → nat_abs (high -ℤ found) < 2 ^ n → steps.new ≤ steps.old + (n + aims.probes) }
+    {
+        let search = Search {
+            way: Way::On,
+            found,
+            limit: high - found,
+        };
+        let aim = aims.last.saturating_sub(found);
+        let left = self.near_end(tri, search, aim, aims, steps);
+        let held = search.place(left.held);
+        let last = search.place(left.free);
+        self.last_touched(tri, held, last, steps)
+    }
+
+    /// What is left of a search after touches near the aim: from there on as long as they find the
+    /// triangle, or back as long as they don't, each time twice as far.
+    fn near_end<L: Ledger>(
+        self,
+        tri: &Tri,
+        search: Search,
+        aim: i32,
+        aims: Aims,
+        steps: &mut Steps<L>,
+    ) -> Left
+        requires self_ok { IsPusher self }
+        requires tri_ok { TriInRange tri.now }
+        requires search_ok { IsSearch search }
+        requires held { IsTouched self.cutter tri.now self.fiber search.found }
+        ensures left { IsLeft self.cutter tri.now self.fiber search result }
+        ensures cost { steps.new ≤ steps.old + aims.probes }
+    {
+        let mut left = Left {
+            held: 0,
+            free: search.limit,
+        };
+        let mut at = aim;
+        let mut stride = aims.stride;
+        for _ in 0..aims.probes {
+            if left.is_closed(search.limit) {
+                return left;
+            }
+            left = self.probe(tri, search, left, at, steps);
+            at = left.next(stride);
+            stride = stride.saturating_add(stride);
+        }
+        left
+    }
+
+    /// What is left after a touch as near to a position as it may be.
+    fn probe<L: Ledger>(
+        self,
+        tri: &Tri,
+        search: Search,
+        left: Left,
+        at: i32,
+        steps: &mut Steps<L>,
+    ) -> Left
+        requires self_ok { IsPusher self }
+        requires tri_ok { TriInRange tri.now }
+        requires search_ok { IsSearch search }
+        requires left_ok { IsLeft self.cutter tri.now self.fiber search left }
+        requires open { left.held <ℤ left.free }
+        ensures left { IsLeft self.cutter tri.now self.fiber search result }
+        ensures step { steps.new ≡ steps.old + 1 }
+    {
+        let at = left.nearest(at);
+        if self.is_touched(tri, search.place(at), steps) {
+            Left {
+                held: at,
+                free: left.free,
+            }
+        } else {
+            Left {
+                held: left.held,
+                free: at - 1,
+            }
+        }
+    }
+}
