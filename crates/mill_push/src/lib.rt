@@ -9,6 +9,7 @@
 #![tactic(auto)]
 
 mod contact;
+mod extent;
 mod fiber;
 mod inside;
 mod known;
