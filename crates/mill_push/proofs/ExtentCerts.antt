@@ -1,9 +1,9 @@
 -- Written by tools/certificates.py from tools/certificates/mill_push_extent.spec.
-use Rattle.std.proofs.Common.{◌≡◌, List, [], ◌∷◌, refl}
-use lib.IntN.{ℤ, pos, negsuc, neg_ℤ, ◌+ℤ◌, ◌-ℤ◌, ◌*ℤ◌}
+use Rattle.std.proofs.Common.{[], ◌∷◌, refl}
+use lib.IntN.{ℤ, pos, ◌+ℤ◌, ◌-ℤ◌, ◌*ℤ◌}
 use lib.Signed.{◌<ℤ◌, ◌≤ℤ◌}
-use Rattle.mill_base.proofs.Ring.{E, Var, Num, Add, Sub, Mul, Neg, ring}
-use Rattle.mill_base.proofs.Cert.{H, Le, Lt, Eq, C, Hyp, TimesEq, Sq, Lit, Plus, Times, refute, prove_le, prove_le_by, prove_lt_by}
+use Rattle.mill_base.proofs.Ring.{Var, Num, Add, Sub, Mul}
+use Rattle.mill_base.proofs.Cert.{Le, Lt, Hyp, Lit, Plus, Times, refute, prove_le_by, prove_lt_by}
 
 -- vars u v w f p q; hyp hu: 0 <= u; hyp hv: 0 <= v; hyp hw: 0 <= w; hyp hf: f <= 0; hyp hp: p <= 0; hyp hq: q <= 0; goal (u*f+v*p)+w*q <= 0; mul hu * hf; mul hv * hp; mul hw * hq
 pub all_within : (u v w f p q : ℤ) → (pos 0) ≤ℤ u → (pos 0) ≤ℤ v → (pos 0) ≤ℤ w → f ≤ℤ (pos 0) → p ≤ℤ (pos 0) → q ≤ℤ (pos 0) → (((u *ℤ f) +ℤ (v *ℤ p)) +ℤ (w *ℤ q)) ≤ℤ (pos 0)

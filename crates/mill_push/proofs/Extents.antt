@@ -3,10 +3,10 @@ use Rattle.std.proofs.Common.{◌≡◌, ◌≤◌, refl, ap, sym, ◌∙◌, su
 use Rattle.std.specs.Prelude.{nat_abs}
 use Rattle.std.specs.Int.{int_max, int_min}
 use Rattle.std.proofs.lemmas.Int.{ints, by_lt_z}
-use lib.IntN.{ℤ, pos, negsuc, ◌+ℤ◌, ◌-ℤ◌, ◌*ℤ◌}
+use lib.IntN.{ℤ, pos, ◌+ℤ◌, ◌-ℤ◌, ◌*ℤ◌}
 use lib.Signed.{◌<ℤ◌, ◌≤ℤ◌}
 use Rattle.mill_base.specs.Numbers.{Within}
-use Rattle.mill_base.specs.Points.{IsPointOf, plus, times}
+use Rattle.mill_base.specs.Points.{plus, times}
 use Rattle.mill_base.specs.Ranges.{IsInRange}
 use Rattle.mill_base.specs.declared.limits.TheConstants.{MAX_COORDINATE}
 use Rattle.mill_base.specs.declared.points.Pt3.{Pt3}
@@ -60,19 +60,19 @@ triangle_within : (u v w f g p h q k : ℤ) → (pos 0) ≤ℤ u → (pos 0) ≤
 triangle_within u v w f g p h q k hu hv hw ab bc ca some =
     by_lt_z (pos 0) g
     (λ a. by_lt_z (pos 0) h
-      (λ b. by_lt_z (pos 0) k
-        (λ c. all_within u v w f p q hu hv hw (ab.first a) (bc.first b) (ca.first c))
-        (λ c. third (λ over. absurd (against k over c)) (λ under. (a, b))))
-      (λ b. by_lt_z (pos 0) k
-        (λ c. second (λ over. absurd (against h over b)) (λ under. (c, a)))
-        (λ c. first (λ over. (b, c)) (λ under. absurd (against g a under)))))
+    (λ b. by_lt_z (pos 0) k
+    (λ c. all_within u v w f p q hu hv hw (ab.first a) (bc.first b) (ca.first c))
+    (λ c. third (λ over. absurd (against k over c)) (λ under. (a, b))))
+    (λ b. by_lt_z (pos 0) k
+    (λ c. second (λ over. absurd (against h over b)) (λ under. (c, a)))
+    (λ c. first (λ over. (b, c)) (λ under. absurd (against g a under)))))
     (λ a. by_lt_z (pos 0) h
-      (λ b. by_lt_z (pos 0) k
-        (λ c. first (λ over. absurd (against g over a)) (λ under. (b, c)))
-        (λ c. second (λ over. (c, a)) (λ under. absurd (against h b under))))
-      (λ b. by_lt_z (pos 0) k
-        (λ c. third (λ over. (a, b)) (λ under. absurd (against k c under)))
-        (λ c. absurd (none_over u v w g h k hu hv hw a b c some))))
+    (λ b. by_lt_z (pos 0) k
+    (λ c. first (λ over. absurd (against g over a)) (λ under. (b, c)))
+    (λ c. second (λ over. (c, a)) (λ under. absurd (against h b under))))
+    (λ b. by_lt_z (pos 0) k
+    (λ c. third (λ over. (a, b)) (λ under. absurd (against k c under)))
+    (λ c. absurd (none_over u v w g h k hu hv hw a b c some))))
   where
     first : ((pos 0) <ℤ g → (h ≤ℤ pos 0) × (k ≤ℤ pos 0)) → (g ≤ℤ pos 0 → ((pos 0) <ℤ h) × ((pos 0) <ℤ k)) → ((u *ℤ f +ℤ v *ℤ p) +ℤ w *ℤ q) ≤ℤ pos 0
     first under over = odd_within u v w f g p h q k hu hv hw ab ca under over some

@@ -128,7 +128,9 @@ fn upper_length(over: Corner, under: Corner) -> i32
     ensures covers { (pos (nat_abs (under.place -ℤ over.place)) *ℤ over.height) ≤ℤ (result *ℤ (over.height -ℤ under.height)) }
 {
     let length = under.place.abs_diff(over.place);
-    share(length, over.height.unsigned_abs(), under.height.unsigned_abs()) as i32
+    let rise = over.height.unsigned_abs();
+    let drop = under.height.unsigned_abs();
+    share(length, rise, drop) as i32
 }
 
 /// The share of a length that `rise` has of `rise` and `drop` together, rounded up.

@@ -1,7 +1,5 @@
 use Rattle.std.proofs.Common.{rules, w32, arith}
 use Rattle.std.proofs.lemmas.Int.{ints, to_z-of_z}
-use lib.IntN.{pos}
-use lib.Signed.{◌<ℤ◌, ◌≤ℤ◌}
 use Rattle.mill_push.proofs.Extents.{first_part, second_part, whole_part}
 use Rattle.mill_push.proofs.Stored.{least_stored, most_stored}
 use Rattle.mill_push.proofs.extent.edge_over.Goals as goal
