@@ -1,7 +1,8 @@
 -- What a triangle has over a height: its extent along an axis is that of what its edges have there.
-use Rattle.std.proofs.Common.{◌≡◌, ◌≤◌, refl, ap, sym, ◌∙◌, subst, subst₂, arith}
+use Rattle.std.proofs.Common.{◌≡◌, ℕ, ◌+◌, ◌*◌, ◌<◌, ◌≤◌, refl, ap, sym, ◌∙◌, subst, subst₂, arith}
 use Rattle.std.specs.Prelude.{nat_abs}
-use Rattle.std.specs.Int.{int_max, int_min}
+use Rattle.std.specs.Int.{div_ceil, int_max, int_min}
+use Rattle.std.proofs.lemmas.Grind.{div_ceil_times}
 use Rattle.std.proofs.lemmas.Int.{ints, by_lt_z}
 use lib.IntN.{ℤ, pos, ◌+ℤ◌, ◌-ℤ◌, ◌*ℤ◌}
 use lib.Signed.{◌<ℤ◌, ◌≤ℤ◌}
@@ -271,3 +272,7 @@ corner_in_range axis z p h ok = record { place_ok = place axis; height_ok = reco
 
     by : nat_abs z ≤ 524287 → nat_abs p.z ≤ 524287 → nat_abs (p.z -ℤ z) ≤ 1048574
     by h k = omega (arith, ints)
+
+-- a share that is rounded up covers what it is of
+pub share_covers : (length rise drop share : ℕ) → 0 < rise → share ≡ div_ceil (length * rise) (rise + drop) → length * rise ≤ share * (rise + drop)
+share_covers length rise drop share some e = subst (λ t. length * rise ≤ t * (rise + drop)) (sym e) (div_ceil_times (length * rise) (rise + drop) (omega arith)).0
