@@ -69,10 +69,10 @@ common u v w n a b c p x r from to hu hv hw hn weights place hr near_up near_dow
     both low high from to a b c d = record { right = grind (arith, ints); left = grind (arith, ints); right_too = grind (arith, ints); left_too = grind (arith, ints) }
 
 -- from the centre's offset as a point held has it
-side_up : (p q n x m r : ℤ) → q ≡ p → m ≡ n → (q -ℤ n *ℤ x) <ℤ (r *ℤ m) → (p -ℤ n *ℤ x) <ℤ (r *ℤ n)
+pub side_up : (p q n x m r : ℤ) → q ≡ p → m ≡ n → (q -ℤ n *ℤ x) <ℤ (r *ℤ m) → (p -ℤ n *ℤ x) <ℤ (r *ℤ n)
 side_up p q n x m r e f h = subst₂ (λ a b. (a -ℤ n *ℤ x) <ℤ (r *ℤ b)) e f h
 
-side_down : (p q n x m r : ℤ) → q ≡ p → m ≡ n → ((pos 0) -ℤ (q -ℤ n *ℤ x)) <ℤ (r *ℤ m) → (n *ℤ x -ℤ p) <ℤ (r *ℤ n)
+pub side_down : (p q n x m r : ℤ) → q ≡ p → m ≡ n → ((pos 0) -ℤ (q -ℤ n *ℤ x)) <ℤ (r *ℤ m) → (n *ℤ x -ℤ p) <ℤ (r *ℤ n)
 side_down p q n x m r e f h = turned (n *ℤ x) p (r *ℤ n) (subst₂ (λ a b. ((pos 0) -ℤ (a -ℤ n *ℤ x)) <ℤ (r *ℤ b)) e f h)
   where
     turned : (a b c : ℤ) → ((pos 0) -ℤ (b -ℤ a)) <ℤ c → (a -ℤ b) <ℤ c
@@ -86,11 +86,11 @@ record HoldsSquare (area : Box2) (tip : Pt3) (r : ℤ) : Type 0 where
   north : (tip.y +ℤ r) ≤ℤ area.y1
 
 -- a mean of three heights isn't over the greatest of them
-mean_under : (u v w n a b c p top : ℤ) → (pos 0) ≤ℤ u → (pos 0) ≤ℤ v → (pos 0) ≤ℤ w → n ≡ (u +ℤ v) +ℤ w → p ≡ (u *ℤ a +ℤ v *ℤ b) +ℤ w *ℤ c → (a ≤ℤ top) × (b ≤ℤ top) × (c ≤ℤ top) → p ≤ℤ (n *ℤ top)
+pub mean_under : (u v w n a b c p top : ℤ) → (pos 0) ≤ℤ u → (pos 0) ≤ℤ v → (pos 0) ≤ℤ w → n ≡ (u +ℤ v) +ℤ w → p ≡ (u *ℤ a +ℤ v *ℤ b) +ℤ w *ℤ c → (a ≤ℤ top) × (b ≤ℤ top) × (c ≤ℤ top) → p ≤ℤ (n *ℤ top)
 mean_under u v w n a b c p top hu hv hw weights place under = rw (weights, place) (mean_low u v w a b c top hu hv hw under.0 under.1 under.2)
 
 -- in x and in y, a point that the cutter holds is nearer to the tip than a reach for its height
-held_around : (cutter : Cutter) (tip : Pt3) (n : ℤ) (p : Pt3) (top r : ℤ) → (pos 0) <ℤ n → IsReach cutter (top -ℤ tip.z) r → p.z ≤ℤ (n *ℤ top) → Holds cutter (pos 1) tip n p
+pub held_around : (cutter : Cutter) (tip : Pt3) (n : ℤ) (p : Pt3) (top r : ℤ) → (pos 0) <ℤ n → IsReach cutter (top -ℤ tip.z) r → p.z ≤ℤ (n *ℤ top) → Holds cutter (pos 1) tip n p
     → IsAround (r *ℤ (pos 1 *ℤ n)) (pos 1 *ℤ p.x -ℤ n *ℤ tip.x) (pos 1 *ℤ p.y -ℤ n *ℤ tip.y)
 held_around cutter tip n p top r some is low h =
     let whole = mul_pos-ℤ (pos 1) n (omega (arith, ints)) some in
@@ -142,7 +142,7 @@ touching_over cutter tri tip least t =
     against : (p n m s z q : ℤ) → q ≡ p → p ≡ m → n ≡ s → (n *ℤ z) <ℤ q → m ≤ℤ (s *ℤ z) → ⊥
     against p n m s z q eq ep en over under = let u : m ≤ℤ (n *ℤ z) = rw (← en) at under in omega (arith, ints)
 
-height_on : (axis : Axis) (at z v : ℤ) → (place_on axis at z v).z ≡ z
+pub height_on : (axis : Axis) (at z v : ℤ) → (place_on axis at z v).z ≡ z
 height_on X at z v = refl
 height_on Y at z v = refl
 

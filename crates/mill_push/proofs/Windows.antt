@@ -1,27 +1,30 @@
--- The window of a triangle: its box is within the cutter's reach there alone.
-use Rattle.std.proofs.Common.{◌≡◌, ◌<◌, ◌≤◌, w32, FitsSigned, sym, subst, arith}
+-- The window of a triangle: what it has over the fiber's height is within the cutter's reach there alone.
+use Rattle.std.proofs.Common.{◌≡◌, ◌<◌, ◌≤◌, w32, FitsSigned, refl, ap, sym, subst, arith}
 use Rattle.std.specs.Prelude.{nat_abs}
 use Rattle.std.specs.Int.{int_min, int_max}
-use Rattle.std.proofs.lemmas.Int.{ints, fits_signed_from_abs}
-use lib.IntN.{ℤ, pos, ◌+ℤ◌, ◌-ℤ◌}
+use Rattle.std.proofs.lemmas.Int.{ints, by_lt_z, fits_signed_from_abs}
+use lib.IntN.{ℤ, pos, ◌+ℤ◌, ◌-ℤ◌, ◌*ℤ◌}
 use lib.Signed.{◌<ℤ◌, ◌≤ℤ◌}
 use Rattle.mill_base.specs.Numbers.{Within, lesser, greater}
 use Rattle.mill_base.specs.Sizes.{IsCutter, radius_of}
+use Rattle.mill_base.specs.Contact.{Touches}
 use Rattle.mill_base.specs.declared.limits.TheConstants.{MAX_COORDINATE}
+use Rattle.mill_base.specs.declared.points.Pt3.{Pt3}
 use Rattle.mill_base.specs.declared.points.Tri.{Tri}
 use Rattle.mill_base.specs.declared.cutter.Cutter.{Cutter}
-use Rattle.mill_cells.specs.Boxes.{Meet, box_of}
+use Rattle.mill_base.proofs.Integers.{one-mul-ℤ}
+use Rattle.mill_shape.proofs.Holding.{IsAround, holds_over_tip}
 use Rattle.mill_geom.specs.declared.touch.Axis.{Axis}
 use Rattle.mill_geom.specs.declared.touch.Axis.TheVariants.{X, Y}
 use Rattle.mill_push.specs.declared.fiber.Fiber.{Fiber}
 use Rattle.mill_push.specs.declared.fiber.Run.{Run}
-use Rattle.mill_push.specs.Fibers.{IsTouched}
-use Rattle.mill_push.specs.Touches.{strip_along}
+use Rattle.mill_push.specs.Fibers.{IsTouched, place_on, tip_on}
 use Rattle.mill_push.specs.inner.Known.{IsRunInRange, IsWindow}
 use Rattle.mill_push.specs.inner.Reaches.{IsReach, IsReachForTri}
-use Rattle.mill_push.specs.inner.Windows.{extent_along, extent_of, other_than}
-use Rattle.mill_push.proofs.Meeting.{touched_meets}
-use Rattle.mill_push.proofs.Pushing.{most_radius}
+use Rattle.mill_push.specs.inner.Windows.{IsExtentOver, IsPlaceIn, extent_of, other_than, place_along}
+use Rattle.mill_push.proofs.Meeting.{height_on, held_around, mean_under, side_down, side_up}
+use Rattle.mill_push.proofs.NearCerts.{reaches_down, reaches_up}
+use Rattle.mill_push.proofs.Pushing.{has_radius, most_radius}
 use Rattle.mill_push.proofs.Stored.{through}
 
 -- the same run from equal ends
@@ -78,74 +81,76 @@ window_ok r from to low high some h k l m = record {
     least : (to high r : ℤ) → nat_abs to ≤ 524287 → nat_abs high ≤ 524287 → (pos 1) ≤ℤ r → nat_abs (int_min to (high +ℤ r)) ≤ 524287
     least to high r h l a = grind (arith, ints)
 
--- a triangle whose box meets the strip about v extends to within r of v
-reached : (axis : Axis) (tri : Tri) (at r v : ℤ) → Meet (box_of tri) (strip_along axis at r v v) → (((extent_along axis tri).first -ℤ r) ≤ℤ v) × (v ≤ℤ ((extent_along axis tri).last +ℤ r))
-reached X tri at r v m = (low _ m.x r v m.in_first.right m.in_second.left, high _ m.x r v m.in_first.left m.in_second.right)
+-- a mean of places in a run that is nearer to x than r: x is no farther from the run
+near_run : (n x r p : ℤ) (run : Run) → (pos 0) <ℤ n → (p -ℤ n *ℤ x) <ℤ (r *ℤ n) → (n *ℤ x -ℤ p) <ℤ (r *ℤ n) → IsPlaceIn run n p → ((run.first -ℤ r) ≤ℤ x) × (x ≤ℤ (run.last +ℤ r))
+near_run n x r p run some up down place = (
+  by_lt_z run.first (x +ℤ r) (λ less. low run.first x r less) (λ ge. absurd (reaches_up n x r p run.first some up place.after ge)),
+  by_lt_z (x -ℤ r) run.last (λ less. high run.last x r less) (λ ge. absurd (reaches_down n x r p run.last some down place.before ge)),
+)
   where
-    low : (a x r v : ℤ) → a ≤ℤ x → x ≤ℤ (v +ℤ r) → (a -ℤ r) ≤ℤ v
-    low a x r v h k = omega (arith, ints)
+    low : (a x r : ℤ) → a <ℤ (x +ℤ r) → (a -ℤ r) ≤ℤ x
+    low a x r h = omega (arith, ints)
 
-    high : (a x r v : ℤ) → x ≤ℤ a → (v -ℤ r) ≤ℤ x → v ≤ℤ (a +ℤ r)
-    high a x r v h k = omega (arith, ints)
-reached Y tri at r v m = (low _ m.y r v m.in_first.over m.in_second.under, high _ m.y r v m.in_first.under m.in_second.over)
+    high : (a x r : ℤ) → (x -ℤ r) <ℤ a → x ≤ℤ (a +ℤ r)
+    high a x r h = omega (arith, ints)
+
+-- the tip of a cutter that touches a triangle is within the reach of what the triangle has over it
+touching_near : (cutter : Cutter) (tri : Tri) (tip : Pt3) (r : ℤ) (axis : Axis) (extent : Run) → IsCutter cutter → IsReachForTri cutter tip.z r tri → IsExtentOver axis tip.z tri extent
+    → Touches cutter (pos 1) tip tri → ((extent.first -ℤ r) ≤ℤ place_along axis tip) × (place_along axis tip ≤ℤ (extent.last +ℤ r))
+touching_near cutter tri tip r axis extent ok reach holds t =
+    let k = t.point in
+    let low = mean_under k.u k.v k.w t.n tri.a.z tri.b.z tri.c.z t.p.z reach.top k.u_ok k.v_ok k.w_ok k.weights (ap (λ (q : Pt3). q.z) k.place) reach.under in
+    let around = held_around cutter tip t.n t.p reach.top r k.some reach.holds low t.inside in
+    let over = subst (λ (z : ℤ). (t.n *ℤ tip.z) <ℤ z) (one-mul-ℤ t.p.z) (holds_over_tip cutter (pos 1) tip t.n t.p (has_radius cutter ok) (omega (arith, ints)) k.some t.inside) in
+    by axis around (holds t.n t.p k over)
   where
-    low : (a x r v : ℤ) → a ≤ℤ x → x ≤ℤ (v +ℤ r) → (a -ℤ r) ≤ℤ v
-    low a x r v h k = omega (arith, ints)
+    by : (axis : Axis) → IsAround (r *ℤ (pos 1 *ℤ t.n)) (pos 1 *ℤ t.p.x -ℤ t.n *ℤ tip.x) (pos 1 *ℤ t.p.y -ℤ t.n *ℤ tip.y) → IsPlaceIn extent t.n (place_along axis t.p)
+        → ((extent.first -ℤ r) ≤ℤ place_along axis tip) × (place_along axis tip ≤ℤ (extent.last +ℤ r))
+    by X around place =
+        near_run t.n tip.x r t.p.x extent t.point.some (side_up t.p.x (pos 1 *ℤ t.p.x) t.n tip.x (pos 1 *ℤ t.n) r (one-mul-ℤ t.p.x) (one-mul-ℤ t.n) around.east)
+        (side_down t.p.x (pos 1 *ℤ t.p.x) t.n tip.x (pos 1 *ℤ t.n) r (one-mul-ℤ t.p.x) (one-mul-ℤ t.n) around.west) place
+    by Y around place =
+        near_run t.n tip.y r t.p.y extent t.point.some (side_up t.p.y (pos 1 *ℤ t.p.y) t.n tip.y (pos 1 *ℤ t.n) r (one-mul-ℤ t.p.y) (one-mul-ℤ t.n) around.north)
+        (side_down t.p.y (pos 1 *ℤ t.p.y) t.n tip.y (pos 1 *ℤ t.n) r (one-mul-ℤ t.p.y) (one-mul-ℤ t.n) around.south) place
 
-    high : (a x r v : ℤ) → x ≤ℤ a → (v -ℤ r) ≤ℤ x → v ≤ℤ (a +ℤ r)
-    high a x r v h k = omega (arith, ints)
+-- where a tip of the fiber stands along it, and across it
+place_along_it : (axis : Axis) (at z v : ℤ) → place_along axis (place_on axis at z v) ≡ v
+place_along_it X at z v = refl
+place_along_it Y at z v = refl
 
--- and beside the fiber to within r of it
-reached_beside : (axis : Axis) (tri : Tri) (at r v : ℤ) → Meet (box_of tri) (strip_along axis at r v v)
-    → (((extent_along (other_than axis) tri).first -ℤ r) ≤ℤ at) × (at ≤ℤ ((extent_along (other_than axis) tri).last +ℤ r))
-reached_beside X tri at r v m = (low _ m.y r at m.in_first.over m.in_second.under, high _ m.y r at m.in_first.under m.in_second.over)
-  where
-    low : (a y r at : ℤ) → a ≤ℤ y → y ≤ℤ (at +ℤ r) → (a -ℤ r) ≤ℤ at
-    low a y r at h k = omega (arith, ints)
+place_across_it : (axis : Axis) (at z v : ℤ) → place_along (other_than axis) (place_on axis at z v) ≡ at
+place_across_it X at z v = refl
+place_across_it Y at z v = refl
 
-    high : (a y r at : ℤ) → y ≤ℤ a → (at -ℤ r) ≤ℤ y → at ≤ℤ (a +ℤ r)
-    high a y r at h k = omega (arith, ints)
-reached_beside Y tri at r v m = (low _ m.x r at m.in_first.right m.in_second.left, high _ m.x r at m.in_first.left m.in_second.right)
-  where
-    low : (a y r at : ℤ) → a ≤ℤ y → y ≤ℤ (at +ℤ r) → (a -ℤ r) ≤ℤ at
-    low a y r at h k = omega (arith, ints)
+module _ (cutter : Cutter) (tri : Tri) (fiber : Fiber) (r : ℤ) (ok : IsCutter cutter) (reach : IsReachForTri cutter fiber.z r tri) where
+  touched_near : (axis : Axis) (extent : Run) (v : ℤ) → IsExtentOver axis fiber.z tri extent → IsTouched cutter tri fiber v
+      → ((extent.first -ℤ r) ≤ℤ place_along axis (tip_on fiber v)) × (place_along axis (tip_on fiber v) ≤ℤ (extent.last +ℤ r))
+  touched_near axis extent v holds t =
+      let height = height_on fiber.axis fiber.at fiber.z v in
+      touching_near cutter tri (tip_on fiber v) r axis extent ok (subst (λ (z : ℤ). IsReachForTri cutter z r tri) (sym height) reach)
+      (subst (λ (z : ℤ). IsExtentOver axis z tri extent) (sym height) holds) t
 
-    high : (a y r at : ℤ) → y ≤ℤ a → (at -ℤ r) ≤ℤ y → at ≤ℤ (a +ℤ r)
-    high a y r at h k = omega (arith, ints)
+  -- a triangle whose part over the height is farther beside the fiber is touched nowhere
+  module _ (extent : Run) (v : ℤ) (holds : IsExtentOver (other_than fiber.axis) fiber.z tri extent) where
+    pub beside_before : fiber.at <ℤ (extent.first -ℤ r) → ¬ IsTouched cutter tri fiber v
+    beside_before h t = against fiber.at (extent.first -ℤ r) (subst (λ (a : ℤ). (extent.first -ℤ r) ≤ℤ a) (place_across_it fiber.axis fiber.at fiber.z v) (touched_near (other_than fiber.axis) extent v holds t).0) h
+      where
+        against : (a b : ℤ) → b ≤ℤ a → a <ℤ b → ⊥
+        against a b h k = omega (arith, ints)
 
-module _ (cutter : Cutter) (tri : Tri) (fiber : Fiber) (r : ℤ) (reach : IsReachForTri cutter fiber.z r tri) where
-  -- a triangle that is farther beside the fiber is touched nowhere
-  pub beside_before : (low v : ℤ) → low ≡ (extent_along (other_than fiber.axis) tri).first -ℤ r → fiber.at <ℤ low → ¬ IsTouched cutter tri fiber v
-  beside_before low v e h t =
-      let same : v ≤ℤ v = omega (arith, ints) in
-      let near = reached_beside fiber.axis tri fiber.at r v (touched_meets cutter tri fiber r v v v reach same same t) in
-      against fiber.at low (subst (λ (l : ℤ). l ≤ℤ fiber.at) (sym e) near.0) h
-    where
-      against : (a b : ℤ) → b ≤ℤ a → a <ℤ b → ⊥
-      against a b h k = omega (arith, ints)
-
-  pub beside_after : (high v : ℤ) → high ≡ (extent_along (other_than fiber.axis) tri).last +ℤ r → high <ℤ fiber.at → ¬ IsTouched cutter tri fiber v
-  beside_after high v e h t =
-      let same : v ≤ℤ v = omega (arith, ints) in
-      let near = reached_beside fiber.axis tri fiber.at r v (touched_meets cutter tri fiber r v v v reach same same t) in
-      against high fiber.at (subst (λ (l : ℤ). fiber.at ≤ℤ l) (sym e) near.1) h
-    where
-      against : (a b : ℤ) → b ≤ℤ a → a <ℤ b → ⊥
-      against a b h k = omega (arith, ints)
-
-  touched_within : (v : ℤ) → IsTouched cutter tri fiber v → (((extent_along fiber.axis tri).first -ℤ r) ≤ℤ v) × (v ≤ℤ ((extent_along fiber.axis tri).last +ℤ r))
-  touched_within v t =
-      let same : v ≤ℤ v = omega (arith, ints) in
-      reached fiber.axis tri fiber.at r v (touched_meets cutter tri fiber r v v v reach same same t)
+    pub beside_after : (extent.last +ℤ r) <ℤ fiber.at → ¬ IsTouched cutter tri fiber v
+    beside_after h t = against (extent.last +ℤ r) fiber.at (subst (λ (a : ℤ). a ≤ℤ (extent.last +ℤ r)) (place_across_it fiber.axis fiber.at fiber.z v) (touched_near (other_than fiber.axis) extent v holds t).1) h
+      where
+        against : (a b : ℤ) → b ≤ℤ a → a <ℤ b → ⊥
+        against a b h k = omega (arith, ints)
 
   -- the triangle's window
-  pub window_is : (from to low high : ℤ) → low ≡ (extent_along fiber.axis tri).first -ℤ r → high ≡ (extent_along fiber.axis tri).last +ℤ r
-      → IsWindow cutter tri fiber from to (record { first = int_max from low; last = int_min to high })
-  window_is from to low high e f = record {
+  pub window_is : (from to : ℤ) (extent : Run) → IsExtentOver fiber.axis fiber.z tri extent → IsWindow cutter tri fiber from to (record { first = int_max from (extent.first -ℤ r); last = int_min to (extent.last +ℤ r) })
+  window_is from to extent holds = record {
     after = grind (arith, ints);
     within = grind (arith, ints);
-    before = λ v a b t. under from low v (subst (λ (l : ℤ). l ≤ℤ v) (sym e) (touched_within v t).0) a b;
-    beyond = λ v a b t. over to high v (subst (λ (h : ℤ). v ≤ℤ h) (sym f) (touched_within v t).1) a b;
+    before = λ v a b t. under from (extent.first -ℤ r) v (subst (λ (x : ℤ). (extent.first -ℤ r) ≤ℤ x) (place_along_it fiber.axis fiber.at fiber.z v) (touched_near fiber.axis extent v holds t).0) a b;
+    beyond = λ v a b t. over to (extent.last +ℤ r) v (subst (λ (x : ℤ). x ≤ℤ (extent.last +ℤ r)) (place_along_it fiber.axis fiber.at fiber.z v) (touched_near fiber.axis extent v holds t).1) a b;
   }
     where
       under : (from low v : ℤ) → low ≤ℤ v → from ≤ℤ v → v <ℤ int_max from low → ⊥

@@ -11,6 +11,7 @@
 
 mod contact;
 mod ends;
+mod extent;
 mod fiber;
 mod inside;
 mod known;

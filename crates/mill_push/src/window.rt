@@ -6,8 +6,9 @@ ghost use Rattle.mill_push.specs.Fibers.{IsTouched};
 ghost use Rattle.mill_push.specs.inner.Known.{IsRunInRange, IsWindow};
 ghost use Rattle.mill_push.specs.inner.Pushers.{IsPusher};
 ghost use Rattle.mill_push.specs.inner.Reaches.{IsReachForTri};
-ghost use Rattle.mill_push.specs.inner.Windows.{extent_along, extent_of, other_than};
+ghost use Rattle.mill_push.specs.inner.Windows.{extent_of, other_than};
 
+use crate::extent::extent_over;
 use crate::fiber::Run;
 use crate::reach::reach_up_to;
 use crate::stretch::Pusher;
@@ -15,8 +16,8 @@ use mill_base::Tri;
 use mill_geom::Axis;
 
 impl Pusher {
-    /// The positions from `from` to `to` at which the triangle's box is within the cutter's reach for
-    /// what the triangle has: at no other is the triangle touched.
+    /// The positions from `from` to `to` at which what the triangle has over the fiber's height is
+    /// within the cutter's reach for it: at no other is the triangle touched.
     pub fn window(self, tri: &Tri, from: i32, to: i32) -> Run
         requires self_ok { IsPusher self }
         requires tri_ok { TriInRange tri.now }
@@ -33,7 +34,7 @@ impl Pusher {
                 last: from,
             };
         }
-        let extent = extent(tri, self.fiber.axis);
+        let extent = extent_over(tri, self.fiber.axis, self.fiber.z);
         Run {
             first: from.max(extent.first - reach),
             last: to.min(extent.last + reach),
@@ -50,14 +51,15 @@ impl Pusher {
         reach_up_to(self.cutter, self.fiber.z, heights.last)
     }
 
-    /// Whether the triangle's box is farther beside the fiber than the reach: it is touched nowhere.
+    /// Whether what the triangle has over the fiber's height is farther beside the fiber than the
+    /// reach: it is touched nowhere.
     fn is_beside(self, tri: &Tri, reach: i32) -> bool
         requires self_ok { IsPusher self }
         requires tri_ok { TriInRange tri.now }
         requires reach_ok { IsReachForTri self.cutter self.fiber.z reach tri.now }
         ensures { IsTrue result → (v : ℤ) → ¬ IsTouched self.cutter tri.now self.fiber v }
     {
-        let across = extent(tri, other(self.fiber.axis));
+        let across = extent_over(tri, other(self.fiber.axis), self.fiber.z);
         let at = self.fiber.at;
         across.first - reach > at || across.last + reach < at
     }
@@ -70,18 +72,6 @@ fn other(axis: Axis) -> Axis
     match axis {
         Axis::X => Axis::Y,
         Axis::Y => Axis::X,
-    }
-}
-
-/// From the least to the greatest coordinate of the triangle's corners along the axis.
-fn extent(tri: &Tri, axis: Axis) -> Run
-    requires { TriInRange tri.now }
-    ensures value { result ≡ extent_along axis tri.now }
-    ensures in_range { IsRunInRange result }
-{
-    match axis {
-        Axis::X => extent_of_three(tri.a.x, tri.b.x, tri.c.x),
-        Axis::Y => extent_of_three(tri.a.y, tri.b.y, tri.c.y),
     }
 }
 

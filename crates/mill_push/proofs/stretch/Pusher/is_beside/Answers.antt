@@ -1,7 +1,5 @@
-use Rattle.std.proofs.Common.{ap, arith}
+use Rattle.std.proofs.Common.{arith}
 use Rattle.std.proofs.lemmas.Int.{ints}
-use lib.IntN.{◌+ℤ◌, ◌-ℤ◌}
-use Rattle.mill_push.specs.declared.fiber.Run.{Run}
 use Rattle.mill_push.proofs.Pushing.{about_by}
 use Rattle.mill_push.proofs.Stored.{stored, stored_reach}
 use Rattle.mill_push.proofs.Windows.{beside_after, beside_before, fits_about, most_for_tri}
@@ -12,16 +10,16 @@ overflow_sub-across c =
     let r = c.args.reach in
     let reach = c.requires.reach_ok in
     let most = most_for_tri c.args.self.cutter c.args.self.fiber.z r c.args.tri.now c.requires.self_ok.cutter_ok reach in
-    let first = c.extent-across.ensures.in_range.first_ok in
-    rw (stored c.extent-across.result.first first, stored_reach r reach.holds.least most) (fits_about r c.extent-across.result.first reach.holds.least most first).0
+    let first = c.extent_over-across.ensures.in_range.first_ok in
+    rw (stored c.extent_over-across.result.first first, stored_reach r reach.holds.least most) (fits_about r c.extent_over-across.result.first reach.holds.least most first).0
 
 pub overflow_add-result : goal.overflow_add-result
 overflow_add-result c =
     let r = c.args.reach in
     let reach = c.requires.reach_ok in
     let most = most_for_tri c.args.self.cutter c.args.self.fiber.z r c.args.tri.now c.requires.self_ok.cutter_ok reach in
-    let last = c.extent-across.ensures.in_range.last_ok in
-    rw (stored c.extent-across.result.last last, stored_reach r reach.holds.least most) (fits_about r c.extent-across.result.last reach.holds.least most last).1
+    let last = c.extent_over-across.ensures.in_range.last_ok in
+    rw (stored c.extent_over-across.result.last last, stored_reach r reach.holds.least most) (fits_about r c.extent_over-across.result.last reach.holds.least most last).1
 
 pub returns-then-across-reach : goal.returns-then-across-reach
 returns-then-across-reach c =
@@ -29,10 +27,10 @@ returns-then-across-reach c =
     let r = c.args.reach in
     let reach = c.requires.reach_ok in
     let most = most_for_tri p.cutter p.fiber.z r c.args.tri.now c.requires.self_ok.cutter_ok reach in
-    let low = about_by r c.extent-across.result.first reach.holds.least most c.extent-across.ensures.in_range.first_ok in
-    let value = rw c.other.ensures at c.extent-across.ensures.value in
+    let low = about_by r c.extent_over-across.result.first reach.holds.least most c.extent_over-across.ensures.in_range.first_ok in
+    let holds = rw (c.other.ensures, stored p.fiber.z c.requires.self_ok.fiber_ok.z_ok) at c.extent_over-across.ensures.extent in
     rw (stored p.fiber.at c.requires.self_ok.fiber_ok.at_ok, low.0)
-    (λ test v t. beside_before p.cutter c.args.tri.now p.fiber r reach (c.extent-across.result.first -ℤ r) v (ap (λ (run : Run). run.first -ℤ r) value) (omega (test, arith, ints)) t)
+    (λ test v t. beside_before p.cutter c.args.tri.now p.fiber r c.requires.self_ok.cutter_ok reach c.extent_over-across.result v holds (omega (test, arith, ints)) t)
 
 pub returns-else-across-reach : goal.returns-else-across-reach
 returns-else-across-reach c =
@@ -40,7 +38,7 @@ returns-else-across-reach c =
     let r = c.args.reach in
     let reach = c.requires.reach_ok in
     let most = most_for_tri p.cutter p.fiber.z r c.args.tri.now c.requires.self_ok.cutter_ok reach in
-    let high = about_by r c.extent-across.result.last reach.holds.least most c.extent-across.ensures.in_range.last_ok in
-    let value = rw c.other.ensures at c.extent-across.ensures.value in
+    let high = about_by r c.extent_over-across.result.last reach.holds.least most c.extent_over-across.ensures.in_range.last_ok in
+    let holds = rw (c.other.ensures, stored p.fiber.z c.requires.self_ok.fiber_ok.z_ok) at c.extent_over-across.ensures.extent in
     rw (stored p.fiber.at c.requires.self_ok.fiber_ok.at_ok, high.1)
-    (λ test v t. beside_after p.cutter c.args.tri.now p.fiber r reach (c.extent-across.result.last +ℤ r) v (ap (λ (run : Run). run.last +ℤ r) value) (omega (test, arith, ints)) t)
+    (λ test v t. beside_after p.cutter c.args.tri.now p.fiber r c.requires.self_ok.cutter_ok reach c.extent_over-across.result v holds (omega (test, arith, ints)) t)

@@ -1,7 +1,5 @@
-use Rattle.std.proofs.Common.{rules, ap, w32}
+use Rattle.std.proofs.Common.{rules, w32}
 use Rattle.std.proofs.lemmas.Int.{to_z-of_z}
-use lib.IntN.{◌+ℤ◌, ◌-ℤ◌}
-use Rattle.mill_push.specs.declared.fiber.Run.{Run}
 use Rattle.mill_push.proofs.Pushing.{about_by}
 use Rattle.mill_push.proofs.Stored.{stored, stored_reach}
 use Rattle.mill_push.proofs.Windows.{fits_about, most_for_tri, window_is, window_ok}
@@ -12,29 +10,29 @@ overflow_sub-extent c =
     let r = c.reach_for-reach.result in
     let reach = c.reach_for-reach.ensures in
     let most = most_for_tri c.args.self.cutter c.args.self.fiber.z r c.args.tri.now c.requires.self_ok.cutter_ok reach in
-    let first = c.extent-extent.ensures.in_range.first_ok in
-    rw (stored c.extent-extent.result.first first, stored_reach r reach.holds.least most) (fits_about r c.extent-extent.result.first reach.holds.least most first).0
+    let first = c.extent_over-extent.ensures.in_range.first_ok in
+    rw (stored c.extent_over-extent.result.first first, stored_reach r reach.holds.least most) (fits_about r c.extent_over-extent.result.first reach.holds.least most first).0
 
 pub overflow_add-extent : goal.overflow_add-extent
 overflow_add-extent c =
     let r = c.reach_for-reach.result in
     let reach = c.reach_for-reach.ensures in
     let most = most_for_tri c.args.self.cutter c.args.self.fiber.z r c.args.tri.now c.requires.self_ok.cutter_ok reach in
-    let last = c.extent-extent.ensures.in_range.last_ok in
-    rw (stored c.extent-extent.result.last last, stored_reach r reach.holds.least most) (fits_about r c.extent-extent.result.last reach.holds.least most last).1
+    let last = c.extent_over-extent.ensures.in_range.last_ok in
+    rw (stored c.extent_over-extent.result.last last, stored_reach r reach.holds.least most) (fits_about r c.extent_over-extent.result.last reach.holds.least most last).1
 
 pub returns-clause-in_range : goal.returns-clause-in_range
 returns-clause-in_range c =
     let r = c.reach_for-reach.result in
     let reach = c.reach_for-reach.ensures in
     let most = most_for_tri c.args.self.cutter c.args.self.fiber.z r c.args.tri.now c.requires.self_ok.cutter_ok reach in
-    let extent = c.extent-extent.ensures.in_range in
-    let low = about_by r c.extent-extent.result.first reach.holds.least most extent.first_ok in
-    let high = about_by r c.extent-extent.result.last reach.holds.least most extent.last_ok in
+    let extent = c.extent_over-extent.ensures.in_range in
+    let low = about_by r c.extent_over-extent.result.first reach.holds.least most extent.first_ok in
+    let high = about_by r c.extent_over-extent.result.last reach.holds.least most extent.last_ok in
     let first = rw (stored c.args.from c.requires.from_ok, low.0) at c.max.ensures.value in
     let last = rw (stored c.args.to c.requires.to_ok, high.1) at c.min.ensures.value in
     rw (to_z-of_z w32 c.max.result (search rules), to_z-of_z w32 c.min.result (search rules), first, last)
-    (window_ok r c.args.from c.args.to c.extent-extent.result.first c.extent-extent.result.last reach.holds.least c.requires.from_ok c.requires.to_ok extent.first_ok extent.last_ok)
+    (window_ok r c.args.from c.args.to c.extent_over-extent.result.first c.extent_over-extent.result.last reach.holds.least c.requires.from_ok c.requires.to_ok extent.first_ok extent.last_ok)
 
 pub returns-clause-window : goal.returns-clause-window
 returns-clause-window c =
@@ -42,11 +40,11 @@ returns-clause-window c =
     let r = c.reach_for-reach.result in
     let reach = c.reach_for-reach.ensures in
     let most = most_for_tri p.cutter p.fiber.z r c.args.tri.now c.requires.self_ok.cutter_ok reach in
-    let extent = c.extent-extent.ensures.in_range in
-    let low = about_by r c.extent-extent.result.first reach.holds.least most extent.first_ok in
-    let high = about_by r c.extent-extent.result.last reach.holds.least most extent.last_ok in
+    let extent = c.extent_over-extent.ensures.in_range in
+    let low = about_by r c.extent_over-extent.result.first reach.holds.least most extent.first_ok in
+    let high = about_by r c.extent_over-extent.result.last reach.holds.least most extent.last_ok in
     let first = rw (stored c.args.from c.requires.from_ok, low.0) at c.max.ensures.value in
     let last = rw (stored c.args.to c.requires.to_ok, high.1) at c.min.ensures.value in
-    let value = c.extent-extent.ensures.value in
+    let holds = rw (stored p.fiber.z c.requires.self_ok.fiber_ok.z_ok) at c.extent_over-extent.ensures.extent in
     rw (to_z-of_z w32 c.max.result (search rules), to_z-of_z w32 c.min.result (search rules), first, last)
-    (window_is p.cutter c.args.tri.now p.fiber r reach c.args.from c.args.to (c.extent-extent.result.first -ℤ r) (c.extent-extent.result.last +ℤ r) (ap (λ (run : Run). run.first -ℤ r) value) (ap (λ (run : Run). run.last +ℤ r) value))
+    (window_is p.cutter c.args.tri.now p.fiber r c.requires.self_ok.cutter_ok reach c.args.from c.args.to c.extent_over-extent.result holds)
