@@ -107,6 +107,7 @@ fn last() -> Blend
 
 /// Whether a point of the segment is inside the cutter's cylinder, where the last end is over the
 /// height of the rim.
+#[inline(never)]
 fn hits_upper(p: Corner, q: Corner, cone: Cone) -> bool
     requires p_ok { CornerInRange p }
     requires q_ok { CornerInRange q }
@@ -122,6 +123,7 @@ fn hits_upper(p: Corner, q: Corner, cone: Cone) -> bool
 
 /// Whether a point of the segment is inside the cutter's cone, where the last end is over the tip
 /// and not under the first, and some point is under the height of the rim.
+#[inline(never)]
 fn hits_lower(p: Corner, q: Corner, cone: Cone) -> bool
     requires p_ok { CornerInRange p }
     requires q_ok { CornerInRange q }
@@ -142,6 +144,7 @@ fn hits_lower(p: Corner, q: Corner, cone: Cone) -> bool
 
 /// Whether a point of the segment is inside the cutter's cylinder, where both ends are at or over the
 /// height of the rim and neither is in the cutter.
+#[inline(never)]
 fn passes_cylinder(p: Corner, q: Corner, cone: Cone) -> bool
     requires p_ok { CornerInRange p }
     requires q_ok { CornerInRange q }
@@ -207,6 +210,7 @@ fn enters_cone(p: Corner, q: Corner, cone: Cone) -> bool
 
 /// Whether a point of the segment is inside the cutter's cone, where the last end is over the tip, not
 /// over the height of the rim and not under the first, and no end is in the cutter.
+#[inline(always)]
 fn crosses_cone(p: Corner, q: Corner, cone: Cone) -> bool
     requires p_ok { CornerInRange p }
     requires q_ok { CornerInRange q }
@@ -229,6 +233,7 @@ fn crosses_cone(p: Corner, q: Corner, cone: Cone) -> bool
 
 /// Whether some point of the segment is strictly inside the cone cutter, where its last end isn't
 /// lower than its first, and neither is in the cutter.
+#[inline(always)]
 fn touches_rising(p: Corner, q: Corner, cone: Cone) -> bool
     requires p_ok { CornerInRange p }
     requires q_ok { CornerInRange q }
@@ -257,6 +262,7 @@ fn touches_rising(p: Corner, q: Corner, cone: Cone) -> bool
 }
 
 /// Whether some point of the segment is strictly inside the cone cutter, where neither end is.
+#[inline(always)]
 pub fn touches_edge(p: Corner, q: Corner, cone: Cone) -> bool
     requires p_ok { CornerInRange p }
     requires q_ok { CornerInRange q }
