@@ -1,7 +1,7 @@
 -- Polynomial facts behind the lemmas on edges of which no end is in the cone cutter.
 -- Written by tools/certificates.py from tools/certificates/mill_contact_cone_passes.spec.
 use Rattle.std.proofs.Common.{◌≡◌, [], ◌∷◌, refl}
-use lib.IntN.{ℤ, pos, negsuc, ◌+ℤ◌, ◌-ℤ◌, ◌*ℤ◌}
+use lib.IntN.{ℤ, pos, ◌+ℤ◌, ◌-ℤ◌, ◌*ℤ◌}
 use lib.Signed.{◌<ℤ◌, ◌≤ℤ◌}
 use Rattle.mill_base.proofs.Ring.{Var, Num, Add, Sub, Mul, Neg, ring}
 use Rattle.mill_base.proofs.Cert.{Le, Lt, Eq, Hyp, TimesEq, Sq, Lit, Plus, Times, prove_le_by, prove_lt_by}

@@ -10,7 +10,7 @@ use Rattle.mill_contact_cone.specs.declared.quadratic.Form.{Form}
 use Rattle.mill_contact_cone.specs.declared.quadratic.Blend.{Blend}
 use Rattle.mill_contact_cone.specs.Cones.{IsCone, IsCornerOf, HitsUpper, HitsLower}
 use Rattle.mill_contact_cone.specs.inner.Clears.{apart_of, HoldsCorner}
-use Rattle.mill_contact_cone.specs.inner.Quadratics.{polar_of, upper_of, lower_of, slant_of, IsUpperForm, IsLowerForm, IsStart}
+use Rattle.mill_contact_cone.specs.inner.Quadratics.{polar_of, upper_of, lower_of, slant_of, IsUpperForm, IsLowerForm, IsUpperEdge, IsLowerEdge, IsStart}
 use Rattle.mill_contact_cone.proofs.Sizes.{radius_positive, rise_positive, run_positive}
 use Rattle.mill_contact_cone.proofs.Parts.{part_found, part_shows}
 use Rattle.mill_contact_cone.proofs.Zones.{squares, part_upper, upper_part, upper_apart, part_lower, lower_part, lower_apart}
@@ -34,9 +34,6 @@ less_of x y e h = omega (arith, ints)
 
 pub not_less : (x : ℤ) → (pos 0) ≤ℤ x → x <ℤ pos 0 → ⊥
 not_less x h k = omega (arith, ints)
-
-pub rises : (x y : ℤ) → x <ℤ pos 0 → (pos 0) <ℤ y → x ≤ℤ y
-rises x y h k = omega (arith, ints)
 
 -- a product as the program compares it
 pub is_least : (x y : ℤ) → x ≡ y → le_z (pos 0) x ≡ true → (pos 0) ≤ℤ y
@@ -166,3 +163,20 @@ high_no k p q f g ep eq i hp hq p_out q_out none t =
         | inr x ↦ none (less_of _ f.h (sym i.h_is) (less_of f.h _ (sym (first_last f.a f.h f.b)) x.0)) x.1
       ]
     ]
+
+-- ---- as the program finds it
+
+pub lower_edge_is : (k : Cone) (p q : Corner) → IsCornerOf k p → IsCornerOf k q → p.z ≤ℤ q.z → le_z q.z (pos 0) ≡ false → le_z q.over (pos 0) ≡ true → IsLowerEdge k p q
+lower_edge_is k p q ep eq rising up under = record { p_is = ep; q_is = eq; rising = rising; q_up = above q.z up; under = at_most q.over under }
+  where
+    above : (x : ℤ) → le_z x (pos 0) ≡ false → (pos 0) <ℤ x
+    above x e = omega (e, arith, ints)
+
+    at_most : (x : ℤ) → le_z x (pos 0) ≡ true → x ≤ℤ pos 0
+    at_most x e = omega (e, arith, ints)
+
+pub upper_edge_is : (k : Cone) (p q : Corner) → IsCornerOf k p → IsCornerOf k q → le_z (pos 0) p.over ≡ true → le_z q.over (pos 0) ≡ false → IsUpperEdge k p q
+upper_edge_is k p q ep eq hp hq = record { p_is = ep; q_is = eq; p_over = is_least p.over p.over refl hp; q_over = above q.over hq }
+  where
+    above : (x : ℤ) → le_z x (pos 0) ≡ false → (pos 0) <ℤ x
+    above x e = omega (e, arith, ints)

@@ -4,7 +4,7 @@ ghost use Rattle.mill_geom.specs.Widths.{most_lift};
 ghost use Rattle.mill_contact_cone.specs.inner.Widths.{most_cone_form, most_slant};
 ghost use Rattle.mill_contact_cone.specs.Cones.{IsCone, IsCornerOf, CornerInRange, TouchesEdge, HitsUpper, HitsLower};
 ghost use Rattle.mill_contact_cone.specs.inner.Clears.{HoldsCorner};
-ghost use Rattle.mill_contact_cone.specs.inner.Quadratics.{FormInRange, BlendInRange, IsUpperForm, IsLowerForm, upper_of, lower_of, slant_of, IsStart};
+ghost use Rattle.mill_contact_cone.specs.inner.Quadratics.{FormInRange, BlendInRange, IsUpperForm, IsLowerForm, IsUpperEdge, IsLowerEdge, upper_of, lower_of, slant_of, IsStart};
 
 use crate::corner::{Cone, Corner};
 use crate::quadratic::{Blend, Form, has_both_signs, hits_between};
@@ -149,10 +149,7 @@ fn passes_cylinder(p: Corner, q: Corner, cone: Cone) -> bool
     requires p_ok { CornerInRange p }
     requires q_ok { CornerInRange q }
     requires cone_ok { IsCone cone }
-    requires p_is { IsCornerOf cone p }
-    requires q_is { IsCornerOf cone q }
-    requires p_over { pos 0 ≤ℤ p.over }
-    requires q_over { pos 0 <ℤ q.over }
+    requires edge { IsUpperEdge cone p q }
     requires p_out { ¬ HoldsCorner cone p }
     requires q_out { ¬ HoldsCorner cone q }
     ensures yes { IsTrue result → HitsUpper cone p q }
@@ -170,12 +167,8 @@ fn passes_cone(p: Corner, q: Corner, cone: Cone) -> bool
     requires p_ok { CornerInRange p }
     requires q_ok { CornerInRange q }
     requires cone_ok { IsCone cone }
-    requires p_is { IsCornerOf cone p }
-    requires q_is { IsCornerOf cone q }
+    requires edge { IsLowerEdge cone p q }
     requires p_up { pos 0 ≤ℤ p.z }
-    requires rising { p.z ≤ℤ q.z }
-    requires q_up { pos 0 <ℤ q.z }
-    requires under { q.over ≤ℤ pos 0 }
     requires p_out { ¬ HoldsCorner cone p }
     requires q_out { ¬ HoldsCorner cone q }
     ensures yes { IsTrue result → HitsLower cone p q }
@@ -193,11 +186,8 @@ fn enters_cone(p: Corner, q: Corner, cone: Cone) -> bool
     requires p_ok { CornerInRange p }
     requires q_ok { CornerInRange q }
     requires cone_ok { IsCone cone }
-    requires p_is { IsCornerOf cone p }
-    requires q_is { IsCornerOf cone q }
+    requires edge { IsLowerEdge cone p q }
     requires p_down { p.z <ℤ pos 0 }
-    requires q_up { pos 0 <ℤ q.z }
-    requires under { q.over ≤ℤ pos 0 }
     requires q_out { ¬ HoldsCorner cone q }
     ensures yes { IsTrue result → HitsLower cone p q }
     ensures no { result ≡ false → ¬ HitsLower cone p q }
@@ -215,11 +205,7 @@ fn crosses_cone(p: Corner, q: Corner, cone: Cone) -> bool
     requires p_ok { CornerInRange p }
     requires q_ok { CornerInRange q }
     requires cone_ok { IsCone cone }
-    requires p_is { IsCornerOf cone p }
-    requires q_is { IsCornerOf cone q }
-    requires rising { p.z ≤ℤ q.z }
-    requires q_up { pos 0 <ℤ q.z }
-    requires under { q.over ≤ℤ pos 0 }
+    requires edge { IsLowerEdge cone p q }
     requires p_out { ¬ HoldsCorner cone p }
     requires q_out { ¬ HoldsCorner cone q }
     ensures yes { IsTrue result → HitsLower cone p q }

@@ -2,6 +2,7 @@
 use Rattle.std.specs.Prelude.{◌≡◌, ◌⊎◌, ℤ, pos, ◌+ℤ◌, ◌-ℤ◌, ◌*ℤ◌, ◌<ℤ◌, ◌≤ℤ◌}
 use Rattle.mill_base.specs.Numbers.{Within}
 use Rattle.mill_geom.specs.Widths.{most_lift}
+use Rattle.mill_contact_cone.specs.Cones.{IsCornerOf}
 use Rattle.mill_contact_cone.specs.inner.Widths.{most_cone_form}
 use Rattle.mill_contact_cone.specs.declared.corner.Cone.{Cone}
 use Rattle.mill_contact_cone.specs.declared.corner.Corner.{Corner}
@@ -70,3 +71,18 @@ slant_of p q = q.z *ℤ (p.x *ℤ q.x +ℤ p.y *ℤ q.y) -ℤ p.z *ℤ (q.x *ℤ
 -- where a quantity that is f at the first end and g at the last begins not to be negative: at the first end, or where it is 0
 abbrev pub IsStart : ℤ → ℤ → Blend → Type 0
 IsStart f g p = (((pos 0) ≤ℤ f) × ((p.u ≡ pos 1) × (p.v ≡ pos 0))) ⊎ ((f <ℤ pos 0) × ((p.u ≡ g) × (p.v ≡ pos 0 -ℤ f)))
+
+-- a segment of the cone's corners whose last end isn't lower than its first, and is over the tip and not over the height of the rim
+pub record IsLowerEdge (k : Cone) (p q : Corner) : Type 0 where
+  pub p_is : IsCornerOf k p
+  pub q_is : IsCornerOf k q
+  pub rising : p.z ≤ℤ q.z
+  pub q_up : (pos 0) <ℤ q.z
+  pub under : q.over ≤ℤ pos 0
+
+-- a segment of the cone's corners whose ends are at or over the height of the rim, and the last one over it
+pub record IsUpperEdge (k : Cone) (p q : Corner) : Type 0 where
+  pub p_is : IsCornerOf k p
+  pub q_is : IsCornerOf k q
+  pub p_over : (pos 0) ≤ℤ p.over
+  pub q_over : (pos 0) <ℤ q.over

@@ -1,6 +1,6 @@
 use Rattle.std.proofs.Common.{inl, refl, sym, ◌∙◌, w64}
 use Rattle.std.proofs.lemmas.Bool.{false≢true}
-use Rattle.mill_contact_cone.proofs.Passes.{lower_form_of, is_lower, enters_yes, enters_no, is_least, is_less, not_less, rises}
+use Rattle.mill_contact_cone.proofs.Passes.{lower_form_of, is_lower, enters_yes, enters_no, is_least, is_less, not_less}
 use Rattle.mill_contact_cone.proofs.Stored.{kept_in}
 use Rattle.mill_contact_cone.proofs.Zones.{lower_under}
 use Rattle.mill_contact_cone.proofs.edge.enters_cone.Goals as goal
@@ -9,16 +9,16 @@ pub returns-then-slant-ge0-clause-no : goal.returns-then-slant-ge0-clause-no
 returns-then-slant-ge0-clause-no c = λ h.
     let slant = kept_in w64 _ _ c.slant.ensures.bound refl in
     let least = is_least _ _ c.slant.ensures.value (rw slant at c.if-slant-ge0.true) in
-    enters_no c.args.cone c.args.p c.args.q (lower_form_of c.args.cone c.args.p c.args.q) c.requires.cone_ok c.requires.p_is c.requires.q_is (is_lower c.args.cone c.args.p c.args.q) c.requires.p_down c.requires.q_up c.requires.under c.requires.q_out (λ x y. not_less _ least x)
+    enters_no c.args.cone c.args.p c.args.q (lower_form_of c.args.cone c.args.p c.args.q) c.requires.cone_ok c.requires.edge.p_is c.requires.edge.q_is (is_lower c.args.cone c.args.p c.args.q) c.requires.p_down c.requires.edge.q_up c.requires.edge.under c.requires.q_out (λ x y. not_less _ least x)
 
 pub returns-clause-yes : goal.returns-clause-yes
 returns-clause-yes c = λ h.
     let slant = kept_in w64 _ _ c.slant.ensures.bound refl in
     let less = is_less _ _ c.slant.ensures.value (rw slant at c.if-slant-ge0.false) in
-    let under = lower_under c.args.cone c.args.p c.args.q c.requires.cone_ok c.requires.p_is c.requires.q_is (rises _ _ c.requires.p_down c.requires.q_up) (inl c.requires.under) in
-    enters_yes c.args.cone c.args.p c.args.q c.lower_form.result c.requires.cone_ok c.requires.p_is c.requires.q_is c.lower_form.ensures.value c.requires.p_down c.requires.q_up under c.requires.under less (c.has_both_signs.ensures.0 h)
+    let under = lower_under c.args.cone c.args.p c.args.q c.requires.cone_ok c.requires.edge.p_is c.requires.edge.q_is c.requires.edge.rising (inl c.requires.edge.under) in
+    enters_yes c.args.cone c.args.p c.args.q c.lower_form.result c.requires.cone_ok c.requires.edge.p_is c.requires.edge.q_is c.lower_form.ensures.value c.requires.p_down c.requires.edge.q_up under c.requires.edge.under less (c.has_both_signs.ensures.0 h)
 
 pub returns-clause-no : goal.returns-clause-no
 returns-clause-no c = λ h.
-    enters_no c.args.cone c.args.p c.args.q c.lower_form.result c.requires.cone_ok c.requires.p_is c.requires.q_is c.lower_form.ensures.value c.requires.p_down c.requires.q_up c.requires.under c.requires.q_out
+    enters_no c.args.cone c.args.p c.args.q c.lower_form.result c.requires.cone_ok c.requires.edge.p_is c.requires.edge.q_is c.lower_form.ensures.value c.requires.p_down c.requires.edge.q_up c.requires.edge.under c.requires.q_out
     (λ x y. false≢true (sym h ∙ c.has_both_signs.ensures.1 y))

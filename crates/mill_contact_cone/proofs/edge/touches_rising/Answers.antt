@@ -1,6 +1,7 @@
 use Rattle.std.proofs.Common.{inr, arith}
 use Rattle.std.proofs.lemmas.Int.{ints}
 use Rattle.mill_contact_cone.proofs.Zones.{upper_edge, lower_edge, edge_under, edge_low, edge_high, edge_both}
+use Rattle.mill_contact_cone.proofs.Passes.{lower_edge_is, upper_edge_is}
 use Rattle.mill_contact_cone.proofs.Stored.{z_kept, over_kept}
 use Rattle.mill_contact_cone.proofs.edge.touches_rising.Goals as goal
 
@@ -39,3 +40,11 @@ pub hits_lower-requires-clause-under : goal.hits_lower-requires-clause-under
 hits_lower-requires-clause-under c =
     let p_low = rw (over_kept c.args.p c.requires.p_ok) at c.if-p-ge0.false in
     inr (omega (arith, ints))
+
+pub crosses_cone-requires-clause-edge : goal.crosses_cone-requires-clause-edge
+crosses_cone-requires-clause-edge c =
+    lower_edge_is c.args.cone c.args.p c.args.q c.requires.p_is c.requires.q_is c.requires.rising (rw (z_kept c.args.q c.requires.q_ok) at c.if-q-le0.false) (rw (over_kept c.args.q c.requires.q_ok) at c.if-q-le0-2.true)
+
+pub passes_cylinder-requires-clause-edge : goal.passes_cylinder-requires-clause-edge
+passes_cylinder-requires-clause-edge c =
+    upper_edge_is c.args.cone c.args.p c.args.q c.requires.p_is c.requires.q_is (rw (over_kept c.args.p c.requires.p_ok) at c.if-p-ge0.true) (rw (over_kept c.args.q c.requires.q_ok) at c.if-q-le0-2.false)
