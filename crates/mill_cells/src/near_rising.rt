@@ -47,6 +47,7 @@ impl<'a> NearRising<'a> {
     ///
     /// The height, in units, may be another one in each call. Triangles that aren't over
     /// it are passed over and don't come in a later call, so a height that rises leaves out none.
+    #[inline(always)]
     pub fn next_over(&mut self, height: i32) -> Option<u32>
         ensures { MatchOption result (NoneComes height self.old self.new) (λ i. Comes height self.old i self.new) }
     {

@@ -105,6 +105,7 @@ pub fn touch(tri: &Tri, cutter: Cutter, tip: Pt3, axis: Axis) -> Touch
 
 /// Whether some point of the triangle is in the ball about the origin or in the cylinder over it. Of
 /// most triangles none is: their boxes show it.
+#[inline(always)]
 fn meets_here(a: Offset, b: Offset, c: Offset, radius: i64) -> bool
     requires a_ok { OffsetInRange a }
     requires b_ok { OffsetInRange b }
@@ -122,6 +123,7 @@ fn meets_here(a: Offset, b: Offset, c: Offset, radius: i64) -> bool
 
 /// Whether some point of the triangle is strictly inside the ball cutter of `radius` with its tip at
 /// `tip`.
+#[inline(always)]
 fn holds_some(tri: &Tri, radius: i32, tip: Pt3) -> bool
     requires tri_ok { TriInRange tri.now }
     requires radius_ok { HasRadius radius MAX_WIDE_RADIUS }
@@ -138,6 +140,7 @@ fn holds_some(tri: &Tri, radius: i32, tip: Pt3) -> bool
 /// Whether some point of the triangle is strictly inside the ball cutter with its tip at `tip`.
 ///
 /// The cutter is a ball. Lengths are in units. Corners may be equal or collinear.
+#[inline(always)]
 pub fn is_inside(tri: &Tri, cutter: Cutter, tip: Pt3) -> bool
     requires tri_ok { TriInRange tri.now }
     requires cutter_ok { IsWideCutter cutter }

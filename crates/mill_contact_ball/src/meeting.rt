@@ -13,6 +13,7 @@ use mill_geom::{Offset, Side, side, touches_triangle};
 
 /// Whether some point of the triangle is nearer to the origin than the radius, or over the origin
 /// and nearer than the radius to the vertical axis through it.
+#[inline(always)]
 pub fn meets_ball(a: Offset, b: Offset, c: Offset, radius: i64) -> bool
     requires a_ok { OffsetInRange a }
     requires b_ok { OffsetInRange b }

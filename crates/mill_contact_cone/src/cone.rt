@@ -40,6 +40,7 @@ fn touches_some_edge(a: Corner, b: Corner, c: Corner, cone: Cone) -> bool
 }
 
 /// Whether some point of the triangle is strictly inside the cone cutter, where no corner is.
+#[inline(always)]
 fn touches_cone(a: Corner, b: Corner, c: Corner, cone: Cone) -> bool
     requires a_ok { CornerInRange a }
     requires b_ok { CornerInRange b }
@@ -63,6 +64,7 @@ fn touches_cone(a: Corner, b: Corner, c: Corner, cone: Cone) -> bool
 
 /// Whether some point of the triangle is strictly inside the cone cutter, from the box and the corners
 /// alone wherever they show it.
+#[inline(always)]
 fn has_inside(a: Corner, b: Corner, c: Corner, cone: Cone) -> bool
     requires a_ok { CornerInRange a }
     requires b_ok { CornerInRange b }
@@ -133,6 +135,7 @@ fn cone_of(radius: i32, rise: i32, run: i32) -> Cone
 }
 
 /// Whether some point of the triangle is strictly inside the cone cutter with its tip at `tip`.
+#[inline(always)]
 fn is_inside_cone(tri: &Tri, cone: Cone, tip: Pt3) -> bool
     requires tri_ok { TriInRange tri.now }
     requires cone_ok { IsCone cone }
@@ -151,6 +154,7 @@ fn is_inside_cone(tri: &Tri, cone: Cone, tip: Pt3) -> bool
 /// The cutter is a cone. Lengths are in units. Corners may be equal or collinear. A few
 /// 64-bit operations answer for a triangle whose box is clear of the cutter, and for one of which a
 /// corner is inside.
+#[inline(always)]
 pub fn is_inside(tri: &Tri, cutter: Cutter, tip: Pt3) -> bool
     requires tri_ok { TriInRange tri.now }
     requires cutter_ok { IsWideCutter cutter }

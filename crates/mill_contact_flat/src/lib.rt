@@ -131,6 +131,7 @@ fn is_less(gap: i64, radius: i64) -> bool
 
 /// Whether some point of the triangle is nearer to the axis than the radius and over the level. Most
 /// triangles aren't: their boxes show it.
+#[inline(always)]
 fn touches_here(a: Offset, b: Offset, c: Offset, radius: i64) -> bool
     requires a_ok { OffsetInRange a }
     requires b_ok { OffsetInRange b }
@@ -151,6 +152,7 @@ fn touches_here(a: Offset, b: Offset, c: Offset, radius: i64) -> bool
 
 /// Whether some point of the triangle is strictly inside the flat cutter of `radius` with its tip at
 /// `tip`.
+#[inline(always)]
 fn is_inside_flat(tri: &Tri, radius: i32, tip: Pt3) -> bool
     requires tri_ok { TriInRange tri.now }
     requires radius_ok { HasRadius radius MAX_WIDE_RADIUS }
@@ -167,6 +169,7 @@ fn is_inside_flat(tri: &Tri, radius: i32, tip: Pt3) -> bool
 /// Whether some point of the triangle is strictly inside the flat cutter with its tip at `tip`.
 ///
 /// The cutter is a flat. Lengths are in units. Corners may be equal or collinear.
+#[inline(always)]
 pub fn is_inside(tri: &Tri, cutter: Cutter, tip: Pt3) -> bool
     requires tri_ok { TriInRange tri.now }
     requires cutter_ok { IsWideCutter cutter }

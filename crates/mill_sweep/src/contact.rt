@@ -12,6 +12,9 @@ use mill_geom::{Axis, Touch};
 ///
 /// Each kind of cutter has a crate of its own, and this is the one place that chooses among them.
 /// Lengths are in units. Corners may be equal or collinear.
+// (in place of a call, with the contact crates' tests: where several loops test triangles by calls, a drop's
+// takes up to a quarter more instructions)
+#[inline(always)]
 pub fn holds_some(cutter: Cutter, tip: Pt3, tri: &Tri) -> bool
     requires cutter_ok { IsWideCutter cutter }
     requires tip_ok { IsCentre tip }
