@@ -13,8 +13,6 @@ pub mod Reaching
 pub mod Meeting
 pub mod Joining
 pub mod Sorting
-pub mod ExtentCerts
-pub mod Extents
 pub mod Windows
 pub mod Cutting
 pub mod Growing

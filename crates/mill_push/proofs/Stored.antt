@@ -1,7 +1,6 @@
 -- Positions as the machine stores them.
-use Rattle.std.proofs.Common.{◌≡◌, ◌<◌, w32, to_z, of_z, FitsSigned, false, ◌∙◌, arith}
+use Rattle.std.proofs.Common.{◌≡◌, ◌<◌, w32, to_z, of_z, false, arith}
 use Rattle.std.specs.Prelude.{nat_abs}
-use Rattle.std.specs.Int.{int_min, int_max}
 use Rattle.std.proofs.lemmas.Int.{ints, to_z-of_z, fits_signed_from_abs}
 use lib.IntN.{ℤ, pos, ◌+ℤ◌, ◌-ℤ◌}
 use lib.Signed.{◌≤ℤ◌, lt_z}
@@ -44,13 +43,6 @@ less_reach x r h a b = let w = h.within in small (x -ℤ r) (omega (arith, ints)
 
 pub and_reach : (x r : ℤ) → Within MAX_COORDINATE x → (pos 1) ≤ℤ r → r ≤ℤ pos 10000 → to_z w32 (of_z w32 (x +ℤ r)) ≡ x +ℤ r
 and_reach x r h a b = let w = h.within in small (x +ℤ r) (omega (arith, ints))
-
--- the lesser and the greater of two stored numbers
-pub least_stored : (m a b : ℤ) → FitsSigned w32 m → FitsSigned w32 a → FitsSigned w32 b → m ≡ int_min (to_z w32 (of_z w32 a)) (to_z w32 (of_z w32 b)) → to_z w32 (of_z w32 m) ≡ int_min a b
-least_stored m a b fm fa fb e = to_z-of_z w32 m fm ∙ (rw (to_z-of_z w32 a fa, to_z-of_z w32 b fb) at e)
-
-pub most_stored : (m a b : ℤ) → FitsSigned w32 m → FitsSigned w32 a → FitsSigned w32 b → m ≡ int_max (to_z w32 (of_z w32 a)) (to_z w32 (of_z w32 b)) → to_z w32 (of_z w32 m) ≡ int_max a b
-most_stored m a b fm fa fb e = to_z-of_z w32 m fm ∙ (rw (to_z-of_z w32 a fa, to_z-of_z w32 b fb) at e)
 
 -- how far it is from a to b
 pub difference : (a b : ℤ) → Within MAX_COORDINATE a → Within MAX_COORDINATE b → to_z w32 (of_z w32 (b -ℤ a)) ≡ b -ℤ a

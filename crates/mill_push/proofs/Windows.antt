@@ -14,6 +14,8 @@ use Rattle.mill_base.specs.declared.points.Tri.{Tri}
 use Rattle.mill_base.specs.declared.cutter.Cutter.{Cutter}
 use Rattle.mill_base.proofs.Integers.{one-mul-ℤ}
 use Rattle.mill_shape.proofs.Holding.{IsAround, holds_over_tip}
+use Rattle.mill_extent.specs.Extents.{IsExtentOver, IsPlaceIn, place_along}
+use Rattle.mill_extent.specs.declared.extent.Extent.{Extent}
 use Rattle.mill_geom.specs.declared.touch.Axis.{Axis}
 use Rattle.mill_geom.specs.declared.touch.Axis.TheVariants.{X, Y}
 use Rattle.mill_push.specs.declared.fiber.Fiber.{Fiber}
@@ -21,7 +23,7 @@ use Rattle.mill_push.specs.declared.fiber.Run.{Run}
 use Rattle.mill_push.specs.Fibers.{IsTouched, place_on, tip_on}
 use Rattle.mill_push.specs.inner.Known.{IsRunInRange, IsWindow}
 use Rattle.mill_push.specs.inner.Reaches.{IsReach, IsReachForTri}
-use Rattle.mill_push.specs.inner.Windows.{IsExtentOver, IsPlaceIn, extent_of, other_than, place_along}
+use Rattle.mill_push.specs.inner.Windows.{extent_of, other_than}
 use Rattle.mill_push.proofs.Meeting.{height_on, held_around, mean_under, side_down, side_up}
 use Rattle.mill_push.proofs.NearCerts.{reaches_down, reaches_up}
 use Rattle.mill_push.proofs.Pushing.{has_radius, most_radius}
@@ -81,11 +83,11 @@ window_ok r from to low high some h k l m = record {
     least : (to high r : ℤ) → nat_abs to ≤ 524287 → nat_abs high ≤ 524287 → (pos 1) ≤ℤ r → nat_abs (int_min to (high +ℤ r)) ≤ 524287
     least to high r h l a = grind (arith, ints)
 
--- a mean of places in a run that is nearer to x than r: x is no farther from the run
-near_run : (n x r p : ℤ) (run : Run) → (pos 0) <ℤ n → (p -ℤ n *ℤ x) <ℤ (r *ℤ n) → (n *ℤ x -ℤ p) <ℤ (r *ℤ n) → IsPlaceIn run n p → ((run.first -ℤ r) ≤ℤ x) × (x ≤ℤ (run.last +ℤ r))
-near_run n x r p run some up down place = (
-  by_lt_z run.first (x +ℤ r) (λ less. low run.first x r less) (λ ge. absurd (reaches_up n x r p run.first some up place.after ge)),
-  by_lt_z (x -ℤ r) run.last (λ less. high run.last x r less) (λ ge. absurd (reaches_down n x r p run.last some down place.before ge)),
+-- a mean of places in an extent that is nearer to x than r: x is no farther from the extent
+near_extent : (n x r p : ℤ) (extent : Extent) → (pos 0) <ℤ n → (p -ℤ n *ℤ x) <ℤ (r *ℤ n) → (n *ℤ x -ℤ p) <ℤ (r *ℤ n) → IsPlaceIn extent n p → ((extent.first -ℤ r) ≤ℤ x) × (x ≤ℤ (extent.last +ℤ r))
+near_extent n x r p extent some up down place = (
+  by_lt_z extent.first (x +ℤ r) (λ less. low extent.first x r less) (λ ge. absurd (reaches_up n x r p extent.first some up place.after ge)),
+  by_lt_z (x -ℤ r) extent.last (λ less. high extent.last x r less) (λ ge. absurd (reaches_down n x r p extent.last some down place.before ge)),
 )
   where
     low : (a x r : ℤ) → a <ℤ (x +ℤ r) → (a -ℤ r) ≤ℤ x
@@ -95,7 +97,7 @@ near_run n x r p run some up down place = (
     high a x r h = omega (arith, ints)
 
 -- the tip of a cutter that touches a triangle is within the reach of what the triangle has over it
-touching_near : (cutter : Cutter) (tri : Tri) (tip : Pt3) (r : ℤ) (axis : Axis) (extent : Run) → IsCutter cutter → IsReachForTri cutter tip.z r tri → IsExtentOver axis tip.z tri extent
+touching_near : (cutter : Cutter) (tri : Tri) (tip : Pt3) (r : ℤ) (axis : Axis) (extent : Extent) → IsCutter cutter → IsReachForTri cutter tip.z r tri → IsExtentOver axis tip.z tri extent
     → Touches cutter (pos 1) tip tri → ((extent.first -ℤ r) ≤ℤ place_along axis tip) × (place_along axis tip ≤ℤ (extent.last +ℤ r))
 touching_near cutter tri tip r axis extent ok reach holds t =
     let k = t.point in
@@ -107,10 +109,10 @@ touching_near cutter tri tip r axis extent ok reach holds t =
     by : (axis : Axis) → IsAround (r *ℤ (pos 1 *ℤ t.n)) (pos 1 *ℤ t.p.x -ℤ t.n *ℤ tip.x) (pos 1 *ℤ t.p.y -ℤ t.n *ℤ tip.y) → IsPlaceIn extent t.n (place_along axis t.p)
         → ((extent.first -ℤ r) ≤ℤ place_along axis tip) × (place_along axis tip ≤ℤ (extent.last +ℤ r))
     by X around place =
-        near_run t.n tip.x r t.p.x extent t.point.some (side_up t.p.x (pos 1 *ℤ t.p.x) t.n tip.x (pos 1 *ℤ t.n) r (one-mul-ℤ t.p.x) (one-mul-ℤ t.n) around.east)
+        near_extent t.n tip.x r t.p.x extent t.point.some (side_up t.p.x (pos 1 *ℤ t.p.x) t.n tip.x (pos 1 *ℤ t.n) r (one-mul-ℤ t.p.x) (one-mul-ℤ t.n) around.east)
         (side_down t.p.x (pos 1 *ℤ t.p.x) t.n tip.x (pos 1 *ℤ t.n) r (one-mul-ℤ t.p.x) (one-mul-ℤ t.n) around.west) place
     by Y around place =
-        near_run t.n tip.y r t.p.y extent t.point.some (side_up t.p.y (pos 1 *ℤ t.p.y) t.n tip.y (pos 1 *ℤ t.n) r (one-mul-ℤ t.p.y) (one-mul-ℤ t.n) around.north)
+        near_extent t.n tip.y r t.p.y extent t.point.some (side_up t.p.y (pos 1 *ℤ t.p.y) t.n tip.y (pos 1 *ℤ t.n) r (one-mul-ℤ t.p.y) (one-mul-ℤ t.n) around.north)
         (side_down t.p.y (pos 1 *ℤ t.p.y) t.n tip.y (pos 1 *ℤ t.n) r (one-mul-ℤ t.p.y) (one-mul-ℤ t.n) around.south) place
 
 -- where a tip of the fiber stands along it, and across it
@@ -123,7 +125,7 @@ place_across_it X at z v = refl
 place_across_it Y at z v = refl
 
 module _ (cutter : Cutter) (tri : Tri) (fiber : Fiber) (r : ℤ) (ok : IsCutter cutter) (reach : IsReachForTri cutter fiber.z r tri) where
-  touched_near : (axis : Axis) (extent : Run) (v : ℤ) → IsExtentOver axis fiber.z tri extent → IsTouched cutter tri fiber v
+  touched_near : (axis : Axis) (extent : Extent) (v : ℤ) → IsExtentOver axis fiber.z tri extent → IsTouched cutter tri fiber v
       → ((extent.first -ℤ r) ≤ℤ place_along axis (tip_on fiber v)) × (place_along axis (tip_on fiber v) ≤ℤ (extent.last +ℤ r))
   touched_near axis extent v holds t =
       let height = height_on fiber.axis fiber.at fiber.z v in
@@ -131,7 +133,7 @@ module _ (cutter : Cutter) (tri : Tri) (fiber : Fiber) (r : ℤ) (ok : IsCutter 
       (subst (λ (z : ℤ). IsExtentOver axis z tri extent) (sym height) holds) t
 
   -- a triangle whose part over the height is farther beside the fiber is touched nowhere
-  module _ (extent : Run) (v : ℤ) (holds : IsExtentOver (other_than fiber.axis) fiber.z tri extent) where
+  module _ (extent : Extent) (v : ℤ) (holds : IsExtentOver (other_than fiber.axis) fiber.z tri extent) where
     pub beside_before : fiber.at <ℤ (extent.first -ℤ r) → ¬ IsTouched cutter tri fiber v
     beside_before h t = against fiber.at (extent.first -ℤ r) (subst (λ (a : ℤ). (extent.first -ℤ r) ≤ℤ a) (place_across_it fiber.axis fiber.at fiber.z v) (touched_near (other_than fiber.axis) extent v holds t).0) h
       where
@@ -145,7 +147,7 @@ module _ (cutter : Cutter) (tri : Tri) (fiber : Fiber) (r : ℤ) (ok : IsCutter 
         against a b h k = omega (arith, ints)
 
   -- the triangle's window
-  pub window_is : (from to : ℤ) (extent : Run) → IsExtentOver fiber.axis fiber.z tri extent → IsWindow cutter tri fiber from to (record { first = int_max from (extent.first -ℤ r); last = int_min to (extent.last +ℤ r) })
+  pub window_is : (from to : ℤ) (extent : Extent) → IsExtentOver fiber.axis fiber.z tri extent → IsWindow cutter tri fiber from to (record { first = int_max from (extent.first -ℤ r); last = int_min to (extent.last +ℤ r) })
   window_is from to extent holds = record {
     after = grind (arith, ints);
     within = grind (arith, ints);

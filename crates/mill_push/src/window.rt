@@ -8,11 +8,11 @@ ghost use Rattle.mill_push.specs.inner.Pushers.{IsPusher};
 ghost use Rattle.mill_push.specs.inner.Reaches.{IsReachForTri};
 ghost use Rattle.mill_push.specs.inner.Windows.{extent_of, other_than};
 
-use crate::extent::extent_over;
 use crate::fiber::Run;
 use crate::reach::reach_up_to;
 use crate::stretch::Pusher;
 use mill_base::Tri;
+use mill_extent::extent_over;
 use mill_geom::Axis;
 
 impl Pusher {

@@ -1,8 +1,8 @@
 use Rattle.std.proofs.Common.{rules, w32, arith}
 use Rattle.std.proofs.lemmas.Int.{ints, to_z-of_z}
-use Rattle.mill_push.proofs.Extents.{first_part, second_part, whole_part}
-use Rattle.mill_push.proofs.Stored.{least_stored, most_stored}
-use Rattle.mill_push.proofs.extent.edge_over.Goals as goal
+use Rattle.mill_extent.proofs.Extents.{first_part, second_part, whole_part}
+use Rattle.mill_extent.proofs.Stored.{least_stored, most_stored}
+use Rattle.mill_extent.proofs.extent.edge_over.Goals as goal
 
 pub returns-then-b-gt0-clause-part : goal.returns-then-b-gt0-clause-part
 returns-then-b-gt0-clause-part c =

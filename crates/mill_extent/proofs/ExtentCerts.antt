@@ -1,4 +1,4 @@
--- Written by tools/certificates.py from tools/certificates/mill_push_extent.spec.
+-- Written by tools/certificates.py from tools/certificates/mill_extent_extent.spec.
 use Rattle.std.proofs.Common.{[], ◌∷◌, refl}
 use lib.IntN.{ℤ, pos, ◌+ℤ◌, ◌-ℤ◌, ◌*ℤ◌}
 use lib.Signed.{◌<ℤ◌, ◌≤ℤ◌}

@@ -1,14 +1,20 @@
-//! How far the part of a triangle that is over a height extends along an axis.
 ghost use Rattle.std.specs.Prelude.{◌≡◌, ◌+◌, ◌*◌, ◌^◌, ◌<◌, ◌≤◌, ◌+ℤ◌, ◌-ℤ◌, ◌*ℤ◌, ◌<ℤ◌, ◌≤ℤ◌, pos, nat_abs};
 ghost use Rattle.mill_base.specs.Numbers.{Within};
 ghost use Rattle.mill_base.specs.Ranges.{IsInRange, TriInRange};
 ghost use Rattle.mill_base.specs.declared.limits.TheConstants.{MAX_COORDINATE};
-ghost use Rattle.mill_push.specs.inner.Known.{IsAt, IsRunInRange};
-ghost use Rattle.mill_push.specs.inner.Windows.{IsCornerInRange, IsExtentOver, IsIn, IsPartOver, IsPlaceIn, corner_of, crossing};
+ghost use Rattle.mill_extent.specs.Extents.{IsExtentInRange, IsExtentOver, IsPlaceIn};
+ghost use Rattle.mill_extent.specs.inner.Edges.{IsAt, IsCornerInRange, IsIn, IsPartOver, corner_of, crossing};
 
-use crate::fiber::Run;
 use mill_base::{MAX_COORDINATE, Pt3, Tri};
 use mill_geom::Axis;
+
+/// The coordinates along an axis from `first` to `last`, with both of them; none where `last` is the
+/// lesser one.
+#[derive(Clone, Copy, Debug, PartialEq, Eq)]
+pub struct Extent {
+    pub first: i32,
+    pub last: i32,
+}
 
 /// A corner of a triangle, as it is seen along an axis and from a height.
 #[derive(Clone, Copy)]
@@ -20,12 +26,12 @@ struct Corner {
 }
 
 /// From the least to the greatest coordinate along the axis of what the triangle has over the height
-/// `z`, rounded outwards to whole units. Where it has nothing there, the run says nothing.
-pub fn extent_over(tri: &Tri, axis: Axis, z: i32) -> Run
+/// `z`, rounded outwards to whole units. Where it has nothing there, the extent says nothing.
+pub fn extent_over(tri: &Tri, axis: Axis, z: i32) -> Extent
     requires tri_ok { TriInRange tri.now }
     requires z_ok { Within MAX_COORDINATE z }
     ensures extent { IsExtentOver axis z tri.now result }
-    ensures in_range { IsRunInRange result }
+    ensures in_range { IsExtentInRange result }
 {
     let a = corner_at(tri.a, axis, z);
     let b = corner_at(tri.b, axis, z);
@@ -53,31 +59,31 @@ fn corner_at(point: Pt3, axis: Axis, z: i32) -> Corner
     }
 }
 
-/// A run that holds both of these, and as little else as it can.
-fn around(a: Run, b: Run) -> Run
-    requires a_ok { IsRunInRange a }
-    requires b_ok { IsRunInRange b }
+/// An extent that holds both of these, and as little else as it can.
+fn around(a: Extent, b: Extent) -> Extent
+    requires a_ok { IsExtentInRange a }
+    requires b_ok { IsExtentInRange b }
     ensures first { IsIn a result }
     ensures second { IsIn b result }
-    ensures in_range { IsRunInRange result }
+    ensures in_range { IsExtentInRange result }
 {
-    Run {
+    Extent {
         first: a.first.min(b.first),
         last: a.last.max(b.last),
     }
 }
 
 /// The places of what the edge between two corners has over the height. Where it has nothing there,
-/// the run is empty: it adds nothing to one that it is joined to.
-fn edge_over(a: Corner, b: Corner) -> Run
+/// the extent is empty: it adds nothing to one that it is joined to.
+fn edge_over(a: Corner, b: Corner) -> Extent
     requires a_ok { IsCornerInRange a }
     requires b_ok { IsCornerInRange b }
     ensures part { IsPartOver a b result }
-    ensures in_range { IsRunInRange result }
+    ensures in_range { IsExtentInRange result }
 {
     if a.height > 0 {
         if b.height > 0 {
-            return Run {
+            return Extent {
                 first: a.place.min(b.place),
                 last: a.place.max(b.place),
             };
@@ -87,30 +93,30 @@ fn edge_over(a: Corner, b: Corner) -> Run
     if b.height > 0 {
         return upper_part(b, a);
     }
-    Run {
+    Extent {
         first: MAX_COORDINATE as i32,
         last: -(MAX_COORDINATE as i32),
     }
 }
 
 /// The places of an edge from its corner over the height to where it crosses the height.
-fn upper_part(over: Corner, under: Corner) -> Run
+fn upper_part(over: Corner, under: Corner) -> Extent
     requires over_ok { IsCornerInRange over }
     requires under_ok { IsCornerInRange under }
     requires over { pos 0 <ℤ over.height }
     requires under { under.height ≤ℤ pos 0 }
     ensures end { IsAt result over.place }
     ensures crossing { IsPlaceIn result (over.height -ℤ under.height) (crossing over under) }
-    ensures in_range { IsRunInRange result }
+    ensures in_range { IsExtentInRange result }
 {
     let length = upper_length(over, under);
     if under.place < over.place {
-        Run {
+        Extent {
             first: over.place - length,
             last: over.place,
         }
     } else {
-        Run {
+        Extent {
             first: over.place,
             last: over.place + length,
         }

@@ -1,7 +1,7 @@
 use Rattle.std.proofs.Common.{rules}
-use Rattle.mill_push.proofs.Extents.{around_in_range}
-use Rattle.mill_push.proofs.Stored.{least_stored, most_stored}
-use Rattle.mill_push.proofs.extent.around.Goals as goal
+use Rattle.mill_extent.proofs.Extents.{around_in_range}
+use Rattle.mill_extent.proofs.Stored.{least_stored, most_stored}
+use Rattle.mill_extent.proofs.extent.around.Goals as goal
 
 pub returns-clause-in_range : goal.returns-clause-in_range
 returns-clause-in_range c =

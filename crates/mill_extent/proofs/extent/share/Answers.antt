@@ -1,5 +1,5 @@
-use Rattle.mill_push.proofs.Extents.{share_covers}
-use Rattle.mill_push.proofs.extent.share.Goals as goal
+use Rattle.mill_extent.proofs.Extents.{share_covers}
+use Rattle.mill_extent.proofs.extent.share.Goals as goal
 
 pub returns-clause-covers : goal.returns-clause-covers
 returns-clause-covers c =

@@ -14,12 +14,11 @@ use Rattle.mill_base.specs.declared.points.Pt3.{Pt3}
 use Rattle.mill_base.specs.declared.points.Tri.{Tri}
 use Rattle.mill_geom.specs.declared.touch.Axis.{Axis}
 use Rattle.mill_geom.specs.declared.touch.Axis.TheVariants.{X, Y}
-use Rattle.mill_push.specs.declared.extent.Corner.{Corner}
-use Rattle.mill_push.specs.declared.fiber.Run.{Run}
-use Rattle.mill_push.specs.inner.Known.{IsAt, IsRunInRange}
-use Rattle.mill_push.specs.inner.Windows.{IsCornerInRange, IsExtentOver, IsIn, IsPartOver, IsPlaceIn, corner_of, crossing, place_along}
-use Rattle.mill_push.proofs.Stored.{through}
-use Rattle.mill_push.proofs.ExtentCerts.{all_within, crosses_after, crosses_before, down_after, down_before, earlier, heights_over, later, mean_after, mean_before, none_over, one_over, one_under, up_after, up_before}
+use Rattle.mill_extent.specs.declared.extent.Corner.{Corner}
+use Rattle.mill_extent.specs.declared.extent.Extent.{Extent}
+use Rattle.mill_extent.specs.Extents.{IsExtentInRange, IsExtentOver, IsPlaceIn, place_along}
+use Rattle.mill_extent.specs.inner.Edges.{IsAt, IsCornerInRange, IsIn, IsPartOver, corner_of, crossing}
+use Rattle.mill_extent.proofs.ExtentCerts.{all_within, crosses_after, crosses_before, down_after, down_before, earlier, heights_over, later, mean_after, mean_before, none_over, one_over, one_under, up_after, up_before}
 
 -- ---- the lemma: a bound on an edge's places over the height, at each edge of a triangle, is one for its points over the height
 
@@ -86,36 +85,36 @@ triangle_within u v w f g p h q k hu hv hw ab bc ca some =
         back (u *ℤ f) (v *ℤ p) (w *ℤ q) (back (v *ℤ p) (w *ℤ q) (u *ℤ f)
         (odd_within w u v q k f g p h hw hu hv ca bc under over (round (v *ℤ h) (w *ℤ k) (u *ℤ g) (round (u *ℤ g) (v *ℤ h) (w *ℤ k) some))))
 
--- ---- from a run to its two bounds, and back
+-- ---- from an extent to its two bounds, and back
 
 not_past : (a b : ℤ) → a ≤ℤ b → (a -ℤ b) ≤ℤ pos 0
 not_past a b h = omega (arith, ints)
 
-after_edge : (a b : Corner) (run : Run) → IsPartOver a b run → IsEdgeWithin (run.first -ℤ a.place) a.height (run.first -ℤ b.place) b.height
-after_edge a b run part = record {
-  first = λ over. not_past run.first a.place (part.first over).first;
-  second = λ over. not_past run.first b.place (part.second over).first;
-  falls = λ over under. crosses_after a.place a.height b.place b.height run.first (part.falls over under).after;
-  rises = λ under over. crosses_after b.place b.height a.place a.height run.first (part.rises under over).after;
+after_edge : (a b : Corner) (extent : Extent) → IsPartOver a b extent → IsEdgeWithin (extent.first -ℤ a.place) a.height (extent.first -ℤ b.place) b.height
+after_edge a b extent part = record {
+  first = λ over. not_past extent.first a.place (part.first over).first;
+  second = λ over. not_past extent.first b.place (part.second over).first;
+  falls = λ over under. crosses_after a.place a.height b.place b.height extent.first (part.falls over under).after;
+  rises = λ under over. crosses_after b.place b.height a.place a.height extent.first (part.rises under over).after;
 }
 
-before_edge : (a b : Corner) (run : Run) → IsPartOver a b run → IsEdgeWithin (a.place -ℤ run.last) a.height (b.place -ℤ run.last) b.height
-before_edge a b run part = record {
-  first = λ over. not_past a.place run.last (part.first over).last;
-  second = λ over. not_past b.place run.last (part.second over).last;
-  falls = λ over under. crosses_before a.place a.height b.place b.height run.last (part.falls over under).before;
-  rises = λ under over. crosses_before b.place b.height a.place a.height run.last (part.rises under over).before;
+before_edge : (a b : Corner) (extent : Extent) → IsPartOver a b extent → IsEdgeWithin (a.place -ℤ extent.last) a.height (b.place -ℤ extent.last) b.height
+before_edge a b extent part = record {
+  first = λ over. not_past a.place extent.last (part.first over).last;
+  second = λ over. not_past b.place extent.last (part.second over).last;
+  falls = λ over under. crosses_before a.place a.height b.place b.height extent.last (part.falls over under).before;
+  rises = λ under over. crosses_before b.place b.height a.place a.height extent.last (part.rises under over).before;
 }
 
--- a run that holds what the three edges have over the height holds what the triangle has there
-module _ (a b c : Corner) (run : Run) (ab : IsPartOver a b run) (bc : IsPartOver b c run) (ca : IsPartOver c a run) where
+-- an extent that holds what the three edges have over the height holds what the triangle has there
+module _ (a b c : Corner) (extent : Extent) (ab : IsPartOver a b extent) (bc : IsPartOver b c extent) (ca : IsPartOver c a extent) where
   mean_in : (u v w : ℤ) → (pos 0) ≤ℤ u → (pos 0) ≤ℤ v → (pos 0) ≤ℤ w → (pos 0) <ℤ ((u *ℤ a.height +ℤ v *ℤ b.height) +ℤ w *ℤ c.height)
-      → IsPlaceIn run ((u +ℤ v) +ℤ w) ((u *ℤ a.place +ℤ v *ℤ b.place) +ℤ w *ℤ c.place)
+      → IsPlaceIn extent ((u +ℤ v) +ℤ w) ((u *ℤ a.place +ℤ v *ℤ b.place) +ℤ w *ℤ c.place)
   mean_in u v w hu hv hw some = record {
-    after = mean_after u v w a.place b.place c.place run.first
-        (triangle_within u v w _ a.height _ b.height _ c.height hu hv hw (after_edge a b run ab) (after_edge b c run bc) (after_edge c a run ca) some);
-    before = mean_before u v w a.place b.place c.place run.last
-        (triangle_within u v w _ a.height _ b.height _ c.height hu hv hw (before_edge a b run ab) (before_edge b c run bc) (before_edge c a run ca) some);
+    after = mean_after u v w a.place b.place c.place extent.first
+        (triangle_within u v w _ a.height _ b.height _ c.height hu hv hw (after_edge a b extent ab) (after_edge b c extent bc) (after_edge c a extent ca) some);
+    before = mean_before u v w a.place b.place c.place extent.last
+        (triangle_within u v w _ a.height _ b.height _ c.height hu hv hw (before_edge a b extent ab) (before_edge b c extent bc) (before_edge c a extent ca) some);
   }
 
 -- a mean's coordinate is the mean of the corners' coordinates
@@ -124,35 +123,38 @@ place_of_mean : (axis : Axis) (tri : Tri) (u v w : ℤ) → place_along axis (pl
 place_of_mean X tri u v w = refl
 place_of_mean Y tri u v w = refl
 
-pub extent_by_edges : (axis : Axis) (z : ℤ) (tri : Tri) (run : Run) → IsPartOver (corner_of axis z tri.a) (corner_of axis z tri.b) run → IsPartOver (corner_of axis z tri.b) (corner_of axis z tri.c) run
-    → IsPartOver (corner_of axis z tri.c) (corner_of axis z tri.a) run → IsExtentOver axis z tri run
-extent_by_edges axis z tri run ab bc ca n p k over =
+pub extent_by_edges : (axis : Axis) (z : ℤ) (tri : Tri) (extent : Extent) → IsPartOver (corner_of axis z tri.a) (corner_of axis z tri.b) extent → IsPartOver (corner_of axis z tri.b) (corner_of axis z tri.c) extent
+    → IsPartOver (corner_of axis z tri.c) (corner_of axis z tri.a) extent → IsExtentOver axis z tri extent
+extent_by_edges axis z tri extent ab bc ca n p k over =
     let high = subst₂ (λ m t. (m *ℤ z) <ℤ t) k.weights (ap (λ (q : Pt3). q.z) k.place) over in
     let some = heights_over k.u k.v k.w tri.a.z tri.b.z tri.c.z z high in
-    let mean = mean_in (corner_of axis z tri.a) (corner_of axis z tri.b) (corner_of axis z tri.c) run ab bc ca k.u k.v k.w k.u_ok k.v_ok k.w_ok some in
-    subst₂ (IsPlaceIn run) (sym k.weights) (sym (ap (place_along axis) k.place ∙ place_of_mean axis tri k.u k.v k.w)) mean
+    let mean = mean_in (corner_of axis z tri.a) (corner_of axis z tri.b) (corner_of axis z tri.c) extent ab bc ca k.u k.v k.w k.u_ok k.v_ok k.w_ok some in
+    subst₂ (IsPlaceIn extent) (sym k.weights) (sym (ap (place_along axis) k.place ∙ place_of_mean axis tri k.u k.v k.w)) mean
 
--- ---- wider runs
+-- ---- wider extents
 
-in_wider : (run wider : Run) (v : ℤ) → IsIn run wider → IsAt run v → IsAt wider v
-in_wider run wider v i at = record { first = through wider.first run.first v i.after at.first; last = through v run.last wider.last at.last i.before }
+through : (a b c : ℤ) → a ≤ℤ b → b ≤ℤ c → a ≤ℤ c
+through a b c h k = omega (arith, ints)
 
-crossing_in_wider : (over under : Corner) (run wider : Run) → IsIn run wider → (pos 0) <ℤ over.height → under.height ≤ℤ pos 0 → IsPlaceIn run (over.height -ℤ under.height) (crossing over under)
+in_wider : (extent wider : Extent) (v : ℤ) → IsIn extent wider → IsAt extent v → IsAt wider v
+in_wider extent wider v i at = record { first = through wider.first extent.first v i.after at.first; last = through v extent.last wider.last at.last i.before }
+
+crossing_in_wider : (over under : Corner) (extent wider : Extent) → IsIn extent wider → (pos 0) <ℤ over.height → under.height ≤ℤ pos 0 → IsPlaceIn extent (over.height -ℤ under.height) (crossing over under)
     → IsPlaceIn wider (over.height -ℤ under.height) (crossing over under)
-crossing_in_wider over under run wider i up down at = record {
-  after = earlier wider.first run.first over.height under.height (crossing over under) i.after up down at.after;
-  before = later wider.last run.last over.height under.height (crossing over under) i.before up down at.before;
+crossing_in_wider over under extent wider i up down at = record {
+  after = earlier wider.first extent.first over.height under.height (crossing over under) i.after up down at.after;
+  before = later wider.last extent.last over.height under.height (crossing over under) i.before up down at.before;
 }
 
-part_in_wider : (a b : Corner) (run wider : Run) → IsIn run wider → IsPartOver a b run → IsPartOver a b wider
-part_in_wider a b run wider i part = record {
-  first = λ over. in_wider run wider a.place i (part.first over);
-  second = λ over. in_wider run wider b.place i (part.second over);
-  falls = λ over under. crossing_in_wider a b run wider i over under (part.falls over under);
-  rises = λ under over. crossing_in_wider b a run wider i over under (part.rises under over);
+part_in_wider : (a b : Corner) (extent wider : Extent) → IsIn extent wider → IsPartOver a b extent → IsPartOver a b wider
+part_in_wider a b extent wider i part = record {
+  first = λ over. in_wider extent wider a.place i (part.first over);
+  second = λ over. in_wider extent wider b.place i (part.second over);
+  falls = λ over under. crossing_in_wider a b extent wider i over under (part.falls over under);
+  rises = λ under over. crossing_in_wider b a extent wider i over under (part.rises under over);
 }
 
-in_in : (a b c : Run) → IsIn a b → IsIn b c → IsIn a c
+in_in : (a b c : Extent) → IsIn a b → IsIn b c → IsIn a c
 in_in a b c h k = record { after = through c.first b.first a.first k.after h.after; before = through a.last b.last c.last h.before k.before }
 
 -- ---- what an edge has over the height
@@ -167,16 +169,16 @@ whole_part a b up too = record {
 }
 
 -- the first corner, and the second one
-pub first_part : (a b : Corner) (run : Run) → (pos 0) <ℤ a.height → b.height ≤ℤ pos 0 → IsAt run a.place → IsPlaceIn run (a.height -ℤ b.height) (crossing a b) → IsPartOver a b run
-first_part a b run up down end cross = record {
+pub first_part : (a b : Corner) (extent : Extent) → (pos 0) <ℤ a.height → b.height ≤ℤ pos 0 → IsAt extent a.place → IsPlaceIn extent (a.height -ℤ b.height) (crossing a b) → IsPartOver a b extent
+first_part a b extent up down end cross = record {
   first = λ _. end;
   second = λ over. absurd (against b.height over down);
   falls = λ _ _. cross;
   rises = λ under _. absurd (against a.height up under);
 }
 
-pub second_part : (a b : Corner) (run : Run) → a.height ≤ℤ pos 0 → (pos 0) <ℤ b.height → IsAt run b.place → IsPlaceIn run (b.height -ℤ a.height) (crossing b a) → IsPartOver a b run
-second_part a b run down up end cross = record {
+pub second_part : (a b : Corner) (extent : Extent) → a.height ≤ℤ pos 0 → (pos 0) <ℤ b.height → IsAt extent b.place → IsPlaceIn extent (b.height -ℤ a.height) (crossing b a) → IsPartOver a b extent
+second_part a b extent down up end cross = record {
   first = λ over. absurd (against a.height over down);
   second = λ _. end;
   falls = λ over _. absurd (against a.height over down);
@@ -184,8 +186,8 @@ second_part a b run down up end cross = record {
 }
 
 -- nothing
-pub no_part : (a b : Corner) (run : Run) → a.height ≤ℤ pos 0 → b.height ≤ℤ pos 0 → IsPartOver a b run
-no_part a b run down too = record {
+pub no_part : (a b : Corner) (extent : Extent) → a.height ≤ℤ pos 0 → b.height ≤ℤ pos 0 → IsPartOver a b extent
+no_part a b extent down too = record {
   first = λ over. absurd (against a.height over down);
   second = λ over. absurd (against b.height over too);
   falls = λ over _. absurd (against a.height over down);
@@ -193,10 +195,10 @@ no_part a b run down too = record {
 }
 
 -- the triangle, from its three edges, of which two are joined first
-pub extent_joined : (axis : Axis) (z : ℤ) (tri : Tri) (ab bc ca joined run : Run) → IsPartOver (corner_of axis z tri.a) (corner_of axis z tri.b) ab → IsPartOver (corner_of axis z tri.b) (corner_of axis z tri.c) bc
-    → IsPartOver (corner_of axis z tri.c) (corner_of axis z tri.a) ca → IsIn bc joined → IsIn ca joined → IsIn ab run → IsIn joined run → IsExtentOver axis z tri run
-extent_joined axis z tri ab bc ca joined run first second third second_in third_in first_in rest_in =
-    extent_by_edges axis z tri run (part_in_wider _ _ ab run first_in first) (part_in_wider _ _ bc run (in_in bc joined run second_in rest_in) second) (part_in_wider _ _ ca run (in_in ca joined run third_in rest_in) third)
+pub extent_joined : (axis : Axis) (z : ℤ) (tri : Tri) (ab bc ca joined extent : Extent) → IsPartOver (corner_of axis z tri.a) (corner_of axis z tri.b) ab → IsPartOver (corner_of axis z tri.b) (corner_of axis z tri.c) bc
+    → IsPartOver (corner_of axis z tri.c) (corner_of axis z tri.a) ca → IsIn bc joined → IsIn ca joined → IsIn ab extent → IsIn joined extent → IsExtentOver axis z tri extent
+extent_joined axis z tri ab bc ca joined extent first second third second_in third_in first_in rest_in =
+    extent_by_edges axis z tri extent (part_in_wider _ _ ab extent first_in first) (part_in_wider _ _ bc extent (in_in bc joined extent second_in rest_in) second) (part_in_wider _ _ ca extent (in_in ca joined extent third_in rest_in) third)
 
 -- ---- the part of an edge up to where it crosses the height, by its length
 
@@ -259,7 +261,7 @@ most_in_range x y h k = record { within = by h.within k.within }
     by : nat_abs x ≤ 524287 → nat_abs y ≤ 524287 → nat_abs (int_max x y) ≤ 524287
     by h k = grind (arith, ints)
 
-pub around_in_range : (a b : Run) → IsRunInRange a → IsRunInRange b → IsRunInRange (record { first = int_min a.first b.first; last = int_max a.last b.last })
+pub around_in_range : (a b : Extent) → IsExtentInRange a → IsExtentInRange b → IsExtentInRange (record { first = int_min a.first b.first; last = int_max a.last b.last })
 around_in_range a b h k = record { first_ok = least_in_range a.first b.first h.first_ok k.first_ok; last_ok = most_in_range a.last b.last h.last_ok k.last_ok }
 
 -- a corner is in range

@@ -1,13 +1,13 @@
 use Rattle.std.proofs.Common.{subst₂}
-use Rattle.mill_push.specs.declared.extent.Corner.{Corner}
-use Rattle.mill_push.specs.inner.Windows.{IsPartOver}
-use Rattle.mill_push.proofs.Extents.{extent_joined}
-use Rattle.mill_push.proofs.Stored.{stored}
-use Rattle.mill_push.proofs.extent.extent_over.Goals as goal
+use Rattle.mill_extent.specs.declared.extent.Corner.{Corner}
+use Rattle.mill_extent.specs.inner.Edges.{IsPartOver}
+use Rattle.mill_extent.proofs.Extents.{extent_joined}
+use Rattle.mill_base.proofs.Ranges.{coordinate}
+use Rattle.mill_extent.proofs.extent.extent_over.Goals as goal
 
 pub returns-clause-extent : goal.returns-clause-extent
 returns-clause-extent c =
-    let z = stored c.args.z c.requires.z_ok in
+    let z = coordinate c.args.z c.requires.z_ok in
     let a = rw z at c.corner_at-a.ensures.value in
     let b = rw z at c.corner_at-b.ensures.value in
     let c' = rw z at c.corner_at-c.ensures.value in
