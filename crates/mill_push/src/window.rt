@@ -11,7 +11,7 @@ ghost use Rattle.mill_push.specs.inner.Windows.{extent_of, other_than};
 use crate::fiber::Run;
 use crate::reach::reach_up_to;
 use crate::stretch::Pusher;
-use mill_base::Tri;
+use mill_base::{Pt3, Tri};
 use mill_extent::extent_over;
 use mill_geom::Axis;
 
@@ -59,9 +59,22 @@ impl Pusher {
         requires reach_ok { IsReachForTri self.cutter self.fiber.z reach tri.now }
         ensures { IsTrue result → (v : ℤ) → ¬ IsTouched self.cutter tri.now self.fiber v }
     {
+        if self.is_near(tri.a, reach) || self.is_near(tri.b, reach) || self.is_near(tri.c, reach) {
+            return false;
+        }
         let across = extent_over(tri, other(self.fiber.axis), self.fiber.z);
         let at = self.fiber.at;
         across.first - reach > at || across.last + reach < at
+    }
+
+    /// Whether a corner is over the fiber's height and no farther beside the fiber than the reach.
+    /// Then the triangle isn't beside the fiber, which saves the divisions that would say so.
+    fn is_near(self, corner: Pt3, reach: i32) -> bool {
+        let across = match self.fiber.axis {
+            Axis::X => corner.y,
+            Axis::Y => corner.x,
+        };
+        corner.z > self.fiber.z && across.abs_diff(self.fiber.at) <= reach.unsigned_abs()
     }
 }
 
