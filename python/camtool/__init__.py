@@ -6,11 +6,14 @@ A coordinate's magnitude is at most MAX_COORDINATE.
 An array is anything with the buffer protocol whose elements are whole numbers of 32 bits, in C's
 order: array.array('i', ..), a memoryview, a ctypes array, a numpy array of int32. Its shape may be
 any, so long as it has as many numbers as are asked for. One that may be written is passed as it
-stands, and one that may only be read is copied first.
+stands, and one that may only be read is copied first. A list is none: array.array('i', list) is.
+A text is bytes, or another array of bytes, and no str.
 
-Each call tests its arguments and raises an exception of one class for each cause; an array for
-results is then as it was. No call keeps anything for the next one. A call lets other threads run
-meanwhile, which must not write the arrays that it was given, nor read those that it writes.
+Each call tests its arguments and raises an exception of one class for each cause, a CamtoolError;
+an array for results is then as it was. What is no whole number where one is asked for raises
+Python's own TypeError, and an area or a holder of another length its ValueError. No call keeps
+anything for the next one. A call lets other threads run meanwhile, which must not write the arrays
+that it was given, nor read those that it writes.
 
 The shared library is that of tools/library, or the one that the environment's CAMTOOL_LIBRARY names.
 """
@@ -34,13 +37,14 @@ MAX_COORDINATE = 524_287
 
 
 class CamtoolError(Exception):
-    """Why a call answers nothing. `status` is that of include/camtool.h; None where the library wasn't called."""
+    """Why a call answers nothing. `status` is that of include/camtool.h; None where C has no such cause."""
 
     status = None
 
 
 class BadArray(CamtoolError, TypeError):
-    """An array isn't one of whole numbers of 32 bits, has a number too many, can't be written, or overlaps another."""
+    """An array isn't one of whole numbers of 32 bits in C's order, or a text's none of bytes, has a number too many or
+    too few, can't be written, or overlaps another."""
 
 
 class NoMemory(CamtoolError, MemoryError):
@@ -92,13 +96,13 @@ class WrongRoom(CamtoolError, ValueError):
 
 
 class BadUnit(CamtoolError, ValueError):
-    """The number of the unit is that of none."""
+    """The number of the unit is neither 2 nor 3."""
 
     status = 9
 
 
 class BadSnap(CamtoolError, ValueError):
-    """The number that says how a coordinate between two units is read says nothing."""
+    """The number that says how a coordinate between two units is read is neither 0 nor 1."""
 
     status = 10
 
@@ -388,7 +392,7 @@ def cone(radius, rise, run, holder=None):
 
 
 def read_part(text, unit=2, snap=0):
-    """Reads a part from a text of ASCII STL.
+    """Reads a part from a text of ASCII STL, of at most 200,000 triangles.
 
     text   bytes, or another array of bytes
     unit   how many decimals of a millimetre stand for whole units: 2 for 0.01 mm, 3 for 0.001 mm
