@@ -10,10 +10,9 @@ stands, and one that may only be read is copied first. A list is none: array.arr
 A text is bytes, or another array of bytes, and no str.
 
 Each call tests its arguments and raises an exception of one class for each cause, a CamtoolError;
-an array for results is then as it was. What is no whole number where one is asked for raises
-Python's own TypeError, and an area or a holder of another length its ValueError. No call keeps
-anything for the next one. A call lets other threads run meanwhile, which must not write the arrays
-that it was given, nor read those that it writes.
+an array for results is then as it was. No call keeps anything for the next one. A call lets other
+threads run meanwhile, which must not write the arrays that it was given, nor read those that it
+writes.
 
 The shared library is that of tools/library, or the one that the environment's CAMTOOL_LIBRARY names.
 """
@@ -576,7 +575,10 @@ def plan(job, part):
 
 def _letters(name, text):
     """An array of C's bytes, of at least one, and how many were given."""
-    view = memoryview(text)
+    try:
+        view = memoryview(text)
+    except (TypeError, ValueError):
+        raise BadArray(f"{name}: no array of bytes") from None
     if view.itemsize != 1 or not view.c_contiguous:
         raise BadArray(f"{name}: no bytes in a row")
     count = view.nbytes
@@ -590,25 +592,33 @@ def _tell(status, line=None, **numbers):
     """Raises the exception of a status other than 0, with the line of a text's fault and the numbers that it speaks of."""
     if status:
         error = _ERRORS[status]
-        raised = error(error.__doc__ if line is None else f"line {line}: {error.__doc__}")
-        if line is not None:
-            raised.line = line
-        for name, number in numbers.items():
-            if hasattr(error, name):
-                setattr(raised, name, number)
+        told = {} if line is None else {"line": line}
+        told.update((name, number) for name, number in numbers.items() if hasattr(error, name))
+        cause = " ".join(error.__doc__.split()).partition(" `")[0]
+        where = ", ".join(f"{name} {number}" for name, number in told.items())
+        raised = error(f"{where}: {cause}" if where else cause)
+        for name, number in told.items():
+            setattr(raised, name, number)
         raise raised
 
 
 def _number(value, error):
     """A whole number that 32 bits hold; one that they don't is out of every range."""
-    value = operator.index(value)
+    try:
+        value = operator.index(value)
+    except TypeError:
+        raise error(f"{value!r} is no whole number") from None
     if not -(1 << 31) <= value < 1 << 31:
         raise error(error.__doc__)
     return value
 
 
 def _lattice(area, step):
-    x0, y0, x1, y1 = (_number(value, BadLattice) for value in area)
+    try:
+        x0, y0, x1, y1 = area
+    except (TypeError, ValueError):
+        raise BadLattice("an area is four numbers: x0, y0, x1 and y1") from None
+    x0, y0, x1, y1 = (_number(value, BadLattice) for value in (x0, y0, x1, y1))
     return _Lattice(x0, y0, x1, y1, _number(step, BadLattice))
 
 
@@ -618,7 +628,11 @@ def _numbers_of(tool):
     cutter = [_number(value, BadCutter) for value in (tool.kind, tool.radius, tool.rise, tool.run)]
     if tool.holder is None:
         return _Tool(*cutter, 0, 0)
-    radius, stickout = (_number(value, BadHolder) for value in tool.holder)
+    try:
+        radius, stickout = tool.holder
+    except (TypeError, ValueError):
+        raise BadHolder("a holder is two numbers: its radius and its stickout") from None
+    radius, stickout = _number(radius, BadHolder), _number(stickout, BadHolder)
     if radius == 0 and stickout == 0:
         raise BadHolder(BadHolder.__doc__)
     return _Tool(*cutter, radius, stickout)
@@ -628,7 +642,7 @@ def _seen(name, value):
     """An array's numbers, where they stand in a row and have 32 bits."""
     try:
         view = memoryview(value)
-    except TypeError:
+    except (TypeError, ValueError):
         raise BadArray(f"{name}: no array of whole numbers of 32 bits") from None
     if view.itemsize != 4 or view.format.lstrip("@=<") not in ("i", "l"):
         raise BadArray(f"{name}: an array of format {view.format}, and not of whole numbers of 32 bits")
