@@ -1,7 +1,8 @@
 /* The library of camtool: its proved calls, for C.
  *
  * Lengths are whole units of the caller's choice: 0.01 mm or 0.001 mm are those of camtool's own
- * texts. A coordinate's magnitude is at most CAMTOOL_MAX_COORDINATE.
+ * texts. A coordinate's magnitude is at most CAMTOOL_MAX_COORDINATE. A text is as many bytes as its
+ * count says, with no zero behind them: any bytes, or none.
  *
  * Each call tests its arguments, answers a status, and keeps nothing for the next call. With status
  * CAMTOOL_OK the arrays that the caller has lent have the results; with any other they are as they
@@ -50,9 +51,9 @@ enum camtool_status {
     CAMTOOL_FLOOR = 7,
     /* The array for the results is not as long as they are many. */
     CAMTOOL_ROOM = 8,
-    /* The number of the unit is that of none. */
+    /* The number of the unit is neither 2 nor 3. */
     CAMTOOL_UNIT = 9,
-    /* The number that says how a coordinate between two units is read says nothing. */
+    /* The number that says how a coordinate between two units is read is neither 0 nor 1. */
     CAMTOOL_SNAP = 10,
     /* A word of a part's text is another one than the form has there. */
     CAMTOOL_WORD = 11,
@@ -149,11 +150,11 @@ typedef struct camtool_reading {
     uint64_t line;
 } camtool_reading;
 
-/* Reads a part from a text of ASCII STL: its triangles, in the order of the text. The unit says how
- * many decimals of a millimetre stand for whole units: 2 for 0.01 mm, 3 for 0.001 mm. The snap says
- * how a coordinate between two units is read: 0 refuses it, 1 rounds it to the nearest. The array is
- * as long as the part has triangles: with another length, as 0, the status is CAMTOOL_ROOM and told
- * has their count. told is written with every status. */
+/* Reads a part from a text of ASCII STL: its triangles, of which there are at most 200,000, in the
+ * order of the text. The unit says how many decimals of a millimetre stand for whole units: 2 for
+ * 0.01 mm, 3 for 0.001 mm. The snap says how a coordinate between two units is read: 0 refuses it, 1
+ * rounds it to the nearest. The array is as long as the part has triangles: with another length, as
+ * 0, the status is CAMTOOL_ROOM and told has their count. told is written with every status. */
 int32_t camtool_read_part(const uint8_t *text, size_t text_count, int32_t unit, int32_t snap,
                           camtool_triangle *triangles, size_t triangles_count,
                           camtool_reading *told);

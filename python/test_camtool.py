@@ -77,7 +77,10 @@ class DropHeights(unittest.TestCase):
         for tool in (camtool.flat(0), camtool.ball(10_001), camtool.ball(1 << 40), camtool.cone(150, 17, 1),
                      camtool.cone(150, 1, 0), camtool.Tool(4, 150)):
             self.refused(camtool.BadCutter, tool=tool)
-        for holder in ((0, 120), (200, 0), (0, 0), (10_001, 120), (200, camtool.MAX_COORDINATE + 1)):
+        for radius in (1.5, "150", None):
+            self.refused(camtool.BadCutter, tool=camtool.flat(radius))
+        for holder in ((0, 120), (200, 0), (0, 0), (10_001, 120), (200, camtool.MAX_COORDINATE + 1), (), (1, 2, 3), 5,
+                       (200.0, 120)):
             self.refused(camtool.BadHolder, tool=camtool.flat(150, holder=holder))
 
     def test_name_what_is_out_of_range(self):
@@ -85,7 +88,8 @@ class DropHeights(unittest.TestCase):
             self.refused(camtool.BadTriangle, triangles=array.array("i", list(self.corners[:17]) + [far]))
             self.refused(camtool.BadPlace, places=array.array("i", list(self.places[:5]) + [far]))
             self.refused(camtool.BadFloor, floor=far)
-        self.refused(camtool.BadFloor, floor=1 << 40)
+        for floor in (1 << 40, 0.5, "0", None):
+            self.refused(camtool.BadFloor, floor=floor)
         self.refused(camtool.WrongRoom, room=2)
         self.refused(camtool.WrongRoom, room=4)
 
@@ -174,8 +178,9 @@ class ReadPart(unittest.TestCase):
         for snap in (-1, 2):
             with self.assertRaises(camtool.BadSnap):
                 camtool.read_part(b"solid\nendsolid", snap=snap)
-        with self.assertRaises(camtool.BadArray):
-            camtool.read_part(array.array("i", [1]))
+        for text in (array.array("i", [1]), "solid\nendsolid", None):
+            with self.assertRaises(camtool.BadArray):
+                camtool.read_part(text)
 
 
 class OverLattices(unittest.TestCase):
@@ -209,7 +214,8 @@ class OverLattices(unittest.TestCase):
 
     def test_name_what_is_wrong(self):
         tool, area, far = camtool.flat(150), (0, 0, 100, 100), camtool.MAX_COORDINATE + 1
-        for wrong, step in (((0, 0, -1, 0), 1), ((0, 0, 0, -1), 1), ((0, 0, far, 0), 1), (area, 0), ((1 << 40, 0, 0, 0), 1)):
+        for wrong, step in (((0, 0, -1, 0), 1), ((0, 0, 0, -1), 1), ((0, 0, far, 0), 1), (area, 0), ((1 << 40, 0, 0, 0), 1),
+                            (None, 1), (area[:3], 1), ((0.0, 0, 1, 1), 1), (area, None)):
             with self.assertRaises(camtool.BadLattice):
                 camtool.drop_map(self.plate, tool, wrong, step, 0)
             with self.assertRaises(camtool.BadLattice):
@@ -312,6 +318,7 @@ class Plan(unittest.TestCase):
     def test_says_why_there_is_none(self):
         why = self.refused(camtool.Uncut, *self.texts("groove"))
         self.assertEqual((why.row, why.column, why.top), (0, 5, 200))
+        self.assertEqual(str(why), "row 0, column 5, top 200: The plan leaves a column of the stock higher than it may.")
         why = self.refused(camtool.Held, *self.texts("holder", "medium.toml"))
         self.assertEqual((why.move, why.row, why.column), (237, 11, 6))
         self.refused(camtool.TooManyMoves, *self.texts("fine"))

@@ -6,11 +6,13 @@ A coordinate's magnitude is at most MAX_COORDINATE.
 An array is anything with the buffer protocol whose elements are whole numbers of 32 bits, in C's
 order: array.array('i', ..), a memoryview, a ctypes array, a numpy array of int32. Its shape may be
 any, so long as it has as many numbers as are asked for. One that may be written is passed as it
-stands, and one that may only be read is copied first.
+stands, and one that may only be read is copied first. A list is none: array.array('i', list) is.
+A text is bytes, or another array of bytes, and no str.
 
-Each call tests its arguments and raises an exception of one class for each cause; an array for
-results is then as it was. No call keeps anything for the next one. A call lets other threads run
-meanwhile, which must not write the arrays that it was given, nor read those that it writes.
+Each call tests its arguments and raises an exception of one class for each cause, a CamtoolError;
+an array for results is then as it was. No call keeps anything for the next one. A call lets other
+threads run meanwhile, which must not write the arrays that it was given, nor read those that it
+writes.
 
 The shared library is that of tools/library, or the one that the environment's CAMTOOL_LIBRARY names.
 """
@@ -34,13 +36,14 @@ MAX_COORDINATE = 524_287
 
 
 class CamtoolError(Exception):
-    """Why a call answers nothing. `status` is that of include/camtool.h; None where the library wasn't called."""
+    """Why a call answers nothing. `status` is that of include/camtool.h; None where C has no such cause."""
 
     status = None
 
 
 class BadArray(CamtoolError, TypeError):
-    """An array isn't one of whole numbers of 32 bits, has a number too many, can't be written, or overlaps another."""
+    """An array isn't one of whole numbers of 32 bits in C's order, or a text's none of bytes, has a number too many or
+    too few, can't be written, or overlaps another."""
 
 
 class NoMemory(CamtoolError, MemoryError):
@@ -92,13 +95,13 @@ class WrongRoom(CamtoolError, ValueError):
 
 
 class BadUnit(CamtoolError, ValueError):
-    """The number of the unit is that of none."""
+    """The number of the unit is neither 2 nor 3."""
 
     status = 9
 
 
 class BadSnap(CamtoolError, ValueError):
-    """The number that says how a coordinate between two units is read says nothing."""
+    """The number that says how a coordinate between two units is read is neither 0 nor 1."""
 
     status = 10
 
@@ -388,7 +391,7 @@ def cone(radius, rise, run, holder=None):
 
 
 def read_part(text, unit=2, snap=0):
-    """Reads a part from a text of ASCII STL.
+    """Reads a part from a text of ASCII STL, of at most 200,000 triangles.
 
     text   bytes, or another array of bytes
     unit   how many decimals of a millimetre stand for whole units: 2 for 0.01 mm, 3 for 0.001 mm
@@ -572,7 +575,10 @@ def plan(job, part):
 
 def _letters(name, text):
     """An array of C's bytes, of at least one, and how many were given."""
-    view = memoryview(text)
+    try:
+        view = memoryview(text)
+    except (TypeError, ValueError):
+        raise BadArray(f"{name}: no array of bytes") from None
     if view.itemsize != 1 or not view.c_contiguous:
         raise BadArray(f"{name}: no bytes in a row")
     count = view.nbytes
@@ -586,25 +592,33 @@ def _tell(status, line=None, **numbers):
     """Raises the exception of a status other than 0, with the line of a text's fault and the numbers that it speaks of."""
     if status:
         error = _ERRORS[status]
-        raised = error(error.__doc__ if line is None else f"line {line}: {error.__doc__}")
-        if line is not None:
-            raised.line = line
-        for name, number in numbers.items():
-            if hasattr(error, name):
-                setattr(raised, name, number)
+        told = {} if line is None else {"line": line}
+        told.update((name, number) for name, number in numbers.items() if hasattr(error, name))
+        cause = " ".join(error.__doc__.split()).partition(" `")[0]
+        where = ", ".join(f"{name} {number}" for name, number in told.items())
+        raised = error(f"{where}: {cause}" if where else cause)
+        for name, number in told.items():
+            setattr(raised, name, number)
         raise raised
 
 
 def _number(value, error):
     """A whole number that 32 bits hold; one that they don't is out of every range."""
-    value = operator.index(value)
+    try:
+        value = operator.index(value)
+    except TypeError:
+        raise error(f"{value!r} is no whole number") from None
     if not -(1 << 31) <= value < 1 << 31:
         raise error(error.__doc__)
     return value
 
 
 def _lattice(area, step):
-    x0, y0, x1, y1 = (_number(value, BadLattice) for value in area)
+    try:
+        x0, y0, x1, y1 = area
+    except (TypeError, ValueError):
+        raise BadLattice("an area is four numbers: x0, y0, x1 and y1") from None
+    x0, y0, x1, y1 = (_number(value, BadLattice) for value in (x0, y0, x1, y1))
     return _Lattice(x0, y0, x1, y1, _number(step, BadLattice))
 
 
@@ -614,7 +628,11 @@ def _numbers_of(tool):
     cutter = [_number(value, BadCutter) for value in (tool.kind, tool.radius, tool.rise, tool.run)]
     if tool.holder is None:
         return _Tool(*cutter, 0, 0)
-    radius, stickout = (_number(value, BadHolder) for value in tool.holder)
+    try:
+        radius, stickout = tool.holder
+    except (TypeError, ValueError):
+        raise BadHolder("a holder is two numbers: its radius and its stickout") from None
+    radius, stickout = _number(radius, BadHolder), _number(stickout, BadHolder)
     if radius == 0 and stickout == 0:
         raise BadHolder(BadHolder.__doc__)
     return _Tool(*cutter, radius, stickout)
@@ -624,7 +642,7 @@ def _seen(name, value):
     """An array's numbers, where they stand in a row and have 32 bits."""
     try:
         view = memoryview(value)
-    except TypeError:
+    except (TypeError, ValueError):
         raise BadArray(f"{name}: no array of whole numbers of 32 bits") from None
     if view.itemsize != 4 or view.format.lstrip("@=<") not in ("i", "l"):
         raise BadArray(f"{name}: an array of format {view.format}, and not of whole numbers of 32 bits")
