@@ -685,7 +685,11 @@ def _overlap(one, other):
 def _loaded():
     root = os.path.dirname(os.path.dirname(os.path.dirname(os.path.abspath(__file__))))
     built = os.path.join(root, "crates", "mill_c", "out", "libcamtool.so")
-    library = ctypes.CDLL(os.environ.get("CAMTOOL_LIBRARY", built))
+    path = os.environ.get("CAMTOOL_LIBRARY", built)
+    try:
+        library = ctypes.CDLL(path)
+    except OSError as error:
+        raise ImportError(f"no library of camtool at {path}, where tools/library puts it: {error}") from None
     number, numbers, size = ctypes.c_int32, ctypes.POINTER(ctypes.c_int32), ctypes.c_size_t
     library.camtool_read_part.restype = number
     library.camtool_read_part.argtypes = [
