@@ -250,9 +250,10 @@ class Program:
         common.note("proving and building the program")
         jobs = os.environ.get("CAMTOOL_JOBS")
         environment = {**os.environ, **({"RT_JOBS": jobs} if jobs else {})}
-        # As a repository of its own, for the gate: it takes what was proved on this machine. The program runs once
-        # there, with no words, which it refuses.
+        # As a repository of its own, in the layout that the gate asks for: it takes what was proved on this machine.
+        # The program runs once there, with no words, which it refuses.
         os.makedirs(os.path.join(self.folder, ".git"), exist_ok=True)
+        subprocess.run(["rt", "fmt"], cwd=self.crate, stdout=subprocess.DEVNULL, stderr=subprocess.DEVNULL)
         built = subprocess.run(
             ["rt", "ci"], cwd=self.folder, env=environment, stdout=subprocess.PIPE, stderr=subprocess.STDOUT, text=True
         )
