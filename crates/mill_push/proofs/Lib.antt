@@ -17,4 +17,5 @@ pub mod Windows
 pub mod Cutting
 pub mod Growing
 pub mod Collecting
-pub mod BothSolids
+pub mod Beside
+mod BothSolids

@@ -23,31 +23,17 @@ use Rattle.mill_push.specs.declared.fiber.Run.{Run}
 use Rattle.mill_push.specs.Fibers.{IsTouched, place_on, tip_on}
 use Rattle.mill_push.specs.inner.Known.{IsRunInRange, IsWindow}
 use Rattle.mill_push.specs.inner.Reaches.{IsReach, IsReachForTri}
-use Rattle.mill_push.specs.inner.Windows.{extent_of, other_than}
+use Rattle.mill_push.specs.inner.Windows.{other_than}
 use Rattle.mill_push.proofs.Meeting.{height_on, held_around, mean_under, side_down, side_up}
 use Rattle.mill_push.proofs.NearCerts.{reaches_down, reaches_up}
 use Rattle.mill_push.proofs.Pushing.{has_radius, most_radius}
 use Rattle.mill_push.proofs.Stored.{through}
 
--- the same run from equal ends
-pub same_run : (a b p q : ℤ) → a ≡ p → b ≡ q → ◌≡◌ {A = Run} (record { first = a; last = b }) (record { first = p; last = q })
-same_run a b p q e f = cc
-
--- the least and the greatest of three coordinates are in range
-pub extent_in_range : (a b c : ℤ) → Within MAX_COORDINATE a → Within MAX_COORDINATE b → Within MAX_COORDINATE c → IsRunInRange (extent_of a b c)
-extent_in_range a b c h k l = record { first_ok = record { within = low a b c h.within k.within l.within }; last_ok = record { within = high a b c h.within k.within l.within } }
-  where
-    low : (a b c : ℤ) → nat_abs a ≤ 524287 → nat_abs b ≤ 524287 → nat_abs c ≤ 524287 → nat_abs (lesser a (lesser b c)) ≤ 524287
-    low a b c h k l = grind (arith, ints)
-
-    high : (a b c : ℤ) → nat_abs a ≤ 524287 → nat_abs b ≤ 524287 → nat_abs c ≤ 524287 → nat_abs (greater a (greater b c)) ≤ 524287
-    high a b c h k l = grind (arith, ints)
-
 -- a reach for all up to the greatest of the corners' heights is one for what the triangle has
-pub reach_by_extent : (cutter : Cutter) (tri : Tri) (z reach : ℤ) (heights : Run) → heights ≡ extent_of tri.a.z tri.b.z tri.c.z → IsReach cutter (heights.last -ℤ z) reach → IsReachForTri cutter z reach tri
-reach_by_extent cutter tri z reach heights e h = record {
-  top = heights.last;
-  under = subst (λ (run : Run). (tri.a.z ≤ℤ run.last) × (tri.b.z ≤ℤ run.last) × (tri.c.z ≤ℤ run.last)) (sym e) (greatest tri.a.z tri.b.z tri.c.z);
+pub reach_by_top : (cutter : Cutter) (tri : Tri) (z top reach : ℤ) → top ≡ greater tri.a.z (greater tri.b.z tri.c.z) → IsReach cutter (top -ℤ z) reach → IsReachForTri cutter z reach tri
+reach_by_top cutter tri z top reach e h = record {
+  top = top;
+  under = subst (λ (t : ℤ). (tri.a.z ≤ℤ t) × (tri.b.z ≤ℤ t) × (tri.c.z ≤ℤ t)) (sym e) (greatest tri.a.z tri.b.z tri.c.z);
   holds = h;
 }
   where

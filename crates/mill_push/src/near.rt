@@ -10,13 +10,13 @@ ghost use Rattle.mill_push.specs.Touches.{TouchesFew, position_count, strip_alon
 ghost use Rattle.mill_push.specs.inner.Solids.{IsCutterBlocked};
 ghost use Rattle.mill_push.specs.inner.Unions.{AreSpans, AreStretches};
 
-use crate::ends::{Aims, Ends};
 use crate::fiber::Run;
-use crate::known::{add, cut, latest};
-use crate::start::{spare_touches, start_in};
+use crate::known::Known;
+use crate::start::{middle_of, spare_touches, start_in};
 use crate::stretch::Pusher;
 use mill_base::{Box2, Steps, Tri, WantOfMemory};
 use mill_cells::Cells;
+use mill_ends::{Aims, Ends};
 use mill_geom::Axis;
 use mill_part::Part;
 use std::alloc::Global;
@@ -59,7 +59,7 @@ impl Pusher {
         number: u32,
         from: i32,
         to: i32,
-        known: &[Run],
+        known: &Known,
         ends: &Ends,
         steps: &mut Steps<L>,
     ) -> Option<Run>
@@ -68,12 +68,12 @@ impl Pusher {
         requires from_ok { Within MAX_COORDINATE from }
         requires to_ok { Within MAX_COORDINATE to }
         requires order { from ≤ℤ to }
-        requires known { AreSpans from to known.now }
-        ensures stretch { IsNewAnswer self.cutter tri.now self.fiber from to known.now result }
+        requires known { AreSpans from to known.now.runs.items }
+        ensures stretch { IsNewAnswer self.cutter tri.now self.fiber from to known.now.runs.items result }
         ensures cost { (n : ℕ) → position_count from to < 2 ^ n → steps.new ≤ steps.old + 2 * n }
     {
         let window = self.window(tri, from, to);
-        let rest = cut(window, latest(known));
+        let rest = known.cut(window);
         if rest.first > rest.last {
             return None;
         }
@@ -81,10 +81,12 @@ impl Pusher {
             return self.stretch(tri, rest.first, rest.last, Aims::none(), steps);
         };
         let aims = ends.aims(number).at_most(spare);
-        match start_in(rest, window, aims) {
-            Some(start) => self.stretch_from(tri, rest.first, rest.last, start, aims, steps),
-            None => self.stretch(tri, rest.first, rest.last, aims, steps),
+        let middle = middle_of(rest, aims);
+        if let Some(run) = known.run_inside(rest, middle) {
+            return self.stretch_around(tri, rest, run, aims, steps);
         }
+        let start = start_in(rest, window, middle);
+        self.stretch_from(tri, rest.first, rest.last, start, aims, steps)
     }
 
     /// Runs that hold the positions from `from` to `to` at which some triangle is touched, and no
@@ -110,16 +112,27 @@ impl Pusher {
         ensures cost { TouchesFew self.cutter part.now self.fiber from to steps.old steps.new }
     {
         let tris = part.tris();
-        let mut runs = Vec::new(alloc);
+        let mut known = Known::new(alloc, from, to)?;
         let mut near = cells.near_rising(self.strip(from, to));
         while let Some(number) = near.next_over(self.fiber.z) {
             let tri = &tris[number as usize];
-            let Some(stretch) = self.new_stretch(tri, number, from, to, &runs, ends, steps) else {
+            let Some(stretch) = self.new_stretch(tri, number, from, to, &known, ends, steps) else {
                 continue;
             };
-            ends.keep(number, stretch);
-            add(&mut runs, stretch)?;
+            keep_ends(ends, number, stretch, &known);
+            known.add(stretch)?;
         }
-        Ok(runs)
+        Ok(known.runs)
+    }
+}
+
+/// Keeps the ends of a triangle's stretch where no known run lies beside them: there the stretch only
+/// begins where the run ends.
+fn keep_ends(ends: &mut Ends, number: u32, stretch: Run, known: &Known) {
+    if known.run_at(stretch.first.saturating_sub(1)).is_none() {
+        ends.keep_first(number, stretch.first);
+    }
+    if known.run_at(stretch.last.saturating_add(1)).is_none() {
+        ends.keep_last(number, stretch.last);
     }
 }

@@ -8,9 +8,9 @@ ghost use Rattle.mill_push.specs.Stretches.{IsClear, IsHeld};
 ghost use Rattle.mill_push.specs.inner.Probes.{IsLeft, IsSearch, place_in};
 ghost use Rattle.mill_push.specs.inner.Pushers.{IsBetween, IsPusher};
 
-use crate::ends::Aims;
 use crate::stretch::Pusher;
 use mill_base::{Steps, Tri};
+use mill_ends::{Aim, Aims};
 use std::sync::ledger::Ledger;
 
 /// The two ways along a fiber.
@@ -105,8 +105,8 @@ impl Pusher {
             found,
             limit: found - low,
         };
-        let aim = found.saturating_sub(aims.first);
-        let left = self.near_end(tri, search, aim, aims, steps);
+        let aim = aims.first.back_from(found);
+        let left = self.near_end(tri, search, aim, aims.probes, steps);
         let first = search.place(left.free);
         let held = search.place(left.held);
         self.first_touched(tri, first, held, steps)
@@ -137,21 +137,21 @@ impl Pusher {
             found,
             limit: high - found,
         };
-        let aim = aims.last.saturating_sub(found);
-        let left = self.near_end(tri, search, aim, aims, steps);
+        let aim = aims.last.on_from(found);
+        let left = self.near_end(tri, search, aim, aims.probes, steps);
         let held = search.place(left.held);
         let last = search.place(left.free);
         self.last_touched(tri, held, last, steps)
     }
 
-    /// What is left of a search after touches near the aim: from there on as long as they find the
-    /// triangle, or back as long as they don't, each time twice as far.
+    /// What is left of a search after touches near the aim, if there is one: from there on as long as
+    /// they find the triangle, or back as long as they don't, each time twice as far.
     fn near_end<L: Ledger>(
         self,
         tri: &Tri,
         search: Search,
-        aim: i32,
-        aims: Aims,
+        aim: Aim,
+        probes: u32,
         steps: &mut Steps<L>,
     ) -> Left
         requires self_ok { IsPusher self }
@@ -159,15 +159,18 @@ impl Pusher {
         requires search_ok { IsSearch search }
         requires held { IsTouched self.cutter tri.now self.fiber search.found }
         ensures left { IsLeft self.cutter tri.now self.fiber search result }
-        ensures cost { steps.new ≤ steps.old + aims.probes }
+        ensures cost { steps.new ≤ steps.old + probes }
     {
         let mut left = Left {
             held: 0,
             free: search.limit,
         };
-        let mut at = aim;
-        let mut stride = aims.stride;
-        for _ in 0..aims.probes {
+        if aim.is_none() {
+            return left;
+        }
+        let mut at = aim.at;
+        let mut stride = aim.stride;
+        for _ in 0..probes {
             if left.is_closed(search.limit) {
                 return left;
             }

@@ -6,12 +6,12 @@ ghost use Rattle.mill_cells.specs.Sorted.{sorted_of};
 ghost use Rattle.mill_push.specs.Runs.{AreRuns};
 ghost use Rattle.mill_push.specs.Touches.{IsFiber, ToolTouchesFew, most_touches};
 
-use crate::ends::Ends;
 use crate::fiber::{Fiber, Run};
 use crate::solids::tool_stretches;
 use crate::union::union;
 use mill_base::{Steps, Tool, WantOfMemory};
 use mill_cells::Cells;
+use mill_ends::Ends;
 use mill_part::Part;
 use std::alloc::Global;
 use std::sync::ledger::Ledger;

@@ -11,12 +11,12 @@ ghost use Rattle.mill_push.specs.Touches.{IsFiber, ToolTouchesFew, TouchesFew, l
 ghost use Rattle.mill_push.specs.inner.Solids.{IsCutterBlocked};
 ghost use Rattle.mill_push.specs.inner.Unions.{AreStretches};
 
-use crate::ends::Ends;
 use crate::fiber::{Fiber, Run};
 use crate::reach::reach_over;
 use crate::stretch::Pusher;
 use mill_base::{Cutter, Holder, Steps, Tool, WantOfMemory};
 use mill_cells::Cells;
+use mill_ends::Ends;
 use mill_part::Part;
 use std::alloc::Global;
 use std::sync::ledger::Ledger;

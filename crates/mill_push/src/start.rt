@@ -4,8 +4,8 @@ ghost use Rattle.mill_base.specs.Numbers.{Within};
 ghost use Rattle.mill_base.specs.declared.limits.TheConstants.{MAX_COORDINATE};
 ghost use Rattle.mill_push.specs.inner.Known.{HasRoom, IsAt, IsRunInRange};
 
-use crate::ends::Aims;
 use crate::fiber::Run;
+use mill_ends::Aims;
 
 /// How many touches near the aim of each end a triangle may take besides those of a search by halves
 /// in the rest of its window, and one at the start: the fewer positions of those from `from` to `to`
@@ -35,19 +35,30 @@ pub fn spare_touches(rest: Run, from: i32, to: i32) -> Option<u32>
 }
 
 /// Where the search in the rest of a window begins: at the end that was cut off, since a triangle
-/// mostly reaches on from what is known; else halfway between the aims, if there are any.
-pub fn start_in(rest: Run, window: Run, aims: Aims) -> Option<i32>
-    requires { rest.first ≤ℤ rest.last }
-    ensures { IfSome result (IsAt rest) }
+/// mostly reaches on from what is known; else in the middle of where its stretch is expected.
+pub fn start_in(rest: Run, window: Run, middle: i32) -> i32
+    requires order { rest.first ≤ℤ rest.last }
+    requires middle { IsAt rest middle }
+    ensures { IsAt rest result }
 {
     if window.first < rest.first {
-        return Some(rest.first);
+        return rest.first;
     }
     if rest.last < window.last {
-        return Some(rest.last);
+        return rest.last;
     }
-    if aims.probes == 0 {
-        return None;
+    middle
+}
+
+/// The middle of where a stretch in the rest of a window is expected: halfway between its aims, or in
+/// the middle of the rest.
+pub fn middle_of(rest: Run, aims: Aims) -> i32
+    requires rest_ok { IsRunInRange rest }
+    requires order { rest.first ≤ℤ rest.last }
+    ensures { IsAt rest result }
+{
+    match aims.middle() {
+        Some(at) => at.clamp(rest.first, rest.last),
+        None => rest.first + (rest.last - rest.first) / 2,
     }
-    Some(aims.middle().clamp(rest.first, rest.last))
 }

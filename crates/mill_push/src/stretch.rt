@@ -9,10 +9,10 @@ ghost use Rattle.mill_push.specs.Stretches.{IsClear, IsHeld, IsStretchAnswer};
 ghost use Rattle.mill_push.specs.Touches.{position_count};
 
 use crate::contact::counted_touch;
-use crate::ends::Aims;
 use crate::fiber::{Fiber, Run};
 use crate::inside::counted_inside;
 use mill_base::{Cutter, Pt3, Steps, Tri};
+use mill_ends::Aims;
 use mill_geom::{Axis, Side, Touch};
 use std::sync::ledger::Ledger;
 
@@ -48,7 +48,7 @@ impl Fiber {
 
 impl Pusher {
     /// How the triangle lies to the cutter at this position, by one touch.
-    fn touch_at<L: Ledger>(self, tri: &Tri, at: i32, steps: &mut Steps<L>) -> Touch
+    pub fn touch_at<L: Ledger>(self, tri: &Tri, at: i32, steps: &mut Steps<L>) -> Touch
         requires self_ok { IsPusher self }
         requires tri_ok { TriInRange tri.now }
         requires at_ok { Within MAX_COORDINATE at }

@@ -6,7 +6,7 @@ ghost use Rattle.mill_push.specs.Fibers.{IsTouched};
 ghost use Rattle.mill_push.specs.inner.Known.{IsRunInRange, IsWindow};
 ghost use Rattle.mill_push.specs.inner.Pushers.{IsPusher};
 ghost use Rattle.mill_push.specs.inner.Reaches.{IsReachForTri};
-ghost use Rattle.mill_push.specs.inner.Windows.{extent_of, other_than};
+ghost use Rattle.mill_push.specs.inner.Windows.{other_than};
 
 use crate::fiber::Run;
 use crate::reach::reach_up_to;
@@ -47,8 +47,8 @@ impl Pusher {
         requires tri_ok { TriInRange tri.now }
         ensures { IsReachForTri self.cutter self.fiber.z result tri.now }
     {
-        let heights = extent_of_three(tri.a.z, tri.b.z, tri.c.z);
-        reach_up_to(self.cutter, self.fiber.z, heights.last)
+        let top = tri.a.z.max(tri.b.z.max(tri.c.z));
+        reach_up_to(self.cutter, self.fiber.z, top)
     }
 
     /// Whether what the triangle has over the fiber's height is farther beside the fiber than the
@@ -85,19 +85,5 @@ fn other(axis: Axis) -> Axis
     match axis {
         Axis::X => Axis::Y,
         Axis::Y => Axis::X,
-    }
-}
-
-/// From the least to the greatest of three coordinates.
-fn extent_of_three(a: i32, b: i32, c: i32) -> Run
-    requires a_ok { Within MAX_COORDINATE a }
-    requires b_ok { Within MAX_COORDINATE b }
-    requires c_ok { Within MAX_COORDINATE c }
-    ensures value { result ≡ extent_of a b c }
-    ensures in_range { IsRunInRange result }
-{
-    Run {
-        first: a.min(b.min(c)),
-        last: a.max(b.max(c)),
     }
 }

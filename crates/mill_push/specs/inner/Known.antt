@@ -44,6 +44,12 @@ pub record IsRest (known : List Run) (window rest : Run) : Type 0 where
   pub before : (v : ℤ) → window.first ≤ℤ v → v <ℤ rest.first → StandsIn known v
   pub beyond : (v : ℤ) → rest.last <ℤ v → v ≤ℤ window.last → StandsIn known v
 
+-- a run inside the rest of a window: a position of the rest is before it, and one after it
+pub record IsInside (rest run : Run) : Type 0 where
+  pub before : rest.first <ℤ run.first
+  pub some : run.first ≤ℤ run.last
+  pub after : run.last <ℤ rest.last
+
 -- of the positions from `from` to `to` so few are in the rest that so many touches are to spare at each end, and one at the start
 abbrev pub HasRoom : ℤ → ℤ → Run → ℕ → Type 0
 HasRoom from to rest spare = 2 ^ (spare + 1) * position_count rest.first rest.last ≤ position_count from to

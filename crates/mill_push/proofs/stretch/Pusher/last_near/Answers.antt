@@ -1,8 +1,15 @@
 use Rattle.std.proofs.Common.{rules, w32}
 use Rattle.std.proofs.lemmas.Int.{to_z-of_z}
-use Rattle.mill_push.proofs.Probing.{last_between, last_held, last_clear, last_cost}
+use Rattle.mill_push.proofs.Probing.{on_ok, last_between, last_held, last_clear, last_cost}
 use Rattle.mill_push.proofs.Stored.{stored, difference}
 use Rattle.mill_push.proofs.stretch.Pusher.last_near.Goals as goal
+
+pub place-last-requires-clause-self_ok : goal.place-last-requires-clause-self_ok
+place-last-requires-clause-self_ok g c =
+    let found = stored c.args.found c.requires.found_ok in
+    let high = stored c.args.high c.requires.high_ok in
+    let limit = difference c.args.found c.args.high c.requires.found_ok c.requires.high_ok in
+    rw (found, high, limit) (on_ok c.args.found c.args.high c.requires.found_ok c.requires.high_ok c.requires.order)
 
 pub last_touched-requires-clause-held : goal.last_touched-requires-clause-held
 last_touched-requires-clause-held g c =

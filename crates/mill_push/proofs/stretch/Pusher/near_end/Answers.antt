@@ -8,3 +8,6 @@ loop-init g c = record {
   left = rw (to_z-of_z w32 c.args.search.limit (search rules)) (left_starts c.args.self.cutter c.args.tri.now c.args.self.fiber c.args.search c.requires.search_ok c.requires.held);
   cost = omega arith;
 }
+
+pub returns-then-is_none-clause-left : goal.returns-then-is_none-clause-left
+returns-then-is_none-clause-left g c = rw (to_z-of_z w32 c.args.search.limit (search rules)) (left_starts c.args.self.cutter c.args.tri.now c.args.self.fiber c.args.search c.requires.search_ok c.requires.held)
