@@ -12,7 +12,7 @@ ghost use Rattle.mill_push.specs.inner.Unions.{AreSpans, AreStretches};
 
 use crate::ends::{Aims, Ends};
 use crate::fiber::Run;
-use crate::known::{add, cut, latest};
+use crate::known::Known;
 use crate::start::{spare_touches, start_in};
 use crate::stretch::Pusher;
 use mill_base::{Box2, Steps, Tri, WantOfMemory};
@@ -59,7 +59,7 @@ impl Pusher {
         number: u32,
         from: i32,
         to: i32,
-        known: &[Run],
+        known: &Known,
         ends: &Ends,
         steps: &mut Steps<L>,
     ) -> Option<Run>
@@ -68,12 +68,12 @@ impl Pusher {
         requires from_ok { Within MAX_COORDINATE from }
         requires to_ok { Within MAX_COORDINATE to }
         requires order { from ≤ℤ to }
-        requires known { AreSpans from to known.now }
-        ensures stretch { IsNewAnswer self.cutter tri.now self.fiber from to known.now result }
+        requires known { AreSpans from to known.now.runs.items }
+        ensures stretch { IsNewAnswer self.cutter tri.now self.fiber from to known.now.runs.items result }
         ensures cost { (n : ℕ) → position_count from to < 2 ^ n → steps.new ≤ steps.old + 2 * n }
     {
         let window = self.window(tri, from, to);
-        let rest = cut(window, latest(known));
+        let rest = known.cut(window);
         if rest.first > rest.last {
             return None;
         }
@@ -110,16 +110,16 @@ impl Pusher {
         ensures cost { TouchesFew self.cutter part.now self.fiber from to steps.old steps.new }
     {
         let tris = part.tris();
-        let mut runs = Vec::new(alloc);
+        let mut known = Known::new(alloc, from, to)?;
         let mut near = cells.near_rising(self.strip(from, to));
         while let Some(number) = near.next_over(self.fiber.z) {
             let tri = &tris[number as usize];
-            let Some(stretch) = self.new_stretch(tri, number, from, to, &runs, ends, steps) else {
+            let Some(stretch) = self.new_stretch(tri, number, from, to, &known, ends, steps) else {
                 continue;
             };
             ends.keep(number, stretch);
-            add(&mut runs, stretch)?;
+            known.add(stretch)?;
         }
-        Ok(runs)
+        Ok(known.runs)
     }
 }

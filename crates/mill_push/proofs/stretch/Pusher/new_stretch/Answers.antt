@@ -5,21 +5,21 @@ use Rattle.mill_push.proofs.Stored.{stored, through}
 use Rattle.mill_push.proofs.stretch.Pusher.new_stretch.Goals as goal
 
 pub cut-rest-requires : goal.cut-rest-requires
-cut-rest-requires g c = λ run member. spans_in_range c.args.from c.args.to c.args.known.now c.requires.from_ok c.requires.to_ok c.requires.known run (c.latest.ensures run member)
+cut-rest-requires g c = λ run member. spans_in_range c.args.from c.args.to c.args.known.now.runs.items c.requires.from_ok c.requires.to_ok c.requires.known run member
 
 pub returns-then-rest-clause-stretch : goal.returns-then-rest-clause-stretch
 returns-then-rest-clause-stretch g c =
     let window = rw (stored c.args.from c.requires.from_ok, stored c.args.to c.requires.to_ok) at c.window-window.ensures.window in
     let rest = c.cut-rest.result in
     let test = rw (to_z-of_z w32 rest.first (search rules), to_z-of_z w32 rest.last (search rules)) at c.if-rest.true in
-    all_known c.args.self.cutter c.args.tri.now c.args.self.fiber c.args.from c.args.to c.latest.result.now c.args.known.now c.window-window.result rest window c.cut-rest.ensures c.latest.ensures (omega (test, arith, ints))
+    all_known c.args.self.cutter c.args.tri.now c.args.self.fiber c.args.from c.args.to c.args.known.now.runs.items c.window-window.result rest window c.cut-rest.ensures (omega (test, arith, ints))
 
 pub returns-in_default-clause-stretch : goal.returns-in_default-clause-stretch
 returns-in_default-clause-stretch g c =
     let window = rw (stored c.args.from c.requires.from_ok, stored c.args.to c.requires.to_ok) at c.window-window.ensures.window in
     let rest = c.cut-rest.result in
     let found = rw (to_z-of_z w32 rest.first (search rules), to_z-of_z w32 rest.last (search rules)) at c.stretch.ensures.stretch in
-    new_answer c.args.self.cutter c.args.tri.now c.args.self.fiber c.args.from c.args.to c.latest.result.now c.args.known.now c.window-window.result rest c.stretch.result window c.cut-rest.ensures c.latest.ensures found
+    new_answer c.args.self.cutter c.args.tri.now c.args.self.fiber c.args.from c.args.to c.args.known.now.runs.items c.window-window.result rest window c.cut-rest.ensures c.stretch.result found
 
 pub returns-in_default-clause-cost : goal.returns-in_default-clause-cost
 returns-in_default-clause-cost g c =
@@ -38,7 +38,7 @@ returns-in-Some-start_in-clause-stretch g c =
     let window = rw (stored c.args.from c.requires.from_ok, stored c.args.to c.requires.to_ok) at c.window-window.ensures.window in
     let rest = c.cut-rest.result in
     let found = rw (to_z-of_z w32 rest.first (search rules), to_z-of_z w32 rest.last (search rules)) at c.stretch_from.ensures.stretch in
-    new_answer c.args.self.cutter c.args.tri.now c.args.self.fiber c.args.from c.args.to c.latest.result.now c.args.known.now c.window-window.result rest c.stretch_from.result window c.cut-rest.ensures c.latest.ensures found
+    new_answer c.args.self.cutter c.args.tri.now c.args.self.fiber c.args.from c.args.to c.args.known.now.runs.items c.window-window.result rest window c.cut-rest.ensures c.stretch_from.result found
 
 pub returns-in-Some-start_in-clause-cost : goal.returns-in-Some-start_in-clause-cost
 returns-in-Some-start_in-clause-cost g c =
@@ -52,7 +52,7 @@ returns-in-None-clause-stretch g c =
     let window = rw (stored c.args.from c.requires.from_ok, stored c.args.to c.requires.to_ok) at c.window-window.ensures.window in
     let rest = c.cut-rest.result in
     let found = rw (to_z-of_z w32 rest.first (search rules), to_z-of_z w32 rest.last (search rules)) at c.stretch-in-None.ensures.stretch in
-    new_answer c.args.self.cutter c.args.tri.now c.args.self.fiber c.args.from c.args.to c.latest.result.now c.args.known.now c.window-window.result rest c.stretch-in-None.result window c.cut-rest.ensures c.latest.ensures found
+    new_answer c.args.self.cutter c.args.tri.now c.args.self.fiber c.args.from c.args.to c.args.known.now.runs.items c.window-window.result rest window c.cut-rest.ensures c.stretch-in-None.result found
 
 pub returns-in-None-clause-cost : goal.returns-in-None-clause-cost
 returns-in-None-clause-cost g c =
