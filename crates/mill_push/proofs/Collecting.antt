@@ -204,6 +204,10 @@ module _ (p : Pusher) (part : List Tri) (from to : ℤ) where
           deals_last IsBeside (IsDone found) p.fiber.z near later none (λ j low. low_done near.tops found j ok s.tops low) s.dealt m.0 beside_it m.1 v a b
           (subst (λ (u : Tri). IsTouched p.cutter u p.fiber v) (sym place) g.touches)
 
+  -- before any triangle is tried
+  pub no_cost : (old : ℕ) → TouchesFew p.cutter part p.fiber from to old old
+  no_cost old = record { numbers = []; once = distinct-nil; tried = λ i c. absurd (nothing_in_nil i c); bound = λ n h. omega arith }
+
   pub collect_cost : {near : Ahead} {found : List Run} {old now : ℕ} → CollectedSoFar near found old now → TouchesFew p.cutter part p.fiber from to old now
   collect_cost s = record { numbers = s.numbers; once = s.each_once; tried = s.tried; bound = s.bound }
 

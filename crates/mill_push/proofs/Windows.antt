@@ -5,7 +5,7 @@ use Rattle.std.specs.Int.{int_min, int_max}
 use Rattle.std.proofs.lemmas.Int.{ints, by_lt_z, fits_signed_from_abs}
 use lib.IntN.{ℤ, pos, ◌+ℤ◌, ◌-ℤ◌, ◌*ℤ◌}
 use lib.Signed.{◌<ℤ◌, ◌≤ℤ◌}
-use Rattle.mill_base.specs.Numbers.{Within, lesser, greater}
+use Rattle.mill_base.specs.Numbers.{Within, greater}
 use Rattle.mill_base.specs.Sizes.{IsCutter, radius_of}
 use Rattle.mill_base.specs.Contact.{Touches}
 use Rattle.mill_base.specs.declared.limits.TheConstants.{MAX_COORDINATE}
@@ -19,7 +19,6 @@ use Rattle.mill_extent.specs.declared.extent.Extent.{Extent}
 use Rattle.mill_geom.specs.declared.touch.Axis.{Axis}
 use Rattle.mill_geom.specs.declared.touch.Axis.TheVariants.{X, Y}
 use Rattle.mill_push.specs.declared.fiber.Fiber.{Fiber}
-use Rattle.mill_push.specs.declared.fiber.Run.{Run}
 use Rattle.mill_push.specs.Fibers.{IsTouched, place_on, tip_on}
 use Rattle.mill_push.specs.inner.Known.{IsRunInRange, IsWindow}
 use Rattle.mill_push.specs.inner.Reaches.{IsReach, IsReachForTri}

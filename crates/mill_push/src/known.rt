@@ -1,7 +1,7 @@
 //! The runs that were found so far along a fiber.
 ghost use Rattle.std.specs.Prelude.{◌≡◌, ◌<◌, ◌≤ℤ◌, ◌<ℤ◌, ℤ, length, [], Contains, IfOk, IfSome, OnOk, IsTrue};
 ghost use Rattle.mill_push.specs.Runs.{StandsIn};
-ghost use Rattle.mill_push.specs.inner.Known.{AreInRange, AreJoined, IsAt, IsGrown, IsHull, IsJoint, IsRest, IsRunInRange};
+ghost use Rattle.mill_push.specs.inner.Known.{AreInRange, AreJoined, IsAt, IsGrown, IsHull, IsInside, IsJoint, IsRest, IsRunInRange};
 
 use crate::fiber::Run;
 use mill_base::WantOfMemory;
@@ -34,7 +34,7 @@ impl Known {
         ensures { IfOk result (λ known. known.runs.items ≡ []) }
     {
         let length = from.abs_diff(to);
-        let part_bits = (length | 1).ilog2().saturating_sub(PART_BITS - 1);
+        let part_bits = length.max(1).ilog2().saturating_sub(PART_BITS - 1);
         let count = length.wrapping_shr(part_bits) as usize + 1;
         Ok(Known {
             runs: Vec::new(alloc),
@@ -138,17 +138,20 @@ impl Known {
         requires stretch_ok { IsRunInRange stretch }
         ensures { OnOk result (IsGrown self.old.runs.items stretch self.new.runs.items) }
     {
-        match self.joined(stretch) {
-            Some(number) => {
-                self.runs[number] = hull(self.runs[number], stretch);
-                self.note(stretch, number as u32);
-            }
-            None => {
-                self.note(stretch, self.runs.len() as u32);
-                self.runs.push(stretch)?;
-            }
-        }
+        let Some(number) = self.joined(stretch) else {
+            self.note(stretch, self.count());
+            self.runs.push(stretch)?;
+            return Ok(());
+        };
+        let run = &mut self.runs[number];
+        *run = hull(*run, stretch);
+        self.note(stretch, number);
         Ok(())
+    }
+
+    /// How many runs there are.
+    fn count(&self) -> usize {
+        self.runs.len()
     }
 
     /// The number of a run that the stretch overlaps or touches.
@@ -168,9 +171,10 @@ impl Known {
     }
 
     /// Keeps that this run was found last where the stretch is.
-    fn note(&mut self, stretch: Run, number: u32)
+    fn note(&mut self, stretch: Run, number: usize)
         ensures { self.new.runs ≡ self.old.runs }
     {
+        let number = u32::try_from(number).unwrap_or(u32::MAX);
         let end = self
             .latest
             .len()

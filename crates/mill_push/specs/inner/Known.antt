@@ -26,10 +26,6 @@ pub record IsRunInRange (run : Run) : Type 0 where
 abbrev pub AreInRange : List Run → Type 0
 AreInRange runs = (run : Run) → Contains runs run → IsRunInRange run
 
--- each run of the one list is in the other
-abbrev pub AreAmong : List Run → List Run → Type 0
-AreAmong some all = (run : Run) → Contains some run → Contains all run
-
 -- a triangle's window: outside it, the triangle is touched nowhere from `from` to `to`
 pub record IsWindow (cutter : Cutter) (tri : Tri) (fiber : Fiber) (from to : ℤ) (window : Run) : Type 0 where
   pub after : from ≤ℤ window.first

@@ -1,25 +1,25 @@
-use Rattle.std.proofs.Common.{rules, w32, arith}
+use Rattle.std.proofs.Common.{[], ◌∷◌, rules, w32, arith}
 use Rattle.std.proofs.lemmas.Int.{ints, to_z-of_z}
-use Rattle.mill_push.proofs.Cutting.{all_known, new_answer, cost_from_start, cost_of_rest, cost_with_room, spans_in_range}
+use Rattle.mill_push.proofs.Cutting.{all_known, in_one_of, new_answer, new_answer_beside, cost_of_rest, cost_with_room, spans_in_range}
 use Rattle.mill_push.proofs.Stored.{stored, through}
 use Rattle.mill_push.proofs.stretch.Pusher.new_stretch.Goals as goal
 
 pub cut-rest-requires : goal.cut-rest-requires
-cut-rest-requires g c = λ run member. spans_in_range c.args.from c.args.to c.args.known.now c.requires.from_ok c.requires.to_ok c.requires.known run (c.latest.ensures run member)
+cut-rest-requires g c = λ run member. spans_in_range c.args.from c.args.to c.args.known.now.runs.items c.requires.from_ok c.requires.to_ok c.requires.known run member
 
 pub returns-then-rest-clause-stretch : goal.returns-then-rest-clause-stretch
 returns-then-rest-clause-stretch g c =
     let window = rw (stored c.args.from c.requires.from_ok, stored c.args.to c.requires.to_ok) at c.window-window.ensures.window in
     let rest = c.cut-rest.result in
     let test = rw (to_z-of_z w32 rest.first (search rules), to_z-of_z w32 rest.last (search rules)) at c.if-rest.true in
-    all_known c.args.self.cutter c.args.tri.now c.args.self.fiber c.args.from c.args.to c.latest.result.now c.args.known.now c.window-window.result rest window c.cut-rest.ensures c.latest.ensures (omega (test, arith, ints))
+    all_known c.args.self.cutter c.args.tri.now c.args.self.fiber c.args.from c.args.to c.args.known.now.runs.items c.window-window.result rest window c.cut-rest.ensures (omega (test, arith, ints))
 
 pub returns-in_default-clause-stretch : goal.returns-in_default-clause-stretch
 returns-in_default-clause-stretch g c =
     let window = rw (stored c.args.from c.requires.from_ok, stored c.args.to c.requires.to_ok) at c.window-window.ensures.window in
     let rest = c.cut-rest.result in
     let found = rw (to_z-of_z w32 rest.first (search rules), to_z-of_z w32 rest.last (search rules)) at c.stretch.ensures.stretch in
-    new_answer c.args.self.cutter c.args.tri.now c.args.self.fiber c.args.from c.args.to c.latest.result.now c.args.known.now c.window-window.result rest c.stretch.result window c.cut-rest.ensures c.latest.ensures found
+    new_answer c.args.self.cutter c.args.tri.now c.args.self.fiber c.args.from c.args.to c.args.known.now.runs.items c.window-window.result rest window c.cut-rest.ensures c.stretch.result found
 
 pub returns-in_default-clause-cost : goal.returns-in_default-clause-cost
 returns-in_default-clause-cost g c =
@@ -33,30 +33,30 @@ returns-in_default-clause-cost g c =
     let within = through rest.last c.window-window.result.last c.args.to c.cut-rest.ensures.within window.within in
     cost_of_rest c.args.from c.args.to rest.first rest.last c.args.steps.now c.stretch.new.steps c.none.result.probes after (omega (test, arith, ints)) within c.none.ensures cost
 
-pub returns-in-Some-start_in-clause-stretch : goal.returns-in-Some-start_in-clause-stretch
-returns-in-Some-start_in-clause-stretch g c =
+pub returns-in-Some-run_inside-clause-stretch : goal.returns-in-Some-run_inside-clause-stretch
+returns-in-Some-run_inside-clause-stretch g c =
+    let window = rw (stored c.args.from c.requires.from_ok, stored c.args.to c.requires.to_ok) at c.window-window.ensures.window in
+    let rest = c.cut-rest.result in
+    let run = c.in-Some-run_inside.run' in
+    let known = c.args.known.now.runs.items in
+    new_answer_beside c.args.self.cutter c.args.tri.now c.args.self.fiber c.args.from c.args.to known c.window-window.result rest window c.cut-rest.ensures (run ∷ []) (in_one_of known run c.in-Some-run_inside.ensures.known) c.stretch_around.result c.stretch_around.ensures.stretch
+
+pub returns-in-Some-run_inside-clause-cost : goal.returns-in-Some-run_inside-clause-cost
+returns-in-Some-run_inside-clause-cost g c =
+    let rest = c.cut-rest.result in
+    let room = rw (stored c.args.from c.requires.from_ok, stored c.args.to c.requires.to_ok) at c.in-Some.ensures in
+    cost_with_room c.args.from c.args.to rest c.args.steps.now c.stretch_around.new.steps c.at_most-aims.result.probes c.in-Some.spare c.at_most-aims.ensures room c.stretch_around.ensures.cost
+
+pub returns-clause-stretch : goal.returns-clause-stretch
+returns-clause-stretch g c =
     let window = rw (stored c.args.from c.requires.from_ok, stored c.args.to c.requires.to_ok) at c.window-window.ensures.window in
     let rest = c.cut-rest.result in
     let found = rw (to_z-of_z w32 rest.first (search rules), to_z-of_z w32 rest.last (search rules)) at c.stretch_from.ensures.stretch in
-    new_answer c.args.self.cutter c.args.tri.now c.args.self.fiber c.args.from c.args.to c.latest.result.now c.args.known.now c.window-window.result rest c.stretch_from.result window c.cut-rest.ensures c.latest.ensures found
+    new_answer c.args.self.cutter c.args.tri.now c.args.self.fiber c.args.from c.args.to c.args.known.now.runs.items c.window-window.result rest window c.cut-rest.ensures c.stretch_from.result found
 
-pub returns-in-Some-start_in-clause-cost : goal.returns-in-Some-start_in-clause-cost
-returns-in-Some-start_in-clause-cost g c =
+pub returns-clause-cost : goal.returns-clause-cost
+returns-clause-cost g c =
     let rest = c.cut-rest.result in
     let room = rw (stored c.args.from c.requires.from_ok, stored c.args.to c.requires.to_ok) at c.in-Some.ensures in
     let cost = rw (to_z-of_z w32 rest.first (search rules), to_z-of_z w32 rest.last (search rules)) at c.stretch_from.ensures.cost in
-    cost_from_start c.args.from c.args.to rest c.args.steps.now c.stretch_from.new.steps c.at_most-aims.result.probes c.in-Some.spare c.at_most-aims.ensures room cost
-
-pub returns-in-None-clause-stretch : goal.returns-in-None-clause-stretch
-returns-in-None-clause-stretch g c =
-    let window = rw (stored c.args.from c.requires.from_ok, stored c.args.to c.requires.to_ok) at c.window-window.ensures.window in
-    let rest = c.cut-rest.result in
-    let found = rw (to_z-of_z w32 rest.first (search rules), to_z-of_z w32 rest.last (search rules)) at c.stretch-in-None.ensures.stretch in
-    new_answer c.args.self.cutter c.args.tri.now c.args.self.fiber c.args.from c.args.to c.latest.result.now c.args.known.now c.window-window.result rest c.stretch-in-None.result window c.cut-rest.ensures c.latest.ensures found
-
-pub returns-in-None-clause-cost : goal.returns-in-None-clause-cost
-returns-in-None-clause-cost g c =
-    let rest = c.cut-rest.result in
-    let room = rw (stored c.args.from c.requires.from_ok, stored c.args.to c.requires.to_ok) at c.in-Some.ensures in
-    let cost = rw (to_z-of_z w32 rest.first (search rules), to_z-of_z w32 rest.last (search rules)) at c.stretch-in-None.ensures.cost in
-    cost_with_room c.args.from c.args.to rest c.args.steps.now c.stretch-in-None.new.steps c.at_most-aims.result.probes c.in-Some.spare c.at_most-aims.ensures room cost
+    cost_with_room c.args.from c.args.to rest c.args.steps.now c.stretch_from.new.steps c.at_most-aims.result.probes c.in-Some.spare c.at_most-aims.ensures room (λ n p. let h = cost n p in omega arith)

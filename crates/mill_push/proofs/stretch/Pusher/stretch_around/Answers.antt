@@ -1,5 +1,5 @@
-use Rattle.std.proofs.Common.{rules, arith}
-use Rattle.std.proofs.lemmas.Int.{ints, to_z-of_z}
+use Rattle.std.proofs.Common.{arith}
+use Rattle.std.proofs.lemmas.Int.{ints}
 use lib.IntN.{pos, ◌+ℤ◌, ◌-ℤ◌}
 use Rattle.mill_push.specs.Fibers.{IsTouched}
 use Rattle.mill_push.proofs.Beside.{answer_over, answer_under, first_within, last_within, next_within, nothing, nothing_over, touch_and_search}

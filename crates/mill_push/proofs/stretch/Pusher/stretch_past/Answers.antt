@@ -1,6 +1,5 @@
 use Rattle.std.proofs.Common.{rules, refl, w32}
 use Rattle.std.proofs.lemmas.Int.{to_z-of_z}
-use lib.IntN.{pos, ◌+ℤ◌, ◌-ℤ◌}
 use Rattle.mill_push.proofs.Beside.{both_cost, first_within, last_within, on_both, only_past, past_cost}
 use Rattle.mill_push.proofs.Stored.{stored, less_one, and_one}
 use Rattle.mill_push.proofs.stretch.Pusher.stretch_past.Goals as goal
