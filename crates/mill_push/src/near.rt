@@ -51,8 +51,9 @@ impl Pusher {
     /// Where the triangle is touched from `from` to `to`, as far as that isn't known: a run whose
     /// positions are touched, and beside which none is that doesn't stand in the known runs.
     ///
-    /// Only that part of the triangle's window is searched that the known runs leave, and near the ends
-    /// first that were kept of the triangle of this number.
+    /// Only that part of the triangle's window is searched that the known runs leave. Where a known run
+    /// lies within it, one touch on each side of the run comes first; else the search begins near the
+    /// ends that were kept of the triangle of this number.
     fn new_stretch<L: Ledger>(
         self,
         tri: &Tri,
