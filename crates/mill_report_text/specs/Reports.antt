@@ -51,10 +51,10 @@ sums_of texts = record { job = sha256 texts.job; part = sha256 texts.part; progr
 
 -- ---- the moves that fail
 
--- the least lift of a move, or none where the move, raised over the part, would leave the range of coordinates
+-- the least lift of a move, where the move, raised over the part, stays in the range of coordinates, and else none
 abbrev pub IsLiftOf : Job → List Tri → Move → Option ℤ → Type 0
 IsLiftOf job part m None = ¬ HasRoom part m
-IsLiftOf job part m (Some lift) = (n : ℕ) × (lift ≡ pos n) × IsLeastLift (tool_of job) part m n
+IsLiftOf job part m (Some lift) = HasRoom part m × ((n : ℕ) × (lift ≡ pos n) × IsLeastLift (tool_of job) part m n)
 
 -- the lift of a finding: that of its move, if the test is one against the part; else none
 abbrev pub IsLift : Job → List Tri → List Move → Reason → Option ℤ → Type 0

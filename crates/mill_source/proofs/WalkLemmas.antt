@@ -25,6 +25,7 @@ pub record IsNext (start : Pt3) (unit : Unit) (text : List ℕ) (done : List (Li
 -- the place of that line
 pub record IsPlaceOf (text : List ℕ) (done : List (List ℕ)) (line : List ℕ) (place : Place) : Type 0 where
   pub number : place.line ≡ length done + 1
+  pub begins : place.start ≡ length (with_ends done)
   pub order : place.start ≤ place.end
   pub inside : place.end ≤ length text
   pub bytes : slice_range text place.start place.end ≡ line
@@ -41,11 +42,15 @@ read_more start unit text done line rest before after next =
 split_again : (done : List (List ℕ)) (line : List ℕ) (rest : List (List ℕ)) → done ++ line ∷ rest ≡ (done ++ line ∷ []) ++ rest
 split_again done line rest = sym (append_assoc done (line ∷ []) rest)
 
+front_of : (start : Pt3) (unit : Unit) (text : List ℕ) (done : List (List ℕ)) (line : List ℕ) (rest : List (List ℕ)) (before after : Reading × List Move) (n : ℕ)
+    → IsNext start unit text done line rest before after → length done ≡ n → first_lines n text ≡ with_ends done
+front_of start unit text done line rest before after n next count = ap with_ends (ap (take n) next.lines ∙ take_at done (line ∷ rest) n count)
+
 moves_before : (start : Pt3) (unit : Unit) (text : List ℕ) (done : List (List ℕ)) (line : List ℕ) (rest : List (List ℕ)) (before after : Reading × List Move) (n : ℕ)
     → IsNext start unit text done line rest before after → length done ≡ n → moves_to start unit text n ≡ before.1
 moves_before start unit text done line rest before after n next count =
-    let front : first_lines n text ≡ with_ends done = ap with_ends (ap (take n) next.lines ∙ take_at done (line ∷ rest) n count) in
-    ap (λ (bytes : List ℕ). (fed (reading_at start unit, []) bytes).1) front ∙ ap (λ (s : Reading × List Move). s.1) (sym next.read)
+    ap (λ (bytes : List ℕ). (fed (reading_at start unit, []) bytes).1) (front_of start unit text done line rest before after n next count)
+    ∙ ap (λ (s : Reading × List Move). s.1) (sym next.read)
 
 moves_with : (start : Pt3) (unit : Unit) (text : List ℕ) (done : List (List ℕ)) (line : List ℕ) (rest : List (List ℕ)) (before after : Reading × List Move) (n : ℕ)
     → IsNext start unit text done line rest before after → length done + 1 ≡ n → moves_to start unit text n ≡ after.1
@@ -63,6 +68,7 @@ stands start unit text done line rest before after place k next there least most
       some = omega (arith, there.number);
       before = rw (moves_before start unit text done line rest before after (place.line - 1) next none) least;
       within = rw (moves_with start unit text done line rest before after place.line next (sym there.number)) most;
+      begins = there.begins ∙ ap length (sym (front_of start unit text done line rest before after (place.line - 1) next none));
       order = there.order;
       inside = there.inside;
       bytes = there.bytes ∙ sym (get_or_at done line rest [] (place.line - 1) none) ∙ ap (λ (lines : List (List ℕ)). get_or lines (place.line - 1) []) (sym next.lines);
@@ -124,6 +130,7 @@ walk_first start unit text walk reader moves places =
       done = [];
       lines = refl;
       count = refl;
+      begins = refl;
       few = omega arith;
       inside = omega arith;
       read = rw (reader, moves) (fed-none start unit);
@@ -175,12 +182,15 @@ walk_more start unit text from line finish walk next h order inside cut size add
     let bytes = slice_range text from finish in
     let rest = lines_of (drop (finish + 1) text) in
     let is = next_line start unit text from line walk next (place_of line from finish) bytes rest h cut adds in
-    let there : IsPlaceOf text h.done bytes (place_of line from finish) = record { number = h.count; order = order; inside = omega arith; bytes = refl } in
+    let there : IsPlaceOf text h.done bytes (place_of line from finish) = record { number = h.count; begins = h.begins; order = order; inside = omega arith; bytes = refl } in
+    let long : length (with_ends (h.done ++ bytes ∷ [])) ≡ length (with_ends h.done) + (length bytes + 1) =
+    ap length (with_ends-push h.done bytes) ∙ length-append (with_ends h.done) (bytes ++ 10 ∷ []) ∙ ap (λ n. length (with_ends h.done) + n) (length_push bytes 10) in
     let pushed : length (h.done ++ bytes ∷ []) ≡ length h.done + 1 = length_push h.done bytes in
     record {
       done = h.done ++ bytes ∷ [];
       lines = is.lines ∙ split_again h.done bytes rest;
       count = omega (arith, h.count, pushed);
+      begins = omega (arith, h.begins, long, size, order);
       few = omega (arith, h.few, pushed, order);
       inside = omega arith;
       read = read_more start unit text h.done bytes rest (state_of walk) (state_of next) is;
@@ -195,7 +205,7 @@ pub walk_last : (start : Pt3) (unit : Unit) (text : List ℕ) (from line finish 
 walk_last start unit text from line finish walk next h order inside cut adds =
     let bytes = slice_range text from finish in
     let is = next_line start unit text from line walk next (place_of line from finish) bytes [] h cut adds in
-    let there : IsPlaceOf text h.done bytes (place_of line from finish) = record { number = h.count; order = order; inside = inside; bytes = refl } in
+    let there : IsPlaceOf text h.done bytes (place_of line from finish) = record { number = h.count; begins = h.begins; order = order; inside = inside; bytes = refl } in
     let all : length h.done + 1 ≡ length (lines_of text) = sym (ap length is.lines ∙ length_push h.done bytes) in
     record {
       count = next_size walk next (place_of line from finish) bytes adds h.even

@@ -24,11 +24,12 @@ moves_to start unit text n = (fed (reading_at start unit, []) (first_lines n tex
 abbrev pub line_at : List ℕ → ℕ → List ℕ
 line_at text n = slice_index_or (lines_of text) (n - 1) []
 
--- move k stands on this line: the lines before it read as at most k moves, and with it as more; and the line's bytes stand at the place
+-- move k stands on this line: the lines before it read as at most k moves, and with it as more; the place begins behind the lines before it, and the line's bytes stand there
 pub record IsPlace (start : Pt3) (unit : Unit) (text : List ℕ) (k : ℕ) (place : Place) : Type 0 where
   pub some : 1 ≤ place.line
   pub before : length (moves_to start unit text (place.line - 1)) ≤ k
   pub within : k < length (moves_to start unit text place.line)
+  pub begins : place.start ≡ length (first_lines (place.line - 1) text)
   pub order : place.start ≤ place.end
   pub inside : place.end ≤ length text
   pub bytes : slice_range text place.start place.end ≡ line_at text place.line

@@ -13,6 +13,7 @@ pub record HasWalked (start : Pt3) (unit : Unit) (text : List ℕ) (from line : 
   pub done : List (List ℕ)
   pub lines : lines_of text ≡ done ++ lines_of (drop from text)
   pub count : line ≡ length done + 1
+  pub begins : from ≡ length (with_ends done)
   pub few : length done ≤ from
   pub inside : from ≤ length text
   pub read : (walk.reader, walk.moves.items) ≡ fed (reading_at start unit, []) (with_ends done)
