@@ -2,8 +2,9 @@
 use Rattle.std.specs.Prelude.{◌≡◌, ◌≢◌, ◌<◌, ◌≤◌, ◌^◌, ℕ, ℤ, List, length, All}
 use Rattle.mill_base.specs.Lattices.{IsLattice, IsMapLattice}
 use Rattle.mill_base.specs.Numbers.{Within}
-use Rattle.mill_base.specs.declared.limits.TheConstants.{MAX_COORDINATE, MAX_NODES}
+use Rattle.mill_base.specs.declared.limits.TheConstants.{MAX_COORDINATE}
 use Rattle.mill_c_data.specs.Raw.{IsSoundTool, IsTriangle, SaysCutter, SaysHolder, lattice_of, nodes_in}
+use Rattle.mill_c_data.specs.Tests.{HasTooManyNodes}
 use Rattle.mill_c_data.specs.declared.fault.Fault.{Fault}
 use Rattle.mill_c_data.specs.declared.fault.Fault.TheVariants as fault
 use Rattle.mill_c_data.specs.declared.raw.RawLattice.{RawLattice}
@@ -32,7 +33,7 @@ IsNodesCause triangles tool lattice floor room told fault.Holder = ¬ SaysHolder
 IsNodesCause triangles tool lattice floor room told fault.Triangle = ¬ All IsTriangle triangles
 IsNodesCause triangles tool lattice floor room told fault.TooManyTriangles = 2 ^ 32 ≤ length triangles
 IsNodesCause triangles tool lattice floor room told fault.Lattice = ¬ IsLattice (lattice_of lattice)
-IsNodesCause triangles tool lattice floor room told fault.TooManyNodes = MAX_NODES < nodes_in lattice
+IsNodesCause triangles tool lattice floor room told fault.TooManyNodes = HasTooManyNodes lattice
 IsNodesCause triangles tool lattice floor room told fault.Floor = ¬ Within MAX_COORDINATE floor
 IsNodesCause triangles tool lattice floor room told fault.Room = HasOtherNodes lattice room told
 IsNodesCause triangles tool lattice floor room told _ = ⊥

@@ -4,11 +4,12 @@ use Rattle.std.specs.List.{flat_map}
 use Rattle.mill_base.specs.Lattices.{IsLattice, IsMapLattice}
 use Rattle.mill_base.specs.Numbers.{Within}
 use Rattle.mill_base.specs.declared.lattice.Lattice.{Lattice}
-use Rattle.mill_base.specs.declared.limits.TheConstants.{MAX_COORDINATE, MAX_NODES}
+use Rattle.mill_base.specs.declared.limits.TheConstants.{MAX_COORDINATE}
 use Rattle.mill_base.specs.declared.points.Tri.{Tri}
 use Rattle.mill_base.specs.declared.tool.Tool.{Tool}
 use Rattle.mill_level.specs.Waterlines.{IsWaterline, Outline}
 use Rattle.mill_c_data.specs.Raw.{IsSoundTool, IsTriangle, SaysCutter, SaysHolder, corner_of, lattice_of, nodes_in, tool_of, tris_of}
+use Rattle.mill_c_data.specs.Tests.{HasTooManyNodes}
 use Rattle.mill_c_data.specs.declared.fault.Fault.{Fault}
 use Rattle.mill_c_data.specs.declared.fault.Fault.TheVariants as fault
 use Rattle.mill_c_data.specs.declared.raw.RawChain.{RawChain}
@@ -61,6 +62,6 @@ IsLevelCause triangles tool z lattice chains_room points_room told fault.Triangl
 IsLevelCause triangles tool z lattice chains_room points_room told fault.TooManyTriangles = 2 ^ 32 ≤ length triangles
 IsLevelCause triangles tool z lattice chains_room points_room told fault.Height = ¬ Within MAX_COORDINATE z
 IsLevelCause triangles tool z lattice chains_room points_room told fault.Lattice = ¬ IsLattice (lattice_of lattice)
-IsLevelCause triangles tool z lattice chains_room points_room told fault.TooManyNodes = MAX_NODES < nodes_in lattice
+IsLevelCause triangles tool z lattice chains_room points_room told fault.TooManyNodes = HasTooManyNodes lattice
 IsLevelCause triangles tool z lattice chains_room points_room told fault.Room = IsSomeAnd (tool_of tool) (λ t. HasOtherRooms triangles t z lattice chains_room points_room told)
 IsLevelCause triangles tool z lattice chains_room points_room told _ = ⊥

@@ -14,8 +14,12 @@ IsToolCause raw fault.Cutter = ¬ SaysCutter raw
 IsToolCause raw fault.Holder = ¬ SaysHolder raw
 IsToolCause raw _ = ⊥
 
+-- the numbers are those of a lattice that has more nodes than a call takes
+abbrev pub HasTooManyNodes : RawLattice → Type 0
+HasTooManyNodes lattice = IsLattice (lattice_of lattice) × MAX_NODES < nodes_in lattice
+
 -- what is so when the numbers of a lattice are refused with a fault
 abbrev pub IsLatticeCause : RawLattice → Fault → Type 0
 IsLatticeCause lattice fault.Lattice = ¬ IsLattice (lattice_of lattice)
-IsLatticeCause lattice fault.TooManyNodes = MAX_NODES < nodes_in lattice
+IsLatticeCause lattice fault.TooManyNodes = HasTooManyNodes lattice
 IsLatticeCause lattice _ = ⊥
