@@ -55,7 +55,7 @@ def main(about, words, word, keys_of):
     """
     names = [it for it in words if not it.startswith("--folder=")] or ["large"]
     if any(name not in SIZES or name == "limits" for name in names):
-        sys.exit(about.strip())
+        common.usage(about)
     print(common.machine(), flush=True)
     rows, all_agree = [], True
     with common.work_folder(words) as folder:

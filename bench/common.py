@@ -25,7 +25,7 @@ def height_field(path, count, step, height):
         return [" ".join(map(decimal, (i * step, j * step, height(i, j)))) for i in range(count + 1)]
 
     facet = "facet normal 0 0 1\nouter loop\nvertex %s\nvertex %s\nvertex %s\nendloop\nendfacet\n"
-    with open(path, "w") as file:
+    with open(path, "w", encoding="utf-8") as file:
         file.write("solid part\n")
         low = row(0)
         for j in range(count):
@@ -110,6 +110,12 @@ class Run(typing.NamedTuple):
     printed: str
 
 
+def usage(about):
+    """Ends with a script's first text, as where its words are none that it knows."""
+    print(about.strip(), file=sys.stderr)
+    sys.exit(2)
+
+
 def run(words, processors=None, statuses=(0,)):
     """Runs a program, on so many processors at most."""
     def pin():
@@ -134,7 +140,8 @@ def processors():
 
 def machine():
     """A line on the machine."""
-    names = [line.partition(":")[2].strip() for line in open("/proc/cpuinfo") if line.startswith("model name")]
+    with open("/proc/cpuinfo", encoding="utf-8") as file:
+        names = [line.partition(":")[2].strip() for line in file if line.startswith("model name")]
     load = os.getloadavg()[0]
     return f"{names[0] if names else 'unknown processor'}, {processors()} processors, load {load:.1f} at the start"
 

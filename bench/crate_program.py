@@ -229,10 +229,10 @@ class Program:
         """Writes a copy of the crates that are used, and the crate."""
         used = uses.split()
         unread = shutil.ignore_patterns("must-fail", "data", "out")
-        with open(os.path.join(common.ROOT, "crates.txt")) as file:
+        with open(os.path.join(common.ROOT, "crates.txt"), encoding="utf-8") as file:
             lines = [line for line in file if line.partition(":")[0].partition(" ")[0] in used]
         os.makedirs(os.path.join(self.crate, "src"), exist_ok=True)
-        with open(os.path.join(self.folder, "crates.txt"), "w") as file:
+        with open(os.path.join(self.folder, "crates.txt"), "w", encoding="utf-8") as file:
             file.writelines([*lines, f"{self.name}: {uses}\n"])
         shutil.copy2(os.path.join(common.ROOT, "HANDLES"), self.folder)
         for name in used:
@@ -240,7 +240,7 @@ class Program:
             if os.path.isdir(crate):
                 shutil.copytree(crate, os.path.join(self.folder, "crates", name), ignore=unread, dirs_exist_ok=True)
         for name, text in modules.items():
-            with open(os.path.join(self.crate, "src", name + ".rt"), "w") as file:
+            with open(os.path.join(self.crate, "src", name + ".rt"), "w", encoding="utf-8") as file:
                 file.write(text)
 
     def build(self):

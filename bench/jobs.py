@@ -53,7 +53,7 @@ SIZES = {
 
 def write_job(path, *keys):
     """Writes a job's file with the keys of these dicts."""
-    with open(path, "w") as file:
+    with open(path, "w", encoding="utf-8") as file:
         for key, value in (item for some in keys for item in some.items()):
             file.write(f'{key} = "{value}"\n' if isinstance(value, str) else f"{key} = {value}\n")
 

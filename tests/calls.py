@@ -104,4 +104,5 @@ def state(folder):
 
 def usage(text):
     """Ends with a script's first text, as where its words are none that it knows."""
-    sys.exit(text.strip())
+    print(text.strip(), file=sys.stderr)
+    sys.exit(2)
