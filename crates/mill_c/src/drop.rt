@@ -8,7 +8,7 @@ ghost use Rattle.mill_c.specs.inner.Testing.{IsCauseBeside};
 
 use mill_base::Tool;
 use mill_c_data::{
-    Fault, RawPlace, RawTool, RawTriangle, are_places, are_triangles, is_coordinate, part_from,
+    Fault, RawPlace, RawTool, RawTriangle, are_places, check_triangles, is_coordinate, part_from,
     tool_from,
 };
 use mill_drop::drop_at;
@@ -63,7 +63,7 @@ fn drop_into(
     ensures kept { OnErr result (heights.new ≡ heights.old) }
 {
     let cutting = tool_from(tool)?;
-    test(triangles, places, floor, heights.len())?;
+    check_arguments(triangles, places, floor, heights.len())?;
     let part = part_from(alloc, triangles)?;
     let sorted = SortedPart::new(alloc, &part)?;
     drop_all(&sorted, &cutting, places, floor, heights);
@@ -71,7 +71,7 @@ fn drop_into(
 }
 
 /// Tests the arguments other than the tool; the array for the heights is `room` long.
-fn test(
+fn check_arguments(
     triangles: &[RawTriangle],
     places: &[RawPlace],
     floor: i32,
@@ -80,12 +80,7 @@ fn test(
     ensures sound { OnOk result (AreSound triangles.now places.now floor room) }
     ensures cause { IfErr result (IsCauseBeside triangles.now places.now floor room) }
 {
-    if !are_triangles(triangles) {
-        return Err(Fault::Triangle);
-    }
-    if triangles.len() > u32::MAX as usize {
-        return Err(Fault::TooManyTriangles);
-    }
+    check_triangles(triangles)?;
     if !are_places(places) {
         return Err(Fault::Place);
     }

@@ -14,7 +14,7 @@ ghost use Rattle.mill_c.specs.inner.Testing.{IsCauseBesideLevel};
 use crate::text::raw_corner;
 use mill_base::{Lattice, Pt3, Tool, WantOfMemory};
 use mill_c_data::{
-    Fault, RawChain, RawCounts, RawLattice, RawPoint, RawTool, RawTriangle, are_triangles,
+    Fault, RawChain, RawCounts, RawLattice, RawPoint, RawTool, RawTriangle, check_triangles,
     is_coordinate, lattice_from, part_from, tool_from,
 };
 use mill_level::{Chain, waterline};
@@ -84,7 +84,7 @@ fn chains_into(
         points: 0,
     };
     let cutting = tool_from(tool)?;
-    let nodes = test(triangles, z, lattice)?;
+    let nodes = check_arguments(triangles, z, lattice)?;
     let part = part_from(alloc, triangles)?;
     let found = found_chains(alloc, &part, &cutting, z, &nodes)?;
     *told = RawCounts {
@@ -103,17 +103,16 @@ fn chains_into(
 }
 
 /// Tests the arguments other than the tool and the arrays, and gives the lattice.
-fn test(triangles: &[RawTriangle], z: i32, lattice: &RawLattice) -> Result<Lattice, Fault>
+fn check_arguments(
+    triangles: &[RawTriangle],
+    z: i32,
+    lattice: &RawLattice,
+) -> Result<Lattice, Fault>
     ensures is { IfOk result (λ nodes. nodes ≡ lattice_of lattice.now) }
     ensures sound { OnOk result (AreSoundLevel triangles.now z lattice.now) }
     ensures cause { IfErr result (IsCauseBesideLevel triangles.now z lattice.now) }
 {
-    if !are_triangles(triangles) {
-        return Err(Fault::Triangle);
-    }
-    if triangles.len() > u32::MAX as usize {
-        return Err(Fault::TooManyTriangles);
-    }
+    check_triangles(triangles)?;
     if !is_coordinate(z) {
         return Err(Fault::Height);
     }

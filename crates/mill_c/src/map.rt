@@ -13,8 +13,8 @@ ghost use Rattle.mill_c.specs.inner.Testing.{AreSoundBeside, IsCauseBesideNodes}
 
 use mill_base::{Lattice, Tool, WantOfMemory};
 use mill_c_data::{
-    Fault, RawLattice, RawTool, RawTriangle, are_triangles, is_coordinate, lattice_from, part_from,
-    tool_from,
+    Fault, RawLattice, RawTool, RawTriangle, check_triangles, is_coordinate, lattice_from,
+    part_from, tool_from,
 };
 use mill_drop::drop_map_alone;
 use mill_part::{Part, SortedPart};
@@ -77,7 +77,7 @@ fn drops_into(
 {
     *told = 0;
     let cutting = tool_from(tool)?;
-    let nodes = test(triangles, lattice, floor)?;
+    let nodes = check_arguments(triangles, lattice, floor)?;
     if heights.len() as u64 != nodes.nodes() {
         *told = nodes.nodes();
         return Err(Fault::Room);
@@ -90,17 +90,16 @@ fn drops_into(
 }
 
 /// Tests the arguments other than the tool and the array, and gives the lattice.
-fn test(triangles: &[RawTriangle], lattice: &RawLattice, floor: i32) -> Result<Lattice, Fault>
+fn check_arguments(
+    triangles: &[RawTriangle],
+    lattice: &RawLattice,
+    floor: i32,
+) -> Result<Lattice, Fault>
     ensures is { IfOk result (λ nodes. nodes ≡ lattice_of lattice.now) }
     ensures sound { OnOk result (AreSoundBeside triangles.now lattice.now floor) }
     ensures cause { IfErr result (IsCauseBesideNodes triangles.now lattice.now floor) }
 {
-    if !are_triangles(triangles) {
-        return Err(Fault::Triangle);
-    }
-    if triangles.len() > u32::MAX as usize {
-        return Err(Fault::TooManyTriangles);
-    }
+    check_triangles(triangles)?;
     if !is_coordinate(floor) {
         return Err(Fault::Floor);
     }

@@ -10,7 +10,7 @@ ghost use Rattle.mill_c.specs.inner.Testing.{IsCauseBesideFibers};
 
 use mill_base::{Steps, Tool, WantOfMemory};
 use mill_c_data::{
-    Fault, RawFiber, RawRun, RawTool, RawTriangle, are_triangles, is_coordinate, part_from,
+    Fault, RawFiber, RawRun, RawTool, RawTriangle, check_triangles, is_coordinate, part_from,
     tool_from,
 };
 use mill_part::{Part, SortedPart};
@@ -77,7 +77,7 @@ fn runs_into(
 {
     *told = 0;
     let pushed = tool_from(tool)?;
-    test(triangles, fibers, counts.len())?;
+    check_arguments(triangles, fibers, counts.len())?;
     let part = part_from(alloc, triangles)?;
     let found = found_runs(alloc, &part, &pushed, fibers)?;
     *told = found.runs.len() as u64;
@@ -90,16 +90,11 @@ fn runs_into(
 }
 
 /// Tests the arguments other than the tool; the array for the counts is `room` long.
-fn test(triangles: &[RawTriangle], fibers: &[RawFiber], room: usize) -> Result<(), Fault>
+fn check_arguments(triangles: &[RawTriangle], fibers: &[RawFiber], room: usize) -> Result<(), Fault>
     ensures sound { OnOk result (AreSoundFibers triangles.now fibers.now room) }
     ensures cause { IfErr result (IsCauseBesideFibers triangles.now fibers.now room) }
 {
-    if !are_triangles(triangles) {
-        return Err(Fault::Triangle);
-    }
-    if triangles.len() > u32::MAX as usize {
-        return Err(Fault::TooManyTriangles);
-    }
+    check_triangles(triangles)?;
     if !are_fibers(fibers) {
         return Err(Fault::Fiber);
     }

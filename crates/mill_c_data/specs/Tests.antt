@@ -1,12 +1,19 @@
 -- When numbers are refused.
-use Rattle.std.specs.Prelude.{◌<◌}
+use Rattle.std.specs.Prelude.{◌<◌, ◌≤◌, ◌^◌, List, length, All}
 use Rattle.mill_base.specs.Lattices.{IsLattice}
 use Rattle.mill_base.specs.declared.limits.TheConstants.{MAX_NODES}
-use Rattle.mill_c_data.specs.Raw.{SaysCutter, SaysHolder, lattice_of, nodes_in}
+use Rattle.mill_c_data.specs.Raw.{IsTriangle, SaysCutter, SaysHolder, lattice_of, nodes_in}
 use Rattle.mill_c_data.specs.declared.fault.Fault.{Fault}
 use Rattle.mill_c_data.specs.declared.fault.Fault.TheVariants as fault
 use Rattle.mill_c_data.specs.declared.raw.RawLattice.{RawLattice}
 use Rattle.mill_c_data.specs.declared.raw.RawTool.{RawTool}
+use Rattle.mill_c_data.specs.declared.raw.RawTriangle.{RawTriangle}
+
+-- what is so when triangles are refused with a fault: their number is looked at where each is in range
+abbrev pub IsTrianglesCause : List RawTriangle → Fault → Type 0
+IsTrianglesCause raws fault.Triangle = ¬ All IsTriangle raws
+IsTrianglesCause raws fault.TooManyTriangles = All IsTriangle raws × 2 ^ 32 ≤ length raws
+IsTrianglesCause raws _ = ⊥
 
 -- what is so when a tool's numbers are refused with a fault
 abbrev pub IsToolCause : RawTool → Fault → Type 0

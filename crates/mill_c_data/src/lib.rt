@@ -6,7 +6,7 @@
 //! numbers, which may be any, and make triangles, a tool and a lattice of those that are in their ranges.
 //!
 //! `specs/Raw` says what the numbers stand for, `specs/Faults` gives the code of each fault, and
-//! `specs/Tests` says when a tool's or a lattice's numbers are refused with which of them.
+//! `specs/Tests` says when triangles, a tool's or a lattice's numbers are refused with which of them.
 #![tactic(auto)]
 
 mod fault;
@@ -17,7 +17,7 @@ mod tool;
 
 pub use fault::Fault;
 pub use lattice::lattice_from;
-pub use part::{are_places, are_triangles, is_coordinate, part_from};
+pub use part::{are_places, check_triangles, is_coordinate, part_from};
 pub use raw::{
     RawChain, RawCounts, RawFiber, RawLattice, RawPlace, RawPlanned, RawPoint, RawReading, RawRun,
     RawTool, RawTriangle, RawVerdict,

@@ -1,9 +1,11 @@
-ghost use Rattle.std.specs.Prelude.{◌≡◌, ◌<◌, ◌^◌, length, false, All, IsTrue, IfOk};
+ghost use Rattle.std.specs.Prelude.{◌≡◌, ◌<◌, ◌^◌, length, false, All, IsTrue, IfErr, IfOk, OnOk};
 ghost use Rattle.mill_base.specs.Numbers.{Within};
 ghost use Rattle.mill_base.specs.declared.limits.TheConstants.{MAX_COORDINATE};
 ghost use Rattle.mill_base.specs.Ranges.{IsInRange};
 ghost use Rattle.mill_c_data.specs.Raw.{IsPlace, IsTriangle, corner_of, tri_of, tris_of};
+ghost use Rattle.mill_c_data.specs.Tests.{IsTrianglesCause};
 
+use crate::fault::Fault;
 use crate::raw::{RawPlace, RawPoint, RawTriangle};
 use mill_base::{MAX_COORDINATE, Pt3, Tri, WantOfMemory};
 use mill_part::Part;
@@ -39,8 +41,27 @@ fn corner_from(raw: RawPoint) -> Pt3
     Pt3 { x, y, z }
 }
 
+/// Tests a caller's triangles.
+///
+/// # Errors
+/// `Triangle` where a coordinate isn't in range, and `TooManyTriangles` where each is, but there are more
+/// triangles than 32 bits number.
+pub fn check_triangles(raws: &[RawTriangle]) -> Result<(), Fault>
+    ensures in_range { OnOk result (All IsTriangle raws.now) }
+    ensures count { OnOk result (length raws.now < 2 ^ 32) }
+    ensures cause { IfErr result (IsTrianglesCause raws.now) }
+{
+    if !are_triangles(raws) {
+        return Err(Fault::Triangle);
+    }
+    if raws.len() > u32::MAX as usize {
+        return Err(Fault::TooManyTriangles);
+    }
+    Ok(())
+}
+
 /// Whether each coordinate of the triangles is in range.
-pub fn are_triangles(raws: &[RawTriangle]) -> bool
+fn are_triangles(raws: &[RawTriangle]) -> bool
     ensures yes { IsTrue result → All IsTriangle raws.now }
     ensures no { result ≡ false → ¬ All IsTriangle raws.now }
 {
