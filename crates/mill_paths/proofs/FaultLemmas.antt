@@ -111,10 +111,6 @@ layer_some (pos zero) least apart = absurd (apart refl)
 layer_some (pos (suc n)) least apart = omega (arith, ints)
 layer_some (negsuc n) least apart = absurd (omega (arith, ints))
 
--- a step is at least 0
-pub step_least : (step : ℤ) → (pos 1) ≤ℤ step → (pos 0) ≤ℤ step
-step_least step h = omega (arith, ints)
-
 -- both ends of a premise and a fact that hold together
 pub with_layer : {A B : Type 0} (layer : ℤ) → (pos 0) <ℤ layer → (A → B) × (B → A) → (A → ((pos 0) <ℤ layer) × B) × ((((pos 0) <ℤ layer) × B) → A)
 with_layer layer some q = (λ a. (some, q.0 a), λ b. q.1 b.1)

@@ -23,7 +23,7 @@ use Rattle.mill_paths.specs.Lattices.{finish_lattice, rough_lattice, zigzag_of}
 use Rattle.mill_paths.specs.Limits.{change_count, changes_after, is_same_visit, most_changes}
 use Rattle.mill_paths.specs.Plans.{IsPlan}
 use Rattle.mill_paths.specs.Unique.{ManyFinishVisitsMakeMoves, ManyLevelVisitsMakeMoves, ManyRoughVisitsMakeMoves, PlanIsLonger}
-use Rattle.mill_paths.specs.Visits.{AreNodeVisits, AreRowVisits, HaveManyNodeVisits, HaveManyRowVisits, finish_visit, finish_visits_of, height_at, level_visits_of, outline_visits, rough_levels, rough_visit, rough_visits_of, rough_visits_on, row_visits_from, visit_at, visit_if}
+use Rattle.mill_paths.specs.Visits.{AreNodeVisits, AreRowVisits, HaveManyNodeVisits, HaveManyRowVisits, finish_visit, finish_visits_of, height_at, level_visits_of, outline_visits, layer_heights, rough_visit, rough_visits_of, rough_visits_on, row_visits_from, visit_at, visit_if}
 use Rattle.mill_paths.proofs.Uniqueness.{first_changes, one_level, one_link, one_rough, one_visits}
 use Rattle.mill_paths.proofs.Elsewhere.{Apart, Elsewhere, all_elsewhere}
 use Rattle.mill_paths.proofs.OutlineLemmas.{all_given}
@@ -116,9 +116,9 @@ rough_step job heights z number = step_if (int_le (height_at heights number +ℤ
 
 rough_steps : (job : Job) (heights : List ℤ) → HaveStep job.rough_raster (rough_visits_of job heights)
 rough_steps job heights =
-    All-flat_map (λ (v : Visit). v.step ≡ job.rough_raster) (rough_visits_on job heights) (rough_levels job) (pos 0) (λ k inside.
-    All-flat_map (λ (v : Visit). v.step ≡ job.rough_raster) (rough_visit job heights (get_or (rough_levels job) k (pos 0))) (zigzag_of (rough_lattice job)) 0 (λ place within.
-    rough_step job heights (get_or (rough_levels job) k (pos 0)) (get_or (zigzag_of (rough_lattice job)) place 0)))
+    All-flat_map (λ (v : Visit). v.step ≡ job.rough_raster) (rough_visits_on job heights) (layer_heights job) (pos 0) (λ k inside.
+    All-flat_map (λ (v : Visit). v.step ≡ job.rough_raster) (rough_visit job heights (get_or (layer_heights job) k (pos 0))) (zigzag_of (rough_lattice job)) 0 (λ place within.
+    rough_step job heights (get_or (layer_heights job) k (pos 0)) (get_or (zigzag_of (rough_lattice job)) place 0)))
 
 finish_step : (job : Job) (heights : List ℤ) (number : ℕ) → HaveStep job.raster (finish_visit job heights number)
 finish_step job heights number = step_if (int_lt (height_at heights number +ℤ job.lift) job.top) (finish_lattice job) number (height_at heights number +ℤ job.lift)

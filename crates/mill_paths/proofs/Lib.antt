@@ -4,7 +4,7 @@ pub mod Changes
 pub mod Adding
 pub mod PathLemmas
 pub mod ZigzagLemmas
-pub mod LevelLemmas
+pub mod LayerLemmas
 pub mod RowVisits
 pub mod RowPoints
 pub mod VisitLemmas

@@ -14,7 +14,7 @@ use Rattle.mill_links.specs.declared.visit.Visit.{Visit}
 use Rattle.mill_paths.specs.Lattices.{finish_lattice, rough_lattice}
 use Rattle.mill_paths.specs.Limits.{change_count, most_changes}
 use Rattle.mill_paths.specs.Visits.{AreFinishVisits, AreNodeVisits, AreRowVisits, AreWaterlines, HaveManyFinishVisits, HaveManyLevelVisits, HaveManyNodeVisits, HaveManyRoughVisits, HaveManyRowVisits, finish_visits_of, level_visits_of, rough_visits_of, rough_visits_on, row_visits_from}
-use Rattle.mill_paths.proofs.LevelLemmas.{no_levels}
+use Rattle.mill_paths.proofs.LayerLemmas.{no_layers}
 use Rattle.mill_paths.proofs.Uniqueness.{first_changes, one_waterlines}
 
 over : (n : ℕ) → n ≤ most_changes → most_changes < n → ⊥
@@ -47,7 +47,7 @@ few_rough job part heights list are is few many =
 -- without a layer there are none
 pub none_rough : (job : Job) (part : List Tri) → job.layer ≡ pos 0 → ¬ HaveManyRoughVisits job part
 none_rough job part none many =
-    none_over (subst (λ (levels : List ℤ). most_changes < change_count (flat_map (rough_visits_on job many.heights) levels)) (no_levels job none) many.many)
+    none_over (subst (λ (zs : List ℤ). most_changes < change_count (flat_map (rough_visits_on job many.heights) zs)) (no_layers job none) many.many)
 
 pub few_level : (job : Job) (part : List Tri) (waterlines : List (List Outline)) (list : List Visit) → AreWaterlines job part waterlines
     → list ≡ level_visits_of job waterlines → change_count list ≤ most_changes → ¬ HaveManyLevelVisits job part

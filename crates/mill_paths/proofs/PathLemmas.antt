@@ -11,7 +11,7 @@ use Rattle.mill_paths.specs.Lattices.{finish_lattice, rough_lattice}
 use Rattle.mill_paths.specs.Visits.{height_at, visit_at, visit_if}
 use Rattle.mill_paths.specs.inner.Paths.{path_height, path_lattice, path_visit}
 use Rattle.mill_paths.specs.declared.path.Path.{Path}
-use Rattle.mill_paths.specs.declared.path.Path.TheVariants.{Level, Finish}
+use Rattle.mill_paths.specs.declared.path.Path.TheVariants.{Layer, Finish}
 
 -- the visit at these coordinates
 abbrev pub made : ℤ → ℤ → ℤ → ℤ → Visit
@@ -29,15 +29,15 @@ no_visit false lattice number y is = refl
 -- where the path comes there, at the tip's height, and where it doesn't
 pub visit_there : (job : Job) (heights : List ℤ) (path : Path) (number : ℕ) (z : ℤ) → path_height job path (height_at heights number) ≡ Some z
     → path_visit job heights path number ≡ visit_at (path_lattice job path) number z ∷ []
-visit_there job heights (Level level) number z is =
-    one_visit (int_le (height_at heights number +ℤ job.rough_stock) level) (rough_lattice job) number level z is
+visit_there job heights (Layer height) number z is =
+    one_visit (int_le (height_at heights number +ℤ job.rough_stock) height) (rough_lattice job) number height z is
 visit_there job heights Finish number z is =
     one_visit (int_lt (height_at heights number +ℤ job.lift) job.top) (finish_lattice job) number (height_at heights number +ℤ job.lift) z is
 
 pub visit_nowhere : (job : Job) (heights : List ℤ) (path : Path) (number : ℕ) → path_height job path (height_at heights number) ≡ None
     → path_visit job heights path number ≡ []
-visit_nowhere job heights (Level level) number is =
-    no_visit (int_le (height_at heights number +ℤ job.rough_stock) level) (rough_lattice job) number level is
+visit_nowhere job heights (Layer height) number is =
+    no_visit (int_le (height_at heights number +ℤ job.rough_stock) height) (rough_lattice job) number height is
 visit_nowhere job heights Finish number is =
     no_visit (int_lt (height_at heights number +ℤ job.lift) job.top) (finish_lattice job) number (height_at heights number +ℤ job.lift) is
 
@@ -49,16 +49,16 @@ not_picked : (t : Bool) (y : ℤ) → t ≡ false → None ≡ (if t then Some y
 not_picked true y e = absurd (cc)
 not_picked false y e = refl
 
--- the tip's height where a level is high enough, and where it isn't
-pub level_height : (job : Job) (z drop : ℤ) → (drop +ℤ job.rough_stock) ≤ℤ z → Some z ≡ path_height job (Level z) drop
-level_height job z drop h = picked (int_le (drop +ℤ job.rough_stock) z) z (by (int_le (drop +ℤ job.rough_stock) z) refl)
+-- the tip's height in roughing, where a layer's height is great enough, and where it isn't
+pub rough_height : (job : Job) (z drop : ℤ) → (drop +ℤ job.rough_stock) ≤ℤ z → Some z ≡ path_height job (Layer z) drop
+rough_height job z drop h = picked (int_le (drop +ℤ job.rough_stock) z) z (by (int_le (drop +ℤ job.rough_stock) z) refl)
   where
     by : (t : Bool) → int_le (drop +ℤ job.rough_stock) z ≡ t → t ≡ true
     by true e = refl
     by false e = absurd (omega (arith, ints))
 
-pub no_level_height : (job : Job) (z drop : ℤ) → z <ℤ (drop +ℤ job.rough_stock) → None ≡ path_height job (Level z) drop
-no_level_height job z drop h = not_picked (int_le (drop +ℤ job.rough_stock) z) z (by (int_le (drop +ℤ job.rough_stock) z) refl)
+pub no_rough_height : (job : Job) (z drop : ℤ) → z <ℤ (drop +ℤ job.rough_stock) → None ≡ path_height job (Layer z) drop
+no_rough_height job z drop h = not_picked (int_le (drop +ℤ job.rough_stock) z) z (by (int_le (drop +ℤ job.rough_stock) z) refl)
   where
     by : (t : Bool) → int_le (drop +ℤ job.rough_stock) z ≡ t → t ≡ false
     by true e = absurd (omega (arith, ints))

@@ -9,7 +9,7 @@ use Rattle.mill_job.specs.declared.job.Job.{Job}
 use Rattle.mill_links.specs.declared.visit.Visit.{Visit}
 use Rattle.mill_paths.specs.Lattices.{finish_lattice, zigzag_of}
 use Rattle.mill_paths.specs.Limits.{change_count}
-use Rattle.mill_paths.specs.Visits.{rough_levels, rough_visits_of, finish_visits_of}
+use Rattle.mill_paths.specs.Visits.{layer_heights, rough_visits_of, finish_visits_of}
 
 abbrev plate : ℤ → ℤ → Job
 plate layer lift = record { unit = Hundredth; cutter = Flat (pos 150); floor = pos 0; top = pos 300; clear = pos 400; area = record { x0 = pos 0; y0 = pos 0; x1 = pos 200; y1 = pos 200 }; home = record { x = pos 100; y = pos 100 }; pitch = pos 100; sample = pos 50; allowance = pos 0; band = pos 0; lift = lift; raster = pos 100; rough_raster = pos 100; layer = layer; rough_stock = pos 0; levels = []; snap = Nearest; max_cut = pos 0; holder = None; path_tol = None }
@@ -23,16 +23,16 @@ visit x y z = record { at = point_at x y z; step = pos 100 }
 order : zigzag_of (finish_lattice (plate (pos 0) (pos 0))) ≡ 0 ∷ 1 ∷ 2 ∷ 5 ∷ 4 ∷ 3 ∷ 6 ∷ 7 ∷ 8 ∷ []
 order = refl
 
-levels : rough_levels (plate (pos 50) (pos 0)) ≡ pos 250 ∷ pos 200 ∷ pos 150 ∷ pos 100 ∷ pos 50 ∷ []
-levels = refl
+heights : layer_heights (plate (pos 50) (pos 0)) ≡ pos 250 ∷ pos 200 ∷ pos 150 ∷ pos 100 ∷ pos 50 ∷ []
+heights = refl
 
-uneven_levels : rough_levels (plate (pos 140) (pos 0)) ≡ pos 160 ∷ pos 20 ∷ []
-uneven_levels = refl
+uneven_heights : layer_heights (plate (pos 140) (pos 0)) ≡ pos 160 ∷ pos 20 ∷ []
+uneven_heights = refl
 
-no_levels : rough_levels (plate (pos 0) (pos 0)) ≡ []
-no_levels = refl
+no_layers : layer_heights (plate (pos 0) (pos 0)) ≡ []
+no_layers = refl
 
-one_thick_layer : rough_levels (plate (pos 300) (pos 0)) ≡ []
+one_thick_layer : layer_heights (plate (pos 300) (pos 0)) ≡ []
 one_thick_layer = refl
 
 finishing : finish_visits_of (plate (pos 0) (pos 0)) (flat_at (pos 200))

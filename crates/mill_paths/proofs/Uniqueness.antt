@@ -23,14 +23,14 @@ use Rattle.mill_paths.specs.Lattices.{finish_lattice, rough_lattice}
 use Rattle.mill_paths.specs.Limits.{change_count}
 use Rattle.mill_paths.specs.Plans.{ArePlanVisits}
 use Rattle.mill_paths.specs.Unique.{OnePlan}
-use Rattle.mill_paths.specs.Visits.{AreFinishVisits, AreFirstPaths, AreLevelVisits, AreNodeVisits, AreRoughVisits, AreRowPaths, AreRowVisits, AreWaterlines, IsRowPath, finish_visits_of, level_count, level_visits_of, rough_visits_of, rough_visits_on, row_visits_from}
+use Rattle.mill_paths.specs.Visits.{AreFinishVisits, AreFirstPaths, AreLevelVisits, AreNodeVisits, AreRoughVisits, AreRowPaths, AreRowVisits, AreWaterlines, IsRowPath, finish_visits_of, layer_count, level_visits_of, rough_visits_of, rough_visits_on, row_visits_from}
 use Rattle.mill_paths.proofs.Changes.{more_changes}
 use Rattle.mill_paths.proofs.RowVisits.{rows_join}
 
--- without a layer there is no level, and no roughing visit
+-- where the job has no layer there is no roughing visit
 none_rough : (job : Job) (heights : List ℤ) → int_lt (pos 0) job.layer ≡ false → rough_visits_of job heights ≡ []
 none_rough job heights none =
-    ap (λ (t : Bool). flat_map (rough_visits_on job heights) (if t then map (λ k. job.top -ℤ pos k *ℤ job.layer) (range_with_len 1 (level_count job)) else [])) none
+    ap (λ (t : Bool). flat_map (rough_visits_on job heights) (if t then map (λ k. job.top -ℤ pos k *ℤ job.layer) (range_with_len 1 (layer_count job)) else [])) none
 
 pub one_rough : (job : Job) (part : List Tri) (a b : List Visit) → AreRoughVisits job part a → AreRoughVisits job part b → a ≡ b
 one_rough job part a b h g = h.visits ∙ by (int_lt (pos 0) job.layer) refl ∙ sym g.visits

@@ -24,10 +24,10 @@ use Rattle.mill_job.specs.Tables.{IsArea}
 use Rattle.mill_job.specs.declared.job.Job.{Job}
 use Rattle.mill_links.specs.declared.visit.Visit.{Visit}
 use Rattle.mill_paths.specs.Lattices.{finish_lattice, rough_lattice, zigzag_of, zigzag_row}
-use Rattle.mill_paths.specs.Visits.{FinishVisitsAreFree, RoughVisitsAreFree, AreNodeVisits, AreRowVisits, IsRowPath, IsVisit, in_turn, point_visits, row_visits_from, finish_visit, finish_visits_of, height_at, rough_levels, rough_visit, rough_visits_of, rough_visits_on, visit_at, visit_if}
+use Rattle.mill_paths.specs.Visits.{FinishVisitsAreFree, RoughVisitsAreFree, AreNodeVisits, AreRowVisits, IsRowPath, IsVisit, in_turn, point_visits, row_visits_from, finish_visit, finish_visits_of, height_at, layer_heights, rough_visit, rough_visits_of, rough_visits_on, visit_at, visit_if}
 use Rattle.mill_paths.proofs.Adding.{flat_map-nested}
 use Rattle.mill_paths.proofs.RowPoints.{turned_ok}
-use Rattle.mill_paths.proofs.LevelLemmas.{IsLevel, is_level, no_levels}
+use Rattle.mill_paths.proofs.LayerLemmas.{IsLayerHeight, is_layer_height, no_layers}
 use Rattle.mill_paths.proofs.ZigzagLemmas.{length-zigzag_row, number_within}
 
 -- what holds place by place of two lists holds at each number
@@ -120,12 +120,12 @@ if_ok : (P : Visit → Type 0) (holds : Bool) (lattice : Lattice) (number : ℕ)
 if_ok P true lattice number z h = All-cons P (visit_at lattice number z) [] (h refl) (All-nil P)
 if_ok P false lattice number z h = All-nil P
 
--- each visit on a level between floor and top
-rough_visit_ok : (job : Job) (part : List Tri) (heights : List ℤ) (z : ℤ) (number : ℕ) → IsJob job → IsLevel job z
+-- each visit on a layer between floor and top
+rough_visit_ok : (job : Job) (part : List Tri) (heights : List ℤ) (z : ℤ) (number : ℕ) → IsJob job → IsLayerHeight job z
     → AreDropHeights (tool_of job) part job.floor (rough_lattice job) heights → number < length (nodes_of (rough_lattice job)) → All (IsVisit job part) (rough_visit job heights z number)
-rough_visit_ok job part heights z number ok level are inside =
+rough_visit_ok job part heights z number ok height are inside =
     if_ok (IsVisit job part) (int_le (height_at heights number +ℤ job.rough_stock) z) (rough_lattice job) number z
-    (λ holds. visit_ok job part (rough_lattice job) heights number z ok (record { area_ok = area_in_range job ok; step_ok = ok.rough_raster_ok }) are inside (less (height_at heights number) job.rough_stock z ok.rough_stock_ok.low holds) level.under)
+    (λ holds. visit_ok job part (rough_lattice job) heights number z ok (record { area_ok = area_in_range job ok; step_ok = ok.rough_raster_ok }) are inside (less (height_at heights number) job.rough_stock z ok.rough_stock_ok.low holds) height.under)
   where
     less : (h stock z : ℤ) → (pos 0) ≤ℤ stock → int_le (h +ℤ stock) z ≡ true → h ≤ℤ z
     less h stock z least e = omega (arith, ints)
@@ -168,9 +168,9 @@ node_visits_ok job part heights ok are =
 pub rough_visits_ok : (job : Job) (part : List Tri) (heights : List ℤ) → IsJob job → (pos 0) <ℤ job.layer
     → AreDropHeights (tool_of job) part job.floor (rough_lattice job) heights → All (IsVisit job part) (rough_visits_of job heights)
 rough_visits_ok job part heights ok some are =
-    All-flat_map (IsVisit job part) (rough_visits_on job heights) (rough_levels job) (pos 0) (λ k inside.
-    zigzag_ok (IsVisit job part) (rough_visit job heights (get_or (rough_levels job) k (pos 0))) (rough_lattice job) (λ number within.
-    rough_visit_ok job part heights (get_or (rough_levels job) k (pos 0)) number ok (is_level job k ok some inside) are within))
+    All-flat_map (IsVisit job part) (rough_visits_on job heights) (layer_heights job) (pos 0) (λ k inside.
+    zigzag_ok (IsVisit job part) (rough_visit job heights (get_or (layer_heights job) k (pos 0))) (rough_lattice job) (λ number within.
+    rough_visit_ok job part heights (get_or (layer_heights job) k (pos 0)) number ok (is_layer_height job k ok some inside) are within))
 
 -- so are those along the rows' paths
 pub row_in_range : (job : Job) (row : ℕ) → IsJob job → row < length (lattice_ys (finish_lattice job)) → Within (greatest_of job.unit) (get_or (lattice_ys (finish_lattice job)) row (pos 0))
@@ -210,6 +210,6 @@ layered (negsuc n) least = absurd (omega (least, arith, ints))
 pub rough_visits_are_free : RoughVisitsAreFree
 rough_visits_are_free job part list ok are =
     subst (λ (visits : List Visit). All (IsVisit job part) visits) (sym are.visits) (elim (layered job.layer ok.layer_ok.low) [
-      | inl none ↦ subst (λ (levels : List ℤ). All (IsVisit job part) (flat_map (rough_visits_on job are.heights) levels)) (sym (no_levels job none)) (All-nil (IsVisit job part))
+      | inl none ↦ subst (λ (zs : List ℤ). All (IsVisit job part) (flat_map (rough_visits_on job are.heights) zs)) (sym (no_layers job none)) (All-nil (IsVisit job part))
       | inr some ↦ rough_visits_ok job part are.heights ok some (are.are some)
     ])

@@ -31,25 +31,25 @@ visit_if holds lattice number z = if holds then visit_at lattice number z ∷ []
 abbrev pub height_at : List ℤ → ℕ → ℤ
 height_at heights number = slice_index_or heights number (pos 0)
 
--- roughing goes down from the top by layers: how many levels lie over the floor
-abbrev pub level_count : Job → ℕ
-level_count job = (nat_abs (job.top -ℤ job.floor) - 1) / nat_abs job.layer
+-- roughing goes down from the top by layers: how many of them end over the floor
+abbrev pub layer_count : Job → ℕ
+layer_count job = (nat_abs (job.top -ℤ job.floor) - 1) / nat_abs job.layer
 
--- the levels: top - layer, top - 2*layer and so on, while over the floor; without a layer there are none
-abbrev pub rough_levels : Job → List ℤ
-rough_levels job = if int_lt (pos 0) job.layer then map (λ k. job.top -ℤ pos k *ℤ job.layer) (range_with_len 1 (level_count job)) else []
+-- the layers' heights, at which they end: top - layer, top - 2*layer and so on, while over the floor; without a layer there are none
+abbrev pub layer_heights : Job → List ℤ
+layer_heights job = if int_lt (pos 0) job.layer then map (λ k. job.top -ℤ pos k *ℤ job.layer) (range_with_len 1 (layer_count job)) else []
 
--- roughing comes to a node at this level where the level is at least the rough stock over the drop height
+-- roughing comes to a node at a layer's height where that is at least the rough stock over the drop height
 abbrev pub rough_visit : Job → List ℤ → ℤ → ℕ → List Visit
-rough_visit job heights level number = visit_if (int_le (height_at heights number +ℤ job.rough_stock) level) (rough_lattice job) number level
+rough_visit job heights z number = visit_if (int_le (height_at heights number +ℤ job.rough_stock) z) (rough_lattice job) number z
 
--- the roughing visits on one level, in zigzag order
+-- the roughing visits on the layer of this height, in zigzag order
 abbrev pub rough_visits_on : Job → List ℤ → ℤ → List Visit
-rough_visits_on job heights level = flat_map (rough_visit job heights level) (zigzag_of (rough_lattice job))
+rough_visits_on job heights z = flat_map (rough_visit job heights z) (zigzag_of (rough_lattice job))
 
--- the roughing visits: level by level, and on each in zigzag order
+-- the roughing visits: layer by layer from the top, and on each in zigzag order
 abbrev pub rough_visits_of : Job → List ℤ → List Visit
-rough_visits_of job heights = flat_map (rough_visits_on job heights) (rough_levels job)
+rough_visits_of job heights = flat_map (rough_visits_on job heights) (layer_heights job)
 
 -- the finishing path comes to a node at its drop height and lift, where that is under the top
 abbrev pub finish_visit : Job → List ℤ → ℕ → List Visit

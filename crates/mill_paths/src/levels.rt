@@ -13,9 +13,9 @@ ghost use Rattle.mill_paths.specs.inner.Levels.{point_visit};
 
 use crate::crew::Crew;
 use crate::fault::PathFault;
-use crate::lattices::finish_lattice;
+use crate::lattices::{check_nodes, finish_lattice};
 use crate::visit_list::VisitList;
-use mill_base::{MAX_NODES, Pt3};
+use mill_base::Pt3;
 use mill_cells::Cells;
 use mill_job::Job;
 use mill_level::Chain;
@@ -77,10 +77,8 @@ fn waterlines_of<C: Crew>(
     ensures few { IfOk result (λ _. node_count (finish_lattice_of job.now) ≤ MAX_NODES) }
     ensures fault { IfErr result (IsHeightsFault (finish_lattice_of job.now)) }
 {
-    let nodes = finish_lattice(job).nodes();
-    if nodes > MAX_NODES {
-        return Err(PathFault::TooManyNodes { nodes });
-    }
+    let lattice = finish_lattice(job);
+    check_nodes(&lattice)?;
     Ok(crew.waterlines(alloc, job, part, cells)?)
 }
 

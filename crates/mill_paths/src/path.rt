@@ -11,8 +11,8 @@ use mill_links::Visit;
 /// A path over a lattice.
 #[derive(Clone, Copy, Debug, PartialEq, Eq)]
 pub(crate) enum Path {
-    /// Roughing at this height, in units.
-    Level { z: i32 },
+    /// Roughing on the layer of this height, in units.
+    Layer { z: i32 },
     /// The finishing path.
     Finish,
 }
@@ -22,7 +22,7 @@ pub(crate) fn lattice_of(job: &Job, path: Path) -> Lattice
     ensures { result ≡ path_lattice job.now path }
 {
     match path {
-        Path::Level { .. } => rough_lattice(job),
+        Path::Layer { .. } => rough_lattice(job),
         Path::Finish => finish_lattice(job),
     }
 }
@@ -51,7 +51,7 @@ pub(crate) fn tip_height(job: &Job, path: Path, drop: i32) -> Option<i32>
     ensures { result ≡ path_height job.now path drop }
 {
     match path {
-        Path::Level { z } => {
+        Path::Layer { z } => {
             let least = i64::from(drop) + i64::from(job.rough_stock);
             if least <= i64::from(z) { Some(z) } else { None }
         }

@@ -11,8 +11,8 @@ pub fn plan_is_longer()
     ensures { PlanIsLonger }
 {}
 
-/// Where more than 1,000,000 visits of its roughing, of its levels or of its finishing path differ from the one before them, a plan has more than
-/// 1,000,000 moves.
+/// Where more than 1,000,000 visits of its roughing, of its levels or of its finishing path differ from
+/// the one before them, a plan has more than 1,000,000 moves.
 pub fn many_visits_make_moves()
     ensures rough { ManyRoughVisitsMakeMoves }
     ensures level { ManyLevelVisitsMakeMoves }

@@ -12,10 +12,10 @@ ghost use Rattle.mill_paths.specs.inner.Rows.{IsFinishFault, IsInArea};
 
 use crate::crew::Crew;
 use crate::fault::PathFault;
-use crate::lattices::finish_lattice;
+use crate::lattices::{check_nodes, finish_lattice};
 use crate::path::{Path, tip_height};
 use crate::visit_list::VisitList;
-use mill_base::{MAX_NODES, Pt3};
+use mill_base::Pt3;
 use mill_cells::Cells;
 use mill_job::Job;
 use mill_links::Visit;
@@ -67,10 +67,7 @@ fn row_count(job: &Job) -> Result<u32, PathFault>
     ensures fault { IfErr result (IsHeightsFault (finish_lattice_of job.now)) }
 {
     let lattice = finish_lattice(job);
-    let nodes = lattice.nodes();
-    if nodes > MAX_NODES {
-        return Err(PathFault::TooManyNodes { nodes });
-    }
+    check_nodes(&lattice)?;
     Ok(lattice.node_rows())
 }
 

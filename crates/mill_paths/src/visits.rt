@@ -1,31 +1,32 @@
 ghost use Rattle.std.specs.Prelude.{◌≡◌, ◌↔◌, ℕ, ◌<◌, ◌≤◌, ◌++◌, pos, ◌<ℤ◌, length, slice_index_or, All, IfErr, IfOk, IsErrOf, OnOk};
 ghost use Rattle.mill_cells.specs.Sorted.{sorted_of};
-ghost use Rattle.mill_base.specs.Lattices.{node_count, nodes_of, IsMapLattice};
+ghost use Rattle.mill_base.specs.Lattices.{node_count, nodes_of, IsLattice, IsMapLattice};
 ghost use Rattle.mill_base.specs.declared.limits.TheConstants.{MAX_NODES};
 ghost use Rattle.mill_drop.specs.Maps.{AreDropHeights};
-ghost use Rattle.mill_job.specs.Jobs.{IsFrom, IsJob, tool_of};
-ghost use Rattle.mill_paths.specs.Lattices.{finish_lattice, lattice_by, rough_lattice};
+ghost use Rattle.mill_job.specs.Jobs.{IsJob, tool_of};
+ghost use Rattle.mill_paths.specs.Lattices.{finish_lattice as finish_lattice_of, rough_lattice as rough_lattice_of};
 ghost use Rattle.mill_paths.specs.Limits.{change_count, most_changes, HasManyNodes, IsHeightsFault, IsListFault};
-ghost use Rattle.mill_paths.specs.Visits.{AreRoughVisits, AreFinishVisits, AreNodeVisits, HaveManyRoughVisits, HaveManyFinishVisits, HaveManyNodeVisits, IsVisit, rough_levels, rough_visits_of};
+ghost use Rattle.mill_paths.specs.Visits.{AreRoughVisits, AreFinishVisits, AreNodeVisits, HaveManyRoughVisits, HaveManyFinishVisits, HaveManyNodeVisits, IsVisit, layer_heights, rough_visits_of};
 ghost use Rattle.mill_paths.specs.inner.Rows.{IsFinishFault};
 ghost use Rattle.mill_paths.specs.declared.fault.PathFault.TheVariants.{TooManyNodes, TooManyVisits};
 
 use crate::crew::Crew;
 use crate::fault::PathFault;
+use crate::lattices::{check_nodes, finish_lattice, rough_lattice};
 use crate::path::Path;
 use crate::row_visits::row_visits;
 use crate::visit_list::VisitList;
 use crate::zigzag::add_path;
-use mill_base::{Lattice, MAX_NODES};
+use mill_base::Lattice;
 use mill_cells::Cells;
 use mill_job::Job;
 use mill_links::Visit;
 use mill_part::Part;
 use std::alloc::Global;
 
-/// The visits of a plan's roughing, level by level from the top, and on each in zigzag order: over
-/// each node of the rough lattice at which the level is at least the rough stock over the drop
-/// height of the job's tool. Without a layer there are none, and the lattice isn't gone over.
+/// The visits of a plan's roughing, layer by layer from the top, and on each in zigzag order: at the
+/// layer's height over each node of the rough lattice at which that is at least the rough stock over the
+/// drop height of the job's tool. Without a layer there are none, and the lattice isn't gone over.
 ///
 /// `cells` are those of the part's triangles. The visits are the same whatever the crew.
 ///
@@ -49,7 +50,7 @@ pub fn rough_visits<C: Crew>(
     ensures each { IfOk result (λ visits. All (IsVisit job.now part.now) visits.items) }
     ensures few { IfOk result (λ visits. change_count visits.items ≤ most_changes) }
     ensures nodes { (nodes : ℕ) → IsErrOf result (TooManyNodes nodes)
-        ↔ (((pos 0) <ℤ job.now.layer) × HasManyNodes (rough_lattice job.now) nodes) }
+        ↔ (((pos 0) <ℤ job.now.layer) × HasManyNodes (rough_lattice_of job.now) nodes) }
     ensures visits { IsErrOf result TooManyVisits
         → ((pos 0) <ℤ job.now.layer) × HaveManyRoughVisits job.now part.now }
     ensures many { OnOk result (¬ HaveManyRoughVisits job.now part.now) }
@@ -57,9 +58,10 @@ pub fn rough_visits<C: Crew>(
     if job.layer == 0 {
         return Ok(Vec::new(alloc));
     }
-    let heights = drop_heights(crew, alloc, job, part, cells, job.rough_raster)?;
+    let lattice = rough_lattice(job);
+    let heights = drop_heights(crew, alloc, job, part, cells, &lattice)?;
     let mut list = VisitList::new(alloc);
-    add_levels(job, &heights, &mut list)?;
+    add_layers(job, &heights, &mut list)?;
     Ok(list.into_visits())
 }
 
@@ -92,7 +94,7 @@ pub fn finish_visits<C: Crew>(
     ensures each { IfOk result (λ visits. All (IsVisit job.now part.now) visits.items) }
     ensures few { IfOk result (λ visits. change_count visits.items ≤ most_changes) }
     ensures nodes { (nodes : ℕ) → IsErrOf result (TooManyNodes nodes)
-        ↔ HasManyNodes (finish_lattice job.now) nodes }
+        ↔ HasManyNodes (finish_lattice_of job.now) nodes }
     ensures visits { IsErrOf result TooManyVisits → HaveManyFinishVisits job.now part.now }
     ensures many { OnOk result (¬ HaveManyFinishVisits job.now part.now) }
 {
@@ -115,79 +117,72 @@ fn node_visits<C: Crew>(
     requires cells_ok { cells.now ≡ sorted_of part.now }
     ensures list { IfOk result (λ visits. AreNodeVisits job.now part.now visits.items) }
     ensures few { IfOk result (λ visits. change_count visits.items ≤ most_changes) }
-    ensures nodes { IfOk result (λ _. node_count (finish_lattice job.now) ≤ MAX_NODES) }
+    ensures nodes { IfOk result (λ _. node_count (finish_lattice_of job.now) ≤ MAX_NODES) }
     ensures fault { IfErr result
-        (IsFinishFault (finish_lattice job.now) (HaveManyNodeVisits job.now part.now)) }
+        (IsFinishFault (finish_lattice_of job.now) (HaveManyNodeVisits job.now part.now)) }
 {
-    let heights = drop_heights(crew, alloc, job, part, cells, job.raster)?;
+    let lattice = finish_lattice(job);
+    let heights = drop_heights(crew, alloc, job, part, cells, &lattice)?;
     let mut list = VisitList::new(alloc);
     add_path(job, &heights, Path::Finish, &mut list)?;
     Ok(list.into_visits())
 }
 
-/// The drop heights of the job's tool over the lattice of its area by this step, where that has at most
-/// 4,000,000 nodes.
+/// The drop heights of the job's tool over the lattice, where that has at most 4,000,000 nodes.
 fn drop_heights<C: Crew>(
     crew: &C,
     alloc: Global,
     job: &Job,
     part: &Part,
     cells: &Cells,
-    step: i32,
+    lattice: &Lattice,
 ) -> Result<Vec<i32>, PathFault>
     requires crew_ok { C.ready }
     requires job_ok { IsJob job.now }
     requires cells_ok { cells.now ≡ sorted_of part.now }
-    requires step_ok { IsFrom (pos 1) (pos 10000) step }
-    ensures heights { IfOk result (λ heights. AreDropHeights (tool_of job.now) part.now job.now.floor (lattice_by job.now step) heights.items) }
-    ensures lattice_ok { IfOk result (λ _. IsMapLattice (lattice_by job.now step)) }
-    ensures fault { IfErr result (IsHeightsFault (lattice_by job.now step)) }
+    requires lattice_ok { IsLattice lattice.now }
+    ensures heights { IfOk result (λ heights. AreDropHeights (tool_of job.now) part.now job.now.floor lattice.now heights.items) }
+    ensures lattice_ok { IfOk result (λ _. IsMapLattice lattice.now) }
+    ensures fault { IfErr result (IsHeightsFault lattice.now) }
 {
-    let lattice = Lattice {
-        area: job.area,
-        step,
-    };
-    let nodes = lattice.nodes();
-    if nodes > MAX_NODES {
-        return Err(PathFault::TooManyNodes { nodes });
-    }
+    check_nodes(lattice)?;
     let tool = job.tool();
-    Ok(crew.heights(alloc, part, cells, &tool, &lattice, job.floor)?)
+    Ok(crew.heights(alloc, part, cells, &tool, lattice, job.floor)?)
 }
 
-/// Adds the visits of all levels. `heights` are the drop heights at the nodes of the rough lattice.
-fn add_levels(job: &Job, heights: &[i32], list: &mut VisitList) -> Result<(), PathFault>
+/// Adds the visits of all layers. `heights` are the drop heights at the nodes of the rough lattice.
+fn add_layers(job: &Job, heights: &[i32], list: &mut VisitList) -> Result<(), PathFault>
     requires job_ok { IsJob job.now }
     requires layer_ok { (pos 0) <ℤ job.now.layer }
-    requires lattice_ok { IsMapLattice (rough_lattice job.now) }
-    requires heights_ok { length heights.now ≡ length (nodes_of (rough_lattice job.now)) }
+    requires lattice_ok { IsMapLattice (rough_lattice_of job.now) }
+    requires heights_ok { length heights.now ≡ length (nodes_of (rough_lattice_of job.now)) }
     ensures ok { OnOk result
         (list.new.visits.items ≡ list.old.visits.items ++ rough_visits_of job.now heights.now) }
     ensures fault { IfErr result
         (IsListFault (list.old.visits.items ++ rough_visits_of job.now heights.now)) }
 {
-    for number in 0..level_count(job) {
-        let z = level(job, number);
-        add_path(job, heights, Path::Level { z }, list)?;
+    for number in 0..layer_count(job) {
+        let z = layer_height(job, number);
+        add_path(job, heights, Path::Layer { z }, list)?;
     }
     Ok(())
 }
 
-/// How many levels roughing has.
-fn level_count(job: &Job) -> u32
+/// How many layers roughing takes off that end over the floor.
+fn layer_count(job: &Job) -> u32
     requires job_ok { IsJob job.now }
     requires layer_ok { (pos 0) <ℤ job.now.layer }
-    ensures { result ≡ length (rough_levels job.now) }
+    ensures { result ≡ length (layer_heights job.now) }
 {
     job.top.abs_diff(job.floor).saturating_sub(1) / job.layer.unsigned_abs()
 }
 
-/// The height of the level of this number, counted from 0, in units.
-fn level(job: &Job, number: u32) -> i32
+/// The height at which the layer of this number ends, counted from 0 at the top, in units.
+fn layer_height(job: &Job, number: u32) -> i32
     requires job_ok { IsJob job.now }
     requires layer_ok { (pos 0) <ℤ job.now.layer }
-    requires number_ok { number < length (rough_levels job.now) }
-    ensures { result ≡ slice_index_or (rough_levels job.now) number (pos 0) }
+    requires number_ok { number < length (layer_heights job.now) }
+    ensures { result ≡ slice_index_or (layer_heights job.now) number (pos 0) }
 {
     let lowered = (number + 1) * job.layer.unsigned_abs();
     job.top - lowered as i32

@@ -69,12 +69,12 @@ fn look<R: Threads + Sync + AllocGlobal + Abort>(rt: &R, row: &str) -> Result<()
 // A row has a job and a part, and what is planned for them: in a program `\n` is a line's end, and ` .. ` stands in
 // the place of what isn't told of it.
 //
-// The square: straight down from home, fifteen feeds from node to node, and two rapids home; each roughing level has
+// The square: straight down from home, fifteen feeds from node to node, and two rapids home; each roughing layer has
 // as many feeds, and the way round from the end of one path to the start of the next four moves.
 //
 // The shallow block: nine feeds and two rapids home. With a depth of cut the cutter goes down by pecks, and goes round
 // to the first node and to the three others at which it reaches columns that aren't cut yet. Layers as deep as that
-// need no way round, and layers twice as deep need the four on each level. With a tolerance the cutter comes to both
+// need no way round, and layers twice as deep need the four on each of them. With a tolerance the cutter comes to both
 // ends of each of the three rows alone.
 //
 // With a holder: at the first node its face is the stickout over the plate, and the stock 100 over it. Where the

@@ -78,8 +78,8 @@ fn look<R: Threads + Sync + AllocGlobal + Abort>(rt: &R, row: &str) -> Result<()
 // A lift of 100 comes up to the top of the block. In the wide block the cutter stands on the point at one node,
 // and beside it at its neighbours; by a tolerance the row over the point descends in x, and has 21 places, the
 // others two each. A step is at least the raster, also after places under which the lift comes up to the top.
-// Without a layer the roughing lattice doesn't count; a layer as thick as the block leaves no level, but the
-// lattice counts.
+// Without a layer the roughing lattice doesn't count; of layers as thick as the block none ends over the floor,
+// but the lattice counts.
 const PATHS: &str = "\
 rough shallow layer = 50 | plate => 18 visits, 0: 0 0 250 by 100, 1: 100 0 250 by 100, \
     2: 200 0 250 by 100, 3: 200 100 250 by 100, 4: 100 100 250 by 100, 5: 0 100 250 by 100, \

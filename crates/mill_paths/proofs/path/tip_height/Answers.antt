@@ -4,7 +4,7 @@ use Rattle.std.proofs.lemmas.Int.{ints, to_z-of_z}
 use lib.Signed.{le_z}
 use Rattle.mill_base.proofs.Ranges.{within_of_unit}
 use Rattle.mill_part.proofs.Stored.{band_kept, less_band}
-use Rattle.mill_paths.proofs.PathLemmas.{finish_height, level_height, no_finish_height, no_level_height}
+use Rattle.mill_paths.proofs.PathLemmas.{finish_height, rough_height, no_finish_height, no_rough_height}
 use Rattle.mill_paths.proofs.path.tip_height.Goals as goal
 
 lower : (a b : ℤ) → le_z a b ≡ false → b <ℤ a
@@ -20,21 +20,21 @@ overflow_add-result c =
 
 pub returns-then-least-from : goal.returns-then-least-from
 returns-then-least-from c =
-    let fits : FitsSigned w32 c.in-Level.z = search rules in
-    let kept = to_z-of_z w32 c.in-Level.z fits in
-    let high : (c.args.drop +ℤ c.args.job.now.rough_stock) ≤ℤ c.in-Level.z = omega (arith, ints) in
-    rw (c.in-Level.is, kept) (level_height c.args.job.now c.in-Level.z c.args.drop high)
+    let fits : FitsSigned w32 c.in-Layer.z = search rules in
+    let kept = to_z-of_z w32 c.in-Layer.z fits in
+    let high : (c.args.drop +ℤ c.args.job.now.rough_stock) ≤ℤ c.in-Layer.z = omega (arith, ints) in
+    rw (c.in-Layer.is, kept) (rough_height c.args.job.now c.in-Layer.z c.args.drop high)
 
 pub returns-else-least-from : goal.returns-else-least-from
 returns-else-least-from c =
-    let fits : FitsSigned w32 c.in-Level.z = search rules in
+    let fits : FitsSigned w32 c.in-Layer.z = search rules in
     let drop = c.from.ensures ∙ to_z-of_z w32 c.args.drop c.ranges.drop in
-    let stock = c.from-in-Level.ensures ∙ band_kept c.args.job.now.rough_stock c.requires.rough_stock_ok.low c.requires.rough_stock_ok.high in
-    let z = c.from-in-Level-2.ensures ∙ to_z-of_z w32 c.in-Level.z fits in
+    let stock = c.from-in-Layer.ensures ∙ band_kept c.args.job.now.rough_stock c.requires.rough_stock_ok.low c.requires.rough_stock_ok.high in
+    let z = c.from-in-Layer-2.ensures ∙ to_z-of_z w32 c.in-Layer.z fits in
     let drop_fits : FitsSigned w64 c.args.drop = omega (arith, ints) in
     let stock_fits : FitsSigned w64 c.args.job.now.rough_stock = omega (arith, ints) in
     let sum_fits : FitsSigned w64 (c.args.drop +ℤ c.args.job.now.rough_stock) = omega (arith, ints) in
-    let z_fits : FitsSigned w64 c.in-Level.z = omega (arith, ints) in
+    let z_fits : FitsSigned w64 c.in-Layer.z = omega (arith, ints) in
     let test = rw (
       drop,
       stock,
@@ -42,9 +42,9 @@ returns-else-least-from c =
       to_z-of_z w64 c.args.drop drop_fits,
       to_z-of_z w64 c.args.job.now.rough_stock stock_fits,
       to_z-of_z w64 (c.args.drop +ℤ c.args.job.now.rough_stock) sum_fits,
-      to_z-of_z w64 c.in-Level.z z_fits,
+      to_z-of_z w64 c.in-Layer.z z_fits,
     ) at c.if-least-from.false in
-    rw c.in-Level.is (no_level_height c.args.job.now c.in-Level.z c.args.drop (lower _ _ test))
+    rw c.in-Layer.is (no_rough_height c.args.job.now c.in-Layer.z c.args.drop (lower _ _ test))
 
 pub returns-then-drop-job : goal.returns-then-drop-job
 returns-then-drop-job c =

@@ -1,4 +1,4 @@
--- The levels of roughing, by their numbers.
+-- The heights of roughing's layers, by their numbers.
 use Rattle.std.proofs.Common.{◌≡◌, ℕ, ◌+◌, ◌-◌, ◌*◌, ◌/◌, ◌<◌, ◌≤◌, Bool, true, false, List, [], length, map, get_or, refl, sym, ap, ◌∙◌, subst, mul_comm, FitsSigned, w32, arith}
 use Rattle.std.specs.Prelude.{if◌then◌else◌, nat_abs, int_lt, ℤ, pos, ◌-ℤ◌, ◌*ℤ◌, ◌<ℤ◌, ◌≤ℤ◌}
 use Rattle.std.specs.List.{range_with_len}
@@ -11,14 +11,14 @@ use Rattle.mill_base.specs.declared.limits.TheConstants.{MAX_COORDINATE}
 use Rattle.mill_base.proofs.Ranges.{within_of_unit}
 use Rattle.mill_job.specs.Jobs.{IsJob}
 use Rattle.mill_job.specs.declared.job.Job.{Job}
-use Rattle.mill_paths.specs.Visits.{level_count, rough_levels}
+use Rattle.mill_paths.specs.Visits.{layer_count, layer_heights}
 
 -- a height over the floor and under the top
-pub record IsLevel (job : Job) (z : ℤ) : Type 0 where
+pub record IsLayerHeight (job : Job) (z : ℤ) : Type 0 where
   pub over : job.floor <ℤ z
   pub under : z <ℤ job.top
 
--- how much lower than the top the level of number k is, k counted from 0
+-- how much lower than the top the layer of number k is, k counted from 0
 abbrev pub lowering : Job → ℕ → ℕ
 lowering job k = (k + 1) * nat_abs job.layer
 
@@ -35,19 +35,19 @@ layered job some = by (int_lt (pos 0) job.layer) refl
     by true e = refl
     by false e = absurd (omega (arith, ints))
 
--- the levels by their numbers
-pub numbered : (job : Job) → (pos 0) <ℤ job.layer → rough_levels job ≡ map (λ k. job.top -ℤ pos k *ℤ job.layer) (range_with_len 1 (level_count job))
-numbered job some = ap (λ (t : Bool). if t then map (λ k. job.top -ℤ pos k *ℤ job.layer) (range_with_len 1 (level_count job)) else []) (layered job some)
+-- the layers' heights by their numbers
+pub numbered : (job : Job) → (pos 0) <ℤ job.layer → layer_heights job ≡ map (λ k. job.top -ℤ pos k *ℤ job.layer) (range_with_len 1 (layer_count job))
+numbered job some = ap (λ (t : Bool). if t then map (λ k. job.top -ℤ pos k *ℤ job.layer) (range_with_len 1 (layer_count job)) else []) (layered job some)
 
-pub length-rough_levels : (job : Job) → (pos 0) <ℤ job.layer → length (rough_levels job) ≡ level_count job
-length-rough_levels job some =
-    ap (λ (zs : List ℤ). length zs) (numbered job some) ∙ length-map-range_with_len (λ k. job.top -ℤ pos k *ℤ job.layer) 1 (level_count job)
+pub length-layer_heights : (job : Job) → (pos 0) <ℤ job.layer → length (layer_heights job) ≡ layer_count job
+length-layer_heights job some =
+    ap (λ (zs : List ℤ). length zs) (numbered job some) ∙ length-map-range_with_len (λ k. job.top -ℤ pos k *ℤ job.layer) 1 (layer_count job)
 
-pub get_or-rough_levels : (job : Job) (k : ℕ) → (pos 0) <ℤ job.layer → k < length (rough_levels job)
-    → get_or (rough_levels job) k (pos 0) ≡ job.top -ℤ pos (k + 1) *ℤ job.layer
-get_or-rough_levels job k some inside =
+pub get_or-layer_heights : (job : Job) (k : ℕ) → (pos 0) <ℤ job.layer → k < length (layer_heights job)
+    → get_or (layer_heights job) k (pos 0) ≡ job.top -ℤ pos (k + 1) *ℤ job.layer
+get_or-layer_heights job k some inside =
     ap (λ (zs : List ℤ). get_or zs k (pos 0)) (numbered job some)
-    ∙ get_or-map-range_with_len (λ k. job.top -ℤ pos k *ℤ job.layer) 1 (level_count job) k (k + 1) (pos 0) (subst (λ n. k < n) (length-rough_levels job some) inside) (turned k)
+    ∙ get_or-map-range_with_len (λ k. job.top -ℤ pos k *ℤ job.layer) 1 (layer_count job) k (k + 1) (pos 0) (subst (λ n. k < n) (length-layer_heights job some) inside) (turned k)
   where
     turned : (n : ℕ) → 1 + n ≡ n + 1
     turned n = omega arith
@@ -68,9 +68,9 @@ lowered k d l some small inside =
     within : (k p q d : ℕ) → k + 1 ≤ p → p ≤ q → q ≤ d - 1 → d ≤ 1048574 → (p < d) × (p ≤ 1048574)
     within k p q d low high all small = (omega arith, omega arith)
 
-pub is_lowered : (job : Job) (k : ℕ) → IsJob job → (pos 0) <ℤ job.layer → k < length (rough_levels job) → IsLowered job k
+pub is_lowered : (job : Job) (k : ℕ) → IsJob job → (pos 0) <ℤ job.layer → k < length (layer_heights job) → IsLowered job k
 is_lowered job k ok some inside =
-    let h = lowered k (nat_abs (job.top -ℤ job.floor)) (nat_abs job.layer) (least job.layer some) (height job.floor job.top (within_of_unit job.unit job.floor ok.floor_ok) (within_of_unit job.unit job.top ok.top_ok)) (subst (λ n. k < n) (length-rough_levels job some) inside) in
+    let h = lowered k (nat_abs (job.top -ℤ job.floor)) (nat_abs job.layer) (least job.layer some) (height job.floor job.top (within_of_unit job.unit job.floor ok.floor_ok) (within_of_unit job.unit job.top ok.top_ok)) (subst (λ n. k < n) (length-layer_heights job some) inside) in
     record { counted = h.0; most = h.1.0; small = h.1.1 }
   where
     least : (l : ℤ) → (pos 0) <ℤ l → 0 < nat_abs l
@@ -86,12 +86,12 @@ layers k l some = ap (λ z. pos k *ℤ z) (whole l some)
     whole : (l : ℤ) → (pos 0) <ℤ l → l ≡ pos (nat_abs l)
     whole l h = omega (arith, ints)
 
--- the level of number k
-pub level_is : (job : Job) (k : ℕ) → (pos 0) <ℤ job.layer → k < length (rough_levels job) → get_or (rough_levels job) k (pos 0) ≡ job.top -ℤ pos (lowering job k)
-level_is job k some inside = get_or-rough_levels job k some inside ∙ ap (λ z. job.top -ℤ z) (layers (k + 1) job.layer some)
+-- the height of the layer of number k
+pub layer_height_is : (job : Job) (k : ℕ) → (pos 0) <ℤ job.layer → k < length (layer_heights job) → get_or (layer_heights job) k (pos 0) ≡ job.top -ℤ pos (lowering job k)
+layer_height_is job k some inside = get_or-layer_heights job k some inside ∙ ap (λ z. job.top -ℤ z) (layers (k + 1) job.layer some)
 
-pub level_fits : (job : Job) (k : ℕ) → IsJob job → IsLowered job k → FitsSigned w32 (job.top -ℤ pos (lowering job k))
-level_fits job k ok h = fits_signed_from_abs w32 (job.top -ℤ pos (lowering job k)) (small job.top (lowering job k) (within_of_unit job.unit job.top ok.top_ok) h.small)
+pub layer_height_fits : (job : Job) (k : ℕ) → IsJob job → IsLowered job k → FitsSigned w32 (job.top -ℤ pos (lowering job k))
+layer_height_fits job k ok h = fits_signed_from_abs w32 (job.top -ℤ pos (lowering job k)) (small job.top (lowering job k) (within_of_unit job.unit job.top ok.top_ok) h.small)
   where
     small : (t : ℤ) (n : ℕ) → Within MAX_COORDINATE t → n ≤ 1048574 → nat_abs (t -ℤ pos n) < 2147483648
     small t n top h = let high = top.within in omega (arith, ints)
@@ -102,11 +102,11 @@ layer_within job ok = within (greatest_of job.unit) job.layer ok.layer_ok.low ok
     within : (most : ℕ) (l : ℤ) → (pos 0) ≤ℤ l → l ≤ℤ pos most → Within most l
     within most l low high = record { within = omega (arith, ints) }
 
--- each level is over the floor and under the top
-pub is_level : (job : Job) (k : ℕ) → IsJob job → (pos 0) <ℤ job.layer → k < length (rough_levels job) → IsLevel job (get_or (rough_levels job) k (pos 0))
-is_level job k ok some inside =
+-- each layer's height is over the floor and under the top
+pub is_layer_height : (job : Job) (k : ℕ) → IsJob job → (pos 0) <ℤ job.layer → k < length (layer_heights job) → IsLayerHeight job (get_or (layer_heights job) k (pos 0))
+is_layer_height job k ok some inside =
     let h : IsLowered job k = is_lowered job k ok some inside in
-    subst (λ z. IsLevel job z) (sym (level_is job k some inside)) (record {
+    subst (λ z. IsLayerHeight job z) (sym (layer_height_is job k some inside)) (record {
       over = over job.floor job.top (lowering job k) ok.stock h.most;
       under = under job.top k (lowering job k) h.counted;
     })
@@ -117,6 +117,6 @@ is_level job k ok some inside =
     under : (top : ℤ) (k n : ℕ) → k + 1 ≤ n → (top -ℤ pos n) <ℤ top
     under top k n some = omega (arith, ints)
 
--- without a layer there is no level
-pub no_levels : (job : Job) → job.layer ≡ pos 0 → rough_levels job ≡ []
-no_levels job none = ap (λ (l : ℤ). if int_lt (pos 0) l then map (λ k. job.top -ℤ pos k *ℤ job.layer) (range_with_len 1 (level_count job)) else []) none
+-- where the job has no layer there is none
+pub no_layers : (job : Job) → job.layer ≡ pos 0 → layer_heights job ≡ []
+no_layers job none = ap (λ (l : ℤ). if int_lt (pos 0) l then map (λ k. job.top -ℤ pos k *ℤ job.layer) (range_with_len 1 (layer_count job)) else []) none

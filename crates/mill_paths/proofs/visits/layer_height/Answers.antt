@@ -3,8 +3,8 @@ use Rattle.std.specs.Prelude.{nat_abs, pos, ◌-ℤ◌}
 use Rattle.std.proofs.lemmas.Int.{ints, to_z-of_z, to_z_pos}
 use mir.Val.{to_z}
 use Rattle.mill_links.proofs.Kept.{unit_coordinate}
-use Rattle.mill_paths.proofs.LevelLemmas.{IsLowered, is_lowered, layer_within, level_fits, level_is, lowering}
-use Rattle.mill_paths.proofs.visits.level.Goals as goal
+use Rattle.mill_paths.proofs.LayerLemmas.{IsLowered, is_lowered, layer_within, layer_height_fits, layer_height_is, lowering}
+use Rattle.mill_paths.proofs.visits.layer_height.Goals as goal
 
 pub overflow_add-lowered : goal.overflow_add-lowered
 overflow_add-lowered c =
@@ -39,7 +39,7 @@ overflow_sub-result c =
     let thick : c.unsigned_abs.result ≡ nat_abs c.args.job.now.layer = rw layer at c.unsigned_abs.ensures.value in
     let top = unit_coordinate c.args.job.now.unit c.args.job.now.top c.requires.job_ok.top_ok in
     let down : to_z w32 (lowering c.args.job.now c.args.number) ≡ pos (lowering c.args.job.now c.args.number) = to_z_pos w32 _ (small_number _ h.small) in
-    rw (thick, top, down) (level_fits c.args.job.now c.args.number c.requires.job_ok h)
+    rw (thick, top, down) (layer_height_fits c.args.job.now c.args.number c.requires.job_ok h)
 
 pub returns : goal.returns
 returns c =
@@ -48,5 +48,5 @@ returns c =
     let thick : c.unsigned_abs.result ≡ nat_abs c.args.job.now.layer = rw layer at c.unsigned_abs.ensures.value in
     let top = unit_coordinate c.args.job.now.unit c.args.job.now.top c.requires.job_ok.top_ok in
     let down : to_z w32 (lowering c.args.job.now c.args.number) ≡ pos (lowering c.args.job.now c.args.number) = to_z_pos w32 _ (small_number _ h.small) in
-    rw (thick, top, down, to_z-of_z w32 (c.args.job.now.top -ℤ pos (lowering c.args.job.now c.args.number)) (level_fits c.args.job.now c.args.number c.requires.job_ok h))
-    (sym (level_is c.args.job.now c.args.number c.requires.layer_ok c.requires.number_ok))
+    rw (thick, top, down, to_z-of_z w32 (c.args.job.now.top -ℤ pos (lowering c.args.job.now c.args.number)) (layer_height_fits c.args.job.now c.args.number c.requires.job_ok h))
+    (sym (layer_height_is c.args.job.now c.args.number c.requires.layer_ok c.requires.number_ok))

@@ -1,8 +1,8 @@
 use Rattle.std.proofs.Common.{◌≡◌, ◌-◌, sym}
 use Rattle.std.specs.Prelude.{nat_abs, ◌-ℤ◌}
 use Rattle.mill_links.proofs.Kept.{unit_coordinate}
-use Rattle.mill_paths.proofs.LevelLemmas.{layer_within, length-rough_levels}
-use Rattle.mill_paths.proofs.visits.level_count.Goals as goal
+use Rattle.mill_paths.proofs.LayerLemmas.{layer_within, length-layer_heights}
+use Rattle.mill_paths.proofs.visits.layer_count.Goals as goal
 
 pub returns : goal.returns
 returns c =
@@ -12,4 +12,4 @@ returns c =
     let height : c.abs_diff.result ≡ nat_abs (c.args.job.now.top -ℤ c.args.job.now.floor) = rw (top, floor) at c.abs_diff.ensures in
     let thick : c.unsigned_abs.result ≡ nat_abs c.args.job.now.layer = rw layer at c.unsigned_abs.ensures.value in
     let less : c.saturating_sub.result ≡ c.abs_diff.result - 1 = c.saturating_sub.ensures in
-    rw (less, height, thick) (sym (length-rough_levels c.args.job.now c.requires.layer_ok))
+    rw (less, height, thick) (sym (length-layer_heights c.args.job.now c.requires.layer_ok))

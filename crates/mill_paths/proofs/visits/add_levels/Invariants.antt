@@ -1,7 +1,0 @@
-use Rattle.std.proofs.Common.{◌≡◌, ◌++◌, take}
-use Rattle.std.specs.List.{flat_map}
-use Rattle.mill_paths.specs.Visits.{rough_levels, rough_visits_on}
-use Rattle.mill_paths.proofs.visits.add_levels.Given as goal
-
-abbrev pub invariant-loop-number : goal.invariant-loop-number
-invariant-loop-number l = l.list.visits.items ≡ l.fn.list.visits.items ++ flat_map (rough_visits_on l.job l.heights) (take l.number (rough_levels l.job))
