@@ -5,10 +5,11 @@
 //! `specs/Halving` which moves pass and which leaf of another move fails, `specs/Apart` when a
 //! triangle lies beside a move or under it, `specs/Reach` in which box and over which height each
 //! triangle comes that a move doesn't pass, `specs/Moments` what passing implies at each moment,
-//! `specs/Vertical` what a move straight up or down passes, and `specs/Holders` what a cutter's holder
-//! passes, which is a solid of its own on the move higher by the stickout. `passes_tri` decides whether a move
-//! passes, and `first_block` names its failing leaf; `holder_passes_tri` and `holder_block` do so of the
-//! holder. A `Sweep` does so for many triangles and one move. `reach_box` says which triangles need to be tried at all.
+//! `specs/Vertical` what a move straight up or down passes, and `specs/Holders` what a cutter's
+//! holder passes, which is a solid of its own on the move higher by the stickout. `passes_tri`
+//! decides whether a move passes, and `first_block` names its failing leaf; `holder_passes_tri` and
+//! `holder_block` do so of the holder. A `Sweep` does so for many triangles and one move.
+//! `reach_box` says which triangles need to be tried at all.
 #![tactic(auto)]
 
 mod beside;
@@ -26,7 +27,7 @@ mod move_depth;
 mod reach;
 mod sweep;
 
-pub use contact::{holds_some, touch};
+pub use contact::holds_some;
 pub use ends::{end_at, nearest};
 pub use halving::{first_block, first_block_point, passes_point, passes_tri};
 pub use holder::{
