@@ -6,11 +6,12 @@
 //! the piece back. Turns that are known to pass, whoever does them and whenever, it may go over many at
 //! once, with one look at the least failing turn.
 //!
-//! It stands on atomic_table, whose steps are single accesses to shared memory, so no call waits for
-//! another; on mill_base, and, in a law alone, on mill_sched. `run_all` does a whole work, by any number
-//! of threads; `specs/Works` says what a work means and what it comes to, and by `specs/Laws` that is
-//! one thing; `run_alone` does it on the caller's thread, with no runtime. `specs/Seats` is what a worker's access to the board shows, `specs/Kept` the rule that
-//! holds between any two steps of the workers, and `specs/Shows` ties it to the machine of mill_sched.
+//! It stands on atomic_table, whose steps are single accesses to shared memory, so no call waits
+//! for another; on mill_base, and, in a law alone, on mill_sched. `run_all` does a whole work, by
+//! any number of threads; `specs/Works` says what a work means and what it comes to, and by
+//! `specs/Laws` that is one thing; `run_alone` does it on the caller's thread, with no runtime.
+//! `specs/Seats` is what a worker's access to the board shows, `specs/Kept` the rule that holds
+//! between any two steps of the workers, and `specs/Shows` ties it to the machine of mill_sched.
 #![tactic(auto)]
 
 mod board;

@@ -14,8 +14,8 @@ use mill_cells::Cells;
 use mill_part::Part;
 use mill_sweep::{Leaf, Sweep, reach_box};
 
-/// A triangle that a move, or a holder on it, doesn't pass, and the leaf of the move that it blocks. Triangles are
-/// counted from 0.
+/// A triangle that a move, or a holder on it, doesn't pass, and the leaf of the move that it
+/// blocks. Triangles are counted from 0.
 #[derive(Clone, Copy)]
 pub struct Gouge {
     pub tri: u32,
