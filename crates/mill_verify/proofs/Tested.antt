@@ -27,13 +27,14 @@ use Rattle.mill_dexel.specs.declared.fail.RowTest.TheVariants as test
 use Rattle.mill_verify.specs.Blocks.{BlockState, IsPartFail}
 use Rattle.mill_verify.specs.declared.block.PartFail.{PartFail}
 use Rattle.mill_verify.specs.declared.block.PartFail.TheVariants as fail
+use Rattle.mill_verify.specs.Reasons.{cut_reason, part_reason, stock_reason}
 use Rattle.mill_verify.specs.Tests.{GoodBeforeOn, PassesColumnOn, stock_met}
 use Rattle.mill_verify.specs.Verdicts.{FailsStockOn}
 use Rattle.mill_verify.specs.declared.verdict.Reason.{Reason}
 use Rattle.mill_verify.specs.declared.verdict.Reason.TheVariants.{Floor, HolderStock}
 use Rattle.mill_verify.specs.declared.piece.Piece.{Piece}
 use Rattle.mill_verify.specs.declared.piece.Piece.TheVariants.{Block, Stock}
-use Rattle.mill_verify.specs.inner.Failures.{HasFailed, HasFailedBy, IsFirstFailed, IsReasonOf, NoneFailed, NoneFailedBy, cut_reason, is_held_row, is_holder_test, is_of_holder, part_reason, stock_reason}
+use Rattle.mill_verify.specs.inner.Failures.{HasFailed, HasFailedBy, IsFirstFailed, IsReasonOf, NoneFailed, NoneFailedBy, test_in, test_of}
 use Rattle.mill_verify.specs.inner.Firsts.{ArePassed, IsFloorEnd}
 use Rattle.mill_verify.specs.inner.Pieces.{AreTested, IsPieceAt, IsPieceFailed, PassesTest, TestsShown, blocks_of, first_turn, piece_count, row_in, tests, turn_limit}
 use Rattle.mill_verify.specs.inner.Readiness.{start_stock}
@@ -131,18 +132,18 @@ module _ (job : Job) (part : List Tri) (start : Option (List RowState)) (moves :
   abbrev FailsHeld : ℕ → Type 0
   FailsHeld m = (j : ℕ) × (m ≡ blocks_of w + j) × CutClearsRow job (row_before job moves (fresh_row job stock j) least) (move_at moves least)
 
-  cut_of : (r : RowState) (m : Move) (i : ℕ) (leaf : Leaf) (t : RowTest) → is_holder_test t ≡ true → StopsBy t job r m i leaf → CutClearsRow job r m
+  cut_of : (r : RowState) (m : Move) (i : ℕ) (leaf : Leaf) (t : RowTest) → t ≡ test.Holder → StopsBy t job r m i leaf → CutClearsRow job r m
   cut_of r m i leaf test.Cut e stops = absurd (cc)
   cut_of r m i leaf test.Holder e stops = stops.cut
 
-  held_of : (m : ℕ) (p : Piece) → IsPieceFailed w m least p → is_held_row p ≡ true → FailsHeld m
+  held_of : (m : ℕ) (p : Piece) → IsPieceFailed w m least p → test_of p ≡ test.Holder → FailsHeld m
   held_of m (Block b s) f e = absurd (cc)
   held_of m (Stock b r) f e =
       let found = f.2.fail in (
         r.row,
         f.1,
         cut_of (row_before job moves (fresh_row job stock r.row) least) (move_at moves least) found.col found.leaf found.test
-            (sym (ap is_of_holder (ap (λ (x : RowState). x.failed) f.2.noted)) ∙ e) f.2.stops.stops,
+            (sym (ap test_in (ap (λ (x : RowState). x.failed) f.2.noted)) ∙ e) f.2.stops.stops,
       )
 
   -- how a piece failed that failed at the least turn
@@ -159,17 +160,17 @@ module _ (job : Job) (part : List Tri) (start : Option (List RowState)) (moves :
       passes_to tests w least m t.0 t.2 (λ k. closed.under m k under) least from to (omega arith) (none t.0 t.1)
 
   -- one that has failed in no way but by the holder's test of a row passes its tests, or is such a row
-  not_cut : (m : ℕ) → m < piece_count w → first_turn w m ≤ least → least < turn_limit w m → ((h : Held Piece) → slice_get hs m ≡ Some h → ¬ HasFailedBy false least h) → PassesTest w m least ⊎ FailsHeld m
+  not_cut : (m : ℕ) → m < piece_count w → first_turn w m ≤ least → least < turn_limit w m → ((h : Held Piece) → slice_get hs m ≡ Some h → ¬ HasFailedBy test.Cut least h) → PassesTest w m least ⊎ FailsHeld m
   not_cut m under from to none =
       let t = done m under in
       elim (failed_or_not least t.0) [
-        | inl f ↦ by t.0 t.1 t.2 f (is_held_row t.0.piece) refl
+        | inl f ↦ by t.0 t.1 t.2 f (test_of t.0.piece) refl
         | inr passed ↦ inl (passes_to tests w least m t.0 t.2 (λ k. closed.under m k under) least from to (omega arith) passed)
       ]
     where
-      by : (h : Held Piece) → slice_get hs m ≡ Some h → IsDone tests w least m h → HasFailed least h → (b : Bool) → is_held_row h.piece ≡ b → PassesTest w m least ⊎ FailsHeld m
-      by h at d f false e = absurd (none h at (f, e))
-      by h at d f true e = inr (held_of m h.piece (failed_there m h d f).1 e)
+      by : (h : Held Piece) → slice_get hs m ≡ Some h → IsDone tests w least m h → HasFailed least h → (u : RowTest) → test_of h.piece ≡ u → PassesTest w m least ⊎ FailsHeld m
+      by h at d f test.Cut e = absurd (none h at (f, e))
+      by h at d f test.Holder e = inr (held_of m h.piece (failed_there m h d f).1 e)
 
   module _ (n : ℕ) (first : IsFirstFailed least hs n) where
     here : IsDone tests w least n first.held
@@ -249,7 +250,7 @@ module _ (job : Job) (part : List Tri) (start : Option (List RowState)) (moves :
 
     -- the pieces of these numbers have failed in no way but by the holder's test of a row
     abbrev NoCut : ℕ → Type 0
-    NoCut bound = NoneFailedBy false least hs bound
+    NoCut bound = NoneFailedBy test.Cut least hs bound
 
     block_passed : (bound : ℕ) → NoCut bound → blocks_of w ≤ bound → ToolPassesPart (tool_of job) (move_at moves least) part
     block_passed bound none over =
@@ -291,13 +292,13 @@ module _ (job : Job) (part : List Tri) (start : Option (List RowState)) (moves :
         s.blocked
 
     -- a row before it that failed in neither way passes the holder's test
-    row_passed : (a : ℕ) → NoCut (length hs) → NoneFailedBy true least hs n → blocks_of w + a < n → RowHolderClears job stock moves least a
+    row_passed : (a : ℕ) → NoCut (length hs) → NoneFailedBy test.Holder least hs n → blocks_of w + a < n → RowHolderClears job stock moves least a
     row_passed a none held before =
         let u = under in let count = closed.count in
         row_held least a (not_failed (blocks_of w + a) (omega (before, u, arith)) (row_first least a) (row_last least a turn_there)
         (λ h at. in_one_way least h (none (blocks_of w + a) h (omega (before, u, count, arith)) at) (held (blocks_of w + a) h before at)))
 
-    held_rejects : (j i : ℕ) (leaf : Leaf) → n ≡ blocks_of w + j → NoCut (length hs) → NoneFailedBy true least hs n → HolderStopsAt job (row_before job moves (fresh_row job stock j) least) (move_at moves least) i leaf → Rejects (HolderStock least j i leaf)
+    held_rejects : (j i : ℕ) (leaf : Leaf) → n ≡ blocks_of w + j → NoCut (length hs) → NoneFailedBy test.Holder least hs n → HolderStopsAt job (row_before job moves (fresh_row job stock j) least) (move_at moves least) i leaf → Rejects (HolderStock least j i leaf)
     held_rejects j i leaf number none held stop =
         let s = row_holder_stops job stock moves least j i leaf stop.holder in
         let u = under in let count = closed.count in
@@ -322,20 +323,20 @@ module _ (job : Job) (part : List Tri) (start : Option (List RowState)) (moves :
           shown = s.blocked;
         }
 
-    stock_rejects : (j i : ℕ) (leaf : Leaf) (t : RowTest) → n ≡ blocks_of w + j → (is_holder_test t ≡ true → NoCut (length hs)) → NoneFailedBy (is_holder_test t) least hs n
+    stock_rejects : (j i : ℕ) (leaf : Leaf) (t : RowTest) → n ≡ blocks_of w + j → (t ≡ test.Holder → NoCut (length hs)) → NoneFailedBy t least hs n
         → StopsBy t job (row_before job moves (fresh_row job stock j) least) (move_at moves least) i leaf → Rejects (stock_reason t kind least j i leaf)
     stock_rejects j i leaf test.Cut number none before stop = cut_rejects j i leaf number before stop
     stock_rejects j i leaf test.Holder number none before stop = held_rejects j i leaf number (none refl) before stop
 
-    rejects : (p : Piece) (reason : Reason) → (is_held_row p ≡ true → NoCut (length hs)) → NoneFailedBy (is_held_row p) least hs n → IsPieceFailed w n least p → IsReasonOf kind (blocks_of w) least p reason → Rejects reason
+    rejects : (p : Piece) (reason : Reason) → (test_of p ≡ test.Holder → NoCut (length hs)) → NoneFailedBy (test_of p) least hs n → IsPieceFailed w n least p → IsReasonOf kind (blocks_of w) least p reason → Rejects reason
     rejects (Block m b) reason none before f r =
         let same : f.2.fail ≡ r.0 = one_of (sym (ap (λ (x : BlockState). x.failed) f.2.noted) ∙ r.1) in
         subst Rejects (sym r.2) (part_rejects r.0 (subst (λ (g : PartFail). IsPartFail job part (move_at moves least) g) same f.2.fails))
     rejects (Stock m row) reason none before f r =
         let same : f.2.fail ≡ r.0 = one_of (sym (ap (λ (x : RowState). x.failed) f.2.noted) ∙ r.1) in
-        let way : is_held_row (Stock m row) ≡ is_holder_test r.0.test = ap is_of_holder r.1 in
+        let way : test_of (Stock m row) ≡ r.0.test = ap test_in r.1 in
         let stop = subst (λ (x : RowFail). StopsRow job (row_before job moves (fresh_row job stock row.row) least) (move_at moves least) x) same f.2.stops in
-        subst Rejects (sym r.4) (stock_rejects row.row r.0.col r.0.leaf r.0.test f.1 (λ e. none (way ∙ e)) (subst (λ (b : Bool). NoneFailedBy b least hs n) way before) stop.stops)
+        subst Rejects (sym r.4) (stock_rejects row.row r.0.col r.0.leaf r.0.test f.1 (λ e. none (way ∙ e)) (subst (λ (u : RowTest). NoneFailedBy u least hs n) way before) stop.stops)
 
     pub rejected : (d : Move) (blocks : ℕ) → blocks ≡ blocks_of w → (h : Held Piece) (reason : Reason) → h ≡ slice_index_or hs n h
         → IsReasonOf (slice_index_or moves least d).kind blocks h.next h.piece reason → Rejects reason

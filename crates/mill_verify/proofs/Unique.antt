@@ -25,7 +25,7 @@ use Rattle.mill_verify.specs.declared.verdict.Verdict.{Verdict}
 use Rattle.mill_verify.specs.declared.verdict.Verdict.TheVariants.{Accept, Reject}
 use Rattle.mill_verify.specs.declared.verdict.Reason.{Reason}
 use Rattle.mill_verify.specs.declared.verdict.Reason.TheVariants.{Floor, Gouge, Holder, Rapid as RapidCut, Cut, HolderStock, Left}
-use Rattle.mill_verify.specs.inner.Failures.{cut_reason}
+use Rattle.mill_verify.specs.Reasons.{cut_reason}
 
 pub not_before : (j i a b : ℕ) → ¬ IsBefore j i a b → ¬ IsBefore a b j i → (j ≡ a) × (i ≡ b)
 not_before j i a b h g =

@@ -1,6 +1,7 @@
 pub mod Tests
 pub mod Blocks
 pub mod Verdicts
+pub mod Reasons
 pub mod Claims
 pub mod Files
 pub mod Lists

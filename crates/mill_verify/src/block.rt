@@ -119,9 +119,9 @@ impl Block {
     }
 }
 
-/// How the move fails the tests against the part, the cutter's before the holder's; none where it
-/// passes both.
-fn part_fail(job: &Job, part: &Part, cells: &Cells, step: &Move) -> Option<PartFail>
+/// Tests (ii) and (ii h) of one move: how it fails the tests against the part, the cutter's before
+/// the holder's; none where it passes both. The cells are those of the part's triangles.
+pub fn part_fail(job: &Job, part: &Part, cells: &Cells, step: &Move) -> Option<PartFail>
     requires job_ok { IsJob job.now }
     requires cells_ok { cells.now ≡ sorted_of part.now }
     requires move_ok { MoveInRange step.now }

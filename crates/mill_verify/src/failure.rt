@@ -1,14 +1,16 @@
 ghost use Rattle.std.specs.Prelude.{◌≡◌, ◌<◌, false, length, IsTrue, MatchOption};
+ghost use Rattle.mill_verify.specs.Reasons.{part_reason as reason_by_part, stock_reason as reason_by_stock};
 ghost use Rattle.mill_verify.specs.declared.verdict.Reason.{Reason as Why};
-ghost use Rattle.mill_verify.specs.inner.Failures.{HasFailed, HasFailedBy, IsFirstFailed, IsFirstFailedBy, IsReasonOf, NoneFailed, NoneFailedBy, is_held_row as is_held, part_reason as reason_by_part, stock_reason as reason_by_stock};
+ghost use Rattle.mill_verify.specs.inner.Failures.{HasFailed, HasFailedBy, IsFirstFailed, IsFirstFailedBy, IsReasonOf, NoneFailed, NoneFailedBy, test_of as its_test};
 
 use crate::block::PartFail;
 use crate::piece::Piece;
 use crate::verdict::Reason;
 use mill_base::Kind;
 use mill_board::Held;
-use mill_dexel::{RowFail, RowTest};
+use mill_dexel::RowTest;
 use mill_gouge::Gouge;
+use mill_sweep::Leaf;
 
 /// The number of the first piece that has failed at this turn; none where none has.
 ///
@@ -17,19 +19,19 @@ use mill_gouge::Gouge;
 pub fn first_failed(pieces: &[Held<Piece>], turn: u64) -> Option<usize>
     ensures { MatchOption result (NoneFailed turn pieces.now (length pieces.now)) (IsFirstFailed turn pieces.now) }
 {
-    match first_failed_by(pieces, turn, false) {
+    match first_failed_by(pieces, turn, RowTest::Cut) {
         Some(number) => Some(number),
-        None => first_failed_by(pieces, turn, true),
+        None => first_failed_by(pieces, turn, RowTest::Holder),
     }
 }
 
 /// The number of the first piece that has failed at this turn as a row by the holder's test, or, where
-/// `holder` is false, in any other way; none where none has.
-fn first_failed_by(pieces: &[Held<Piece>], turn: u64, holder: bool) -> Option<usize>
-    ensures { MatchOption result (NoneFailedBy holder turn pieces.now (length pieces.now)) (IsFirstFailedBy holder turn pieces.now) }
+/// `test` is the cutter's, in any other way; none where none has.
+fn first_failed_by(pieces: &[Held<Piece>], turn: u64, test: RowTest) -> Option<usize>
+    ensures { MatchOption result (NoneFailedBy test turn pieces.now (length pieces.now)) (IsFirstFailedBy test turn pieces.now) }
 {
     for number in 0..pieces.len() {
-        if has_failed_by(&pieces[number], turn, holder) {
+        if has_failed_by(&pieces[number], turn, test) {
             return Some(number);
         }
     }
@@ -37,14 +39,14 @@ fn first_failed_by(pieces: &[Held<Piece>], turn: u64, holder: bool) -> Option<us
 }
 
 /// Whether a piece has failed so at this turn.
-fn has_failed_by(held: &Held<Piece>, turn: u64, holder: bool) -> bool
-    ensures yes { IsTrue result → HasFailedBy holder turn held.now }
-    ensures no { result ≡ false → ¬ HasFailedBy holder turn held.now }
+fn has_failed_by(held: &Held<Piece>, turn: u64, test: RowTest) -> bool
+    ensures yes { IsTrue result → HasFailedBy test turn held.now }
+    ensures no { result ≡ false → ¬ HasFailedBy test turn held.now }
 {
     if !has_failed(held, turn) {
         return false;
     }
-    is_held_row(&held.piece) == holder
+    test_of(&held.piece) == test
 }
 
 /// Whether a piece has failed at this turn.
@@ -55,18 +57,15 @@ fn has_failed(held: &Held<Piece>, turn: u64) -> bool
     held.failed && held.next == turn
 }
 
-/// Whether a piece is a row that has failed the holder's test.
-fn is_held_row(piece: &Piece) -> bool
-    ensures { result ≡ is_held piece.now }
+/// The holder's test for a row that has failed it, and the cutter's for all other pieces.
+fn test_of(piece: &Piece) -> RowTest
+    ensures { result ≡ its_test piece.now }
 {
     match piece {
-        Piece::Block { .. } => false,
+        Piece::Block { .. } => RowTest::Cut,
         Piece::Stock { number: _, row } => match row.failed() {
-            Some(fail) => match fail.test {
-                RowTest::Cut => false,
-                RowTest::Holder => true,
-            },
-            None => false,
+            Some(fail) => fail.test,
+            None => RowTest::Cut,
         },
     }
 }
@@ -83,14 +82,17 @@ pub fn reason_of(held: &Held<Piece>, kind: Kind, blocks: u64) -> Reason
             None => unreachable!(),
         },
         Piece::Stock { number, row } => match row.failed() {
-            Some(fail) => stock_reason(kind, held.next, (*number - blocks) as u32, fail),
+            Some(fail) => {
+                let number = (*number - blocks) as u32;
+                stock_reason(fail.test, kind, held.next, number, fail.col, fail.leaf)
+            }
             None => unreachable!(),
         },
     }
 }
 
-/// Why a triangle stops a move.
-fn part_reason(at: u64, fail: PartFail) -> Reason
+/// The reason for which move `at` is rejected that fails the tests against the part so.
+pub fn part_reason(at: u64, fail: PartFail) -> Reason
     ensures { result ≡ reason_by_part at fail }
 {
     match fail {
@@ -99,16 +101,11 @@ fn part_reason(at: u64, fail: PartFail) -> Reason
     }
 }
 
-/// Why a column of this row stops a move of this kind.
-fn stock_reason(kind: Kind, at: u64, row: u32, fail: RowFail) -> Reason
-    ensures { result ≡ reason_by_stock fail.test kind at row fail.col fail.leaf }
+/// The reason for which move `at`, of this kind, is rejected that fails this test by the stock at
+/// column `col` of row `row`, at this leaf.
+pub fn stock_reason(test: RowTest, kind: Kind, at: u64, row: u32, col: u32, leaf: Leaf) -> Reason
+    ensures { result ≡ reason_by_stock test kind at row col leaf }
 {
-    let RowFail {
-        col,
-        leaf,
-        test,
-        ..
-    } = fail;
     match test {
         RowTest::Holder => Reason::HolderStock { at, row, col, leaf },
         RowTest::Cut => match kind {

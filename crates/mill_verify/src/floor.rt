@@ -1,4 +1,4 @@
-ghost use Rattle.std.specs.Prelude.{◌≡◌, ◌<◌, false, length, IsTrue};
+ghost use Rattle.std.specs.Prelude.{◌≡◌, [], ◌∷◌, false, IsTrue};
 ghost use Rattle.mill_job.specs.Jobs.{IsJob};
 ghost use Rattle.mill_verify.specs.inner.Firsts.{IsFloorEnd};
 ghost use Rattle.mill_verify.specs.Tests.{IsOverFloor};
@@ -11,20 +11,18 @@ pub fn floor_end(job: &Job, moves: &[Move]) -> usize
     ensures { IsFloorEnd job.now moves.now result }
 {
     for number in 0..moves.len() {
-        if !is_over_floor(job, moves, number) {
+        if !is_over_floor(job, &moves[number]) {
             return number;
         }
     }
     moves.len()
 }
 
-/// Whether both ends of move `number` are at or over the floor.
-fn is_over_floor(job: &Job, moves: &[Move], number: usize) -> bool
-    requires { number < length moves.now }
-    ensures yes { IsTrue result → IsOverFloor job.now moves.now number }
-    ensures no { result ≡ false → ¬ IsOverFloor job.now moves.now number }
+/// Test (i) of one move: whether both its ends are at or over the job's floor.
+pub fn is_over_floor(job: &Job, step: &Move) -> bool
+    ensures yes { IsTrue result → IsOverFloor job.now (step.now ∷ []) 0 }
+    ensures no { result ≡ false → ¬ IsOverFloor job.now (step.now ∷ []) 0 }
 {
-    let step = &moves[number];
     if step.from.z < job.floor {
         return false;
     }

@@ -120,10 +120,8 @@ fn scan_rows(
 {
     let mut most = 0;
     for index in start..end {
-        match row_left(job, part, cells, rows, index as u32) {
-            Ok(left) => most = most.max(left),
-            Err(uncut) => return Err(uncut),
-        }
+        let left = row_left(job, part, cells, rows, index as u32)?;
+        most = most.max(left);
     }
     Ok(most)
 }

@@ -30,17 +30,18 @@ use std::thread::Threads;
 
 /// The verdict on a program: its first failing test, or its acceptance.
 ///
-/// Move by move, in order: (i) both ends are at or over the floor; (ii) the move, halved into leaves,
-/// passes every triangle of the part; (iii) a rapid, halved in the same way, passes the top of every
-/// column of the stock that the moves before it left, and a feed, where the job's `max_cut` isn't 0,
-/// the point of every column that lies so far under that top, or at the floor if that is higher; then
-/// the move cuts. Where the job has a holder, a move is also tested with it, halved in the same way:
-/// (ii h), after (ii), it passes every triangle, and (iii h), after (iii), the top of every column,
-/// whether the move is a rapid or a feed. After the last move, (iv) every column stands at most the allowance over what covers
-/// it. An accepted program cuts safely, at every fraction of every move. A rejection by (ii) or (iii)
-/// names a leaf whose outer cutter, which holds the cutter at each moment of the leaf and is wider by at
-/// most two units, has some point of the triangle, or the point of the column, strictly inside; one by (ii h) or
-/// (iii h) the same of the holder.
+/// Move by move, in order: (i) both ends are at or over the floor; (ii) the move, halved into
+/// leaves, passes every triangle of the part; (iii) a rapid, halved in the same way, passes the top
+/// of every column of the stock that the moves before it left, and a feed, where the job's
+/// `max_cut` isn't 0, the point of every column that lies so far under that top, or at the floor if
+/// that is higher; then the move cuts. Where the job has a holder, a move is also tested with it,
+/// halved in the same way: (ii h), after (ii), it passes every triangle, and (iii h), after (iii),
+/// the top of every column, whether the move is a rapid or a feed. After the last move, (iv) every
+/// column stands at most the allowance over what covers it. An accepted program cuts safely, at
+/// every fraction of every move. A rejection by (ii) or (iii) names a leaf whose outer cutter,
+/// which holds the cutter at each moment of the leaf and is wider by at most two units, has some
+/// point of the triangle, or the point of the column, strictly inside; one by (ii h) or (iii h) the
+/// same of the holder.
 ///
 /// The work is shared by `workers` threads, from 1 to 64; the verdict doesn't depend on their number, or
 /// on which of them does what.

@@ -1,5 +1,6 @@
 use Rattle.std.proofs.Common.{◌∙◌, to_z, of_z, w32, refl, arith}
 use Rattle.std.proofs.lemmas.Int.{ints, clamps}
+use Rattle.std.proofs.lemmas.Result.{err_from_is_err_and}
 use Rattle.mill_verify.proofs.Ranges.{rows_few}
 use Rattle.mill_verify.proofs.Most.{max_is}
 use Rattle.mill_verify.proofs.StockLemmas.{row_there}
@@ -15,13 +16,15 @@ overflow_cast-index c = omega (arith, rows_few c.requires.job_ok, c.requires.row
 pub row_left-requires-clause-there : goal.row_left-requires-clause-there
 row_left-requires-clause-there c = row_there c.requires.rows_ok.shows (omega (arith, c.loop-index-test.true, c.requires.there))
 
-pub returns-in-Err : goal.returns-in-Err
-returns-in-Err c = row_uncut_of c.loop-index.auto.index c.loop-index-test.true c.loop-index.invariant c.in-Err.ensures.0 c.in-Err.ensures.1
+pub returns-in_err-left : goal.returns-in_err-left
+returns-in_err-left c =
+    let p = err_from_is_err_and c.from_residual.result c.from_residual.ensures.1 in
+    rw (p.1, p.2) (row_uncut_of c.loop-index.auto.index c.loop-index-test.true c.loop-index.invariant c.in_err-left.ensures.0 c.in_err-left.ensures.1)
 
 pub loop-index-preserved : goal.loop-index-preserved
 loop-index-preserved c =
-    let greater = c.max-most.ensures ∙ max_is (to_z w32 c.loop-index.most-bits) (to_z w32 (of_z w32 c.in-Ok.left)) in
-    rows_left_more c.loop-index.auto.index c.loop-index.invariant c.in-Ok.ensures (omega (arith, ints, clamps, greater))
+    let greater = c.max-most.ensures ∙ max_is (to_z w32 c.loop-index.most-bits) (to_z w32 (of_z w32 c.in_ok-left.left)) in
+    rows_left_more c.loop-index.auto.index c.loop-index.invariant c.in_ok-left.ensures (omega (arith, ints, clamps, greater))
 
 pub returns : goal.returns
 returns c = rows_left_end (omega (arith, c.loop-index-test.false, c.loop-index.auto.index-end)) c.loop-index.invariant
