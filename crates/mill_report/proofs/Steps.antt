@@ -21,10 +21,14 @@ use Rattle.mill_job.specs.Jobs.{IsJob, tool_of}
 use Rattle.mill_dexel.specs.Tops.{Stock, tested_point_on, top_point_on}
 use Rattle.mill_dexel.specs.declared.fail.RowTest.{RowTest}
 use Rattle.mill_dexel.specs.declared.fail.RowTest.TheVariants as test
+use Rattle.mill_verify.specs.Blocks.{IsPartFail}
+use Rattle.mill_verify.specs.Reasons.{cut_reason, part_reason, stock_reason}
 use Rattle.mill_verify.specs.Tests.{IsGoodOn, IsOverFloor}
+use Rattle.mill_verify.specs.declared.block.PartFail.{PartFail}
+use Rattle.mill_verify.specs.declared.block.PartFail.TheVariants as fail
 use Rattle.mill_verify.specs.Verdicts.{BlocksHolder, BlocksLeaf, FailsHolderStockOn, FailsStockOn}
 use Rattle.mill_verify.specs.declared.verdict.Reason.TheVariants.{Gouge, Holder}
-use Rattle.mill_report.specs.inner.Steps.{FailsMove, FailsPart, cut_reason, stop_reason}
+use Rattle.mill_report.specs.inner.Steps.{FailsMove, FailsPart}
 use Rattle.mill_report.specs.inner.Stops.{IsCutStop, IsHolderStop, PassesStock, StopsBy}
 use Rattle.mill_report.specs.declared.pass.Stop.{Stop}
 use Rattle.mill_report.proofs.Alone.{of_some}
@@ -40,7 +44,7 @@ module _ (failing_is_blocked : FailingIsBlocked) (holder_failing_is_blocked : Ho
       record { holder = holder; mounted = mounted; blocks = record { last = (holder_failing_is_blocked holder m tri leaf ok range fails).0; blocks = blocked } }
 
   -- ---- the tests against the part
-  pub gouges : (part : List Tri) (number : ℕ) (gouge : OneGouge) → IsFirstGouge job.cutter m part gouge → FailsPart job part m number (Gouge number gouge.tri gouge.leaf)
+  gouges : (part : List Tri) (number : ℕ) (gouge : OneGouge) → IsFirstGouge job.cutter m part gouge → FailsPart job part m number (Gouge number gouge.tri gouge.leaf)
   gouges part number gouge h stock over = record {
     at = refl;
     fails = record {
@@ -50,7 +54,7 @@ module _ (failing_is_blocked : FailingIsBlocked) (holder_failing_is_blocked : Ho
     names = leaf_named gouge.leaf (tri_at part gouge.tri) h.fails h.blocked;
   }
 
-  pub holder_gouges : (part : List Tri) (number : ℕ) (holder : OneHolder) (gouge : OneGouge) → PassesPart job.cutter m part → job.holder ≡ Some holder → IsFirstHolderGouge holder m part gouge
+  holder_gouges : (part : List Tri) (number : ℕ) (holder : OneHolder) (gouge : OneGouge) → PassesPart job.cutter m part → job.holder ≡ Some holder → IsFirstHolderGouge holder m part gouge
       → FailsPart job part m number (Holder number gouge.tri gouge.leaf)
   holder_gouges part number holder gouge clears mounted h stock over = record {
     at = refl;
@@ -70,6 +74,10 @@ module _ (failing_is_blocked : FailingIsBlocked) (holder_failing_is_blocked : Ho
     };
     names = held_named holder gouge.leaf (tri_at part gouge.tri) mounted h.fails h.blocked;
   }
+
+  pub part_fails : (part : List Tri) (number : ℕ) (found : PartFail) → IsPartFail job part m found → FailsPart job part m number (part_reason number found)
+  part_fails part number (fail.Cutter gouge) h = gouges part number gouge h
+  part_fails part number (fail.Holder gouge) h = holder_gouges part number h.holder gouge h.clears h.mounted h.first
 
   -- ---- the tests against the stock, which come last
   module _ (part : List Tri) (stock : Stock) (number : ℕ) (over : IsOverFloor job (m ∷ []) 0) (tool : ToolPassesPart (tool_of job) m part) where
@@ -106,11 +114,11 @@ module _ (failing_is_blocked : FailingIsBlocked) (holder_failing_is_blocked : Ho
     }
 
     by_kind : (kind : Kind) (stop : Stop) → FailsStockOn job part stock (m ∷ []) kind 0 stop.row stop.col stop.leaf
-        → BlocksLeaf job.cutter m stop.leaf (point_tri (tested_point_on job kind stock stop.row stop.col)) → FailsMove job part stock m number (cut_reason kind number stop)
+        → BlocksLeaf job.cutter m stop.leaf (point_tri (tested_point_on job kind stock stop.row stop.col)) → FailsMove job part stock m number (cut_reason kind number stop.row stop.col stop.leaf)
     by_kind Rapid stop h names = record { at = refl; fails = record { of_move = tt; rejects = h }; names = names }
     by_kind Feed stop h names = record { at = refl; fails = record { of_move = tt; rejects = h }; names = names }
 
-    by_test : (t : RowTest) (stop : Stop) → StopsBy t job stock m stop → FailsMove job part stock m number (stop_reason t m.kind number stop)
+    by_test : (t : RowTest) (stop : Stop) → StopsBy t job stock m stop → FailsMove job part stock m number (stock_reason t m.kind number stop.row stop.col stop.leaf)
     by_test test.Cut stop h = by_kind m.kind stop (cut_fails stop h) (leaf_named stop.leaf (point_tri (tested_point_on job m.kind stock stop.row stop.col)) h.fails h.blocked)
     by_test test.Holder stop h = record {
       at = refl;
@@ -118,5 +126,5 @@ module _ (failing_is_blocked : FailingIsBlocked) (holder_failing_is_blocked : Ho
       names = held_named h.holder stop.leaf (point_tri (top_point_on job stock stop.row stop.col)) h.mounted h.fails h.blocked;
     }
 
-    pub stopped : (stop : Stop) → StopsBy stop.test job stock m stop → FailsMove job part stock m number (stop_reason stop.test m.kind number stop)
+    pub stopped : (stop : Stop) → StopsBy stop.test job stock m stop → FailsMove job part stock m number (stock_reason stop.test m.kind number stop.row stop.col stop.leaf)
     stopped stop h = by_test stop.test stop h

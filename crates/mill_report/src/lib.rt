@@ -7,9 +7,11 @@
 //! of `specs/Laws` say what they have to do with the verdict: its reason is the first of them, and a
 //! program is accepted where there is none.
 //!
-//! `all_findings` finds both, on one thread, and `all_findings_with_cells` by cells that are there. First each row of the stock goes through all moves (`pass`), which
-//! leaves the cut rows and where the stock stopped each move. Then the other tests of each move are made (`step`,
-//! `moves`), and `left` tests the columns. What stands in `specs/inner` serves the functions within.
+//! `all_findings` finds both, on one thread, and `all_findings_with_cells`, which camreport calls,
+//! by cells that are there. First each row of the stock goes through all moves (`pass`), which
+//! leaves the cut rows and where the stock stopped each move. Then the other tests of each move are
+//! made (`step`, `moves`), by the functions by which a verdict makes them, and `left` tests the
+//! columns. What stands in `specs/inner` serves the functions within.
 #![tactic(auto)]
 
 mod laws;

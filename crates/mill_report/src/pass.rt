@@ -22,8 +22,8 @@ pub struct Stop {
     pub test: RowTest,
 }
 
-/// What all moves come to on the uncut stock: its rows after them, in order, and for each move where the stock, as
-/// that move met it, stopped it, if it did.
+/// What all moves come to on the uncut stock: its rows after them, in order, and for each move
+/// where the stock, as that move met it, stopped it, if it did.
 #[derive(Drop)]
 pub struct Passage {
     pub rows: Vec<Row>,

@@ -2,18 +2,12 @@
 use Rattle.std.specs.Prelude.{◌≡◌, ℕ, List, [], ◌∷◌}
 use Rattle.mill_base.specs.declared.points.Tri.{Tri}
 use Rattle.mill_base.specs.declared.motion.Move.{Move}
-use Rattle.mill_base.specs.declared.motion.Kind.{Kind}
-use Rattle.mill_base.specs.declared.motion.Kind.TheVariants as motion
 use Rattle.mill_dexel.specs.Tops.{Stock}
-use Rattle.mill_dexel.specs.declared.fail.RowTest.{RowTest}
-use Rattle.mill_dexel.specs.declared.fail.RowTest.TheVariants as test
 use Rattle.mill_job.specs.declared.job.Job.{Job}
 use Rattle.mill_verify.specs.Tests.{IsOverFloor}
 use Rattle.mill_verify.specs.Verdicts.{NamesLeaf}
 use Rattle.mill_verify.specs.declared.verdict.Reason.{Reason}
-use Rattle.mill_verify.specs.declared.verdict.Reason.TheVariants.{Rapid, Cut, HolderStock}
 use Rattle.mill_report.specs.Findings.{FailsAlone, move_of, numbered}
-use Rattle.mill_report.specs.declared.pass.Stop.{Stop}
 
 -- a move of this number fails alone on a stock, for this reason, which names a leaf that is blocked
 pub record FailsMove (job : Job) (part : List Tri) (stock : Stock) (m : Move) (number : ℕ) (reason : Reason) : Type 0 where
@@ -24,13 +18,3 @@ pub record FailsMove (job : Job) (part : List Tri) (stock : Stock) (m : Move) (n
 -- so it does on any stock, if it stays over the floor
 abbrev pub FailsPart : Job → List Tri → Move → ℕ → Reason → Type 0
 FailsPart job part m number reason = (stock : Stock) → IsOverFloor job (m ∷ []) 0 → FailsMove job part stock m number reason
-
--- why a stop of the cutter stops a move of this kind
-abbrev pub cut_reason : Kind → ℕ → Stop → Reason
-cut_reason motion.Rapid number stop = Rapid number stop.row stop.col stop.leaf
-cut_reason motion.Feed number stop = Cut number stop.row stop.col stop.leaf
-
--- and why one by this test does
-abbrev pub stop_reason : RowTest → Kind → ℕ → Stop → Reason
-stop_reason test.Cut kind number stop = cut_reason kind number stop
-stop_reason test.Holder kind number stop = HolderStock number stop.row stop.col stop.leaf
