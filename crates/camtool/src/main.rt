@@ -11,7 +11,7 @@
 
 use mill_base::WantOfMemory;
 use mill_io::{FileShelf, StdSink};
-use mill_load::{Status, tell};
+use mill_load::tell_memory;
 use mill_run::run;
 use std::env;
 use std::env::Env;
@@ -26,7 +26,7 @@ fn main(rt: HostRuntime) -> ExitCode {
             let mut shelf = FileShelf::new(alloc, &rt);
             run(&rt, alloc, &words, &mut shelf, &mut sink)
         }
-        Err(WantOfMemory) => tell(&mut sink, b"out of memory\n", Status::Memory),
+        Err(WantOfMemory) => tell_memory(&mut sink),
     };
     ExitCode::from(status.code())
 }

@@ -7,7 +7,7 @@
 //!
 //! What another program's words take of it stands by itself: [`place`] and [`workers`] are arguments,
 //! which [`with_arg`] adds to a command; [`value`] and [`number`] read what clap has matched, and
-//! [`refusal_of`] says what an error of clap's is.
+//! [`refusal_of`] says what an error of clap's is. [`VERSION`] is that of each program.
 #![tactic(auto)]
 
 mod command;
@@ -17,5 +17,5 @@ mod words;
 
 pub use command::{Command, number, value};
 pub use refusal::Refusal;
-pub use set::{place, with_arg, workers};
+pub use set::{VERSION, place, with_arg, workers};
 pub use words::{read_words, refusal_of};

@@ -9,8 +9,8 @@ use clap::builder::ValueParser;
 use clap::{Arg, Command, value_parser};
 use std::alloc::{AllocError, Global};
 
-/// What `--version` shows.
-const VERSION: &str = "0.1.0";
+/// The version of the programs, which `--version` shows.
+pub const VERSION: &str = "0.1.0";
 
 /// The program with all its commands, ready to be built by a parse.
 pub fn commands<'a>(alloc: Global) -> Result<Command<'a>, AllocError>

@@ -32,4 +32,4 @@ pub use place::{Coordinate, WordFault, read_height, read_place};
 pub use print::{line_of_column, line_of_nodes};
 pub use program::{load_program, moves_from, read_moves};
 pub use status::Status;
-pub use telling::{tell, tell_fault, tell_made};
+pub use telling::{tell, tell_fault, tell_made, tell_memory};

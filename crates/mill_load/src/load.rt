@@ -59,7 +59,7 @@ impl From<WantOfMemory> for LoadFault {
     }
 }
 
-/// What every command works on: the job, and a part that isn't over the job's top.
+/// The job, and a part that isn't over the job's top: what a command works on that reads a part.
 #[derive(Drop)]
 pub struct Setup {
     pub job: Job,

@@ -159,9 +159,6 @@ pub fn read_moves(alloc: Global, text: &[u8], job: &Job) -> Result<Vec<Move>, Ng
     let Ok(()) = take_piece(&mut reader, text, &mut moves) else {
         return Err(NgcFault::WantOfMemory);
     };
-    match reader.finish(&mut moves) {
-        Ok(()) => Ok(moves),
-        Err(NgcFault::WantOfMemory) => Err(NgcFault::WantOfMemory),
-        Err(fault) => Err(fault),
-    }
+    reader.finish(&mut moves)?;
+    Ok(moves)
 }

@@ -2,7 +2,7 @@
 ghost use Rattle.std.specs.Prelude.{◌-◌, ◌^◌, ◌<◌, OnErr, OnOk};
 ghost use Rattle.mill_io.specs.Views.{IsPartWritten, IsWritten};
 ghost use Rattle.mill_load.specs.Faults.{read_fault_line};
-ghost use Rattle.mill_load.specs.Prints.{Prints, PrintsFault, PrintsMade};
+ghost use Rattle.mill_load.specs.Prints.{Prints, PrintsFault, PrintsMade, PrintsShort};
 ghost use Rattle.mill_load.specs.Statuses.{status_code};
 
 use crate::faults::line_of_unfit;
@@ -20,7 +20,7 @@ pub fn tell_fault<O: Sink>(alloc: Global, fault: LoadFault, out: &mut O) -> Stat
     ensures { PrintsFault fault (status_code result) (O.shows out.old) (O.shows out.new) }
 {
     match fault {
-        LoadFault::Memory => tell(out, b"out of memory\n", Status::Memory),
+        LoadFault::Memory => tell_memory(out),
         LoadFault::ReadFault(file) => tell_read_fault(file, out),
         LoadFault::Unfit(fault) => tell_made(line_of_unfit(alloc, &fault), Status::Refused, out),
     }
@@ -70,8 +70,16 @@ pub fn tell_made<O: Sink>(
 {
     match line {
         Ok(line) => tell(out, &line, status),
-        Err(WantOfMemory) => tell(out, b"out of memory\n", Status::Memory),
+        Err(WantOfMemory) => tell_memory(out),
     }
+}
+
+/// Prints that memory was short. It takes none itself.
+pub fn tell_memory<O: Sink>(out: &mut O) -> Status
+    requires { (O.shows out.old).faults < 2 ^ 64 - 1 }
+    ensures { PrintsShort (status_code result) (O.shows out.old) (O.shows out.new) }
+{
+    tell(out, b"out of memory\n", Status::Memory)
 }
 
 /// Prints a line, and answers the status unless the printing fails.

@@ -5,11 +5,8 @@ ghost use Rattle.mill_command.specs.Set.{Is};
 ghost use Rattle.mill_report_run.specs.Words.{IsBounded, ReadsWords, faults, is_taken, plain, request, request_in, request_of, taken_words, with_setup, with_workers};
 
 use clap::{ArgMatches, Command, Error};
-use mill_command::{Refusal, number, place, refusal_of, value, with_arg, workers};
+use mill_command::{Refusal, VERSION, number, place, refusal_of, value, with_arg, workers};
 use std::alloc::{AllocError, Global};
-
-/// What `--version` shows.
-const VERSION: &str = "0.1.0";
 
 /// What stands below the words in the help.
 const STATUSES: &str = "\

@@ -18,7 +18,7 @@ use crate::stock::stock_program;
 use crate::verify::verify_program;
 use mill_command::{Command, Refusal, read_words};
 use mill_io::{Shelf, Sink};
-use mill_load::{Status, tell};
+use mill_load::{Status, tell, tell_memory};
 use mill_verify::{one_list_verdict, one_verdict};
 use std::alloc::Global;
 use std::thread::Threads;
@@ -113,7 +113,7 @@ fn tell_refusal<O: Sink>(refusal: Refusal, out: &mut O) -> Status
     match refusal {
         Refusal::Help { text } => tell(out, text.as_bytes(), Status::Done),
         Refusal::NotTaken { text } => tell(out, text.as_bytes(), Status::Words),
-        Refusal::WantOfMemory => tell(out, b"out of memory\n", Status::Memory),
+        Refusal::WantOfMemory => tell_memory(out),
     }
 }
 

@@ -21,8 +21,8 @@ use mill_level::{Chain, LevelFault, waterline};
 use mill_line::Word::{Length, Number, Text};
 use mill_line::add_line;
 use mill_load::{
-    Setup, Status, line_of_nodes, line_of_word_fault, load_job, load_under, read_height, tell,
-    tell_fault, tell_made,
+    Setup, Status, line_of_nodes, line_of_word_fault, load_job, load_under, read_height,
+    tell_fault, tell_made, tell_memory,
 };
 use mill_part::SortedPart;
 use mill_paths::finish_lattice;
@@ -72,7 +72,7 @@ fn tell_level<O: Sink>(alloc: Global, setup: &Setup, height: i32, out: &mut O) -
         Err(LevelFault::TooManyNodes { nodes }) => {
             tell_made(line_of_nodes(alloc, nodes), Status::TooLarge, out)
         }
-        Err(LevelFault::WantOfMemory) => tell(out, b"out of memory\n", Status::Memory),
+        Err(LevelFault::WantOfMemory) => tell_memory(out),
     }
 }
 

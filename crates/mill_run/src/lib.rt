@@ -6,8 +6,8 @@
 //! means. Each command has a file here and a module in `specs/`.
 //!
 //! It stands on `mill_load` for the files and for what is told of them, on `mill_command` for the words,
-//! and on the crates that do the commands' work. Another program shows a verdict by `line_of_verdict`,
-//! `line_of_reason` and `status_of_verdict`. What stands in `specs/inner` serves the functions within.
+//! and on the crates that do the commands' work. Another program shows a verdict by `line_of_verdict` and
+//! `status_of_verdict`. What stands in `specs/inner` serves the functions within.
 #![tactic(auto)]
 
 mod commands;
@@ -20,4 +20,4 @@ mod stock;
 mod verify;
 
 pub use commands::run;
-pub use verify::{line_of_reason, line_of_verdict, status_of_verdict};
+pub use verify::{line_of_verdict, status_of_verdict};

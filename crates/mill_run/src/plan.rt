@@ -17,6 +17,7 @@ use mill_line::Word::{Length, Number, Text};
 use mill_line::line_of;
 use mill_load::{
     Setup, Status, line_of_column, line_of_nodes, load_setup, tell, tell_fault, tell_made,
+    tell_memory,
 };
 use mill_plan::{PlanFault, Planned, plan};
 use std::alloc::Global;
@@ -85,7 +86,7 @@ fn store_plan<S: Shelf, O: Sink>(
 {
     let line = match line_of_plan(alloc, planned, unit) {
         Ok(line) => line,
-        Err(WantOfMemory) => return tell(out, b"out of memory\n", Status::Memory),
+        Err(WantOfMemory) => return tell_memory(out),
     };
     match store(shelf, name, &planned.program) {
         Ok(()) => tell(out, &line, Status::Done),
@@ -113,7 +114,7 @@ pub fn tell_plan_fault<O: Sink>(alloc: Global, fault: PlanFault, unit: Unit, out
         PlanFault::Held { at, row, col } => {
             tell_made(line_of_held(alloc, at, row, col), Status::Uncut, out)
         }
-        PlanFault::WantOfMemory => tell(out, b"out of memory\n", Status::Memory),
+        PlanFault::WantOfMemory => tell_memory(out),
     }
 }
 

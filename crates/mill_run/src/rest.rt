@@ -23,8 +23,8 @@ use mill_line::Word::{Length, Number, Text};
 use mill_line::line_of;
 use mill_list::{Step, read_list};
 use mill_load::{
-    File, LoadFault, Status, Unfit, line_of_column, load_program, load_setup, read_file, tell,
-    tell_fault, tell_made,
+    File, LoadFault, Status, Unfit, line_of_column, load_program, load_setup, read_file,
+    tell_fault, tell_made, tell_memory,
 };
 use mill_part::Part;
 use mill_verify::{CutFile, ListVerdict, verify_list};
@@ -198,7 +198,7 @@ fn tell_list_verdict<R: Threads + Sync, O: Sink>(
 {
     match verify_list(rt, alloc, &listed.job, &listed.part, &listed.files, workers) {
         Ok(verdict) => tell_line_of_list(alloc, listed, verdict, out),
-        Err(WantOfMemory) => tell(out, b"out of memory\n", Status::Memory),
+        Err(WantOfMemory) => tell_memory(out),
     }
 }
 

@@ -22,7 +22,7 @@ use mill_io::Sink;
 use mill_job::Job;
 use mill_line::Word::{Length, Number, Text};
 use mill_line::line_of;
-use mill_load::{Setup, Status, read_moves, tell, tell_made};
+use mill_load::{Setup, Status, read_moves, tell_made, tell_memory};
 use mill_ngc::NgcFault;
 use mill_plan::{Planned, plan};
 use mill_sample::sample_setup;
@@ -49,7 +49,7 @@ pub fn sample<R: Threads + Sync, O: Sink>(
 {
     match sample_setup(alloc, size) {
         Ok(setup) => tell_sample(rt, alloc, size, &setup, workers, out),
-        Err(WantOfMemory) => tell(out, b"out of memory\n", Status::Memory),
+        Err(WantOfMemory) => tell_memory(out),
     }
 }
 
@@ -102,7 +102,7 @@ fn tell_planned<R: Threads + Sync, O: Sink>(
         }
         // The verdict is the plan's, as `verified` says, and that is acceptance.
         Ok(Verdict::Reject(_)) => unreachable!(),
-        Err(WantOfMemory) => tell(out, b"out of memory\n", Status::Memory),
+        Err(WantOfMemory) => tell_memory(out),
     }
 }
 
@@ -122,10 +122,7 @@ fn verified<R: Threads + Sync>(
 {
     // A law without code: there is at most one verdict, and the plan has one.
     one_verdict();
-    let moves = match read_back(alloc, &setup.job, &planned.program) {
-        Ok(moves) => moves,
-        Err(WantOfMemory) => return Err(WantOfMemory),
-    };
+    let moves = read_back(alloc, &setup.job, &planned.program)?;
     verify(rt, alloc, &setup.job, &setup.part, &moves, workers)
 }
 

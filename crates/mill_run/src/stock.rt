@@ -22,7 +22,9 @@ use mill_io::{Failed, Shelf, Sink, store};
 use mill_job::Job;
 use mill_line::Word::{Number, Text};
 use mill_line::line_of;
-use mill_load::{File, LoadFault, Status, load_job, load_program, tell, tell_fault, tell_made};
+use mill_load::{
+    File, LoadFault, Status, load_job, load_program, tell, tell_fault, tell_made, tell_memory,
+};
 use mill_stl::write_stl;
 use mill_surface::{SurfaceFault, surface, triangle_count};
 use std::alloc::Global;
@@ -105,7 +107,7 @@ fn tell_stock<S: Shelf, O: Sink>(
                 out,
             )
         }
-        Err(SurfaceFault::WantOfMemory) => tell(out, b"out of memory\n", Status::Memory),
+        Err(SurfaceFault::WantOfMemory) => tell_memory(out),
     }
 }
 
@@ -126,7 +128,7 @@ fn store_surface<S: Shelf, O: Sink>(
 {
     let line = match line_of_triangles(alloc, b"stock", drawn.triangles) {
         Ok(line) => line,
-        Err(WantOfMemory) => return tell(out, b"out of memory\n", Status::Memory),
+        Err(WantOfMemory) => return tell_memory(out),
     };
     match store(shelf, name, &drawn.text) {
         Ok(()) => tell(out, &line, Status::Done),

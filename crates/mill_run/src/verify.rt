@@ -17,7 +17,8 @@ use mill_job::Job;
 use mill_line::Word::{Length, Number, Text};
 use mill_line::{Word, line_of};
 use mill_load::{
-    File, LoadFault, Status, line_of_column, load_program, load_setup, tell, tell_fault,
+    File, LoadFault, Status, line_of_column, load_program, load_setup, tell_fault, tell_made,
+    tell_memory,
 };
 use mill_part::Part;
 use mill_sweep::Leaf;
@@ -100,7 +101,7 @@ fn tell_verdict<R: Threads + Sync, O: Sink>(
 {
     match verify(rt, alloc, &loaded.job, &loaded.part, &loaded.moves, workers) {
         Ok(verdict) => tell_line_of(alloc, loaded, verdict, out),
-        Err(WantOfMemory) => tell(out, b"out of memory\n", Status::Memory),
+        Err(WantOfMemory) => tell_memory(out),
     }
 }
 
@@ -112,10 +113,8 @@ fn tell_line_of<O: Sink>(alloc: Global, loaded: &Loaded, verdict: Verdict, out: 
         (answered (judged loaded.now.job loaded.now.part loaded.now.moves.items verdict))
         (status_code result) (O.shows out.old) (O.shows out.new) }
 {
-    match line_of_verdict(alloc, &loaded.job, &loaded.moves, verdict) {
-        Ok(line) => tell(out, &line, status_of_verdict(verdict)),
-        Err(WantOfMemory) => tell(out, b"out of memory\n", Status::Memory),
-    }
+    let line = line_of_verdict(alloc, &loaded.job, &loaded.moves, verdict);
+    tell_made(line, status_of_verdict(verdict), out)
 }
 
 /// The status of a verdict.

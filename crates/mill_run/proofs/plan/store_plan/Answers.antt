@@ -10,10 +10,10 @@ pub returns-in-Ok-store : goal.returns-in-Ok-store
 returns-in-Ok-store g c =
     let made = c.args.planned.now in
     let a : Answer = planned c.args.unit c.args.name.now (answer_of made) in
-    let call : Call = call_of c.tell-in-Ok-store.result (g.S.Shelf.shows c.args.shelf.now) (g.S.Shelf.shows c.store.new.shelf) (g.O.Sink.shows c.args.out.now) (g.O.Sink.shows c.tell-in-Ok-store.new.out) in
+    let call : Call = call_of c.tell.result (g.S.Shelf.shows c.args.shelf.now) (g.S.Shelf.shows c.store.new.shelf) (g.O.Sink.shows c.args.out.now) (g.O.Sink.shows c.tell.new.out) in
     inl
     (stored_shows call a c.args.name.now made.program.items c.deref-in-Ok-store.result.now refl refl (c.deref-in-Ok-store.ensures.value ∙ c.in-Ok.ensures)
-    (rw c.deref.ensures.value at c.in-Ok-store.ensures.whole) c.tell-in-Ok-store.ensures)
+    (rw c.deref.ensures.value at c.in-Ok-store.ensures.whole) c.tell.ensures)
 
 pub returns : goal.returns
 returns g c =

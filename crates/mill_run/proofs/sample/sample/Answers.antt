@@ -10,5 +10,5 @@ returns-in-Ok g c = λ store.
 
 pub returns-in-Err : goal.returns-in-Err
 returns-in-Err g c = λ store.
-    let call : Call = call_of c.tell.result store store (g.O.Sink.shows c.args.out.now) (g.O.Sink.shows c.tell.new.out) in
-    sample_serves c.args.size c.args.workers call refl (inr c.tell.ensures)
+    let call : Call = call_of c.tell_memory.result store store (g.O.Sink.shows c.args.out.now) (g.O.Sink.shows c.tell_memory.new.out) in
+    sample_serves c.args.size c.args.workers call refl (inr c.tell_memory.ensures)

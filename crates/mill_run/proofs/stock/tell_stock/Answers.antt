@@ -24,5 +24,5 @@ returns-in-Err-TooManyTriangles g c =
 
 pub returns-in-Err-WantOfMemory : goal.returns-in-Err-WantOfMemory
 returns-in-Err-WantOfMemory g c =
-    let call : Call = call_of c.tell.result (g.S.Shelf.shows c.args.shelf.now) (g.S.Shelf.shows c.args.shelf.now) (g.O.Sink.shows c.args.out.now) (g.O.Sink.shows c.tell.new.out) in
-    inr (short_shows call refl c.tell.ensures)
+    let call : Call = call_of c.tell_memory.result (g.S.Shelf.shows c.args.shelf.now) (g.S.Shelf.shows c.args.shelf.now) (g.O.Sink.shows c.args.out.now) (g.O.Sink.shows c.tell_memory.new.out) in
+    inr (short_shows call refl c.tell_memory.ensures)
