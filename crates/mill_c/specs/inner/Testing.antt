@@ -2,8 +2,9 @@
 use Rattle.std.specs.Prelude.{◌≢◌, ◌<◌, ◌≤◌, ◌^◌, ℕ, ℤ, List, length, All}
 use Rattle.mill_base.specs.Numbers.{Within}
 use Rattle.mill_base.specs.Lattices.{IsLattice, IsMapLattice}
-use Rattle.mill_base.specs.declared.limits.TheConstants.{MAX_COORDINATE, MAX_NODES}
-use Rattle.mill_c_data.specs.Raw.{IsPlace, IsTriangle, lattice_of, nodes_in}
+use Rattle.mill_base.specs.declared.limits.TheConstants.{MAX_COORDINATE}
+use Rattle.mill_c_data.specs.Raw.{IsPlace, IsTriangle, lattice_of}
+use Rattle.mill_c_data.specs.Tests.{HasTooManyNodes}
 use Rattle.mill_c_data.specs.declared.fault.Fault.{Fault}
 use Rattle.mill_c_data.specs.declared.fault.Fault.TheVariants as fault
 use Rattle.mill_c_data.specs.declared.raw.RawFiber.{RawFiber}
@@ -42,7 +43,7 @@ IsCauseBesideNodes triangles lattice floor fault.Triangle = ¬ All IsTriangle tr
 IsCauseBesideNodes triangles lattice floor fault.TooManyTriangles = 2 ^ 32 ≤ length triangles
 IsCauseBesideNodes triangles lattice floor fault.Floor = ¬ Within MAX_COORDINATE floor
 IsCauseBesideNodes triangles lattice floor fault.Lattice = ¬ IsLattice (lattice_of lattice)
-IsCauseBesideNodes triangles lattice floor fault.TooManyNodes = MAX_NODES < nodes_in lattice
+IsCauseBesideNodes triangles lattice floor fault.TooManyNodes = HasTooManyNodes lattice
 IsCauseBesideNodes triangles lattice floor _ = ⊥
 
 -- what is so when those of a call for a waterline are refused with a fault
@@ -51,5 +52,5 @@ IsCauseBesideLevel triangles z lattice fault.Triangle = ¬ All IsTriangle triang
 IsCauseBesideLevel triangles z lattice fault.TooManyTriangles = 2 ^ 32 ≤ length triangles
 IsCauseBesideLevel triangles z lattice fault.Height = ¬ Within MAX_COORDINATE z
 IsCauseBesideLevel triangles z lattice fault.Lattice = ¬ IsLattice (lattice_of lattice)
-IsCauseBesideLevel triangles z lattice fault.TooManyNodes = MAX_NODES < nodes_in lattice
+IsCauseBesideLevel triangles z lattice fault.TooManyNodes = HasTooManyNodes lattice
 IsCauseBesideLevel triangles z lattice _ = ⊥
