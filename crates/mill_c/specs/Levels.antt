@@ -8,7 +8,7 @@ use Rattle.mill_base.specs.declared.limits.TheConstants.{MAX_COORDINATE}
 use Rattle.mill_base.specs.declared.points.Tri.{Tri}
 use Rattle.mill_base.specs.declared.tool.Tool.{Tool}
 use Rattle.mill_level.specs.Waterlines.{IsWaterline, Outline}
-use Rattle.mill_c_data.specs.Raw.{IsSoundTool, IsTriangle, SaysCutter, SaysHolder, corner_of, lattice_of, nodes_in, tool_of, tris_of}
+use Rattle.mill_c_data.specs.Raw.{IsSoundTool, IsTriangle, SaysCutter, SaysHolder, corner_of, lattice_of, tool_of, tris_of}
 use Rattle.mill_c_data.specs.Tests.{HasTooManyNodes}
 use Rattle.mill_c_data.specs.declared.fault.Fault.{Fault}
 use Rattle.mill_c_data.specs.declared.fault.Fault.TheVariants as fault
