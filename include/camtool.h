@@ -190,8 +190,9 @@ typedef struct camtool_run {
 /* Runs along fibers: for each fiber the maximal runs of whole positions from its first to its last
  * at which the tool, with its tip there, gouges the part of these triangles, ascending. counts has
  * how many runs each fiber has, and runs all of them, fiber after fiber. counts is as long as
- * fibers, and runs as the runs are many: with another length, as 0, the status is CAMTOOL_ROOM. told
- * is written with every status: with CAMTOOL_OK and CAMTOOL_ROOM it is their number, and else 0. */
+ * fibers: with another length the status is CAMTOOL_COUNTS_ROOM. runs is as long as the runs are
+ * many: with another length, as 0, the status is CAMTOOL_ROOM. told is written with every status:
+ * with CAMTOOL_OK and CAMTOOL_ROOM it is their number, and else 0. */
 int32_t camtool_runs(const camtool_triangle *triangles, size_t triangles_count,
                      const camtool_tool *tool, const camtool_fiber *fibers, size_t fibers_count,
                      uint64_t *counts, size_t counts_count, camtool_run *runs, size_t runs_count,

@@ -91,7 +91,10 @@ def digest(path, mode):
     with open(path, "rb") as file:
         if is_locked:
             os.chmod(path, mode)
-        return hashlib.file_digest(file, "sha256").hexdigest()
+        total = hashlib.sha256()
+        for piece in iter(lambda: file.read(1 << 20), b""):
+            total.update(piece)
+        return total.hexdigest()
 
 
 def state(folder):
