@@ -2,7 +2,7 @@
 (Post Processor: PathScripts.post.grbl_post)
 (Output Time:2026-11-27 16:48:23.165709)
 (Begin preamble)
-G17 G21 G90 G40 G49 G54 G61 G80(Begin operation: TC: Default Tool)
+G17 G21 G90 G94 G40 G49 G54 G61 G80(Begin operation: TC: Default Tool)
 (Path: TC: Default Tool)
 (TC: Default Tool)
 (Begin toolchange)

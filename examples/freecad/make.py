@@ -18,7 +18,7 @@ from PathScripts.post import grbl_post, linuxcnc_post
 FOLDER = os.path.dirname(os.path.abspath(__file__))
 # Options with which camtool takes what the LinuxCNC post writes; the last words of the preamble switch
 # off what an earlier program may have left on, and G61 keeps the control from rounding corners.
-OPTIONS = "--no-show-editor --precision=2 --no-tlo --preamble='G17 G21 G90 G40 G49 G54 G61 G80'"
+OPTIONS = "--no-show-editor --precision=2 --no-tlo --preamble='G17 G21 G90 G94 G40 G49 G54 G61 G80'"
 
 
 def pocket(diameter=6.0, final_depth=4.0):
