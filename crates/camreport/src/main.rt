@@ -1,14 +1,12 @@
 //! `camreport JOB PART FILE [--workers=W]` judges a program for a three-axis mill against a part, a tool
 //! and a stock, and tells all that is wrong with it as one JSON document.
 //!
-//! All that it does is `mill_report_run::run`, called on the words, the files and the standard output.
+//! All that it does is `mill_report_run::end`, called on the words, the files and the standard output.
 #![tactic(auto)]
 
 use mill_base::WantOfMemory;
 use mill_io::{FileShelf, StdSink};
-use mill_load::{Status, tell};
-use mill_report_run::run;
-use mill_report_text::memory_report;
+use mill_report_run::end;
 use std::env;
 use std::env::Env;
 use std::io::ErrorKind;
@@ -16,15 +14,10 @@ use std::process::ExitCode;
 
 fn main(rt: HostRuntime) -> ExitCode {
     let alloc = rt.alloc();
+    let words = words_of(&rt);
+    let mut shelf = FileShelf::new(alloc, &rt);
     let mut sink = StdSink::new(&rt);
-    let status = match words_of(&rt) {
-        Ok(words) => {
-            let mut shelf = FileShelf::new(alloc, &rt);
-            run(&rt, alloc, &words, &mut shelf, &mut sink)
-        }
-        Err(WantOfMemory) => tell(&mut sink, memory_report(), Status::Memory),
-    };
-    ExitCode::from(status.code())
+    end(&rt, alloc, words, &mut shelf, &mut sink)
 }
 
 // The words after the program's name; none where they aren't UTF-8, so that they are refused.

@@ -6,13 +6,16 @@
 //! `camtool rest JOB PART LIST [--workers=W]` verifies the programs that a list names, in turn on one
 //! stock, each with its own cutter. `camtool sample N [--workers=W]` plans and verifies a sample part.
 //!
-//! All that it does is `mill_run::run`, called on the words, the files and the standard output.
+//! All that it does is `mill_run::end`, called on the words, the files and the standard output.
+//! Before that it ends with status 2 where a text would be stored over a file that it is made of.
 #![tactic(auto)]
+
+mod own_files;
 
 use mill_base::WantOfMemory;
 use mill_io::{FileShelf, StdSink};
-use mill_load::tell_memory;
-use mill_run::run;
+use mill_run::end;
+use own_files::may_store;
 use std::env;
 use std::env::Env;
 use std::io::ErrorKind;
@@ -20,15 +23,15 @@ use std::process::ExitCode;
 
 fn main(rt: HostRuntime) -> ExitCode {
     let alloc = rt.alloc();
-    let mut sink = StdSink::new(&rt);
-    let status = match words_of(&rt) {
-        Ok(words) => {
-            let mut shelf = FileShelf::new(alloc, &rt);
-            run(&rt, alloc, &words, &mut shelf, &mut sink)
+    let words = words_of(&rt);
+    if let Ok(words) = &words {
+        if !may_store(&rt, alloc, words) {
+            return ExitCode::from(2);
         }
-        Err(WantOfMemory) => tell_memory(&mut sink),
-    };
-    ExitCode::from(status.code())
+    }
+    let mut shelf = FileShelf::new(alloc, &rt);
+    let mut sink = StdSink::new(&rt);
+    end(&rt, alloc, words, &mut shelf, &mut sink)
 }
 
 // The words after the program's name; none where they aren't UTF-8, so that they are refused.

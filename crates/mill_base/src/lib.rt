@@ -1,10 +1,10 @@
-//! Points, triangles, moves and cutters on a grid of whole units, 0.01 mm or 0.001 mm, the limits of
-//! the whole program, and exact whole-number arithmetic.
+//! Points, triangles, moves and cutters on a grid of whole units, and exact whole-number
+//! arithmetic.
 //!
-//! It stands on nothing but std, and every other crate stands on it. Its definitions say what a
-//! point of a triangle is, which points a cutter strictly holds, what a move gouges and removes,
-//! and which heights of a column are covered: `specs/`, one module a subject. `proofs/` has the
-//! prover of polynomial facts over the integers that the geometry crates share.
+//! It stands on nothing but std, and every other crate stands on it. Products, roots and roundings
+//! are exact. Its definitions say which points a cutter strictly holds, what a move gouges and
+//! removes, which heights of a column are covered, and the limits of all: `specs/`, one module a
+//! subject. `proofs/` has the prover of polynomial facts that the geometry crates share.
 #![tactic(auto)]
 
 mod arithmetic;

@@ -1,11 +1,11 @@
-//! Reads one line of a program of G-codes after another, each of which NISTIR 6556 (RS274/NGC version
-//! 3) calls a block: what it settles, the move that it makes, or its fault, after a profile of that
-//! standard.
+//! Reads one line of a program after another: what it settles, the move that it makes, or its
+//! fault.
 //!
-//! It stands on `mill_words` for the words of a line and on `mill_base` for the moves, and takes no
-//! memory but that of the moves. `specs/Profile.antt` has the table of words, `specs/Said.antt` what a
-//! line's words say, `specs/Motion.antt` what that does, `specs/Lines.antt` what a whole line does, and
-//! `specs/Kept.antt` what a line adds to the moves before it.
+//! It stands on `mill_words` for the words of a line and on `mill_base` for the moves, and takes
+//! no memory but theirs. It promises exactly what `specs/Lines.antt` says of a line, after a
+//! profile of NISTIR 6556 (RS274/NGC version 3), and that a refused line adds nothing
+//! (`specs/Kept.antt`). `specs/Profile.antt` has the table of words, `specs/Said.antt` and
+//! `specs/Motion.antt` what a line's words say and do.
 #![tactic(auto)]
 
 mod fault;

@@ -10,9 +10,10 @@ use Rattle.mill_board.specs.declared.work.Held.{Held}
 use Rattle.mill_board.specs.declared.work.Terms.{Terms}
 use Rattle.mill_board.specs.declared.view.View.{View}
 use Rattle.mill_board.specs.Works.{Means, FailsAt, HasSpans, IsClosed, IsDone, IsFailure, IsThrough, IsTrueHeld, started}
-use Rattle.mill_board.specs.Kept.{BoardState, Kept, claim_of}
+use Rattle.mill_board.specs.Kept.{BoardState, Kept, claim_of, least_of}
 use Rattle.mill_board.specs.inner.Closings.{HasTrue, HasTrueFrom, IsSettled, IsSound}
 use Rattle.mill_board.proofs.Failing.{one_fail, past}
+use Rattle.mill_board.proofs.Listed.{is_failure}
 use Rattle.mill_board.proofs.Sums.{all_home}
 
 word_is : (ws : List ℕ) (i n : ℕ) → get_elem? ws i ≡ some n → slice_index ws i ≡ n
@@ -71,7 +72,7 @@ module _ {W P : Type 0} (M : Means W P) (terms : Terms W) where
       record {
         spans = h.spans;
         count = sym f.3 ∙ h.slots;
-        failure = subst (λ k. IsFailure M terms k) (word 1 least e1) h.least;
+        failure = subst (λ k. IsFailure M terms k) (word 1 least e1) (is_failure M terms f.0 h (least_of f.0) h.least);
         sound = λ from is. ⊎_elim
             (λ (t : from ≡ claim). let q : claim_of f.0 ≡ from = word 0 claim e0 ∙ sym t in subst (λ k. HasTrueFrom M terms.work k xs) q (from_claim id v ws xs f))
             (λ (t : (from ≡ 0) × (back ≡ min claim (M.pieces terms.work))). let a = word_is ws 0 claim e0 in let b = word_is ws 2 back e2 in let e = t.1 in

@@ -1,10 +1,16 @@
 -- What a seat knows that has drawn a number.
-use Rattle.std.proofs.Common.{◌≡◌, ℕ, ◌<◌, List, [], ◌∷◌, sym, ap, ◌∙◌, arith, ⊎_elim, Option, Some}
+use Rattle.std.proofs.Common.{◌≡◌, ℕ, ◌<◌, false, List, [], ◌∷◌, refl, sym, ap, ◌∙◌, arith, ⊎_elim, Option, Some, None}
+use Rattle.std.specs.Prelude.{is_some}
 use mathlib.Core.Option.{none}
 use Rattle.atomic_table.specs.Table.{step, rest}
 use Rattle.mill_board.specs.declared.work.Held.{Held}
 use Rattle.mill_board.specs.Works.{Means, started}
 use Rattle.mill_board.specs.inner.Plays.{Draws, Drew, Mine}
+
+-- what there is none of
+pub none_of : {A : Type 0} (o : Option A) → is_some o ≡ false → o ≡ None
+none_of None e = refl
+none_of (Some x) e = absurd (cc)
 
 abbrev second : {S : Type 0} → S → List (ℕ × S) → S
 second d [] = d

@@ -1,5 +1,6 @@
 mod Sums
 mod Views
+pub mod Listed
 pub mod Failing
 mod Opening
 mod Drawing
@@ -10,3 +11,6 @@ mod Splitting
 mod Closing
 pub mod Outcomes
 mod Showing
+mod Stepping
+mod Dividing
+mod Holding

@@ -1,5 +1,5 @@
 -- The rule holds at the start.
-use Rattle.std.proofs.Common.{◌≡◌, ℕ, zero, suc, ◌+◌, ◌-◌, ◌^◌, ◌<◌, ◌≤◌, false, List, [], ◌∷◌, ◌++◌, length, refl, sym, ap, subst, ◌∙◌, arith, inl, Option, Some, None, append_assoc, append-nil, map, add-zero}
+use Rattle.std.proofs.Common.{◌≡◌, ℕ, zero, suc, ◌+◌, ◌-◌, ◌^◌, ◌<◌, ◌≤◌, List, [], ◌∷◌, ◌++◌, length, refl, sym, ap, subst, ◌∙◌, arith, inl, Option, Some, None, append_assoc, append-nil, map, add-zero}
 use mathlib.Core.Option.{some, none, some-injective, some-ne-none}
 use lib.ListN.{get_elem?}
 use Rattle.atomic_table.specs.Table.{opening}
@@ -78,9 +78,10 @@ module _ {W P : Type 0} (M : Means W P) (work : W) where
         untouched = λ n le lt. let q : 0 + n ≡ n = omega arith in starts_there 0 p n (omega (arith, lt, count)) ∙ ap (λ m. some (some (Some (started M work m)))) q;
         back = refl;
         outs = λ j u n e o. absurd (let z = one_view (λ (k : View W). k.out ≡ None) refl j u e in cc);
+        busy = λ j u n e o. absurd (let z = one_view (λ (k : View W). k.out ≡ None) refl j u e in cc);
         owned = λ n e. absurd (starts_none 0 p n e);
         claim_most = omega arith;
-        all_out = λ j u e f. absurd (let z = one_view (λ (k : View W). k.ended ≡ false) refl j u e in cc);
+        all_out = λ j u n e f. absurd (let z = one_view (λ (k : View W). k.ended ≡ None) refl j u e in cc);
         spares = one_view (λ u. 1 ≤ u.spare) (omega arith);
         spare = refl;
       })

@@ -8,7 +8,7 @@ use lib.ListN.{get_elem?}
 use Rattle.mill_sched.specs.declared.piece.Task.{Task}
 use Rattle.mill_sched.specs.declared.piece.Piece.{Piece}
 use Rattle.mill_sched.specs.declared.worker.Worker.{Worker}
-use Rattle.mill_sched.specs.declared.worker.Worker.TheVariants.{Free, Drawn, Holding, Done}
+use Rattle.mill_sched.specs.declared.worker.Worker.TheVariants.{Drawn, Holding, Done}
 use Rattle.mill_sched.specs.States.{State as Core, no_task, piece_at, untouched}
 use Rattle.mill_sched.specs.Laws.{IsOnTurn, IsPlaced, IsUntouched, number_of}
 use Rattle.mill_board.specs.declared.work.Held.{Held}
@@ -16,26 +16,25 @@ use Rattle.mill_board.specs.declared.work.Terms.{Terms}
 use Rattle.mill_board.specs.declared.view.View.{View}
 use Rattle.mill_board.specs.Works.{Means, FailsAt, IsTrueHeld, PassesBefore, started}
 use Rattle.mill_board.specs.Kept.{BoardState, HasView, Kept, claim_of, least_of, times}
-use Rattle.mill_board.specs.Shows.{AreFails, IsHomeAs, Shows, ShowsCore}
+use Rattle.mill_board.specs.Shows.{AreFails, IsHomeAs, Shows, ShowsCore, idle_worker}
 use Rattle.mill_board.proofs.Failing.{past}
 use Rattle.mill_board.proofs.Sums.{once_at_most, once_in, sum_has, sum_has_two}
 use Rattle.mill_board.proofs.Views.{same_some}
 
--- the worker of a seat, by the number that it has out and whether it has ended
-abbrev worker_by : Option ℕ → Bool → Worker
+-- the worker of a seat, by the number that it has out and the one at which it has ended
+abbrev worker_by : Option ℕ → Option ℕ → Worker
 worker_by (Some n) ended = Drawn n
-worker_by None true = Done
-worker_by None false = Free
+worker_by None ended = idle_worker ended
 
-worker_number : (out : Option ℕ) (ended : Bool) → number_of (worker_by out ended) ≡ out
+worker_number : (out : Option ℕ) (ended : Option ℕ) → number_of (worker_by out ended) ≡ out
 worker_number (Some n) ended = refl
-worker_number None true = refl
-worker_number None false = refl
+worker_number None (Some m) = refl
+worker_number None None = refl
 
-worker_holds_none : (out : Option ℕ) (ended : Bool) (n : ℕ) → worker_by out ended ≡ Holding n → ⊥
+worker_holds_none : (out : Option ℕ) (ended : Option ℕ) (n : ℕ) → worker_by out ended ≡ Holding n → ⊥
 worker_holds_none (Some m) ended n e = cc
-worker_holds_none None true n e = cc
-worker_holds_none None false n e = cc
+worker_holds_none None (Some m) n e = cc
+worker_holds_none None None n e = cc
 
 module _ {W : Type 0} where
   abbrev worker_of : View W → Worker
@@ -132,7 +131,7 @@ module _ {W P : Type 0} (M : Means W P) (work : W) (turn_of : ℕ → Option ℕ
 
 module _ {W P : Type 0} (M : Means W P) (terms : Terms W) (s : BoardState W P) (turn_of : ℕ → Option ℕ) (are : AreFails M terms.work turn_of) (h : Kept M terms s) where
   -- the state that is shown
-  abbrev core_of : Core
+  abbrev pub core_of : Core
   core_of = record { claim = claim_of s; least = least_of s; turns = terms.turns; pieces = pieces_from M terms.work turn_of 0 s.homes; workers = workers_of s.views }
 
   piece_is : (n : ℕ) (x : mathlib.Core.Option.Option (Option (Held P))) (d : Piece) → get_elem? s.homes n ≡ some x → get_or (pieces_from M terms.work turn_of 0 s.homes) n d ≡ piece_of M terms.work turn_of n x
@@ -171,7 +170,7 @@ module _ {W P : Type 0} (M : Means W P) (terms : Terms W) (s : BoardState W P) (
       let t = h.home n (Some k) e in let is : k ≡ t.0 = same_some k t.0 t.1 in
       held_on_turn M terms.work turn_of are n k lt (ap (λ (q : Held P). q.number) is ∙ t.2) (subst (λ (q : Held P). IsTrueHeld M terms.work q) (sym is) t.3)
 
-  is_shown : Shows M terms s core_of
+  pub is_shown : Shows M terms s core_of
   is_shown =
       let slots = h.slots in
       record {
@@ -191,10 +190,11 @@ module _ {W P : Type 0} (M : Means W P) (terms : Terms W) (s : BoardState W P) (
         home = λ n k e. subst (λ (p : Piece). IsHomeAs k p) (sym (piece_is n (some (Some k)) (untouched no_task) e)) (record { next = refl; failed = refl; home = refl });
         out = λ n e. let o = h.owned n e in (o.0, o.1, record { view = o.2; out = o.3; drawn = (h.outs o.0 o.1 n o.2 o.3).0; worker = ap number_of (worker_there s.views o.0 o.1 o.2) ∙ worker_number o.1.out o.1.ended ∙ o.3 });
         numbers = λ seat v at. ap number_of (worker_there s.views seat v at) ∙ worker_number v.out v.ended;
+        idle = λ seat v at free. worker_there s.views seat v at ∙ ap (λ o. worker_by o v.ended) free;
         placed = is_placed;
         on_turn = λ k d lt. let len = pieces_len M terms.work turn_of 0 s.homes in let x = slot_there M terms.work turn_of s.homes k (omega (arith, lt, len)) in
             subst IsOnTurn (sym (piece_is k x.0 d x.1)) (slot_on_turn k x.0 x.1 (omega (arith, lt, len, slots)));
       }
 
-pub shows_core : {W P : Type 0} (M : Means W P) → ShowsCore M
+pub shows_core : {W P : Type 0} (M : Means W P) → ShowsCore M (Kept M)
 shows_core M terms s turn_of are h = (core_of M terms s turn_of are h, is_shown M terms s turn_of are h)

@@ -2,13 +2,16 @@
 use Rattle.std.specs.Prelude.{◌≡◌, ◌↔◌, ℕ, ◌<◌, length, All, Option, Some, None}
 use Rattle.mill_sched.specs.declared.piece.Task.{Task}
 use Rattle.mill_sched.specs.declared.piece.Piece.{Piece}
+use Rattle.mill_sched.specs.declared.worker.Worker.{Worker}
+use Rattle.mill_sched.specs.declared.worker.Worker.TheVariants.{Free, Done}
 use Rattle.mill_sched.specs.States.{State as Core, piece_at, worker_at}
 use Rattle.mill_sched.specs.Laws.{IsOnTurn, IsPlaced, number_of}
 use Rattle.mill_board.specs.declared.work.Held.{Held}
 use Rattle.mill_board.specs.declared.work.Terms.{Terms}
 use Rattle.mill_board.specs.declared.view.View.{View}
 use Rattle.mill_board.specs.Works.{Means, FailsAt}
-use Rattle.mill_board.specs.Kept.{BoardState, HasHome, HasView, IsOut, Kept, claim_of, least_of, times}
+use Rattle.mill_board.specs.Kept.{BoardState, HasHome, HasView, IsOut, claim_of, least_of, times}
+use Rattle.mill_board.specs.Rules.{Rule}
 
 -- a piece is at home, as far as this one
 pub record IsHomeAs {P : Type 0} (h : Held P) (piece : Piece) : Type 0 where
@@ -33,6 +36,11 @@ pub record IsOutWith {W P : Type 0} (M : Means W P) (s : BoardState W P) (core :
   pub drawn : 0 < times n v.drawn
   pub worker : number_of (worker_at core seat) ≡ Some n
 
+-- what a worker without a piece is about: it is free, or it has ended at a number
+abbrev pub idle_worker : Option ℕ → Worker
+idle_worker None = Free
+idle_worker (Some n) = Done
+
 -- the table shows a state of the machine: the same claim and least value, a piece for each slot, a worker for each seat that was made; a slot at home has its piece as far as the machine has it, and one that is out belongs to a worker; the machine's pieces and workers are placed, and its pieces are on their turns
 pub record Shows {W P : Type 0} (M : Means W P) (terms : Terms W) (s : BoardState W P) (core : Core) : Type 0 where
   pub claim : core.claim ≡ claim_of s
@@ -44,9 +52,10 @@ pub record Shows {W P : Type 0} (M : Means W P) (terms : Terms W) (s : BoardStat
   pub home : (n : ℕ) (h : Held P) → HasHome s n (Some h) → IsHomeAs h (piece_at core n)
   pub out : (n : ℕ) → IsOut s n → (seat : ℕ) × (v : View W) × IsOutWith M s core n seat v
   pub numbers : (seat : ℕ) (v : View W) → HasView s seat v → number_of (worker_at core seat) ≡ v.out
+  pub idle : (seat : ℕ) (v : View W) → HasView s seat v → v.out ≡ None → worker_at core seat ≡ idle_worker v.ended
   pub placed : IsPlaced core
   pub on_turn : All IsOnTurn core.pieces
 
--- whenever the rule holds, the table shows such a state, of the machine that is told at which turns the work's pieces fail
-abbrev pub ShowsCore : {W P : Type 0} → Means W P → Type 0
-ShowsCore {W} {P} M = (terms : Terms W) (s : BoardState W P) (fails : ℕ → Option ℕ) → AreFails M terms.work fails → Kept M terms s → (core : Core) × Shows M terms s core
+-- whenever a rule holds, the table shows such a state, of the machine that is told at which turns the work's pieces fail
+abbrev pub ShowsCore : {W P : Type 0} → Means W P → Rule W P → Type 0
+ShowsCore {W} {P} M holds = (terms : Terms W) (s : BoardState W P) (fails : ℕ → Option ℕ) → AreFails M terms.work fails → holds terms s → (core : Core) × Shows M terms s core

@@ -1,10 +1,11 @@
-ghost use Rattle.std.specs.Prelude.{◌≡◌, ◌+◌, ◌^◌, ◌<◌, ◌≤◌, ◌++◌, [], ◌∷◌, false, true, IfOk, IfSome, IfNone, IsNone, Some, None};
+ghost use Rattle.std.specs.Prelude.{◌≡◌, ◌↔◌, ◌+◌, ◌^◌, ◌<◌, ◌≤◌, ◌++◌, [], ◌∷◌, true, IfOk, IfSome, IfNone, IsNone, IsSome, Some, None};
 ghost use Rattle.mill_board.specs.Works.{HasSpans, IsFailure, IsTrueHeld, started};
-ghost use Rattle.mill_board.specs.Seats.{IsFree, IsSeatOf, OnlySees, first_view, given_half, kept_half};
+ghost use Rattle.mill_board.specs.Seats.{FindsNone, IsFree, IsSeatOf, OnlySees, first_view, given_half, kept_half};
 ghost use Rattle.mill_board.specs.Kept.{times};
 ghost use Rattle.mill_board.specs.inner.Starts.{AreSpans, StartTrue, starts};
 
-use crate::rule::{BACK, CLAIM, Drawing, Halving, LEAST, Looking, Lowering, Putting, Shares, Slot};
+use crate::plays::{Drawing, Halving, Looking, Lowering, Putting};
+use crate::rule::{BACK, CLAIM, LEAST, Shares, Slot};
 use crate::seat::Seat;
 use crate::turns::start;
 use crate::view::View;
@@ -21,7 +22,6 @@ pub struct Board<W: Work> {
     pub(crate) pieces: u64,
     pub(crate) terms: Terms<W>,
     pub(crate) table: Table<Slot<W>, View<W>, Terms<W>, Shares<W>, Global>,
-    pub(crate) alloc: Global,
 }
 
 impl<W: Work> Model for Board<W> {
@@ -60,23 +60,31 @@ impl<W: Work> Board<W> {
             pieces,
             terms,
             table,
-            alloc,
         };
         Ok((board, Seat { pass, ended: false }))
     }
 
+    /// The table of the board's seats, under its rule, which holds between any two steps of theirs.
+    pub fn table(&self) -> &Table<Slot<W>, View<W>, Terms<W>, Shares<W>, Global>
+        ensures table { result.now.shared.table_id ≡ self.now.table }
+        ensures told { result.now.shared.key ≡ self.now.terms }
+    {
+        &self.table
+    }
+
     /// Draws the next number and takes the piece out of its slot, with no turn done; the seat has no
-    /// piece out before. `None` where no piece is left, and from then on. No other seat has drawn that
-    /// number or will. No memory is taken.
+    /// piece out before. `None` exactly where that number is no piece's, and from then on. No other seat
+    /// has drawn that number or will.
     pub fn draw(&self, seat: &mut Seat<W>) -> Option<Held<W::Piece>>
         requires { IsFree self.now seat.old }
         ensures table { seat.new.table ≡ seat.old.table }
         ensures held { IfSome result (IsTrueHeld W.means self.now.terms.work) }
         ensures untouched { IfSome result (λ held. held ≡ started W.means self.now.terms.work held.number) }
-        ensures number { IfSome result (λ held. times held.number seat.old.view.drawn ≡ 0) }
+        ensures number { IfSome result (λ held. (held.number < W.means.pieces self.now.terms.work) × (times held.number seat.old.view.drawn ≡ 0)) }
         ensures drawn { IfSome result (λ held. seat.new.view ≡ record seat.old.view { drawn = seat.old.view.drawn ++ held.number ∷ []; out = Some held.number }) }
-        ensures none { IfNone result (seat.new.view ≡ record seat.old.view { ended = true }) }
-        ensures ended { seat.old.view.ended ≡ true → IsNone result }
+        ensures none { IfNone result (FindsNone W.means seat.old.view seat.new.view) }
+        ensures ended { IsSome seat.old.view.ended → IsNone result }
+        ensures exact { IsNone result ↔ IsSome seat.new.view.ended }
     {
         if seat.ended {
             return None;
@@ -94,8 +102,7 @@ impl<W: Work> Board<W> {
             .exchange(&mut seat.pass, found as usize, None)
     }
 
-    /// Puts the piece that the seat has out back into its slot, as its turns have left it. No memory is
-    /// taken.
+    /// Puts the piece that the seat has out back into its slot, as its turns have left it.
     pub fn put(&self, seat: &mut Seat<W>, held: Held<W::Piece>)
         requires seat { IsSeatOf self.now seat.old }
         requires out { seat.old.view.out ≡ Some held.number }
@@ -111,8 +118,7 @@ impl<W: Work> Board<W> {
     }
 
     /// The least turn at which a piece is known to fail, or the number of turns where none is. It isn't
-    /// over what the seat has seen, and never under the least turn at which any piece fails. No memory
-    /// is taken.
+    /// over what the seat has seen, and never under the least turn at which any piece fails.
     pub fn least(&self, seat: &mut Seat<W>) -> u64
         requires { IsSeatOf self.now seat.old }
         ensures seat { OnlySees seat.old seat.new }
@@ -122,10 +128,11 @@ impl<W: Work> Board<W> {
         self.table.shared.load::<Looking<W>>(&mut seat.pass, LEAST)
     }
 
-    /// Lowers the least turn to the one at which a held piece has failed, where it isn't lower already,
-    /// for all seats of the board to see. No memory is taken.
+    /// Lowers the least turn to the one at which the piece that the seat has out has failed, where it
+    /// isn't lower already, for all seats of the board to see.
     pub fn lower(&self, seat: &mut Seat<W>, held: &Held<W::Piece>)
         requires seat { IsSeatOf self.now seat.old }
+        requires out { seat.old.view.out ≡ Some held.now.number }
         requires failed { held.now.failed ≡ true }
         requires held { IsTrueHeld W.means self.now.terms.work held.now }
         ensures seat { OnlySees seat.old seat.new }
@@ -138,7 +145,7 @@ impl<W: Work> Board<W> {
     }
 
     /// A seat for one worker more, with half of what this one has to spare. It has ended where this one
-    /// has. No memory is taken.
+    /// has.
     pub fn split(&self, seat: &mut Seat<W>) -> Seat<W>
         requires seat { IsSeatOf self.now seat.old }
         requires spare { 2 ≤ seat.old.view.spare }

@@ -27,7 +27,7 @@ impl<W: Work> Board<W> {
     /// that came back and has nothing left to be done is kept as it is; any other is made anew, and its
     /// turns are done here. Where a piece is still out with a seat, every piece that was drawn is made
     /// anew. Where there isn't enough memory, the board is gone too.
-    pub fn close(self, seat: Seat<W>) -> Result<Closed<W::Piece>, WantOfMemory>
+    pub fn close(self, alloc: Global, seat: Seat<W>) -> Result<Closed<W::Piece>, WantOfMemory>
         requires { IsSeatOf self seat }
         ensures { IfOk result (λ closed. IsClosed W.means self.terms closed.least closed.pieces.items) }
     {
@@ -35,7 +35,6 @@ impl<W: Work> Board<W> {
             pieces,
             terms,
             table,
-            alloc,
         } = self;
         let room = Vec::with_capacity(alloc, pieces as usize)?;
         let Seat { pass, ended: _ } = seat;

@@ -1,23 +1,18 @@
 //! A board from which threads share numbered pieces of work, with no lock.
 //!
-//! Each piece has turns, and may fail at one of them. What is wanted is the least turn at which any
-//! piece fails, and each piece done up to that turn. A worker draws a piece, does its turns while they
-//! aren't over the least failing turn that is known by then, lowers that where its piece fails, and puts
-//! the piece back. Turns that are known to pass, whoever does them and whenever, it may go over many at
-//! once, with one look at the least failing turn.
-//!
-//! It stands on atomic_table, whose steps are single accesses to shared memory, so no call waits
-//! for another; on mill_base, and, in a law alone, on mill_sched. `run_all` does a whole work, by
-//! any number of threads; `specs/Works` says what a work means and what it comes to, and by
-//! `specs/Laws` that is one thing; `run_alone` does it on the caller's thread, with no runtime.
-//! `specs/Seats` is what a worker's access to the board shows, `specs/Kept` the rule that holds
-//! between any two steps of the workers, and `specs/Shows` ties it to the machine of mill_sched.
+//! It stands on atomic_table, whose steps are single accesses to shared memory, so no call waits; on
+//! mill_base, and in laws on mill_sched. `run_all`, and `run_alone` on the caller's thread, come to one
+//! outcome, whoever does what: the least turn at which a piece fails, and each piece done up to there
+//! (`specs/Works`, `specs/Laws`). Turns that are known to pass may be gone over many at once. A board
+//! lends its table under the rule that holds between any two steps (`Shares`, `specs/Kept`): no number
+//! is drawn twice (`specs/Rules`), the table shows a state of mill_sched's machine (`specs/Shows`), and
+//! each step of a seat is one of its events (`specs/Steps`). `specs/Seats` is what a worker sees.
 #![tactic(auto)]
 
 mod board;
 mod close;
-mod gate;
 mod laws;
+mod plays;
 mod rule;
 mod seat;
 mod turns;
@@ -27,8 +22,11 @@ mod workers;
 
 pub use board::Board;
 pub use close::Closed;
-pub use gate::{Gate, NoGate};
-pub use laws::{one_outcome, shows_core};
+pub use laws::{
+    keeps_all, no_number_twice, numbers_under_the_claim, one_outcome, shows_core, shows_held,
+    splits_add_workers, steps_are_events, turns_are_events,
+};
+pub use rule::{Pass, Shares, Slot};
 pub use seat::Seat;
 pub use view::View;
 pub use work::{Held, Terms, Work};

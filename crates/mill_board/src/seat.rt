@@ -1,3 +1,6 @@
+ghost use Rattle.std.specs.Prelude.{◌≡◌};
+ghost use Rattle.mill_board.specs.Seats.{carried_of};
+
 use crate::rule::Pass;
 use crate::work::Work;
 use std::marker::Model;
@@ -18,4 +21,14 @@ impl<W: Work> Model for Seat<W> {
     ghost view = { λ s. record { table = s.pass.table_id; view = s.pass.me.0 } };
 
     ghost invariant = { λ s. IsSeat s.ended s.pass.me.0 s.pass.me.1 };
+}
+
+impl<W: Work> Seat<W> {
+    /// The seat as the board's table knows it, with its view and the slot that it has out.
+    pub fn pass(&self) -> &Pass<W>
+        ensures table { result.now.table_id ≡ self.now.table }
+        ensures me { result.now.me ≡ (self.now.view, carried_of self.now.view.out) }
+    {
+        &self.pass
+    }
 }

@@ -7,8 +7,8 @@ pub struct View<W> {
     pub drawn: LinkedList<u64>,
     /// The least turn that it has looked at or lowered to.
     pub seen: u64,
-    /// It found no piece left to draw.
-    pub ended: bool,
+    /// The number that it drew when no piece was left, and at which it has ended.
+    pub ended: Option<u64>,
     /// How often it can be split, and how often the seats that are split from it can draw in vain. It
     /// keeps the number that is drawn next from wrapping.
     pub spare: u64,

@@ -1,4 +1,4 @@
-ghost use Rattle.std.specs.Prelude.{◌≡◌, ◌^◌, ◌<◌, ◌≤◌, false, IfOk};
+ghost use Rattle.std.specs.Prelude.{◌≡◌, ◌^◌, ◌<◌, ◌≤◌, false, IfOk, Some};
 ghost use denote.Param.Send.{IsSync};
 ghost use Rattle.mill_board.specs.Works.{HasSpans, IsClosed, IsTrueHeld};
 ghost use Rattle.mill_board.specs.Seats.{IsFree, IsSeatOf, OnlySees};
@@ -18,6 +18,7 @@ impl<W: Work> Board<W> {
     /// over together. Where the piece fails it lowers it.
     pub(crate) fn advance(&self, seat: &mut Seat<W>, mut held: Held<W::Piece>) -> Held<W::Piece>
         requires seat { IsSeatOf self.now seat.old }
+        requires out { seat.old.view.out ≡ Some held.number }
         requires held { IsTrueHeld W.means self.now.terms.work held }
         requires going { held.failed ≡ false }
         ensures seat { OnlySees seat.old seat.new }
@@ -109,7 +110,7 @@ pub fn run_all<W: Work, R: Threads + Sync>(
     }
     let (board, seat) = Board::new(alloc, work, pieces, turns)?;
     let seat = share(rt, &board, seat, workers);
-    board.close(seat)
+    board.close(alloc, seat)
 }
 
 /// What the work comes to, by this thread alone, and with no runtime: the answer of [`run_all`]. There are
@@ -127,5 +128,5 @@ pub fn run_alone<W: Work>(
 {
     let (board, mut seat) = Board::new(alloc, work, pieces, turns)?;
     board.serve(&mut seat);
-    board.close(seat)
+    board.close(alloc, seat)
 }

@@ -135,6 +135,9 @@ const ROWS: &str = "\
 1 turns, 1 workers, pieces none | Draw(0) Ended, Draw(0) Idle => claim 1, least 1, next none
 3 turns, 2 workers, pieces none | Look(1) Idle, Put(0) Idle, Lower(2) Idle, Draw(1) Ended, \
     Look(1) Idle => claim 1, least 3, next none
+3 turns, 1 workers, pieces 0-3:1 | Draw(0) Drew(0), Take(0) Took, Look(0) Passed, Look(0) Failed, \
+    Lower(0) Lowered, Look(0) Stopped, Put(0) Back, Draw(0) Ended, Take(0) Idle => claim 2, least 1, \
+    next 1
 4 turns, 1 workers, pieces 1-3:2 | Put(0) Idle, Lower(0) Idle, Draw(0) Drew(0), Take(0) Took, \
     Look(0) Passed, Look(0) Failed, Look(0) Stopped, Lower(0) Lowered, Lower(0) Lowered, \
     Lower(0) Lowered, Put(0) Back, Take(1) Idle, Put(0) Idle, Draw(0) Ended => claim 2, least 2, \

@@ -1,7 +1,7 @@
 //! A small work, what is counted of its turns, and what is told of its pieces.
 use crate::tables::add;
 use mill_base::WantOfMemory;
-use mill_board::{Closed, Gate, Held, Work};
+use mill_board::{Closed, Held, Work};
 use std::alloc::Global;
 use std::sync::atomic::Ordering::SeqCst;
 use std::sync::atomic::{AtomicBool, AtomicU64};
@@ -61,9 +61,8 @@ impl Watch {
             _ => {}
         }
     }
-}
 
-impl Gate for Watch {
+    /// What each turn passes before it is done: it is counted, and may be held up.
     fn pass(&self, number: u64, turn: u64) {
         self.turns.fetch_add(1, SeqCst);
         if turn == 0 {

@@ -61,8 +61,8 @@ fn look_at_least<W: Work, R: Abort>(rt: &R, board: &Board<W>, seat: &mut Seat<W>
 /// Looks that a seat has no piece to draw.
 fn look_at_end<W: Work, R: Abort>(rt: &R, board: &Board<W>, seat: &mut Seat<W>)
     requires { IsFree board.now seat.old }
-    ensures table { seat.new.table ≡ seat.old.table }
-    ensures view { seat.new.view ≡ record seat.old.view { ended = true } }
+    ensures free { IsFree board.now seat.new }
+    ensures spare { seat.new.view.spare ≡ seat.old.view.spare }
 {
     let held = board.draw(seat);
     assert!(rt; held.is_none());
@@ -97,7 +97,7 @@ fn a_seat_sees_what_another_lowered(rt: HostRuntime) -> Result<(), Fail> {
     let second = drawn_and_done(&board, &work, &mut two, 6)?;
     board.put(&mut one, first);
     board.put(&mut two, second);
-    let closed = board.close(two)?;
+    let closed = board.close(rt.alloc(), two)?;
     look(
         &rt,
         &watch,
@@ -121,7 +121,7 @@ fn a_lost_piece_is_made_anew(rt: HostRuntime) -> Result<(), Fail> {
     board.put(&mut one, kept);
     let _lost = board.draw(&mut two);
     drop(two);
-    let closed = board.close(one)?;
+    let closed = board.close(rt.alloc(), one)?;
     look(
         &rt,
         &watch,
@@ -145,6 +145,22 @@ fn an_ended_seat_draws_no_more(rt: HostRuntime) -> Result<(), Fail> {
     look_at_end(&rt, &board, &mut one);
     let mut two = board.split(&mut one);
     look_at_end(&rt, &board, &mut two);
-    let closed = board.close(two)?;
+    let closed = board.close(rt.alloc(), two)?;
     look(&rt, &watch, &closed, "made 2, least 10, 10 going")
+}
+
+// The table that a board lends has its three words and a slot for each piece.
+#[test]
+fn a_board_lends_its_table(rt: HostRuntime) -> Result<(), Fail> {
+    let watch = Watch::new(false);
+    let work = Runs {
+        fails: &[5, 9, 5],
+        watch: &watch,
+        leap: 0,
+    };
+    let (board, seat) = Board::new(rt.alloc(), work, 3, TURNS)?;
+    let table = board.table();
+    assert_eq!(rt; (table.word_count(), table.slot_count()), (3, 3));
+    let _pass = seat.pass();
+    Ok(())
 }

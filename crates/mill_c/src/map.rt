@@ -16,7 +16,8 @@ use mill_c_data::{
     Fault, RawLattice, RawTool, RawTriangle, check_triangles, is_coordinate, lattice_from,
     part_from, tool_from,
 };
-use mill_drop::drop_map_alone;
+use mill_crew::Alone;
+use mill_drop::DropCrew;
 use mill_part::{Part, SortedPart};
 use std::alloc::Global;
 
@@ -122,6 +123,6 @@ fn node_heights(
     ensures count { IfOk result (λ heights. length heights.items ≡ node_count lattice.now) }
 {
     let sorted = SortedPart::new(alloc, part)?;
-    let heights = drop_map_alone(alloc, part, sorted.cells(), tool, lattice, floor)?;
+    let heights = Alone.drop_map(alloc, part, sorted.cells(), tool, lattice, floor)?;
     Ok(heights)
 }

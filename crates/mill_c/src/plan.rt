@@ -5,7 +5,8 @@ ghost use Rattle.mill_c.specs.Plans.{IsPlanCause, IsPlanned, IsPlannedFor, IsUnp
 
 use crate::setup::{Stop, setup_from};
 use mill_c_data::{Fault, RawPlanned};
-use mill_plan::{PlanFault, Planned, plan_alone};
+use mill_crew::Alone;
+use mill_plan::{PlanFault, Planned, plan};
 use std::alloc::Global;
 
 /// The text of the program that the planner writes for a job and a part, each by its text, as the command
@@ -85,7 +86,7 @@ fn planned_for(alloc: Global, job: &[u8], part: &[u8]) -> Result<Planned, NoPlan
         Ok(setup) => setup,
         Err(stop) => return Err(unread(stop)),
     };
-    match plan_alone(alloc, &setup.job, &setup.part) {
+    match plan(&Alone, alloc, &setup.job, &setup.part) {
         Ok(planned) => Ok(planned),
         Err(fault) => Err(without_plan(fault)),
     }

@@ -4,8 +4,10 @@ ghost use Rattle.mill_c.specs.Judged.{IsJudged, IsVerdictCause, IsVerdictFor, to
 
 use crate::setup::{Stop, moves_for, nothing, setup_from};
 use mill_c_data::RawVerdict;
+use mill_crew::Alone;
+use mill_part::SortedPart;
 use mill_sweep::Leaf;
-use mill_verify::{Reason, Verdict, verify_alone};
+use mill_verify::{Reason, Verdict, verify};
 use std::alloc::Global;
 
 /// The verdict on a program for a job and a part, each by its text: the first test that fails, or that
@@ -47,7 +49,15 @@ fn verdict_from(alloc: Global, job: &[u8], part: &[u8], program: &[u8]) -> Resul
 {
     let setup = setup_from(alloc, job, part)?;
     let moves = moves_for(alloc, &setup.job, program)?;
-    let verdict = verify_alone(alloc, &setup.job, &setup.part, &moves)?;
+    let sorted = SortedPart::new(alloc, &setup.part)?;
+    let verdict = verify(
+        &Alone,
+        alloc,
+        &setup.job,
+        &setup.part,
+        sorted.cells(),
+        &moves,
+    )?;
     Ok(verdict)
 }
 

@@ -1,12 +1,9 @@
 //! A grid of square cells over a part's triangles, by which the triangles near an area are found.
 //!
 //! It stands on mill_base. `Cells::near` promises every triangle whose box in x and y meets an
-//! area, each once, and no other; `Cells::near_over` those of them that are over a height, and
-//! `Cells::near_rising` those over a height that may rise, and both pass over whole cells under it;
-//! `Cells::size_for` a size of cells that keeps the grid small on any mesh. Its definitions are in
-//! `specs/`: Boxes says when boxes meet, Frames which cells a box covers, Sizes which sizes are fit,
-//! Sorted what a caller sees of the grid and which triangles are near and over a height, and Ahead
-//! which triangle comes next over a height that may rise.
+//! area, each once, and no other; `near_over` those of them over a height, and `near_rising` those
+//! over a height that may rise. `Cells::size_for` keeps the grid small on any mesh. Definitions:
+//! `specs/Boxes`, `specs/Frames`, `specs/Sizes`, `specs/Sorted` and `specs/Ahead`.
 #![tactic(auto)]
 
 mod boxes;

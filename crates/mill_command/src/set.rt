@@ -10,7 +10,7 @@ use clap::{Arg, Command, value_parser};
 use std::alloc::{AllocError, Global};
 
 /// The version of the programs, which `--version` shows.
-pub const VERSION: &str = "0.1.0";
+pub const VERSION: &str = "0.2.0";
 
 /// The program with all its commands, ready to be built by a parse.
 pub fn commands<'a>(alloc: Global) -> Result<Command<'a>, AllocError>

@@ -1,13 +1,11 @@
 //! The exact contact of a ball cutter and a triangle.
 //!
-//! It stands on mill_geom, whose cylinder it tries over the sphere's centre, and on mill_base, whose
-//! specs/Contact defines a touch. `touch` decides whether some point of the triangle is strictly
-//! inside the cutter, and if none is, at which positions along an axis none is (mill_geom's
-//! specs/Sides). `is_inside` decides the first alone, at less cost: before the exact test it tries
-//! the box of the corners. The exact test tries the corners, the cylinder, the triangle's plane, the
-//! foot of the centre on it and the edges: specs/Spheres says what a point in the sphere is,
-//! specs/Planes and specs/Vectors which numbers are compared, and specs/Widths how great they can
-//! be.
+//! It stands on mill_geom, whose cylinder it tries over the sphere's centre, and on mill_base,
+//! whose specs/Contact defines a touch. `touch` decides whether some point of a triangle,
+//! degenerate ones too, is strictly inside the cutter, and if none is, at which positions along an
+//! axis none is (mill_geom's specs/Sides); `is_inside` decides the first alone, at less cost.
+//! specs/Spheres, specs/Planes and specs/Vectors define what is compared, specs/Widths how great
+//! it can be.
 #![tactic(auto)]
 
 ghost use Rattle.std.specs.Prelude.{◌≡◌, ◌<ℤ◌, pos, false, IsTrue, IfSome};

@@ -1,11 +1,9 @@
-//! What a report tells of each finding: its test, its place in the text, the triangle or the column in its
-//! way, and the segment of the move that fails.
+//! What a report tells of each finding: its test, its line, what is in its way, and where on the
+//! move.
 //!
-//! It stands on `mill_report`, whose findings these are, on `mill_source` for the line of a move, on
-//! `mill_sweep` for the ends of a segment, on `mill_dexel` for the tops that a move meets, and on
-//! `mill_document` for the items of a document. `specs/Details` says, as plain functions, what is told of a
-//! finding. `tops_met` gives the tops, `failing_values` the items of all moves that fail, and `left_values`
-//! those of the columns left too high.
+//! It stands on `mill_report`, `mill_source`, `mill_sweep`, `mill_dexel` and `mill_document`.
+//! `failing_values` and `left_values` promise exactly the items that `specs/Details` states of all
+//! findings and of the columns left too high; `tops_met` gives the tops that moves meet.
 #![tactic(auto)]
 
 mod detail;

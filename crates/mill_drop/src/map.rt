@@ -9,17 +9,67 @@ ghost use Rattle.mill_drop.specs.Maps.{AreDropHeights, IsHeightAt, IsNodeTask};
 use crate::drop::drop_at;
 use mill_base::{Lattice, Tool, WantOfMemory};
 use mill_cells::Cells;
+use mill_crew::{Alone, Crew, Threaded};
 use mill_part::Part;
 use rayon::prelude::*;
 use std::alloc::Global;
 use std::thread::Threads;
 
-/// The drop heights at all nodes of the lattice: row by row with y ascending, and with x ascending
-/// along each row. They are the same whatever the number of threads.
-///
-/// `cells` are those of the part's triangles, and the lattice has at most `MAX_NODES` nodes. Lengths
-/// are in units, of at most `MAX_COORDINATE` in magnitude.
-pub fn drop_map<R: Threads + Sync>(
+/// A crew that works out drop heights.
+pub trait DropCrew: Crew {
+    /// The drop heights at all nodes of the lattice: row by row with y ascending, and with x ascending
+    /// along each row. They are the same whoever works them out. A runtime's threads are as many as the
+    /// machine has processors.
+    ///
+    /// `cells` are those of the part's triangles, and the lattice has at most `MAX_NODES` nodes. Lengths
+    /// are in units, of at most `MAX_COORDINATE` in magnitude. The only error is want of memory.
+    fn drop_map(
+        &self,
+        alloc: Global,
+        part: &Part,
+        cells: &Cells,
+        tool: &Tool,
+        lattice: &Lattice,
+        floor: i32,
+    ) -> Result<Vec<i32>, WantOfMemory>
+        requires crew_ok { Self.ready }
+        requires cells_ok { cells.now ≡ sorted_of part.now }
+        requires tool_ok { IsTool tool.now }
+        requires lattice_ok { IsMapLattice lattice.now }
+        requires floor_ok { Within MAX_COORDINATE floor }
+        ensures { IfOk result (λ heights. AreDropHeights tool.now part.now floor lattice.now heights.items) };
+}
+
+impl<'a, R: Threads + Sync> DropCrew for Threaded<'a, R> {
+    fn drop_map(
+        &self,
+        alloc: Global,
+        part: &Part,
+        cells: &Cells,
+        tool: &Tool,
+        lattice: &Lattice,
+        floor: i32,
+    ) -> Result<Vec<i32>, WantOfMemory> {
+        map_by_threads(self.rt, alloc, part, cells, tool, lattice, floor)
+    }
+}
+
+impl DropCrew for Alone {
+    fn drop_map(
+        &self,
+        alloc: Global,
+        part: &Part,
+        cells: &Cells,
+        tool: &Tool,
+        lattice: &Lattice,
+        floor: i32,
+    ) -> Result<Vec<i32>, WantOfMemory> {
+        map_in_turn(alloc, part, cells, tool, lattice, floor)
+    }
+}
+
+/// The drop heights at all nodes of the lattice, by the threads of a runtime.
+fn map_by_threads<R: Threads + Sync>(
     rt: &R,
     alloc: Global,
     part: &Part,
@@ -47,9 +97,9 @@ pub fn drop_map<R: Threads + Sync>(
     Ok(heights)
 }
 
-/// The drop heights at all nodes of the lattice, as [`drop_map`] gives them, one after another: the calling
-/// thread starts no other. None of them is over `MAX_COORDINATE` in magnitude.
-pub fn drop_map_alone(
+/// The drop heights at all nodes of the lattice, one after another. None of them is over `MAX_COORDINATE` in
+/// magnitude.
+pub(crate) fn map_in_turn(
     alloc: Global,
     part: &Part,
     cells: &Cells,

@@ -6,7 +6,7 @@ ghost use Rattle.mill_cells.specs.Sorted.{sorted_of};
 ghost use Rattle.mill_drop.specs.Paths.{row_lattice, tip_over, IsPath, IsRow, IsTolerance, KeepsTolerance};
 ghost use Rattle.mill_drop.specs.inner.Rows.{AreHeights};
 
-use crate::map::drop_map_alone;
+use crate::map::map_in_turn;
 use crate::places::places_of;
 use mill_base::{Box2, Lattice, Pt3, Tool, WantOfMemory};
 use mill_cells::Cells;
@@ -45,7 +45,7 @@ pub fn path_drop(
     ensures path { IfOk result (λ points. IsPath tool.now part.now y x0 x1 floor tol points.items) }
     ensures keeps { IfOk result (λ points. KeepsTolerance tool.now part.now y x0 x1 floor tol points.items) }
 {
-    let heights = drop_map_alone(alloc, part, cells, tool, &row(y, x0, x1), floor)?;
+    let heights = map_in_turn(alloc, part, cells, tool, &row(y, x0, x1), floor)?;
     let places = places_of(alloc, &heights, tol)?;
     tips(alloc, &heights, &places, y, x0)
 }

@@ -1,12 +1,10 @@
-//! Whether a move passes each triangle of a part, and if not, which is the first that it doesn't
-//! pass.
+//! Whether a move passes each triangle of a part, and else the first that it doesn't pass.
 //!
-//! It stands on the part and its cells (mill_part, mill_cells) and on `mill_sweep`, which tries one
-//! triangle. It promises that `clears` is so exactly where the move passes each triangle by halving,
-//! and that `first_gouge` else names the least triangle that the move doesn't pass, with its failing
-//! leaf, which that triangle blocks; `holder_clears` and `first_holder_gouge` do so of the cutter's
-//! holder, and `tool_clears` is so exactly where both pass. Only triangles in the move's reach are tried.
-//! Definitions: `specs/Gouges`; `specs/inner/` serves the functions within.
+//! It stands on mill_part and mill_cells, and on `mill_sweep`, which tries one triangle. `clears`
+//! is so exactly where the move passes each triangle by halving; `first_gouge` else names the
+//! least that it doesn't pass, with its failing leaf, which that triangle blocks. `holder_clears`,
+//! `first_holder_gouge` and `tool_clears` do so of a holder, and of both. Only triangles in the
+//! move's reach are tried. Definitions: `specs/Gouges`.
 #![tactic(auto)]
 
 mod clear;

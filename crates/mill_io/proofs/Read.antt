@@ -1,9 +1,10 @@
 -- Pieces that were read one after another.
-use Rattle.std.proofs.Common.{◌≡◌, ℕ, ◌+◌, ◌≤◌, ◌<◌, List, ◌++◌, length, take, drop, refl, ap, arith, ◌∙◌, sym, length-append}
+use Rattle.std.proofs.Common.{◌≡◌, ℕ, ◌+◌, ◌≤◌, ◌<◌, List, ◌∷◌, ◌++◌, length, take, drop, refl, ap, arith, ◌∙◌, sym, length-append, length-drop}
 use Rattle.std.proofs.lemmas.List.{length-take-le, take_all}
 use Rattle.std.specs.Prelude.{Option, Some, None, IfSome}
 use Rattle.std.proofs.Math.Seq.{take-add}
 use Rattle.mill_io.specs.Contents.{GivesFrom}
+use Rattle.mill_io.specs.Readings.{Reading}
 use Rattle.mill_io.specs.Views.{StoreView, ReadsOnly}
 
 -- a piece of n bytes makes what was read longer by n
@@ -29,6 +30,15 @@ read_all (Some bytes) all buf so_far gives room = so_far ∙ take_all (length al
 -- each read but the last gave a byte at least
 pub reads_more : (before now next : ℕ) (all all' n limit : ℕ) → next ≤ now + 1 → all' ≡ all + n → 0 < n → all ≤ limit → now ≤ before + all → (next ≤ before + all') × (next ≤ before + limit + 1)
 reads_more before now next all all' n limit more e some within so_far = (omega arith, omega arith)
+
+-- more bytes were given from a place on than the limit leaves
+pub past_limit : (told : Option (List ℕ)) (from n limit : ℕ) (buf : List ℕ) → limit < from + n → 0 < n → IfSome told (λ bytes. GivesFrom bytes from n buf) → IfSome told (λ bytes. limit < length bytes)
+past_limit None from n limit buf over some gives = tt
+past_limit (Some bytes) from n limit buf over some gives = omega (arith, over, some, gives.within, length-drop from bytes)
+
+-- a log that one read was added to is longer by one
+pub one_longer : (r : Reading) (a b : List Reading) → b ≡ r ∷ a → length b ≤ length a + 1
+one_longer r a b e = omega (arith, ap length e)
 
 -- reads after reads are reads
 pub reads_on : (a b c : StoreView) → ReadsOnly a b → ReadsOnly b c → ReadsOnly a c

@@ -64,14 +64,15 @@ contents_of s name = if bytes_eq name s.out_name.items then (if s.is_told then S
 
 -- what the shelf shows: it tells all its contents
 abbrev pub shelf_view : MemShelf → StoreView
-shelf_view s = record { tells = true; contents = contents_of s; read_faults = s.read_faults; write_faults = s.write_faults }
+shelf_view s = record { tells = true; contents = contents_of s; read_faults = s.read_faults; write_faults = s.write_faults; log = s.log.reads }
 
--- a shelf that tells its contents, which are those of these files, and of which no call has failed
+-- a shelf that tells its contents, which are those of these files, of which no call has failed and nothing was read
 pub record HoldsFiles (files : List MemFile) (view : StoreView) : Type 0 where
   pub tells : IsTrue view.tells
   pub contents : (name : List ℕ) → view.contents name ≡ find_file name files
   pub read_faults : view.read_faults ≡ 0
   pub write_faults : view.write_faults ≡ 0
+  pub unread : view.log ≡ []
 
 -- what the sink shows: it tells all that was written
 abbrev pub sink_view : MemSink → SinkView

@@ -2,22 +2,24 @@
 use Rattle.std.specs.Prelude.{◌≡◌, ℕ, Bool, false, IsTrue, List, Option, Some, None}
 use Rattle.mill_io.specs.Causes.{Rose}
 use Rattle.mill_io.specs.Contents.{Stay, OthersStay, Appended, AppendedPart, Stored, SameOrPart}
+use Rattle.mill_io.specs.Readings.{Reading}
 
--- what a store of files shows: whether it tells its contents, what it tells of each name, and how often a read and how often a create or an append failed
+-- what a store of files shows: whether it tells its contents, what it tells of each name, how often a read and how often a create or an append failed, and what each read gave, the last one first
 pub record StoreView : Type 0 where
   pub tells : Bool
   pub contents : List ℕ → Option (List ℕ)
   pub read_faults : ℕ
   pub write_faults : ℕ
+  pub log : List Reading
 
 -- what a sink shows: what was written, where it tells it, and how often a write failed
 pub record SinkView : Type 0 where
   pub written : Option (List ℕ)
   pub faults : ℕ
 
--- a store that tells no contents, with these counts
-abbrev pub untold : ℕ → ℕ → StoreView
-untold read_faults write_faults = record { tells = false; contents = λ name. None; read_faults = read_faults; write_faults = write_faults }
+-- a store that tells no contents, with these counts and these reads
+abbrev pub untold : ℕ → ℕ → List Reading → StoreView
+untold read_faults write_faults log = record { tells = false; contents = λ name. None; read_faults = read_faults; write_faults = write_faults; log = log }
 
 -- a sink that doesn't tell what was written, with this count
 abbrev pub unwritten : ℕ → SinkView
@@ -25,7 +27,7 @@ unwritten faults = record { written = None; faults = faults }
 
 -- ---- stores
 
--- nothing that the store shows has changed, but for its count of failed reads
+-- nothing that the store shows has changed, but for its reads and the count of those that failed
 pub record ReadsOnly (old new : StoreView) : Type 0 where
   pub contents : Stay old.contents new.contents
   pub tells : new.tells ≡ old.tells

@@ -1,6 +1,7 @@
-ghost use Rattle.std.specs.Prelude.{◌≡◌, ◌≤◌, length, IfOk};
+ghost use Rattle.std.specs.Prelude.{◌≡◌, ◌≤◌, [], length, IfOk};
 ghost use Rattle.mill_io.specs.Views.{untold, unwritten};
 
+use crate::log::{Log, Note};
 use crate::{Failed, Shelf, Sink};
 use std::alloc::Global;
 use std::io::{Read, Seek, SeekFrom, Write};
@@ -37,7 +38,7 @@ fn read_at<F: Read + Seek>(file: &mut F, at: u64, from: u64, buf: &mut [u8]) -> 
     file.read(buf)
 }
 
-/// Real files, by their paths. It tells no contents.
+/// Real files, by their paths. It tells no contents, but what each read gave.
 ///
 /// The file that is read stays open until a file of another name is read, a read fails, or a file is
 /// created or appended to. So a file that is read piece by piece is opened once, and is read as it
@@ -53,7 +54,7 @@ pub struct FileShelf<'a, R: Files> {
     open: Option<OpenFile<R::File>>,
     read_faults: u64,
     write_faults: u64,
-    reads: u64,
+    log: Log,
 }
 
 impl<'a, R: Files> FileShelf<'a, R> {
@@ -61,7 +62,7 @@ impl<'a, R: Files> FileShelf<'a, R> {
     pub fn new(alloc: Global, rt: &'a R) -> Self
         ensures read_faults { (⟦<FileShelf<'a, R> as Shelf>⟧.shows result).read_faults ≡ 0 }
         ensures write_faults { (⟦<FileShelf<'a, R> as Shelf>⟧.shows result).write_faults ≡ 0 }
-        ensures reads { ⟦<FileShelf<'a, R> as Shelf>⟧.reads result ≡ 0 }
+        ensures unread { (⟦<FileShelf<'a, R> as Shelf>⟧.shows result).log ≡ [] }
     {
         FileShelf {
             rt,
@@ -69,7 +70,7 @@ impl<'a, R: Files> FileShelf<'a, R> {
             open: None,
             read_faults: 0,
             write_faults: 0,
-            reads: 0,
+            log: Log::new(),
         }
     }
 
@@ -78,7 +79,7 @@ impl<'a, R: Files> FileShelf<'a, R> {
         ensures within { IfOk result (λ n. n ≤ length buf.new) }
         ensures read_faults { self.new.read_faults ≡ self.old.read_faults }
         ensures write_faults { self.new.write_faults ≡ self.old.write_faults }
-        ensures reads { self.new.reads ≡ self.old.reads }
+        ensures log { self.new.log ≡ self.old.log }
     {
         let mut open = match self.open.take() {
             Some(open) if open.name.as_slice() == name.as_bytes() => open,
@@ -104,16 +105,17 @@ impl<'a, R: Files> FileShelf<'a, R> {
 }
 
 impl<'a, R: Files> Shelf for FileShelf<'a, R> {
-    ghost shows = { λ s. untold s.read_faults s.write_faults };
-
-    ghost reads = { λ s. s.reads };
+    ghost shows = { λ s. untold s.read_faults s.write_faults s.log.reads };
 
     fn read(&mut self, name: &str, from: u64, buf: &mut [u8]) -> Result<usize, Failed> {
-        self.reads = self.reads.saturating_add(1);
         match self.try_read(name, from, buf) {
-            Ok(count) => Ok(count),
+            Ok(count) => {
+                self.log = self.log.then(&Note::Gave(name, from, count, buf));
+                Ok(count)
+            }
             Err(_) => {
                 self.read_faults = self.read_faults.saturating_add(1);
+                self.log = self.log.then(&Note::Failed(name, from));
                 Err(Failed)
             }
         }

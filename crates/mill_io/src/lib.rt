@@ -8,6 +8,7 @@
 #![tactic(auto)]
 
 mod files;
+mod log;
 mod mem_shelf;
 mod mem_sink;
 mod pieces;

@@ -1,10 +1,12 @@
-ghost use Rattle.std.specs.Prelude.{◌≡◌, ◌+◌, ◌<◌, ◌≤◌, [], Some, length, take, is_err, IfOk, IfSome, OnErr};
+ghost use Rattle.std.specs.Prelude.{◌≡◌, ◌<◌, ◌≤◌, [], ◌∷◌, Some, length, take, is_err, IfOk, IfSome, OnErr};
 ghost use Rattle.std.specs.Option.{option_copied};
 ghost use Rattle.mill_io.specs.Causes.{HasCause};
 ghost use Rattle.mill_io.specs.Contents.{GivesFrom, Appended, AppendedPart, Emptied};
 ghost use Rattle.mill_io.specs.Memory.{HoldsFiles, IsFresh, CountsCall, contents_of, find_file, out_name_of, shelf_capacity, shelf_script, shelf_view, read_fails, create_fails, append_fails};
+ghost use Rattle.mill_io.specs.Readings.{reading_of};
 ghost use Rattle.mill_io.specs.Views.{ReadsOnly, WritesOnly};
 
+use crate::log::{Log, Note};
 use crate::room::Room;
 use crate::script::Script;
 use crate::{Failed, Shelf};
@@ -28,7 +30,7 @@ pub struct MemShelf {
     script: Script,
     read_faults: u64,
     write_faults: u64,
-    reads: u64,
+    log: Log,
 }
 
 impl MemShelf {
@@ -48,7 +50,6 @@ impl MemShelf {
         fails: &[u64],
     ) -> Result<MemShelf, WantOfMemory>
         ensures shows { IfOk result (λ s. HoldsFiles files.items (⟦<MemShelf as Shelf>⟧.shows s)) }
-        ensures reads { IfOk result (λ s. ⟦<MemShelf as Shelf>⟧.reads s ≡ 0) }
         ensures out { IfOk result (λ s. out_name_of s ≡ out_name.now) }
         ensures capacity { IfOk result (λ s. shelf_capacity s ≡ capacity) }
         ensures script { IfOk result (λ s. IsFresh fails.now (shelf_script s)) }
@@ -67,7 +68,7 @@ impl MemShelf {
             script,
             read_faults: 0,
             write_faults: 0,
-            reads: 0,
+            log: Log::new(),
         })
     }
 
@@ -111,27 +112,27 @@ fn copy_from(bytes: &[u8], from: u64, buf: &mut [u8]) -> usize
 impl Shelf for MemShelf {
     ghost shows = { shelf_view };
 
-    ghost reads = { λ s. s.reads };
-
     fn read(&mut self, name: &str, from: u64, buf: &mut [u8]) -> Result<usize, Failed>
         ensures within { IfOk result (λ n. n ≤ length buf.new) }
         ensures bytes { IfOk result (λ n.
             IfSome (contents_of self.old name.now) (λ bytes. GivesFrom bytes from n buf.new)) }
         ensures only { ReadsOnly (shelf_view self.old) (shelf_view self.new) }
         ensures cause { HasCause self.old.read_faults self.new.read_faults result }
-        ensures counted { self.new.reads ≤ self.old.reads + 1 }
+        ensures logged { (shelf_view self.new).log ≡ reading_of name.now from buf.new result ∷ (shelf_view self.old).log }
 
         // Which reads fail, and that each call is counted.
         ensures fails { is_err result ≡ read_fails self.old name.now }
         ensures counts { CountsCall (shelf_script self.old) (shelf_script self.new) }
     {
-        self.reads = self.reads.saturating_add(1);
         if !self.script.fails_now() {
             if let Some(bytes) = self.find(name.as_bytes()) {
-                return Ok(copy_from(bytes, from, buf));
+                let count = copy_from(bytes, from, buf);
+                self.log = self.log.then(&Note::Gave(name, from, count, buf));
+                return Ok(count);
             }
         }
         self.read_faults = self.read_faults.saturating_add(1);
+        self.log = self.log.then(&Note::Failed(name, from));
         Err(Failed)
     }
 
@@ -139,6 +140,7 @@ impl Shelf for MemShelf {
         ensures emptied { Emptied (contents_of self.old name.now) (contents_of self.new name.now) result }
         ensures only { WritesOnly name.now (shelf_view self.old) (shelf_view self.new) }
         ensures cause { HasCause self.old.write_faults self.new.write_faults result }
+        ensures unread { (shelf_view self.new).log ≡ (shelf_view self.old).log }
 
         // Which creates fail, that an Ok tells the contents, and that each call is counted.
         ensures fails { is_err result ≡ create_fails self.old name.now }
@@ -163,6 +165,7 @@ impl Shelf for MemShelf {
             (contents_of self.old name.now) (contents_of self.new name.now)) }
         ensures only { WritesOnly name.now (shelf_view self.old) (shelf_view self.new) }
         ensures cause { HasCause self.old.write_faults self.new.write_faults result }
+        ensures unread { (shelf_view self.new).log ≡ (shelf_view self.old).log }
 
         // Which appends fail, and that each call is counted.
         ensures fails { is_err result ≡ append_fails self.old name.now bytes.now }

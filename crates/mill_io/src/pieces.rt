@@ -1,7 +1,9 @@
 //! The contents under a name, piece by piece.
-ghost use Rattle.std.specs.Prelude.{◌≡◌, ◌+◌, ◌<◌, ◌≤◌, length, None, IfOk, IfSome};
+ghost use Rattle.std.specs.Prelude.{◌≡◌, ◌+◌, ◌<◌, ◌≤◌, ℕ, List, Option, Err, length, None, IfOk, IfSome};
 ghost use Rattle.mill_io.specs.Pieces.{GivesNext, PieceEndsBy, answer_behind};
+ghost use Rattle.mill_io.specs.Readings.{AreHeld, LastFails};
 ghost use Rattle.mill_io.specs.Views.{ReadsOnly};
+ghost use Rattle.mill_io.specs.declared.pieces.PieceEnd.TheVariants.{ReadFault as AtRead};
 
 use crate::{Failed, Shelf};
 use thiserror::Error;
@@ -61,8 +63,10 @@ impl<'a, S: Shelf> Pieces<'a, S> {
     pub fn next(&mut self, buf: &mut [u8]) -> Result<usize, PieceEnd>
         requires { 0 < length buf.old }
         ensures within { IfOk result (λ n. n ≤ length buf.new) }
-        ensures next { self.old.end ≡ None →
-            GivesNext ((S.shows self.old.shelf.now).contents self.old.name.now) self.old.limit self.old.given buf.new result }
+        ensures next { (contents : List ℕ → Option (List ℕ)) → AreHeld contents (S.shows self.old.shelf.now).log (S.shows self.new.shelf.now).log →
+            self.old.end ≡ None → GivesNext (contents self.old.name.now) self.old.limit self.old.given buf.new result }
+        ensures held { AreHeld (S.shows self.old.shelf.now).contents (S.shows self.old.shelf.now).log (S.shows self.new.shelf.now).log }
+        ensures failed { self.old.end ≡ None → result ≡ Err AtRead → LastFails self.old.name.now (S.shows self.new.shelf.now).log }
         ensures cause { self.old.end ≡ None →
             PieceEndsBy (S.shows self.old.shelf.now).read_faults (S.shows self.new.shelf.now).read_faults result }
         ensures again { IfSome self.old.end (λ end. result ≡ answer_behind end) }
@@ -70,8 +74,8 @@ impl<'a, S: Shelf> Pieces<'a, S> {
         ensures given { self.new.given ≡ self.old.given + bytes_given result }
         ensures end { self.new.end ≡ end_by result }
         ensures only { ReadsOnly (S.shows self.old.shelf.now) (S.shows self.new.shelf.now) }
-        ensures few { S.reads self.new.shelf.now + reads_left self.new.end self.new.limit self.new.given
-            ≤ S.reads self.old.shelf.now + reads_left self.old.end self.old.limit self.old.given }
+        ensures few { length (S.shows self.new.shelf.now).log + reads_left self.new.end self.new.limit self.new.given
+            ≤ length (S.shows self.old.shelf.now).log + reads_left self.old.end self.old.limit self.old.given }
         ensures same_reference { self.new.shelf.ghost_name ≡ self.old.shelf.ghost_name }
         ensures name { self.new.name.now ≡ self.old.name.now }
         ensures limit { self.new.limit ≡ self.old.limit }
@@ -116,10 +120,13 @@ fn read_within<S: Shelf>(
     requires buf { 0 < length buf.old }
     requires from { from ≤ limit }
     ensures within { IfOk result (λ n. n ≤ length buf.new) }
-    ensures next { GivesNext ((S.shows shelf.old).contents name.now) limit from buf.new result }
+    ensures next { (contents : List ℕ → Option (List ℕ)) → AreHeld contents (S.shows shelf.old).log (S.shows shelf.new).log →
+        GivesNext (contents name.now) limit from buf.new result }
+    ensures held { AreHeld (S.shows shelf.old).contents (S.shows shelf.old).log (S.shows shelf.new).log }
+    ensures failed { result ≡ Err AtRead → LastFails name.now (S.shows shelf.new).log }
     ensures cause { PieceEndsBy (S.shows shelf.old).read_faults (S.shows shelf.new).read_faults result }
     ensures only { ReadsOnly (S.shows shelf.old) (S.shows shelf.new) }
-    ensures counted { S.reads shelf.new ≤ S.reads shelf.old + 1 }
+    ensures counted { length (S.shows shelf.new).log ≤ length (S.shows shelf.old).log + 1 }
 {
     let count = match shelf.read(name, from, buf) {
         Ok(count) => count,

@@ -1,6 +1,7 @@
-ghost use Rattle.std.specs.Prelude.{◌≡◌, ◌+◌, ◌<◌, ◌≤◌, [], ℕ, Some, length, take, IsTrue, IfOk, IfSome, OnOk, OnErr};
+ghost use Rattle.std.specs.Prelude.{◌≡◌, ◌<◌, ◌≤◌, [], ◌∷◌, Some, length, take, IsTrue, IfOk, IfSome, OnOk, OnErr};
 ghost use Rattle.mill_io.specs.Causes.{HasCause};
 ghost use Rattle.mill_io.specs.Contents.{GivesFrom, Appended, AppendedPart, Emptied};
+ghost use Rattle.mill_io.specs.Readings.{reading_of};
 ghost use Rattle.mill_io.specs.Views.{StoreView, SinkView, ReadsOnly, WritesOnly, IsWritten, IsPartWritten};
 
 use thiserror::Error;
@@ -17,27 +18,21 @@ pub struct Failed;
 /// raised it.
 pub trait Shelf {
     /// What the store shows: whether it tells its contents, and if so those of each name that was
-    /// created; what it tells of each name; and how often a read, and how often a create or an
-    /// append, failed.
+    /// created; what it tells of each name; how often a read, and how often a create or an append,
+    /// failed; and what each read gave.
     ghost shows: { Self → StoreView };
-
-    /// A count that a read raises by at most one.
-    ///
-    /// That [`read_whole`](crate::read_whole) makes at most `limit + 2` reads rests on its being
-    /// proved for every shelf, and so for one that counts each read.
-    ghost reads: { Self → ℕ };
 
     /// Reads the bytes under a name, from a place on, into the buffer, and answers how many.
     ///
-    /// A buffer that isn't empty gets 0 bytes exactly at or past the end. Nothing but the counts
-    /// changes.
+    /// A buffer that isn't empty gets 0 bytes exactly at or past the end. Nothing changes but the count
+    /// of failed reads, and that this read is now the last.
     fn read(&mut self, name: &str, from: u64, buf: &mut [u8]) -> Result<usize, Failed>
         ensures within { IfOk result (λ n. n ≤ length buf.new) }
         ensures bytes { IfOk result (λ n.
             IfSome ((shows self.old).contents name.now) (λ bytes. GivesFrom bytes from n buf.new)) }
         ensures only { ReadsOnly (shows self.old) (shows self.new) }
         ensures cause { HasCause (shows self.old).read_faults (shows self.new).read_faults result }
-        ensures counted { reads self.new ≤ reads self.old + 1 };
+        ensures logged { (shows self.new).log ≡ reading_of name.now from buf.new result ∷ (shows self.old).log };
 
     /// Makes the contents under a name empty, also where the name was absent.
     ///
@@ -47,7 +42,8 @@ pub trait Shelf {
         ensures told { IsTrue (shows self.old).tells →
             OnOk result ((shows self.new).contents name.now ≡ Some []) }
         ensures only { WritesOnly name.now (shows self.old) (shows self.new) }
-        ensures cause { HasCause (shows self.old).write_faults (shows self.new).write_faults result };
+        ensures cause { HasCause (shows self.old).write_faults (shows self.new).write_faults result }
+        ensures unread { (shows self.new).log ≡ (shows self.old).log };
 
     /// Adds bytes to the contents under a name, and answers how many of them.
     ///
@@ -61,7 +57,8 @@ pub trait Shelf {
         ensures part { OnErr result (AppendedPart bytes.now
             ((shows self.old).contents name.now) ((shows self.new).contents name.now)) }
         ensures only { WritesOnly name.now (shows self.old) (shows self.new) }
-        ensures cause { HasCause (shows self.old).write_faults (shows self.new).write_faults result };
+        ensures cause { HasCause (shows self.old).write_faults (shows self.new).write_faults result }
+        ensures unread { (shows self.new).log ≡ (shows self.old).log };
 }
 
 /// Where bytes are written, one after another.

@@ -1,7 +1,8 @@
-ghost use Rattle.std.specs.Prelude.{◌≡◌, ◌+◌, ◌<◌, ◌≤◌, length, OnOk, OnErr};
+ghost use Rattle.std.specs.Prelude.{◌≡◌, ◌+◌, ◌<◌, ◌≤◌, ℕ, List, Option, Err, length, OnOk, OnErr};
+ghost use Rattle.mill_io.specs.Readings.{AreHeld, LastFails};
 ghost use Rattle.mill_io.specs.Views.{ReadsOnly, IsWritten, IsPartWritten};
 ghost use Rattle.mill_io.specs.Whole.{IsWhole, ReadEndsBy};
-ghost use Rattle.mill_io.specs.declared.whole.ReadEnd.TheVariants.{WantOfMemory};
+ghost use Rattle.mill_io.specs.declared.whole.ReadEnd.TheVariants.{ReadFault as AtRead, WantOfMemory};
 
 use crate::{Failed, Shelf, Sink};
 use std::alloc::{AllocError, Global};
@@ -34,6 +35,9 @@ impl From<AllocError> for ReadEnd {
 
 /// All the bytes under a name, if they are at most `limit`.
 ///
+/// This is right by whatever the files hold, if they hold what the reads gave: so it is by what the
+/// store tells of them.
+///
 /// It is `ReadFault` where a read failed, `TooLong` where none did and more than `limit` bytes were
 /// given, and `WantOfMemory` where there was no memory for them. It makes at most `limit + 2`
 /// reads.
@@ -43,10 +47,13 @@ pub fn read_whole<S: Shelf>(
     name: &str,
     limit: u64,
 ) -> Result<Vec<u8>, ReadEnd>
-    ensures whole { IsWhole ((S.shows shelf.old).contents name.now) limit result }
+    ensures whole { (contents : List ℕ → Option (List ℕ)) → AreHeld contents (S.shows shelf.old).log (S.shows shelf.new).log →
+        IsWhole (contents name.now) limit result }
+    ensures held { AreHeld (S.shows shelf.old).contents (S.shows shelf.old).log (S.shows shelf.new).log }
+    ensures failed { result ≡ Err AtRead → LastFails name.now (S.shows shelf.new).log }
     ensures cause { ReadEndsBy (S.shows shelf.old).read_faults (S.shows shelf.new).read_faults result }
     ensures only { ReadsOnly (S.shows shelf.old) (S.shows shelf.new) }
-    ensures few { S.reads shelf.new ≤ S.reads shelf.old + limit + 2 }
+    ensures few { length (S.shows shelf.new).log ≤ length (S.shows shelf.old).log + limit + 2 }
 {
     let mut piece = vec![in alloc; 0u8; PIECE]?;
     read_pieces(alloc, shelf, name, limit, &mut piece)
@@ -61,10 +68,13 @@ fn read_pieces<S: Shelf>(
     buf: &mut [u8],
 ) -> Result<Vec<u8>, ReadEnd>
     requires { 0 < length buf.old }
-    ensures whole { IsWhole ((S.shows shelf.old).contents name.now) limit result }
+    ensures whole { (contents : List ℕ → Option (List ℕ)) → AreHeld contents (S.shows shelf.old).log (S.shows shelf.new).log →
+        IsWhole (contents name.now) limit result }
+    ensures held { AreHeld (S.shows shelf.old).contents (S.shows shelf.old).log (S.shows shelf.new).log }
+    ensures failed { result ≡ Err AtRead → LastFails name.now (S.shows shelf.new).log }
     ensures cause { ReadEndsBy (S.shows shelf.old).read_faults (S.shows shelf.new).read_faults result }
     ensures only { ReadsOnly (S.shows shelf.old) (S.shows shelf.new) }
-    ensures few { S.reads shelf.new ≤ S.reads shelf.old + limit + 2 }
+    ensures few { length (S.shows shelf.new).log ≤ length (S.shows shelf.old).log + limit + 2 }
 {
     let mut all = Vec::new(alloc);
     while all.len() as u64 <= limit {

@@ -1,12 +1,10 @@
-//! A job: the tool, the stock, its columns, the tolerances, and the TOML document that tells them.
+//! A job: the tool, the stock, its columns, the tolerances, and the TOML text that tells them.
 //!
-//! It stands on `mill_base`, on `mill_decimal` for how decimals are taken, and on the kit's `toml`.
-//! It promises that a text is read exactly as its definition says, down to which fault comes first,
-//! and that every job that was read is in range.
-//! Definitions: `specs/Columns` says where the columns of a job stand, `specs/Jobs` which jobs are
-//! in range, `specs/Keys`, `specs/Tables`, `specs/Cutters`, `specs/Holders` and `specs/Documents` what
-//! a text means, and `specs/NoUnit` what one means that names no unit.
-//! `specs/inner` has what private functions and proofs cite alone.
+//! It stands on `mill_base`, on `mill_decimal` for how decimals are taken, and on the kit's
+//! `toml`. It promises that a text is read exactly as its definition says, down to which fault
+//! comes first, and that every job that was read is in range (`specs/Jobs`). What a text means is
+//! in `specs/Documents` and the modules that it cites, where columns stand in `specs/Columns`, and
+//! what a text means that names no unit in `specs/NoUnit`.
 #![tactic(auto)]
 
 mod arrays;

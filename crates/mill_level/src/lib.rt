@@ -1,11 +1,10 @@
 //! Waterlines: the places round a part, chain by chain, up to which a tool can come at one height.
-//! Each place is free; the way from one to the next isn't looked at.
 //!
-//! It stands on the push-cutter (mill_push). `waterline` promises the chains of a lattice's crossings,
-//! exactly: each crossing between a free and a blocked node stands in one of them, once. `specs/Grids`
-//! says which nodes are blocked and which edges cross, `specs/Crossings` where a crossing is,
-//! `specs/Joins` how crossings are joined, `specs/Chains` what a chain is and in which order they come,
-//! and `specs/Waterlines` puts these together.
+//! It stands on the push-cutter (mill_push). `waterline` promises the chains of a lattice's
+//! crossings, exactly: each crossing between a free and a blocked node stands in one of them,
+//! once, at the last free position. The way from one place to the next isn't looked at.
+//! Definitions: `specs/Grids`, `specs/Crossings`, `specs/Joins`, `specs/Chains`,
+//! `specs/Waterlines`.
 #![tactic(auto)]
 
 mod chain;

@@ -1,12 +1,10 @@
-//! By how much a move that gouges has to be raised: the least whole number of units by which both its
-//! ends go up, so that its tool, with its holder, passes each triangle of the part.
+//! By how much a move that gouges has to be raised until its tool passes the part.
 //!
-//! It stands on the part and its cells (mill_part, mill_cells) and on `mill_gouge`, which tests one move
-//! against the part. `least_lift` finds that number by halving the stretch from 0 to a lift that surely is
-//! enough: a move that is raised passes whatever it passed before, and over the part's highest corner
-//! everything passes. These are laws that have a call each (`laws`). `has_room` says whether the move can
-//! be raised so far within the range of coordinates, as `least_lift` asks for.
-//! Definitions: `specs/Lifts` says what a least lift is, and `specs/Laws` what it does to raise a move.
+//! It stands on mill_part and mill_cells, and on `mill_gouge`, which tests one move. `least_lift`
+//! promises the least whole number of units by which both ends go up so that cutter and holder
+//! pass each triangle: raised by more they pass too, by less they don't, and so raised the move
+//! never gouges (`specs/Lifts`, `specs/Laws`). `has_room` says whether it can be raised over the
+//! part within the range of coordinates.
 #![tactic(auto)]
 
 mod bisect;

@@ -1,12 +1,9 @@
 //! The moves that link the place where the cutter is to the next that it comes to.
 //!
-//! It stands on the job (mill_job), on `mill_gouge`, which tries the tool on one move against the part, and
-//! on `mill_dexel`, whose rows are the stock that the moves so far leave. A tool is the cutter, and its
-//! holder if the job has one.
-//!
-//! `specs/Links` says which moves link a place to a visit, `specs/Tours` which go through a list of visits,
-//! and `specs/Safety` what each of these moves keeps; what lies in `specs/inner` serves the functions
-//! within.
+//! It stands on mill_job, on `mill_gouge` and on `mill_dexel`, whose rows are the stock that the
+//! moves so far leave. `link`, `link_known` and `home` promise exactly the moves of `specs/Links`
+//! and `specs/Tours`; by `specs/Safety` each of these passes the tests of floor, part and holder,
+//! and, with the cutter, of the stock.
 #![tactic(auto)]
 
 mod laws;

@@ -27,8 +27,8 @@ use mill_part::Part;
 /// triangles.
 ///
 /// Where the job limits the depth of cut, the rows are to be those of the stock as the moves so far
-/// leave it, and then they are as the added moves leave it. Where it doesn't, they aren't looked at
-/// and may be none.
+/// leave it, and then they are as the added moves leave it. Where it doesn't, they aren't looked at,
+/// stay as they are and may be none.
 ///
 /// Coordinates are in the job's units, of at most 524,287 in magnitude.
 ///
@@ -53,6 +53,7 @@ pub fn link(
         → OnOk result (AddsLink job.now part.now done from to out.old.items out.new.items) }
     ensures stock { (done added : List OneMove) → FollowStock job.now done rows.old → out.new.items ≡ out.old.items ++ added
         → OnOk result (FollowStock job.now (done ++ added) rows.new) }
+    ensures untested { job.now.max_cut ≡ pos 0 → rows.new ≡ rows.old }
     ensures rows_ok { All (IsRowOf job.now) rows.new }
     ensures err { OnErr result (out.new.items ≡ out.old.items) }
     ensures err_rows { OnErr result (rows.new ≡ rows.old) }
@@ -102,6 +103,7 @@ pub fn link_known(
         → OnOk result (AddsLink job.now part done from to out.old.items out.new.items) }
     ensures stock { (done added : List OneMove) → FollowStock job.now done rows.old → out.new.items ≡ out.old.items ++ added
         → OnOk result (FollowStock job.now (done ++ added) rows.new) }
+    ensures untested { job.now.max_cut ≡ pos 0 → rows.new ≡ rows.old }
     ensures rows_ok { All (IsRowOf job.now) rows.new }
     ensures err { OnErr result (out.new.items ≡ out.old.items) }
     ensures err_rows { OnErr result (rows.new ≡ rows.old) }
@@ -188,6 +190,7 @@ fn cut(job: &Job, rows: &mut [Row], moves: &[Move])
     requires rows_ok { All (IsRowOf job.now) rows.old }
     requires moves_ok { MovesInRange moves.now }
     ensures stock { (done : List OneMove) → FollowStock job.now done rows.old → FollowStock job.now (done ++ moves.now) rows.new }
+    ensures untested { job.now.max_cut ≡ pos 0 → rows.new ≡ rows.old }
     ensures rows_ok { All (IsRowOf job.now) rows.new }
 {
     if job.max_cut == 0 {

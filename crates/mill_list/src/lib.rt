@@ -1,9 +1,9 @@
-//! A list of steps: programs that cut one stock one after the other, each with its own cutter, and the
-//! TOML document that tells them.
+//! A list of steps: programs that cut one stock one after the other, each with its own cutter.
 //!
 //! It stands on `mill_job`, whose keys tell a cutter and with whose job each cutter must agree. It
-//! promises that a text is read exactly as its definition says, down to which fault comes first.
-//! Definitions: `specs/Steps` says what one table of a list means, `specs/Lists` what a text does.
+//! promises that a TOML text is read exactly as its definition says, down to which fault comes
+//! first. Definitions: `specs/Steps` says what one table of a list means, `specs/Lists` what a
+//! text does.
 #![tactic(auto)]
 
 mod limits;

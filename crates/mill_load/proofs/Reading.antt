@@ -1,9 +1,17 @@
 -- What was read from the bytes of a file holds of what the store tells of it.
-use Rattle.std.proofs.Common.{◌≡◌, ℕ, List, Option, Some, None, Result, Ok, Err, refl, sym, subst, arith}
-use Rattle.std.specs.Prelude.{◌<◌, ◌-◌, ◌^◌, ℤ, IfSome}
+use Rattle.std.proofs.Common.{◌≡◌, ℕ, List, length, Option, Some, None, Result, Ok, Err, refl, sym, subst, arith}
+use Rattle.std.specs.Prelude.{◌<◌, ◌-◌, ◌^◌, ℤ, IfErr, IfSome}
 use Rattle.mill_base.specs.declared.points.Tri.{Tri}
 use Rattle.mill_base.specs.Covers.{IsUnder}
+use Rattle.std.specs.Prelude.{Vec as AnyVec}
+use Rattle.std.specs.declared.alloc.Global.{Global}
 use Rattle.mill_io.specs.Causes.{Rose}
+use Rattle.mill_io.specs.Pieces.{GivesNext}
+use Rattle.mill_io.specs.Whole.{IsWhole}
+use Rattle.mill_io.specs.declared.pieces.PieceEnd.{PieceEnd}
+use Rattle.mill_io.specs.declared.pieces.PieceEnd.TheVariants.{TooLong as LongPiece}
+use Rattle.mill_io.specs.declared.whole.ReadEnd.{ReadEnd}
+use Rattle.mill_io.specs.declared.whole.ReadEnd.TheVariants.{TooLong as Long}
 use Rattle.mill_job.specs.declared.job.Job.{Job}
 use Rattle.mill_part.specs.declared.part.Part.{Part}
 use Rattle.mill_load.specs.declared.file.File.TheVariants.{Job as JobFile, Part as PartFile, Program as ProgramFile, List as ListFile, StepProgram}
@@ -14,7 +22,9 @@ use Rattle.mill_io.specs.Views.{StoreView}
 use Rattle.mill_io.proofs.Read.{reads_on}
 use Rattle.mill_load.specs.declared.load.Unfit.{Unfit as UnfitFault}
 use Rattle.mill_load.specs.declared.load.Setup.{Setup}
-use Rattle.mill_load.specs.Loads.{LoadsJob, LoadsPart, LoadsUnder, LoadsSetup, JoinsPart, CountsFault, OnlyLoads}
+use Rattle.mill_load.specs.Loads.{LoadsJob, LoadsPart, LoadsUnder, LoadsSetup, JoinsPart, CountsFault, NamesFault, OnlyLoads}
+use Rattle.mill_io.specs.Readings.{LastFails, Reading}
+use Rattle.mill_load.specs.declared.file.File.{File}
 use Rattle.mill_load.specs.inner.Steps.{IsLow}
 use Rattle.mill_load.specs.Setup.{SetupTexts, ReadsJob, IsPartText, IsUnfitWith, IsReadBeforeWith}
 
@@ -184,6 +194,24 @@ joined_under job told part (Err (Unfit (PartTop height top unit))) is h =
 -- a count that can still rise, and rose, is greater
 pub rises : (before now : ℕ) → before < 2 ^ 64 - 1 → Rose before now → before < now
 rises before now room rose = omega (room, rose, arith)
+
+-- a file that is too long is longer than the limit
+pub whole_long : (told : Option (List ℕ)) (limit : ℕ) (r : Result (AnyVec ℕ Global) ReadEnd) → r ≡ Err Long → IsWhole told limit r → IfSome told (λ bytes. limit < length bytes)
+whole_long told limit r e h = subst (λ (x : Result (AnyVec ℕ Global) ReadEnd). IsWhole told limit x) e h
+
+pub next_long : (told : Option (List ℕ)) (limit given : ℕ) (buf : List ℕ) (r : Result ℕ PieceEnd) → r ≡ Err LongPiece → GivesNext told limit given buf r → IfSome told (λ bytes. limit < length bytes)
+next_long told limit given buf r e h = subst (λ (x : Result ℕ PieceEnd). GivesNext told limit given buf x) e h
+
+-- no count rose from 0 to 0
+unrisen : Rose 0 0 → ⊥
+unrisen rose = omega (rose, arith)
+
+-- what isn't read from a store comes to no read fault
+pub none_failed : {T : Type 0} (names : File → List ℕ) (log : List Reading) (r : Result T LoadFault) → CountsFault 0 0 r → IfErr r (NamesFault names log)
+none_failed names log (Ok x) h = tt
+none_failed names log (Err Memory) h = tt
+none_failed names log (Err (ReadFault file)) h = absurd (unrisen h)
+none_failed names log (Err (Unfit fault)) h = tt
 
 -- ---- one reading after another
 

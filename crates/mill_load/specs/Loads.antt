@@ -1,5 +1,5 @@
 -- What reading a command's files comes to, and what it does to the store.
-use Rattle.std.specs.Prelude.{◌≡◌, ◌≤◌, ℕ, ℤ, ◌<ℤ◌, List, length, Option, IfSome, Result, Ok, Err}
+use Rattle.std.specs.Prelude.{◌≡◌, ◌<◌, ◌≤◌, ℕ, ℤ, ◌<ℤ◌, List, length, Option, IfSome, Result, Ok, Err}
 use Rattle.std.specs.Global.{Vec}
 use Rattle.mill_base.specs.declared.limits.TheConstants.{MAX_MOVES}
 use Rattle.mill_base.specs.declared.points.Tri.{Tri}
@@ -9,6 +9,7 @@ use Rattle.mill_base.specs.Motion.{Follow}
 use Rattle.mill_base.specs.Ranges.{MovesInUnitRange}
 use Rattle.mill_base.specs.Covers.{IsUnder}
 use Rattle.mill_io.specs.Causes.{Rose}
+use Rattle.mill_io.specs.Readings.{Reading, LastFails}
 use Rattle.mill_io.specs.Views.{StoreView, ReadsOnly}
 use Rattle.mill_part.specs.Tops.{IsTop}
 use Rattle.mill_part.specs.declared.part.Part.{Part}
@@ -22,7 +23,7 @@ use Rattle.mill_load.specs.declared.load.LoadFault.TheVariants.{Memory, ReadFaul
 use Rattle.mill_load.specs.declared.load.Unfit.TheVariants.{TooLong, JobRefused, PartRefused, ProgramRefused, PartTop}
 use Rattle.mill_load.specs.declared.load.Setup.{Setup}
 use Rattle.mill_load.specs.Programs.{IsProgramText, IsRefusedProgram}
-use Rattle.mill_load.specs.Setup.{SetupTexts, IsTooLong, IsJobText, IsRefusedJob, IsPartText, IsRefusedPart, ReadsSetup, IsUnfit, IsReadBefore}
+use Rattle.mill_load.specs.Setup.{SetupTexts, IsTooLong, IsTooLongJob, most_bytes, IsJobText, IsRefusedJob, IsPartText, IsRefusedPart, ReadsSetup, IsUnfit, IsReadBefore}
 
 -- ---- one file
 
@@ -31,7 +32,7 @@ abbrev pub ReadsFile : Option (List ℕ) → File → Result (Vec ℕ) LoadFault
 ReadsFile told file (Ok v) = IfSome told (λ text. v.items ≡ text)
 ReadsFile told file (Err Memory) = Unit {0}
 ReadsFile told file (Err (ReadFault f)) = f ≡ file
-ReadsFile told file (Err (Unfit (TooLong f))) = (f ≡ file) × IfSome told IsTooLong
+ReadsFile told file (Err (Unfit (TooLong f))) = (f ≡ file) × IfSome told (λ text. most_bytes file < length text)
 ReadsFile told file (Err (Unfit _)) = ⊥
 
 -- the job of a file, or why there is none
@@ -39,7 +40,7 @@ abbrev pub LoadsJob : Option (List ℕ) → Result Job LoadFault → Type 0
 LoadsJob told (Ok job) = IfSome told (λ text. IsJobText text job)
 LoadsJob told (Err Memory) = Unit {0}
 LoadsJob told (Err (ReadFault JobFile)) = Unit {0}
-LoadsJob told (Err (Unfit (TooLong JobFile))) = IfSome told IsTooLong
+LoadsJob told (Err (Unfit (TooLong JobFile))) = IfSome told IsTooLongJob
 LoadsJob told (Err (Unfit (JobRefused fault))) = IfSome told (λ text. IsRefusedJob text fault)
 LoadsJob told (Err _) = ⊥
 
@@ -104,6 +105,12 @@ CountsFault before now (Err (Unfit fault)) = now ≡ before
 pub record OnlyLoads {T : Type 0} (old new : StoreView) (result : Result T LoadFault) : Type 0 where
   pub only : ReadsOnly old new
   pub reads : CountsFault old.read_faults new.read_faults result
+
+-- a read fault is that of the last read, which was one of the name that these names give to the file
+abbrev pub NamesFault : (File → List ℕ) → List Reading → LoadFault → Type 0
+NamesFault names log Memory = Unit {0}
+NamesFault names log (ReadFault file) = LastFails (names file) log
+NamesFault names log (Unfit fault) = Unit {0}
 
 -- ---- what was read
 

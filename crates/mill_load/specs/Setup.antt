@@ -11,7 +11,8 @@ use Rattle.mill_job.specs.declared.job.Job.{Job}
 use Rattle.mill_job.specs.declared.fault.JobFault.{JobFault}
 use Rattle.mill_job.specs.Documents.{IsJobOf}
 use Rattle.mill_load.specs.declared.file.File.{File}
-use Rattle.mill_load.specs.declared.file.File.TheVariants.{Job as JobFile, Part as PartFile}
+use Rattle.mill_load.specs.declared.file.File.TheVariants.{Job as JobFile, Part as PartFile, Program as ProgramFile, List as ListFile, StepProgram}
+use Rattle.mill_load.specs.declared.limits.TheConstants.{MAX_JOB_BYTES}
 use Rattle.mill_load.specs.declared.load.Unfit.{Unfit}
 use Rattle.mill_load.specs.declared.load.Unfit.TheVariants.{TooLong, JobRefused, PartRefused, PartTop}
 
@@ -28,23 +29,38 @@ pub record AreSetupTold (texts : SetupTexts) : Type 0 where
   pub job : IsSome texts.job
   pub part : IsSome texts.part
 
--- a file has no more bytes than it may have, or has more
+-- a part or a program has no more bytes than it may have, or has more
 abbrev pub Fits : List ℕ → Type 0
 Fits text = length text ≤ MAX_FILE_BYTES
 
 abbrev pub IsTooLong : List ℕ → Type 0
 IsTooLong text = MAX_FILE_BYTES < length text
 
+-- so it is of a job or a list
+abbrev pub FitsJobFile : List ℕ → Type 0
+FitsJobFile text = length text ≤ MAX_JOB_BYTES
+
+abbrev pub IsTooLongJob : List ℕ → Type 0
+IsTooLongJob text = MAX_JOB_BYTES < length text
+
+-- the most bytes that each of the files may have
+abbrev pub most_bytes : File → ℕ
+most_bytes JobFile = MAX_JOB_BYTES
+most_bytes PartFile = MAX_FILE_BYTES
+most_bytes ProgramFile = MAX_FILE_BYTES
+most_bytes ListFile = MAX_JOB_BYTES
+most_bytes (StepProgram k) = MAX_FILE_BYTES
+
 -- ---- the job
 
 -- a text within the limit that reads as this job
 pub record IsJobText (text : List ℕ) (job : Job) : Type 0 where
-  pub fits : Fits text
+  pub fits : FitsJobFile text
   pub reads : IsJobOf text (Ok job)
 
 -- a text within the limit that is refused, with its first fault
 pub record IsRefusedJob (text : List ℕ) (fault : JobFault) : Type 0 where
-  pub fits : Fits text
+  pub fits : FitsJobFile text
   pub refused : IsJobOf text (Err fault)
 
 -- where the job's file is told, it reads as this job
@@ -101,7 +117,7 @@ pub record HighPart (texts : SetupTexts) (height top : ℤ) (unit : LengthUnit) 
 
 -- the first check of the two files that fails
 abbrev pub IsUnfit : SetupTexts → Unfit → Type 0
-IsUnfit texts (TooLong JobFile) = IfSome texts.job IsTooLong
+IsUnfit texts (TooLong JobFile) = IfSome texts.job IsTooLongJob
 IsUnfit texts (TooLong PartFile) = LongPart texts
 IsUnfit texts (JobRefused fault) = IfSome texts.job (λ text. IsRefusedJob text fault)
 IsUnfit texts (PartRefused fault) = RefusesPart texts fault

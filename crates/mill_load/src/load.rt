@@ -1,12 +1,15 @@
 //! Reading the job and the part of a command, and the bytes of any of its files.
-ghost use Rattle.std.specs.Prelude.{◌≡◌, IfOk, Some};
+ghost use Rattle.std.specs.Prelude.{◌≡◌, ◌≤◌, ℕ, List, length, IfErr, IfOk, Some};
 ghost use Rattle.mill_job.specs.Jobs.{IsJob};
-ghost use Rattle.mill_load.specs.Loads.{ReadsFile, LoadsJob, LoadsPart, LoadsUnder, LoadsSetup, JoinsPart, OnlyLoads, CountsFault, IsSetup};
+ghost use Rattle.mill_load.specs.Loads.{ReadsFile, LoadsJob, LoadsPart, LoadsUnder, LoadsSetup, JoinsPart, NamesFault, OnlyLoads, CountsFault, IsSetup};
 ghost use Rattle.mill_load.specs.inner.Steps.{IsLow};
-ghost use Rattle.mill_load.specs.Setup.{setup_texts, Fits};
+ghost use Rattle.mill_load.specs.Setup.{setup_texts, Fits, FitsJobFile, most_bytes};
+ghost use Rattle.mill_load.specs.declared.file.File.{File as AnyFile};
+ghost use Rattle.mill_load.specs.declared.file.File.TheVariants.{Job as JobFile, Part as PartFile};
 ghost use Rattle.mill_load.specs.declared.load.LoadFault.TheVariants as load_fault;
 
 use crate::file::File;
+use crate::limits::MAX_JOB_BYTES;
 use mill_base::{MAX_FILE_BYTES, Unit, WantOfMemory};
 use mill_io::{ReadEnd, Shelf, read_whole};
 use mill_job::{Job, JobFault, read_job};
@@ -75,6 +78,8 @@ pub fn load_setup<S: Shelf>(
 ) -> Result<Setup, LoadFault>
     ensures told { LoadsSetup (setup_texts (S.shows shelf.old).contents job.now part.now) result }
     ensures ready { IfOk result IsSetup }
+    ensures failed { (names : AnyFile → List ℕ) → names JobFile ≡ job.now → names PartFile ≡ part.now →
+        IfErr result (NamesFault names (S.shows shelf.new).log) }
     ensures store { OnlyLoads (S.shows shelf.old) (S.shows shelf.new) result }
 {
     match load_job(alloc, shelf, job) {
@@ -93,6 +98,8 @@ pub fn load_under<S: Shelf>(
     requires { IsJob job }
     ensures told { LoadsUnder job ((S.shows shelf.old).contents name.now) result }
     ensures ready { IfOk result IsSetup }
+    ensures failed { (names : AnyFile → List ℕ) → names PartFile ≡ name.now →
+        IfErr result (NamesFault names (S.shows shelf.new).log) }
     ensures store { OnlyLoads (S.shows shelf.old) (S.shows shelf.new) result }
 {
     match load_part(alloc, shelf, name, &job) {
@@ -132,6 +139,8 @@ fn height_over(job: &Job, part: &Part) -> Option<i32>
 pub fn load_job<S: Shelf>(alloc: Global, shelf: &mut S, name: &str) -> Result<Job, LoadFault>
     ensures told { LoadsJob ((S.shows shelf.old).contents name.now) result }
     ensures in_range { IfOk result IsJob }
+    ensures failed { (names : AnyFile → List ℕ) → names JobFile ≡ name.now →
+        IfErr result (NamesFault names (S.shows shelf.new).log) }
     ensures store { OnlyLoads (S.shows shelf.old) (S.shows shelf.new) result }
 {
     match read_file(alloc, shelf, name, File::Job) {
@@ -147,6 +156,8 @@ fn load_part<S: Shelf>(
     job: &Job,
 ) -> Result<Part, LoadFault>
     ensures told { LoadsPart job.now ((S.shows shelf.old).contents name.now) result }
+    ensures failed { (names : AnyFile → List ℕ) → names PartFile ≡ name.now →
+        IfErr result (NamesFault names (S.shows shelf.new).log) }
     ensures store { OnlyLoads (S.shows shelf.old) (S.shows shelf.new) result }
 {
     match read_file(alloc, shelf, name, File::Part) {
@@ -155,8 +166,8 @@ fn load_part<S: Shelf>(
     }
 }
 
-/// All the bytes of one of the files, which are at most `MAX_FILE_BYTES`. A fault is told as that of
-/// `file`.
+/// All the bytes of one of the files, which are at most `MAX_JOB_BYTES` for a job or a list and
+/// `MAX_FILE_BYTES` for another. A fault is told as that of `file`.
 pub fn read_file<S: Shelf>(
     alloc: Global,
     shelf: &mut S,
@@ -164,10 +175,12 @@ pub fn read_file<S: Shelf>(
     file: File,
 ) -> Result<Vec<u8>, LoadFault>
     ensures told { ReadsFile ((S.shows shelf.old).contents name.now) file result }
-    ensures fits { IfOk result (λ text. Fits text.items) }
+    ensures fits { IfOk result (λ text. length text.items ≤ most_bytes file) }
+    ensures failed { (names : AnyFile → List ℕ) → names file ≡ name.now →
+        IfErr result (NamesFault names (S.shows shelf.new).log) }
     ensures store { OnlyLoads (S.shows shelf.old) (S.shows shelf.new) result }
 {
-    match read_whole(alloc, shelf, name, MAX_FILE_BYTES) {
+    match read_whole(alloc, shelf, name, most_bytes_of(file)) {
         Ok(bytes) => Ok(bytes),
         Err(ReadEnd::ReadFault) => Err(LoadFault::ReadFault(file)),
         Err(ReadEnd::TooLong) => Err(LoadFault::Unfit(Unfit::TooLong(file))),
@@ -175,9 +188,19 @@ pub fn read_file<S: Shelf>(
     }
 }
 
-/// The job that a text within the limit of a file says, or why it is refused.
+// The most bytes that a file may have.
+fn most_bytes_of(file: File) -> u64
+    ensures { result ≡ most_bytes file }
+{
+    match file {
+        File::Job | File::List => MAX_JOB_BYTES,
+        File::Part | File::Program | File::StepProgram(_) => MAX_FILE_BYTES,
+    }
+}
+
+/// The job that a text within the limit of a job says, or why it is refused.
 pub fn job_from(alloc: Global, text: &[u8]) -> Result<Job, LoadFault>
-    requires { Fits text.now }
+    requires { FitsJobFile text.now }
     ensures told { LoadsJob (Some text.now) result }
     ensures in_range { IfOk result IsJob }
     ensures cause { CountsFault 0 0 result }

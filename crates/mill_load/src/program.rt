@@ -8,9 +8,10 @@ ghost use Rattle.mill_job.specs.Jobs.{IsJob};
 ghost use Rattle.mill_ngc.specs.Pieces.{lines_read};
 ghost use Rattle.mill_ngc.specs.Programs.{program_of};
 ghost use Rattle.mill_block.specs.declared.fault.NgcFault.TheVariants.{WantOfMemory as NoMemory};
-ghost use Rattle.mill_load.specs.Loads.{LoadsProgram, OnlyLoads, AreMoves, CountsFault};
+ghost use Rattle.mill_load.specs.Loads.{LoadsProgram, NamesFault, OnlyLoads, AreMoves, CountsFault};
 ghost use Rattle.mill_load.specs.inner.Steps.{HasTaken, TakesFile, LoadsNone, IsFirst};
 ghost use Rattle.mill_load.specs.Setup.{Fits};
+ghost use Rattle.mill_load.specs.declared.file.File.{File as AnyFile};
 
 use crate::file::File;
 use crate::load::{LoadFault, Unfit};
@@ -39,6 +40,8 @@ pub fn load_program<S: Shelf>(
     requires { IsJob job.now }
     ensures told { LoadsProgram job.now ((S.shows shelf.old).contents name.now) file result }
     ensures ready { IfOk result (λ moves. AreMoves job.now moves.items) }
+    ensures failed { (names : AnyFile → List ℕ) → names file ≡ name.now →
+        IfErr result (NamesFault names (S.shows shelf.new).log) }
     ensures store { OnlyLoads (S.shows shelf.old) (S.shows shelf.new) result }
 {
     let mut buf = vec![in alloc; 0u8; PIECE]?;
@@ -78,6 +81,8 @@ fn take_file<S: Shelf>(
     ensures takes { IfOk result (λ reader.
         TakesFile start unit ((S.shows shelf.old).contents name.now) reader moves.new.items) }
     ensures fault { IfErr result (LoadsNone ((S.shows shelf.old).contents name.now) file) }
+    ensures failed { (names : AnyFile → List ℕ) → names file ≡ name.now →
+        IfErr result (NamesFault names (S.shows shelf.new).log) }
     ensures store { OnlyLoads (S.shows shelf.old) (S.shows shelf.new) result }
 {
     let mut pieces = Pieces::new(shelf, name, MAX_FILE_BYTES);
@@ -100,6 +105,8 @@ fn take_pieces<S: Shelf>(
     ensures takes { IfOk result (λ reader.
         TakesFile start unit ((S.shows pieces.old.shelf.now).contents pieces.old.name.now) reader moves.new.items) }
     ensures fault { IfErr result (LoadsNone ((S.shows pieces.old.shelf.now).contents pieces.old.name.now) file) }
+    ensures failed { (names : AnyFile → List ℕ) → names file ≡ pieces.old.name.now →
+        IfErr result (NamesFault names (S.shows pieces.new.shelf.now).log) }
     ensures store { OnlyLoads (S.shows pieces.old.shelf.now) (S.shows pieces.new.shelf.now) result }
     ensures same_reference { pieces.new.shelf.ghost_name ≡ pieces.old.shelf.ghost_name }
 {

@@ -1,9 +1,10 @@
 //! Reads a program of G-codes: exactly the moves that its text means, or its first fault with the
-//! line, after a profile of NISTIR 6556 (RS274/NGC version 3).
+//! line.
 //!
-//! It stands on `mill_block` for what a line does. A text comes in pieces, cut anywhere, and is read
-//! line by line with no memory but that of the moves. `specs/Programs.antt` has what a whole text
-//! means, and `specs/Pieces.antt` what is read so far of one that comes in pieces.
+//! It stands on `mill_block` for what a line does, after a profile of NISTIR 6556 (RS274/NGC
+//! version 3). A text comes in pieces, cut anywhere, and is read line by line with no memory but
+//! that of the moves. `specs/Programs.antt` has what a whole text means, `specs/Pieces.antt` what
+//! is read so far of one that comes in pieces.
 #![tactic(auto)]
 
 mod laws;

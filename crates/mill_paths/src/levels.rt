@@ -11,7 +11,7 @@ ghost use Rattle.mill_paths.specs.Visits.{AreLevelVisits, AreWaterlines, HaveMan
 ghost use Rattle.mill_paths.specs.declared.fault.PathFault.TheVariants.{TooManyNodes, TooManyVisits};
 ghost use Rattle.mill_paths.specs.inner.Levels.{point_visit};
 
-use crate::crew::Crew;
+use crate::crew::PathCrew;
 use crate::fault::PathFault;
 use crate::lattices::{check_nodes, finish_lattice};
 use crate::visit_list::VisitList;
@@ -34,7 +34,7 @@ use std::alloc::Global;
 /// `TooManyNodes` exactly where there are levels and the lattice has more than 4,000,000 nodes;
 /// `TooManyVisits` exactly where it hasn't, and more than 1,000,000 visits differ from the one before
 /// them. Want of memory may come in the place of the latter.
-pub fn level_visits<C: Crew>(
+pub fn level_visits<C: PathCrew>(
     crew: &C,
     alloc: Global,
     job: &Job,
@@ -63,7 +63,7 @@ pub fn level_visits<C: Crew>(
 
 /// The waterlines of the job's tool at its levels over the finishing lattice, where that has at most
 /// 4,000,000 nodes.
-fn waterlines_of<C: Crew>(
+fn waterlines_of<C: PathCrew>(
     crew: &C,
     alloc: Global,
     job: &Job,

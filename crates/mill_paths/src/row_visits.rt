@@ -10,7 +10,7 @@ ghost use Rattle.mill_paths.specs.Limits.{change_count, most_changes, IsHeightsF
 ghost use Rattle.mill_paths.specs.Visits.{AreRowVisits, HaveManyRowVisits, point_visit, point_visits, step_from as step_of};
 ghost use Rattle.mill_paths.specs.inner.Rows.{IsFinishFault, IsInArea};
 
-use crate::crew::Crew;
+use crate::crew::PathCrew;
 use crate::fault::PathFault;
 use crate::lattices::{check_nodes, finish_lattice};
 use crate::path::{Path, tip_height};
@@ -28,7 +28,7 @@ use std::alloc::Global;
 const ROWS_AT_ONCE: u32 = 64;
 
 /// The finishing visits by a tolerance: row by row, along each row's path.
-pub(crate) fn row_visits<C: Crew>(
+pub(crate) fn row_visits<C: PathCrew>(
     crew: &C,
     alloc: Global,
     job: &Job,

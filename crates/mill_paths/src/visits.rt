@@ -10,7 +10,7 @@ ghost use Rattle.mill_paths.specs.Visits.{AreRoughVisits, AreFinishVisits, AreNo
 ghost use Rattle.mill_paths.specs.inner.Rows.{IsFinishFault};
 ghost use Rattle.mill_paths.specs.declared.fault.PathFault.TheVariants.{TooManyNodes, TooManyVisits};
 
-use crate::crew::Crew;
+use crate::crew::PathCrew;
 use crate::fault::PathFault;
 use crate::lattices::{check_nodes, finish_lattice, rough_lattice};
 use crate::path::Path;
@@ -36,7 +36,7 @@ use std::alloc::Global;
 /// nodes; `TooManyVisits` exactly where it hasn't, and more than 1,000,000 visits differ from the one
 /// before them, of which the first has none before it. Want of memory may come in the place of the
 /// latter.
-pub fn rough_visits<C: Crew>(
+pub fn rough_visits<C: PathCrew>(
     crew: &C,
     alloc: Global,
     job: &Job,
@@ -80,7 +80,7 @@ pub fn rough_visits<C: Crew>(
 /// `TooManyNodes` exactly where the lattice has more than 4,000,000 nodes; `TooManyVisits` exactly
 /// where it hasn't, and more than 1,000,000 visits differ from the one before them. Want of memory may
 /// come in the place of the latter.
-pub fn finish_visits<C: Crew>(
+pub fn finish_visits<C: PathCrew>(
     crew: &C,
     alloc: Global,
     job: &Job,
@@ -105,7 +105,7 @@ pub fn finish_visits<C: Crew>(
 }
 
 /// The finishing visits at the nodes of the finishing lattice, in zigzag order.
-fn node_visits<C: Crew>(
+fn node_visits<C: PathCrew>(
     crew: &C,
     alloc: Global,
     job: &Job,
@@ -129,7 +129,7 @@ fn node_visits<C: Crew>(
 }
 
 /// The drop heights of the job's tool over the lattice, where that has at most 4,000,000 nodes.
-fn drop_heights<C: Crew>(
+fn drop_heights<C: PathCrew>(
     crew: &C,
     alloc: Global,
     job: &Job,
@@ -147,7 +147,7 @@ fn drop_heights<C: Crew>(
 {
     check_nodes(lattice)?;
     let tool = job.tool();
-    Ok(crew.heights(alloc, part, cells, &tool, lattice, job.floor)?)
+    Ok(crew.drop_map(alloc, part, cells, &tool, lattice, job.floor)?)
 }
 
 /// Adds the visits of all layers. `heights` are the drop heights at the nodes of the rough lattice.

@@ -1,12 +1,9 @@
 //! Plans a program that the verifier accepts, or says why there is none.
 //!
-//! It stands on the visits of `mill_paths`, on the links of `mill_links`, on `mill_verify`, and on
-//! `mill_post`, which writes the program's text. It promises that the answer is the planner's, for any
-//! number of workers and on one thread alone, and that there is at most one; that a program that it
-//! planned reads back as the plan's moves and is accepted; and that no plan is rejected but for stock
-//! that it leaves, or that the holder would touch.
-//! Definitions: `specs/Plans` are the answers; `specs/Faults`, `specs/inner/Feeds` and
-//! `specs/inner/Steps` serve the functions within.
+//! It stands on `mill_paths`, `mill_links`, `mill_verify`, `mill_post` and `mill_crew`. It promises
+//! that the answer is the planner's, whatever the crew, and that there is at most one; that what it
+//! planned reads back as the plan's moves and is accepted; and that a plan is rejected only for stock
+//! that it leaves, or that the holder would touch. Definitions: `specs/Plans`, `specs/Faults`.
 #![tactic(auto)]
 
 mod crew;
@@ -20,4 +17,4 @@ mod program;
 pub use fault::PlanFault;
 pub use laws::{one_plan_answer, plan_never_fails};
 pub use planned::Planned;
-pub use program::{plan, plan_alone};
+pub use program::plan;

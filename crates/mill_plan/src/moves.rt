@@ -25,7 +25,9 @@ use mill_dexel::{Row, cut_rows, uncut_rows};
 use mill_job::Job;
 use mill_links::{Visit, home, link_known};
 use mill_part::Part;
-use mill_paths::{Crew, finish_lattice, finish_visits, level_visits, rough_lattice, rough_visits};
+use mill_paths::{
+    PathCrew, finish_lattice, finish_visits, level_visits, rough_lattice, rough_visits,
+};
 use std::alloc::Global;
 
 /// Whether each lattice that the paths go over has at most 4,000,000 nodes: the finishing one, over
@@ -82,7 +84,7 @@ pub(crate) fn planned_moves<C: PlanCrew>(
 }
 
 /// The plan's visits: those of its roughing, then those of its levels, then its finishing path.
-fn plan_visits<C: Crew>(
+fn plan_visits<C: PathCrew>(
     crew: &C,
     alloc: Global,
     job: &Job,

@@ -1,5 +1,5 @@
 ghost use Rattle.std.specs.Prelude.{◌≡◌, ◌↔◌, ℕ, ◌≤◌, ℤ, pos, ◌<ℤ◌, [], length, None, Ok, IfErr, IfOk, IsErrOf, IsTrue};
-ghost use Rattle.mill_base.specs.declared.limits.TheConstants.{MAX_MOVES, MAX_WORKERS};
+ghost use Rattle.mill_base.specs.declared.limits.TheConstants.{MAX_MOVES};
 ghost use Rattle.mill_base.specs.Covers.{IsUnder};
 ghost use Rattle.mill_cells.specs.Sorted.{sorted_of};
 ghost use Rattle.mill_job.specs.Columns.{home};
@@ -9,7 +9,6 @@ ghost use Rattle.mill_links.specs.Safety.{GoSafely};
 ghost use Rattle.mill_verify.specs.Claims.{CutsSafely};
 ghost use Rattle.mill_verify.specs.Verdicts.{IsVerdict};
 ghost use Rattle.mill_plan.specs.Plans.{HasPlan, IsOverNodes, IsPlanAnswer, IsPlanFault, answer_of};
-ghost use Rattle.mill_plan.specs.inner.Conditions.{AreWorkers};
 ghost use Rattle.mill_plan.specs.declared.fault.PlanFault.TheVariants.{TooManyNodes};
 
 use crate::crew::PlanCrew;
@@ -21,11 +20,9 @@ use mill_cells::Cells;
 use mill_dexel::Row;
 use mill_job::Job;
 use mill_part::{Part, SortedPart};
-use mill_paths::{Alone, Threaded};
 use mill_post::write_program;
 use mill_verify::{Reason, Verdict};
 use std::alloc::Global;
-use std::thread::Threads;
 
 /// Plans a program that cuts the job's part, and verifies it.
 ///
@@ -45,9 +42,10 @@ use std::thread::Threads;
 /// straight feed is made only where the holder passes the part, too. What is left of the stock isn't
 /// looked at for the holder before the verdict.
 ///
-/// The verifying is handed to `workers` threads, from 1 to 64; the drop heights, the waterlines and the
-/// straight feeds to as many as the machine has; the answer doesn't depend on their number. The part
-/// is nowhere higher than the uncut stock. Lengths are in the job's units.
+/// The crew shares the work; the answer doesn't depend on who it is. Of a runtime's threads, the verifying
+/// goes to as many as the crew has workers, and the drop heights, the waterlines and the straight feeds to
+/// as many as the machine has processors. The part is nowhere higher than the uncut stock. Lengths are in
+/// the job's units.
 ///
 /// # Errors
 ///
@@ -58,54 +56,15 @@ use std::thread::Threads;
 /// verdict on the plan is that on this move the holder would touch what the moves before it left of this
 /// column. By `one_plan_answer` no two of the answers are right at a time. `WantOfMemory` may come in the
 /// place of any of them.
-pub fn plan<R: Threads + Sync>(
-    rt: &R,
-    alloc: Global,
-    job: &Job,
-    part: &Part,
-    workers: u32,
-) -> Result<Planned, PlanFault>
-    requires job_ok { IsJob job.now }
-    requires under { IsUnder part.now job.now.top }
-    requires some_workers { 1 ≤ workers }
-    requires few_workers { workers ≤ MAX_WORKERS }
-    ensures planned { IfOk result (λ planned. IsPlanAnswer job.now part.now (answer_of planned)) }
-    ensures fault { IfErr result (IsPlanFault job.now part.now) }
-    ensures nodes { (nodes : ℕ) → IsErrOf result (TooManyNodes nodes) ↔ IsOverNodes job.now nodes }
-{
-    plan_by(&Threaded { rt }, alloc, job, part, workers)
-}
-
-/// Plans a program that cuts the job's part, and verifies it, as [`plan`] does: the calling thread does
-/// all of the work, and starts no other.
-///
-/// The part is nowhere higher than the uncut stock. Lengths are in the job's units.
-///
-/// # Errors
-///
-/// Those of [`plan`].
-pub fn plan_alone(alloc: Global, job: &Job, part: &Part) -> Result<Planned, PlanFault>
-    requires job_ok { IsJob job.now }
-    requires under { IsUnder part.now job.now.top }
-    ensures planned { IfOk result (λ planned. IsPlanAnswer job.now part.now (answer_of planned)) }
-    ensures fault { IfErr result (IsPlanFault job.now part.now) }
-    ensures nodes { (nodes : ℕ) → IsErrOf result (TooManyNodes nodes) ↔ IsOverNodes job.now nodes }
-{
-    plan_by(&Alone, alloc, job, part, 1)
-}
-
-/// The planner's answer, from the work of this crew.
-fn plan_by<C: PlanCrew>(
+pub fn plan<C: PlanCrew>(
     crew: &C,
     alloc: Global,
     job: &Job,
     part: &Part,
-    workers: u32,
 ) -> Result<Planned, PlanFault>
     requires crew_ok { C.ready }
     requires job_ok { IsJob job.now }
     requires under { IsUnder part.now job.now.top }
-    requires workers { AreWorkers workers }
     ensures planned { IfOk result (λ planned. IsPlanAnswer job.now part.now (answer_of planned)) }
     ensures fault { IfErr result (IsPlanFault job.now part.now) }
     ensures nodes { (nodes : ℕ) → IsErrOf result (TooManyNodes nodes) ↔ IsOverNodes job.now nodes }
@@ -114,16 +73,7 @@ fn plan_by<C: PlanCrew>(
     let sorted = SortedPart::new(alloc, part)?;
     let mut rows = rows_for_depth(alloc, job)?;
     let moves = planned_moves(crew, alloc, job, part, sorted.cells(), &mut rows)?;
-    verified(
-        crew,
-        alloc,
-        job,
-        part,
-        sorted.cells(),
-        &moves,
-        &rows,
-        workers,
-    )
+    verified(crew, alloc, job, part, sorted.cells(), &moves, &rows)
 }
 
 /// The planner's answer, from the verdict on the plan's moves.
@@ -135,7 +85,6 @@ fn verified<C: PlanCrew>(
     cells: &Cells,
     moves: &[Move],
     rows: &[Row],
-    workers: u32,
 ) -> Result<Planned, PlanFault>
     requires crew_ok { C.ready }
     requires job_ok { IsJob job.now }
@@ -144,13 +93,12 @@ fn verified<C: PlanCrew>(
     requires plan_ok { HasPlan job.now part.now moves.now }
     requires safe { GoSafely job.now part.now [] (home job.now) moves.now (home job.now) }
     requires stock { FollowStock job.now moves.now rows.now }
-    requires workers { AreWorkers workers }
     ensures planned { IfOk
         result
         (λ planned. IsPlanAnswer job.now part.now (answer_of planned)) }
     ensures fault { IfErr result (IsPlanFault job.now part.now) }
 {
-    match verdict_on(crew, alloc, job, part, cells, moves, rows, workers)? {
+    match verdict_on(crew, alloc, job, part, cells, moves, rows)? {
         Verdict::Accept {
             moves: count,
             columns,
@@ -189,7 +137,6 @@ fn verdict_on<C: PlanCrew>(
     cells: &Cells,
     moves: &[Move],
     rows: &[Row],
-    workers: u32,
 ) -> Result<Verdict, WantOfMemory>
     requires crew_ok { C.ready }
     requires job_ok { IsJob job.now }
@@ -198,16 +145,15 @@ fn verdict_on<C: PlanCrew>(
     requires few { length moves.now ≤ MAX_MOVES }
     requires safe { GoSafely job.now part.now [] (home job.now) moves.now (home job.now) }
     requires stock { FollowStock job.now moves.now rows.now }
-    requires workers { AreWorkers workers }
     ensures verdict { IfOk result (IsVerdict job.now part.now moves.now) }
     ensures safe { (count columns : ℕ) (left : ℤ)
         → result ≡ Ok (Verdict.Accept count columns left)
         → CutsSafely job.now part.now moves.now }
 {
     if is_decided_by_stock(job) {
-        return Ok(crew.verdict_on_stock(job, part, cells, moves, rows, workers));
+        return Ok(crew.verdict_on_stock(job, part, cells, moves, rows));
     }
-    crew.verify_with_cells(alloc, job, part, cells, moves, workers)
+    crew.verify(alloc, job, part, cells, moves)
 }
 
 /// Whether what a plan's moves leave of the stock decides the verdict on them, and the rows tell it: the

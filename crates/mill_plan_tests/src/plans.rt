@@ -5,10 +5,11 @@ ghost use Rattle.mill_job.specs.Jobs.{IsJob};
 use crate::parts::part_under;
 use crate::tables::{halves, job, same};
 use mill_base::Move;
+use mill_crew::{Alone, Threaded};
 use mill_job::Job;
 use mill_ngc::{NgcFault, Reader};
 use mill_part::Part;
-use mill_plan::{PlanFault, Planned, plan, plan_alone};
+use mill_plan::{PlanFault, Planned, plan};
 use std::alloc::Global;
 use std::process::Abort;
 use std::test::Fail;
@@ -39,7 +40,11 @@ fn plans<R: Threads + Sync>(
     requires job { IsJob job.now }
     requires under { IsUnder part.now job.now.top }
 {
-    (plan(rt, alloc, job, part, 2), plan_alone(alloc, job, part))
+    let crew = Threaded { rt, workers: 2 };
+    (
+        plan(&crew, alloc, job, part),
+        plan(&Alone, alloc, job, part),
+    )
 }
 
 /// The plans of a row's job and part.

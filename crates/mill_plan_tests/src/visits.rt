@@ -3,9 +3,10 @@ ghost use Rattle.mill_job.specs.Jobs.{IsJob};
 
 use crate::parts::part_of;
 use crate::tables::{first_word, halves, job, same};
+use mill_crew::Threaded;
 use mill_job::Job;
 use mill_part::{Part, SortedPart};
-use mill_paths::{PathFault, Threaded, Visit, finish_visits, level_visits, rough_visits};
+use mill_paths::{PathFault, Visit, finish_visits, level_visits, rough_visits};
 use std::alloc::Global;
 use std::process::Abort;
 use std::test::Fail;
@@ -21,7 +22,7 @@ fn visits_of<R: Threads + Sync>(
 ) -> Result<Vec<Visit>, PathFault>
     requires { IsJob job.now }
 {
-    let crew = Threaded { rt };
+    let crew = Threaded { rt, workers: 1 };
     let sorted = SortedPart::new(alloc, part)?;
     match path {
         "rough" => rough_visits(&crew, alloc, job, part, sorted.cells()),

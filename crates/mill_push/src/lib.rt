@@ -1,13 +1,10 @@
-//! The push-cutter: the positions along a line at one height at which a tool gouges, with its cutter
-//! or with its holder.
+//! The push-cutter: the positions along a line at one height at which a tool gouges.
 //!
-//! It stands on the part and its cells (mill_part, mill_cells), on the extents of triangles
-//! (mill_extent), on what is kept of the pushes before (mill_ends) and on the contact crates. `push`
-//! promises the maximal runs of those positions, exactly, for every triangle and tool, and that it
-//! touches each triangle near the line at most 40 times, and with a holder 80 times. `push_after`
-//! promises the same, and mostly takes fewer touches along lines that lie side by side.
-//! `specs/Fibers` says when a position is blocked, `specs/Runs` what its runs are, and
-//! `specs/Touches` which triangles are touched.
+//! It stands on mill_part and mill_cells, mill_extent, mill_ends and the contact crates. `push`
+//! promises the maximal runs of those positions, with the cutter or its holder, exactly, for every
+//! triangle and tool; the touches that it takes are in all at most 40 for each triangle near the
+//! line, with a holder 80. `push_after` promises the same, and mostly takes fewer along lines side
+//! by side. Definitions: `specs/Fibers`, `specs/Runs`, `specs/Touches`.
 #![tactic(auto)]
 
 mod around;

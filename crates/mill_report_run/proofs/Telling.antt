@@ -5,11 +5,12 @@ use Rattle.mill_command.specs.declared.refusal.Refusal.{Refusal}
 use Rattle.mill_command.specs.declared.refusal.Refusal.TheVariants as refusal
 use Rattle.mill_io.specs.Views.{ReadsOnly, StoreView}
 use Rattle.mill_load.proofs.Reading.{rises}
-use Rattle.mill_load.specs.Loads.{OnlyLoads}
+use Rattle.mill_io.specs.Readings.{Reading}
+use Rattle.mill_load.specs.Loads.{NamesFault, OnlyLoads}
 use Rattle.mill_load.specs.declared.file.File.{File}
 use Rattle.mill_load.specs.declared.load.LoadFault.{LoadFault}
 use Rattle.mill_load.specs.declared.load.LoadFault.TheVariants.{Memory, ReadFault, Unfit}
-use Rattle.mill_report_run.specs.Outcomes.{AreTextsOf, CountsReads, HasOutcome, IsOutcome, IsOutcomeOf, Outcome, Shows, bad_words, failed, help, reported}
+use Rattle.mill_report_run.specs.Outcomes.{AreTextsOf, CountsReads, Fails, HasOutcome, IsOutcome, IsOutcomeOf, Outcome, Shows, bad_words, failed, help, name_in, reported}
 use Rattle.mill_report_run.specs.Words.{ReadsWords, Request, request}
 use Rattle.mill_report_run.specs.declared.load.Loaded.{Loaded}
 use Rattle.mill_report_run.specs.inner.Loads.{Loads}
@@ -33,25 +34,34 @@ pub report_serves : (files : Files) (call : Call) (l : Loaded) → AreTextsOf (t
 report_serves files call l agree loads (inl p) = record {
   outcome = reported p.report p.code;
   is = record { texts = texts_of_sources l.sources; agree = agree; job = l.setup.job; part = l.setup.part; moves = l.moves.items; is = p.is };
+  fails = tt;
   shows = record { text = p.report; text_is = refl; printed = p.printed; only = loads.only; reads = loads.reads };
 }
-report_serves files call l agree loads (inr m) = record { outcome = failed Memory; is = tt; shows = outcome_shows call (failed Memory) loads.only loads.reads m }
+report_serves files call l agree loads (inr m) = record { outcome = failed Memory; is = tt; fails = tt; shows = outcome_shows call (failed Memory) loads.only loads.reads m }
 
 -- what kept the call from a report was printed
-pub fault_serves : (files : Files) (call : Call) (f : LoadFault) → Loads (texts_of call.store.contents files) (Err f) → CanCount call.store call.sink
+pub fault_serves : (files : Files) (call : Call) (f : LoadFault) → Loads (texts_of call.store.contents files) (Err f) → NamesFault (name_in files) call.store_after.log f → CanCount call.store call.sink
     → (let r : Result Loaded LoadFault = Err f in OnlyLoads call.store call.store_after r) → PrintsFault f call.status call.sink call.sink_after → Serves files call
-fault_serves files call Memory is room loads p = record { outcome = failed Memory; is = tt; shows = outcome_shows call (failed Memory) loads.only loads.reads p }
-fault_serves files call (ReadFault file) is room loads p =
-    record { outcome = failed (ReadFault file); is = is; shows = outcome_shows call (failed (ReadFault file)) loads.only (rises _ _ room.reads loads.reads) p }
-fault_serves files call (Unfit fault) is room loads (inl p) =
-    record { outcome = failed (Unfit fault); is = is; shows = outcome_shows call (failed (Unfit fault)) loads.only loads.reads p }
-fault_serves files call (Unfit fault) is room loads (inr m) = record { outcome = failed Memory; is = tt; shows = outcome_shows call (failed Memory) loads.only loads.reads m }
+fault_serves files call Memory is named room loads p = record { outcome = failed Memory; is = tt; fails = tt; shows = outcome_shows call (failed Memory) loads.only loads.reads p }
+fault_serves files call (ReadFault file) is named room loads p =
+    record { outcome = failed (ReadFault file); is = is; fails = named; shows = outcome_shows call (failed (ReadFault file)) loads.only (rises _ _ room.reads loads.reads) p }
+fault_serves files call (Unfit fault) is named room loads (inl p) =
+    record { outcome = failed (Unfit fault); is = is; fails = tt; shows = outcome_shows call (failed (Unfit fault)) loads.only loads.reads p }
+fault_serves files call (Unfit fault) is named room loads (inr m) = record { outcome = failed Memory; is = tt; fails = tt; shows = outcome_shows call (failed Memory) loads.only loads.reads m }
 
 -- ---- the words
 
+one_request : (o : Option Request) (a b : Request) → o ≡ Some a → o ≡ Some b → a ≡ b
+one_request o a b e h = cc
+
 -- words that are taken, and the work on their files
 pub served_outcome : (words : List (List ℕ)) (call : Call) (asked : Request) → request words ≡ Some asked → Serves asked.files call → HasOutcome words call
-served_outcome words call asked taken s = record { outcome = s.outcome; is = of_words s.outcome s.is; shows = s.shows }
+served_outcome words call asked taken s = record {
+  outcome = s.outcome;
+  is = of_words s.outcome s.is;
+  fails = λ other is. subst (λ (r : Request). Fails r.files call.store_after.log s.outcome) (one_request (request words) asked other taken is) s.fails;
+  shows = s.shows;
+}
   where
     of_words : (o : Outcome) → IsOutcome (texts_of call.store.contents asked.files) o → IsOutcomeOf words call.store.contents o
     of_words (help shown) is = absurd is
@@ -66,12 +76,17 @@ refusal_is words contents (refusal.Help text) h = record { untaken = h.0; asks =
 refusal_is words contents (refusal.NotTaken text) h = record { untaken = h.0; mistaken = h.1 }
 refusal_is words contents refusal.WantOfMemory h = tt
 
+refusal_fails : (files : Files) (log : List Reading) (r : Refusal) → Fails files log (refusal_outcome r)
+refusal_fails files log (refusal.Help text) = tt
+refusal_fails files log (refusal.NotTaken text) = tt
+refusal_fails files log refusal.WantOfMemory = tt
+
 refusal_reads : (r : Refusal) (a b : ℕ) → b ≡ a → CountsReads (refusal_outcome r) a b
 refusal_reads (refusal.Help text) a b e = e
 refusal_reads (refusal.NotTaken text) a b e = e
 refusal_reads refusal.WantOfMemory a b e = e
 
-same_store : (store : StoreView) → ReadsOnly store store
+pub same_store : (store : StoreView) → ReadsOnly store store
 same_store store = record { contents = λ name. refl; tells = refl; write_faults = refl }
 
 -- words that aren't taken
@@ -80,6 +95,7 @@ pub refused_outcome : (words : List (List ℕ)) (call : Call) (r : Refusal) → 
 refused_outcome words call r h same p = record {
   outcome = refusal_outcome r;
   is = refusal_is words call.store.contents r h;
+  fails = λ asked is. refusal_fails asked.files call.store_after.log r;
   shows = outcome_shows call (refusal_outcome r) (subst (λ (v : StoreView). ReadsOnly call.store v) (sym same) (same_store call.store))
       (refusal_reads r _ _ (ap (λ (v : StoreView). v.read_faults) same)) p;
 }

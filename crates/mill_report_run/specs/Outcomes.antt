@@ -1,17 +1,21 @@
 -- What a call comes to, and how it tells that.
-use Rattle.std.specs.Prelude.{◌≡◌, ◌<◌, ℕ, List, Option, Some, IfSome}
+use Rattle.std.specs.Prelude.{◌≡◌, ◌<◌, ℕ, List, [], Option, Some, IfSome}
 use Rattle.mill_base.specs.declared.motion.Move.{Move}
 use Rattle.mill_base.specs.declared.points.Tri.{Tri}
+use Rattle.mill_io.specs.Readings.{LastFails, Reading}
 use Rattle.mill_io.specs.Views.{ReadsOnly}
 use Rattle.mill_job.specs.declared.job.Job.{Job}
 use Rattle.mill_load.specs.Faults.{fault_status}
 use Rattle.mill_load.specs.Prints.{Prints}
+use Rattle.mill_load.specs.declared.file.File.{File}
+use Rattle.mill_load.specs.declared.file.File.TheVariants.{Job as JobFile, Part as PartFile, Program as ProgramFile}
 use Rattle.mill_load.specs.declared.load.LoadFault.{LoadFault}
 use Rattle.mill_load.specs.declared.load.LoadFault.TheVariants.{Memory, ReadFault, Unfit}
 use Rattle.mill_report_text.specs.Reports.{IsFaultText, IsReportText, Texts}
 use Rattle.mill_report_run.specs.Words.{Request, RefusesWords, ShowsHelp, request}
 use Rattle.mill_run.specs.Calls.{Call}
 use Rattle.mill_run.specs.Verify.{IsReadBeforeProgram, IsUnfitProgram, Texts as ToldTexts, texts_of}
+use Rattle.mill_run.specs.Words.{Files}
 
 -- what a call comes to before it prints: clap's text of help or of a mistake in the words; or what kept it from a report; or a report, as its text and its status
 pub data Outcome : Type 0 where
@@ -59,6 +63,18 @@ IsOutcome told (failed (Unfit fault)) = IsUnfitProgram told fault
 IsOutcome told (reported report status) = Reports told report status
 IsOutcome told outcome = ⊥
 
+-- the name of each of the three files
+abbrev pub name_in : Files → File → List ℕ
+name_in files JobFile = files.job
+name_in files PartFile = files.part
+name_in files ProgramFile = files.program
+name_in files _ = []
+
+-- where the work on these files comes to a read fault, the last read was one of the file that it names, and it failed
+abbrev pub Fails : Files → List Reading → Outcome → Type 0
+Fails files log (failed (ReadFault file)) = LastFails (name_in files file) log
+Fails files log outcome = Unit {0}
+
 -- the words are taken as a request, and the work on its files comes to this
 pub record AsksFor (words : List (List ℕ)) (contents : List ℕ → Option (List ℕ)) (outcome : Outcome) : Type 0 where
   pub asked : Request
@@ -76,7 +92,7 @@ IsOutcomeOf words contents (reported report status) = AsksFor words contents (re
 
 -- ---- how it is told
 
--- the count of failed reads rises with a read fault, and else stays
+-- the count of failed reads rises with a read fault, so that a read of this call failed, and else stays
 abbrev pub CountsReads : Outcome → ℕ → ℕ → Type 0
 CountsReads (help shown) before after = after ≡ before
 CountsReads (bad_words shown) before after = after ≡ before
@@ -97,4 +113,5 @@ pub record Shows (call : Call) (outcome : Outcome) : Type 0 where
 pub record HasOutcome (words : List (List ℕ)) (call : Call) : Type 0 where
   pub outcome : Outcome
   pub is : IsOutcomeOf words call.store.contents outcome
+  pub fails : (asked : Request) → request words ≡ Some asked → Fails asked.files call.store_after.log outcome
   pub shows : Shows call outcome

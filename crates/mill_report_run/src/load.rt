@@ -1,8 +1,10 @@
 //! Reading the three files. Each text is kept, so that the checksums of a report are those of the very
 //! bytes that were judged. They begin as soon as a text is there, and go on beside all that follows.
-ghost use Rattle.std.specs.Prelude.{◌≡◌, IfErr, IfOk, IfSome, List, ℕ, Option};
-ghost use Rattle.mill_load.specs.Loads.{CountsFault, OnlyLoads};
-ghost use Rattle.mill_load.specs.Setup.{Fits, IsPartText, setup_texts};
+ghost use Rattle.std.specs.Prelude.{◌≡◌, ◌≤◌, IfErr, IfOk, IfSome, List, ℕ, Option, length};
+ghost use Rattle.mill_load.specs.Loads.{CountsFault, NamesFault, OnlyLoads};
+ghost use Rattle.mill_load.specs.Setup.{Fits, FitsJobFile, IsPartText, most_bytes, setup_texts};
+ghost use Rattle.mill_load.specs.declared.file.File.{File as AnyFile};
+ghost use Rattle.mill_load.specs.declared.file.File.TheVariants.{Job as JobFile, Part as PartFile, Program as ProgramFile};
 ghost use Rattle.mill_report_run.specs.inner.Loads.{AreSetupTexts, HoldsJob, HoldsSetup, IsOfThree, IsReady, Loads, ReadsJob, ReadsPart, ReadsSetup, ReadsSource};
 ghost use Rattle.mill_run.specs.Verify.{Texts as ToldTexts, texts_of};
 
@@ -52,6 +54,8 @@ pub fn load<R: Threads, S: Shelf>(
         (record { job = job.now; part = part.now; program = program.now })) result }
     ensures ready { IfOk result IsReady }
     ensures of_three { IfErr result IsOfThree }
+    ensures failed { (names : AnyFile → List ℕ) → names JobFile ≡ job.now → names PartFile ≡ part.now → names ProgramFile ≡ program.now →
+        IfErr result (NamesFault names (S.shows shelf.new).log) }
     ensures store { OnlyLoads (S.shows shelf.old) (S.shows shelf.new) result }
 {
     let read = match load_setup(rt, alloc, shelf, job, part) {
@@ -74,6 +78,8 @@ fn load_setup<R: Threads, S: Shelf>(
 ) -> Result<SetupRead, LoadFault>
     ensures told { ReadsSetup (setup_texts (S.shows shelf.old).contents job.now part.now) result }
     ensures ready { IfOk result HoldsSetup }
+    ensures failed { (names : AnyFile → List ℕ) → names JobFile ≡ job.now → names PartFile ≡ part.now →
+        IfErr result (NamesFault names (S.shows shelf.new).log) }
     ensures store { OnlyLoads (S.shows shelf.old) (S.shows shelf.new) result }
 {
     match load_job(rt, alloc, shelf, job) {
@@ -91,7 +97,9 @@ fn read_source<R: Threads, S: Shelf>(
     file: File,
 ) -> Result<Source, LoadFault>
     ensures told { ReadsSource ((S.shows shelf.old).contents name.now) file result }
-    ensures fits { IfOk result Fits }
+    ensures fits { IfOk result (λ source. length source ≤ most_bytes file) }
+    ensures failed { (names : AnyFile → List ℕ) → names file ≡ name.now →
+        IfErr result (NamesFault names (S.shows shelf.new).log) }
     ensures store { OnlyLoads (S.shows shelf.old) (S.shows shelf.new) result }
 {
     match read_file(alloc, shelf, name, file) {
@@ -119,6 +127,8 @@ fn load_job<R: Threads, S: Shelf>(
 ) -> Result<JobRead, LoadFault>
     ensures told { ReadsJob ((S.shows shelf.old).contents name.now) result }
     ensures ready { IfOk result HoldsJob }
+    ensures failed { (names : AnyFile → List ℕ) → names JobFile ≡ name.now →
+        IfErr result (NamesFault names (S.shows shelf.new).log) }
     ensures store { OnlyLoads (S.shows shelf.old) (S.shows shelf.new) result }
 {
     match read_source(rt, alloc, shelf, name, File::Job) {
@@ -129,7 +139,7 @@ fn load_job<R: Threads, S: Shelf>(
 
 /// The job that a text says, with the text.
 fn job_with(alloc: Global, source: Source) -> Result<JobRead, LoadFault>
-    requires { Fits source }
+    requires { FitsJobFile source }
 
     // Whatever a store tells of the file.
     ensures told { (told : Option (List ℕ)) → IfSome told (λ bytes. source ≡ bytes) → ReadsJob told result }
@@ -153,6 +163,8 @@ fn load_part<R: Threads, S: Shelf>(
     requires { HoldsJob before }
     ensures told { ReadsPart before ((S.shows shelf.old).contents name.now) result }
     ensures ready { IfOk result HoldsSetup }
+    ensures failed { (names : AnyFile → List ℕ) → names PartFile ≡ name.now →
+        IfErr result (NamesFault names (S.shows shelf.new).log) }
     ensures store { OnlyLoads (S.shows shelf.old) (S.shows shelf.new) result }
 {
     match read_source(rt, alloc, shelf, name, File::Part) {

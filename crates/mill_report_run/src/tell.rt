@@ -72,7 +72,7 @@ pub fn tell_refusal<O: Sink>(refusal: Refusal, out: &mut O) -> Status
 }
 
 /// Prints that memory was short, which takes none.
-fn tell_memory<O: Sink>(out: &mut O) -> Status
+pub fn tell_memory<O: Sink>(out: &mut O) -> Status
     requires { (O.shows out.old).faults < 2 ^ 64 - 1 }
     ensures { PrintsShort (status_code result) (O.shows out.old) (O.shows out.new) }
 {

@@ -7,8 +7,9 @@ ghost use Rattle.mill_job.specs.Jobs.{IsJob};
 
 use crate::samples::{block_job, down, edge, plate, up};
 use mill_base::{Holder, Kind, Move};
+use mill_crew::Threaded;
 use mill_job::Job;
-use mill_part::Part;
+use mill_part::{Part, SortedPart};
 use mill_report::all_findings;
 use mill_verify::verify;
 use std::alloc::Global;
@@ -224,7 +225,12 @@ fn begins_with_the_verdict(rt: HostRuntime) -> Result<(), Fail> {
     let alloc = rt.alloc();
     let job = block_job(0, None);
     let part = plate(alloc)?;
-    let verdict = verify(&rt, alloc, &job, &part, &twice(), 2);
+    let sorted = SortedPart::new(alloc, &part)?;
+    let crew = Threaded {
+        rt: &rt,
+        workers: 2,
+    };
+    let verdict = verify(&crew, alloc, &job, &part, sorted.cells(), &twice());
     let told = format!(in alloc; "{verdict:?}")?;
     assert_eq!(rt; told.as_str(), TWICE_VERDICT);
     Ok(())

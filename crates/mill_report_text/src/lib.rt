@@ -1,16 +1,11 @@
-//! The text of a report: from a job, a part and a program to the document that tells all that is wrong.
+//! The text of a report: from a job, a part and a program to the document that tells all that is
+//! wrong.
 //!
-//! It stands on `mill_verify` for the verdict, on `mill_report` for the moves that fail and the columns left
-//! too high, on `mill_lift` for how far a gouging move has to be raised, on `mill_source` for the lines of
-//! the program, on `mill_details` and `mill_document` for the document, and on `sha2` for the checksums.
-//! `report` makes the document of a verdict, and `fault_report` that of what keeps a report from its files;
-//! `memory_report` and `read_fault_report` have those that take no memory. `specs/Reports` says what they
-//! tell. A [`Source`] is the text of a file, whose checksum a thread of its own makes meanwhile.
-//!
-//! The whole stands in `whole`: first the verdict, then its two lists (`lists`), which are empty where the
-//! program is accepted, and else have all findings (`failing`, with the lifts of `lifts`). `line` has the
-//! answer's line, and `source` and `sums` the checksums. What stands in `specs/inner` serves the functions
-//! within.
+//! It stands on `mill_verify`, `mill_report`, `mill_lift`, `mill_source`, `mill_details`,
+//! `mill_document`, and on `sha2`. `report` promises the document of the verdict on these texts,
+//! with all findings, their least lifts, the columns left too high and the checksums;
+//! `fault_report` that of what keeps a report from its files (`specs/Reports`). A [`Source`] is
+//! the text of a file, whose checksum a thread of its own makes meanwhile.
 #![tactic(auto)]
 
 mod failing;

@@ -18,11 +18,12 @@ use crate::sums::sums_of;
 use crate::texts::{Report, Sources};
 use mill_base::{Move, WantOfMemory};
 use mill_cells::Cells;
+use mill_crew::Threaded;
 use mill_document::{Summary, Sums, report_text};
 use mill_job::Job;
 use mill_part::{Part, SortedPart};
 use mill_run::status_of_verdict;
-use mill_verify::{Verdict, verify_with_cells};
+use mill_verify::{Verdict, verify};
 use std::alloc::Global;
 use std::thread::Threads;
 
@@ -80,7 +81,8 @@ fn judged<R: Threads + Sync>(
     requires cells_ok { cells.now ≡ sorted_of part.now }
     ensures { IfOk result (IsJudged job.now part.now moves.now) }
 {
-    let verdict = verify_with_cells(rt, alloc, job, part, cells, moves, workers)?;
+    let crew = Threaded { rt, workers };
+    let verdict = verify(&crew, alloc, job, part, cells, moves)?;
     Ok(verdict)
 }
 

@@ -35,17 +35,17 @@ use Rattle.mill_load.specs.Places.{ReadsPlace, RefusesWord, ReadsHeight, Refuses
 use Rattle.mill_run.specs.Drop.{RefusesPlace}
 use Rattle.mill_run.specs.Level.{RefusesHeight, outlines, too_many_nodes as too_fine}
 use Rattle.mill_run.specs.Rest.{RestTexts, rest_texts, AreRestTold, IsListText, IsRefusedList, ReadsList, step_at, ReadsStep, ReadsSteps, ReadsRest, LongList, RefusesList, ReadsToStep, LongStep, RefusesStep, IsUnfitRest, JudgesFiles, list_status}
-use Rattle.mill_load.specs.Setup.{SetupTexts, setup_texts, AreSetupTold, IsTooLong, IsJobText, IsRefusedJob, ReadsJob, IsPartText, IsRefusedPart, ReadsPart, ReadsSetup, LongPart, RefusesPart, HighPart, IsUnfit, IsUnfitWith}
+use Rattle.mill_load.specs.Setup.{SetupTexts, setup_texts, AreSetupTold, IsTooLong, IsTooLongJob, IsJobText, IsRefusedJob, ReadsJob, IsPartText, IsRefusedPart, ReadsPart, ReadsSetup, LongPart, RefusesPart, HighPart, IsUnfit, IsUnfitWith}
 use Rattle.mill_run.specs.Stock.{StockTexts, stock_texts, AreStockTold, ReadsStockJob, ReadsStock, LongStockProgram, RefusesStockProgram, IsUnfitStock, drawn, too_many_triangles}
 use Rattle.mill_run.specs.Verify.{Texts, texts_of, AreTold, ReadsProgram, Reads, LongProgram, RefusesProgram, IsUnfitProgram, Judges, verdict_status}
 use Rattle.mill_load.specs.Programs.{IsProgramText, IsRefusedProgram}
 use Rattle.mill_run.specs.Words.{Files, PlanFiles, DropWords, LevelWords, StockFiles, RestFiles}
 use Rattle.mill_run.proofs.Told.{told_both}
 
-ok_is : {A E : Type 0} (a b : A) → (let r : Result A E = Ok a in r) ≡ Ok b → a ≡ b
+pub ok_is : {A E : Type 0} (a b : A) → (let r : Result A E = Ok a in r) ≡ Ok b → a ≡ b
 ok_is a b e = cc
 
-ok_err : {A E : Type 0} (a : A) (f : E) → (let r : Result A E = Ok a in r) ≡ Err f → ⊥
+pub ok_err : {A E : Type 0} (a : A) (f : E) → (let r : Result A E = Ok a in r) ≡ Err f → ⊥
 ok_err a f e = cc
 
 pub too_long : (a b : ℕ) → a < b → b ≤ a → ⊥
@@ -53,38 +53,38 @@ too_long a b h k = omega (h, k, arith)
 
 -- ---- one text reads as one thing
 
-job_text : (text : List ℕ) (a b : Job) → IsJobText text a → IsJobText text b → a ≡ b
+pub job_text : (text : List ℕ) (a b : Job) → IsJobText text a → IsJobText text b → a ≡ b
 job_text text a b r s = ok_is a b (one_answer text (Ok a) (Ok b) r.reads s.reads)
 
-no_job_text : (text : List ℕ) (job : Job) (fault : JobFault) → IsJobText text job → IsRefusedJob text fault → ⊥
+pub no_job_text : (text : List ℕ) (job : Job) (fault : JobFault) → IsJobText text job → IsRefusedJob text fault → ⊥
 no_job_text text job fault r refused = ok_err job fault (one_answer text (Ok job) (Err fault) r.reads refused.refused)
 
-part_text : (job : Job) (text : List ℕ) (a b : List Tri) → IsPartText job text a → IsPartText job text b → a ≡ b
+pub part_text : (job : Job) (text : List ℕ) (a b : List Tri) → IsPartText job text a → IsPartText job text b → a ≡ b
 part_text job text a b r s =
     ap (λ (p : Part). p.tris) (ok_is (record { tris = a; rounded = r.rounded }) (record { tris = b; rounded = s.rounded }) (sym r.reads ∙ s.reads))
 
-no_part_text : (job : Job) (text : List ℕ) (part : List Tri) (fault : StlFault) → IsPartText job text part → IsRefusedPart job text fault → ⊥
+pub no_part_text : (job : Job) (text : List ℕ) (part : List Tri) (fault : StlFault) → IsPartText job text part → IsRefusedPart job text fault → ⊥
 no_part_text job text part fault r refused = ok_err (record { tris = part; rounded = r.rounded }) fault (sym r.reads ∙ refused.refused)
 
-program_text : (job : Job) (text : List ℕ) (a b : List Move) → IsProgramText job text a → IsProgramText job text b → a ≡ b
+pub program_text : (job : Job) (text : List ℕ) (a b : List Move) → IsProgramText job text a → IsProgramText job text b → a ≡ b
 program_text job text a b r s = ok_is a b (sym r.reads ∙ s.reads)
 
-no_program_text : (job : Job) (text : List ℕ) (moves : List Move) (fault : NgcFault) → IsProgramText job text moves → IsRefusedProgram job text fault → ⊥
+pub no_program_text : (job : Job) (text : List ℕ) (moves : List Move) (fault : NgcFault) → IsProgramText job text moves → IsRefusedProgram job text fault → ⊥
 no_program_text job text moves fault r refused = ok_err moves fault (sym r.reads ∙ refused.refused)
 
 -- ---- so does a file that is told
 
-same_job : (texts : SetupTexts) (a b : Job) → IsSome texts.job → ReadsJob texts a → ReadsJob texts b → a ≡ b
+pub same_job : (texts : SetupTexts) (a b : Job) → IsSome texts.job → ReadsJob texts a → ReadsJob texts b → a ≡ b
 same_job texts a b told r s =
     let both = told_both (λ text. IsJobText text a) (λ text. IsJobText text b) texts.job told r s in
     job_text both.0 a b both.1 both.2
 
-same_part : (texts : SetupTexts) (job : Job) (a b : List Tri) → IsSome texts.part → ReadsPart texts job a → ReadsPart texts job b → a ≡ b
+pub same_part : (texts : SetupTexts) (job : Job) (a b : List Tri) → IsSome texts.part → ReadsPart texts job a → ReadsPart texts job b → a ≡ b
 same_part texts job a b told r s =
     let both = told_both (λ text. IsPartText job text a) (λ text. IsPartText job text b) texts.part told r s in
     part_text job both.0 a b both.1 both.2
 
-same_moves : (texts : Texts) (job : Job) (a b : List Move) → IsSome texts.program → ReadsProgram texts job a → ReadsProgram texts job b → a ≡ b
+pub same_moves : (texts : Texts) (job : Job) (a b : List Move) → IsSome texts.program → ReadsProgram texts job a → ReadsProgram texts job b → a ≡ b
 same_moves texts job a b told r s =
     let both = told_both (λ text. IsProgramText job text a) (λ text. IsProgramText job text b) texts.program told r s in
     program_text job both.0 a b both.1 both.2
@@ -121,9 +121,9 @@ fit_top texts job part height top unit told r h =
     let same_p : h.part ≡ part = same_part texts job h.part part told.part (subst (λ (j : Job). ReadsPart texts j h.part) same h.part_is) r.part_is in
     not_high part job.top height top r.under (subst (λ (q : List Tri). IsTop q height) same_p h.greatest) (h.limit ∙ ap (λ (j : Job). j.top) same) h.over
 
-fit_setup : (texts : SetupTexts) (job : Job) (part : List Tri) (u : Unfit) → AreSetupTold texts → ReadsSetup texts job part → IsUnfit texts u → ⊥
+pub fit_setup : (texts : SetupTexts) (job : Job) (part : List Tri) (u : Unfit) → AreSetupTold texts → ReadsSetup texts job part → IsUnfit texts u → ⊥
 fit_setup texts job part (TooLong JobFile) told r h =
-    let both = told_both IsTooLong (λ text. IsJobText text job) texts.job told.job h r.job_is in
+    let both = told_both IsTooLongJob (λ text. IsJobText text job) texts.job told.job h r.job_is in
     too_long _ _ both.1 both.2.fits
 fit_setup texts job part (TooLong PartFile) told r h = fit_long_part texts job part told r h
 fit_setup texts job part (TooLong ProgramFile) told r h = h
@@ -148,7 +148,7 @@ fit_moves texts job part moves fault told r h =
     let both = told_both (λ text. IsRefusedProgram h.job text fault) (λ text. IsProgramText job text moves) texts.program told.program h.refused r.moves_are in
     no_program_text job both.0 moves fault both.2 (subst (λ (j : Job). IsRefusedProgram j both.0 fault) same both.1)
 
-fit_program : (texts : Texts) (job : Job) (part : List Tri) (moves : List Move) (u : Unfit) → AreTold texts → Reads texts job part moves → IsUnfitProgram texts u → ⊥
+pub fit_program : (texts : Texts) (job : Job) (part : List Tri) (moves : List Move) (u : Unfit) → AreTold texts → Reads texts job part moves → IsUnfitProgram texts u → ⊥
 fit_program texts job part moves (TooLong JobFile) told r h = fit_setup texts.setup job part (TooLong JobFile) told.setup r.setup_is h
 fit_program texts job part moves (TooLong PartFile) told r h = fit_long_part texts.setup job part told.setup r.setup_is h
 fit_program texts job part moves (TooLong ProgramFile) told r h = fit_long_program texts job part moves told r h
@@ -165,7 +165,7 @@ fit_program texts job part moves (ProgramRefused (StepProgram k) fault) told r h
 fit_program texts job part moves (PartTop height top unit) told r h = fit_top texts.setup job part height top unit told.setup r.setup_is h
 
 -- what is unfit where words are read between the files is so anyway
-unfit_of : (ReadsWords : Type 0) (texts : SetupTexts) (u : Unfit) → IsUnfitWith ReadsWords texts u → IsUnfit texts u
+pub unfit_of : (ReadsWords : Type 0) (texts : SetupTexts) (u : Unfit) → IsUnfitWith ReadsWords texts u → IsUnfit texts u
 unfit_of W texts (TooLong JobFile) h = h
 unfit_of W texts (TooLong PartFile) h = h.1
 unfit_of W texts (TooLong ProgramFile) h = h.1
@@ -180,7 +180,7 @@ unfit_of W texts (PartTop height top unit) h = h.1
 -- ---- `verify`
 
 -- what was judged is what was read
-judged_is : (texts : Texts) (job j : Job) (part p : List Tri) (moves m : List Move) (v : Verdict) → AreTold texts → Reads texts job part moves → Judges texts j p m v
+pub judged_is : (texts : Texts) (job j : Job) (part p : List Tri) (moves m : List Move) (v : Verdict) → AreTold texts → Reads texts job part moves → Judges texts j p m v
     → IsVerdict job part moves v
 judged_is texts job j part p moves m v told r h =
     let e : j ≡ job = same_job texts.setup j job told.setup.job h.all_read.setup_is.job_is r.setup_is.job_is in
@@ -231,7 +231,7 @@ is_planned contents files workers job part (sampled n answer) told r h = absurd 
 
 -- ---- `drop`
 
-reads_word : (unit : LengthUnit) (x y : List ℕ) (place : Place) (coordinate : Coordinate) (fault : DecFault) → ReadsPlace unit x y place → RefusesWord unit x y coordinate fault → ⊥
+pub reads_word : (unit : LengthUnit) (x y : List ℕ) (place : Place) (coordinate : Coordinate) (fault : DecFault) → ReadsPlace unit x y place → RefusesWord unit x y coordinate fault → ⊥
 reads_word unit x y place X fault r e = ok_err place.x fault (sym r.x_is ∙ e)
 reads_word unit x y place Y fault r e = ok_err place.y fault (sym r.y_is ∙ e.2)
 reads_word unit x y place Z fault r e = e
@@ -259,7 +259,7 @@ is_dropped contents given place job part (sampled n answer) p told r h = absurd 
 
 -- ---- `level`
 
-reads_height : (unit : LengthUnit) (z : List ℕ) (height : ℤ) (coordinate : Coordinate) (fault : DecFault) → ReadsHeight unit z height → RefusesZ unit z coordinate fault → ⊥
+pub reads_height : (unit : LengthUnit) (z : List ℕ) (height : ℤ) (coordinate : Coordinate) (fault : DecFault) → ReadsHeight unit z height → RefusesZ unit z coordinate fault → ⊥
 reads_height unit z height X fault r e = e
 reads_height unit z height Y fault r e = e
 reads_height unit z height Z fault r e = ok_err height fault (sym r ∙ e)
@@ -288,7 +288,7 @@ is_leveled contents given height job part (sampled n answer) z told r h = absurd
 
 -- ---- `stock`
 
-same_stock_job : (texts : StockTexts) (a b : Job) → IsSome texts.job → ReadsStockJob texts a → ReadsStockJob texts b → a ≡ b
+pub same_stock_job : (texts : StockTexts) (a b : Job) → IsSome texts.job → ReadsStockJob texts a → ReadsStockJob texts b → a ≡ b
 same_stock_job texts a b told r s =
     let both = told_both (λ text. IsJobText text a) (λ text. IsJobText text b) texts.job told r s in
     job_text both.0 a b both.1 both.2
@@ -304,9 +304,9 @@ fit_stock_moves texts job moves fault told r h =
     let both = told_both (λ text. IsRefusedProgram h.job text fault) (λ text. IsProgramText job text moves) texts.program told.program h.refused r.moves_are in
     no_program_text job both.0 moves fault both.2 (subst (λ (j : Job). IsRefusedProgram j both.0 fault) same both.1)
 
-fit_stock : (texts : StockTexts) (job : Job) (moves : List Move) (u : Unfit) → AreStockTold texts → ReadsStock texts job moves → IsUnfitStock texts u → ⊥
+pub fit_stock : (texts : StockTexts) (job : Job) (moves : List Move) (u : Unfit) → AreStockTold texts → ReadsStock texts job moves → IsUnfitStock texts u → ⊥
 fit_stock texts job moves (TooLong JobFile) told r h =
-    let both = told_both IsTooLong (λ text. IsJobText text job) texts.job told.job h r.job_is in
+    let both = told_both IsTooLongJob (λ text. IsJobText text job) texts.job told.job h r.job_is in
     too_long _ _ both.1 both.2.fits
 fit_stock texts job moves (TooLong PartFile) told r h = h
 fit_stock texts job moves (TooLong ProgramFile) told r h = fit_long_stock texts job moves told r h
@@ -340,13 +340,13 @@ is_stocked contents files job moves (sampled n answer) told r h = absurd h
 
 -- ---- `rest`
 
-list_text : (job : Job) (text : List ℕ) (a b : List Step) → IsListText job text a → IsListText job text b → a ≡ b
+pub list_text : (job : Job) (text : List ℕ) (a b : List Step) → IsListText job text a → IsListText job text b → a ≡ b
 list_text job text a b r s = ok_is a b (one_list job text (Ok a) (Ok b) r.reads s.reads)
 
-no_list_text : (job : Job) (text : List ℕ) (steps : List Step) (fault : JobFault) → IsListText job text steps → IsRefusedList job text fault → ⊥
+pub no_list_text : (job : Job) (text : List ℕ) (steps : List Step) (fault : JobFault) → IsListText job text steps → IsRefusedList job text fault → ⊥
 no_list_text job text steps fault r refused = ok_err steps fault (one_list job text (Ok steps) (Err fault) r.reads refused.refused)
 
-same_steps : (texts : RestTexts) (job : Job) (a b : List Step) → IsSome texts.list → ReadsList texts job a → ReadsList texts job b → a ≡ b
+pub same_steps : (texts : RestTexts) (job : Job) (a b : List Step) → IsSome texts.list → ReadsList texts job a → ReadsList texts job b → a ≡ b
 same_steps texts job a b told r s =
     let both = told_both (λ text. IsListText job text a) (λ text. IsListText job text b) texts.list told r s in
     list_text job both.0 a b both.1 both.2
@@ -359,7 +359,7 @@ same_file programs job step a b told r s =
     let moves : a.moves ≡ b.moves = program_text job both.0 a.moves b.moves both.1 both.2 in
     λ i. record { cutter = cutter i; moves = moves i }
 
-same_files : (programs : List ℕ → Option (List ℕ)) (job : Job) (steps : List Step) (a b : List CutFile) → All (λ step. IsSome (programs step.program)) steps → ReadsSteps programs job steps a
+pub same_files : (programs : List ℕ → Option (List ℕ)) (job : Job) (steps : List Step) (a b : List CutFile) → All (λ step. IsSome (programs step.program)) steps → ReadsSteps programs job steps a
     → ReadsSteps programs job steps b → a ≡ b
 same_files programs job [] [] [] told r s = refl
 same_files programs job [] [] (g ∷ b) told r s = absurd s
@@ -372,7 +372,7 @@ same_files programs job (step ∷ steps) (f ∷ a) (g ∷ b) told r s =
     λ i. first i ∷ others i
 
 -- a step within a list that is read is read
-step_read : (programs : List ℕ → Option (List ℕ)) (job : Job) (steps : List Step) (files : List CutFile) (k : ℕ) → ReadsSteps programs job steps files → k < length steps
+pub step_read : (programs : List ℕ → Option (List ℕ)) (job : Job) (steps : List Step) (files : List CutFile) (k : ℕ) → ReadsSteps programs job steps files → k < length steps
     → (file : CutFile) × ReadsStep programs job (step_at steps k) file
 step_read programs job [] files k r there = absurd (omega (there, arith))
 step_read programs job (step ∷ steps) [] k r there = absurd r
@@ -395,7 +395,7 @@ reads_to texts job j part steps files step k told r h =
 
 fit_long_list : (texts : RestTexts) (job : Job) (part : List Tri) (steps : List Step) (files : List CutFile) → AreRestTold texts steps → ReadsRest texts job part steps files → LongList texts → ⊥
 fit_long_list texts job part steps files told r h =
-    let both = told_both IsTooLong (λ text. IsListText job text steps) texts.list told.list h.long r.list_is in
+    let both = told_both IsTooLongJob (λ text. IsListText job text steps) texts.list told.list h.long r.list_is in
     too_long _ _ both.1 both.2.fits
 
 fit_list : (texts : RestTexts) (job : Job) (part : List Tri) (steps : List Step) (files : List CutFile) (fault : JobFault) → AreRestTold texts steps → ReadsRest texts job part steps files
@@ -418,7 +418,7 @@ fit_step texts job part steps files k fault told r h =
     let both = told_both (λ text. IsRefusedProgram h.job text fault) (λ text. IsProgramText job text read.0.moves) (texts.programs h.step.program) there h.refused read.1.moves_are in
     no_program_text job both.0 read.0.moves fault both.2 (subst (λ (j : Job). IsRefusedProgram j both.0 fault) same both.1)
 
-fit_rest : (texts : RestTexts) (job : Job) (part : List Tri) (steps : List Step) (files : List CutFile) (u : Unfit) → AreRestTold texts steps → ReadsRest texts job part steps files → IsUnfitRest texts u → ⊥
+pub fit_rest : (texts : RestTexts) (job : Job) (part : List Tri) (steps : List Step) (files : List CutFile) (u : Unfit) → AreRestTold texts steps → ReadsRest texts job part steps files → IsUnfitRest texts u → ⊥
 fit_rest texts job part steps files (TooLong JobFile) told r h = fit_setup texts.setup job part (TooLong JobFile) told.setup r.setup_is h
 fit_rest texts job part steps files (TooLong PartFile) told r h = fit_setup texts.setup job part (TooLong PartFile) told.setup r.setup_is h
 fit_rest texts job part steps files (TooLong ProgramFile) told r h = h
@@ -435,7 +435,7 @@ fit_rest texts job part steps files (ProgramRefused (StepProgram k) fault) told 
 fit_rest texts job part steps files (PartTop height top unit) told r h = fit_setup texts.setup job part (PartTop height top unit) told.setup r.setup_is h
 
 -- what was judged is what was read
-judged_list_is : (texts : RestTexts) (job j : Job) (part p : List Tri) (steps : List Step) (files fs : List CutFile) (v : ListVerdict) → AreRestTold texts steps → ReadsRest texts job part steps files
+pub judged_list_is : (texts : RestTexts) (job j : Job) (part p : List Tri) (steps : List Step) (files fs : List CutFile) (v : ListVerdict) → AreRestTold texts steps → ReadsRest texts job part steps files
     → JudgesFiles texts j p fs v → IsListVerdict job part files v
 judged_list_is texts job j part p steps files fs v told r h =
     let e : j ≡ job = same_job texts.setup j job told.setup.job h.all_read.setup_is.job_is r.setup_is.job_is in

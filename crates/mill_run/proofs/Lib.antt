@@ -12,3 +12,6 @@ pub mod Lengths
 pub mod Outcomes
 pub mod Headlines
 pub mod Named
+pub mod ExitCodes
+pub mod Triangles
+pub mod OneAnswers

@@ -15,16 +15,16 @@ use Rattle.mill_run.specs.Outcomes.{no_memory, answered, IsOutcome, ShowsOr, Ser
 use Rattle.mill_run.specs.inner.Prints.{PrintsPlanFault, ShowsPlanOr, fault_outcome}
 use Rattle.mill_load.specs.Setup.{setup_texts}
 use Rattle.mill_run.proofs.Serving.{answer_shows}
-use Rattle.mill_run.proofs.Storing.{from, same_view, short_shows, unread, untouched}
+use Rattle.mill_run.proofs.Storing.{from, logged_anyhow, same_view, short_shows, unread, untouched}
 
 -- job and part were read, and the planner's answer is shown
 pub plan_serves : (job part name : List ℕ) (workers : ℕ) (call : Call) (store : StoreView) (s : Setup) → LoadsSetup (setup_texts call.store.contents job part) (Ok s)
     → (let r : Result Setup LoadFault = Ok s in OnlyLoads call.store store r) → ShowsPlanOr s name (from call store) → Serves (plan job part name workers) call
 plan_serves job part name workers call store s read loads shown = whole (subst (λ (view : StoreView). ShowsPlanOr s name (from call view)) (same_view call.store store loads.only loads.reads) shown)
   where
-    whole : ShowsPlanOr s name (from call call.store) → Serves (plan job part name workers) call
-    whole (inl p) = record { outcome = answered (planned s.job.unit name p.answer); is = (refl, record { job = s.job; part = s.part; unit_is = refl; setup_is = read; is = p.is }); shows = p.shows }
-    whole (inr m) = record { outcome = no_memory; is = tt; shows = m }
+    whole : ShowsPlanOr s name (from call (record call.store { log = store.log })) → Serves (plan job part name workers) call
+    whole (inl p) = record { outcome = answered (planned s.job.unit name p.answer); is = (refl, record { job = s.job; part = s.part; unit_is = refl; setup_is = read; is = p.is }); failed = tt; shows = logged_anyhow call store.log _ p.shows }
+    whole (inr m) = record { outcome = no_memory; is = tt; failed = tt; shows = logged_anyhow call store.log _ m }
 
 pub plan_load_fault : (contents : List ℕ → Option (List ℕ)) (job part name : List ℕ) (workers : ℕ) (f : LoadFault) → LoadsSetup (setup_texts contents job part) (Err f)
     → IsOutcome contents (plan job part name workers) (fault_outcome f)

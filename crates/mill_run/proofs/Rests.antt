@@ -6,6 +6,7 @@ use Rattle.std.specs.Prelude.{IfSome, slice_index_or}
 use Rattle.std.specs.Global.{Vec}
 use Rattle.mill_base.specs.declared.points.Tri.{Tri}
 use Rattle.mill_command.specs.Requests.{rest}
+use Rattle.mill_io.specs.Readings.{Reading}
 use Rattle.mill_io.specs.Views.{StoreView, ReadsOnly}
 use Rattle.mill_job.specs.declared.job.Job.{Job}
 use Rattle.mill_list.specs.declared.step.Step.{Step}
@@ -18,10 +19,11 @@ use Rattle.mill_load.specs.declared.load.Unfit.TheVariants.{TooLong, JobRefused,
 use Rattle.mill_run.specs.declared.rest.Listed.{Listed}
 use Rattle.mill_run.specs.Answers.{judged_files}
 use Rattle.mill_run.specs.Calls.{Call}
-use Rattle.mill_run.specs.inner.Loads.{LoadsFiles, LoadsList, StopsAtStep}
-use Rattle.mill_load.specs.Loads.{LoadsProgram, LoadsSetup, OnlyLoads}
+use Rattle.mill_run.specs.inner.Loads.{FailsInRest, LoadsFiles, LoadsList, StopsAtStep, rest_name}
+use Rattle.mill_load.specs.Loads.{LoadsProgram, LoadsSetup, NamesFault, OnlyLoads}
 use Rattle.mill_run.specs.inner.Prints.{TriesListVerdict, fault_outcome}
-use Rattle.mill_run.specs.Outcomes.{no_memory, IsOutcome, Serves}
+use Rattle.mill_run.specs.Outcomes.{no_memory, Fails, IsOutcome, Serves}
+use Rattle.mill_run.specs.Words.{RestFiles}
 use Rattle.mill_run.specs.Rest.{RestTexts, rest_texts, ReadsList, step_at, ReadsStep, ReadsSteps, ReadsToStep, IsUnfitRest, IsReadBeforeRest}
 use Rattle.mill_load.specs.Setup.{ReadsSetup}
 use Rattle.mill_run.proofs.Serving.{answer_serves, answer_shows, printed_shows}
@@ -85,13 +87,14 @@ module _ (programs : List ℕ → Option (List ℕ)) (job : Job) (steps : List S
       (subst (λ (x : Step). ReadsSteps programs job (take n steps ++ x ∷ []) (files ++ file ∷ [])) is (reads_push programs job (take n steps) files step file before s)))
 
   -- it stops the reading
-  pub stops_at : (f : LoadFault) → LoadsProgram job (programs step.program) (StepProgram n) (Err f) → StopsAtStep programs job steps f
-  stops_at f h = record {
+  pub stops_at : (log : List Reading) (f : LoadFault) → LoadsProgram job (programs step.program) (StepProgram n) (Err f) → NamesFault (λ file. step.program) log f → StopsAtStep programs job steps log f
+  stops_at log f h failed = record {
     number = n;
     files = files;
     there = there;
     before = before;
     stops = subst (λ (x : Step). LoadsProgram job (programs x.program) (StepProgram n) (Err f)) (is ∙ get_or_default steps n step _ there) h;
+    failed = subst (λ (x : Step). NamesFault (λ file. x.program) log f) (is ∙ get_or_default steps n step _ there) failed;
   }
 
 -- ---- what kept it from its files
@@ -135,9 +138,9 @@ no_list texts job part (Unfit (ProgramRefused file fault)) r h = absurd h
 no_list texts job part (Unfit (PartTop height top unit)) r h = absurd h
 
 -- so was the list, and there was no program of one of its steps
-pub no_step : (texts : RestTexts) (job : Job) (part : List Tri) (steps : List Step) (f : LoadFault) → ReadsSetup texts.setup job part → ReadsList texts job steps
-    → StopsAtStep texts.programs job steps f → LoadsFiles texts (Err f)
-no_step texts job part steps f r l s = which f s.stops
+pub no_step : (texts : RestTexts) (job : Job) (part : List Tri) (steps : List Step) (log : List Reading) (f : LoadFault) → ReadsSetup texts.setup job part → ReadsList texts job steps
+    → StopsAtStep texts.programs job steps log f → LoadsFiles texts (Err f)
+no_step texts job part steps log f r l s = which f s.stops
   where
     step : Step
     step = step_at steps s.number
@@ -156,6 +159,57 @@ no_step texts job part steps f r l s = which f s.stops
         subst (λ (x : File). IsUnfitRest texts (ProgramRefused x fault)) (sym h.0) (record { job = job; step = step; before = before; refused = h.1 })
     which (Unfit (PartTop height top unit)) h = absurd h
 
+-- ---- which read failed
+
+-- that of the job or of the part
+pub setup_failed : (texts : RestTexts) (names : RestFiles) (log : List Reading) (f : LoadFault) → LoadsSetup texts.setup (Err f) → NamesFault (rest_name names) log f → FailsInRest texts names log f
+setup_failed texts names log Memory told h = tt
+setup_failed texts names log (ReadFault JobFile) told h = h
+setup_failed texts names log (ReadFault PartFile) told h = h
+setup_failed texts names log (ReadFault ProgramFile) told h = h
+setup_failed texts names log (ReadFault ListFile) told h = h
+setup_failed texts names log (ReadFault (StepProgram k)) told h = absurd told
+setup_failed texts names log (Unfit fault) told h = tt
+
+-- that of the list
+pub list_failed : (texts : RestTexts) (names : RestFiles) (log : List Reading) (job : Job) (told : Option (List ℕ)) (f : LoadFault) → LoadsList job told (Err f) → NamesFault (rest_name names) log f
+    → FailsInRest texts names log f
+list_failed texts names log job told Memory is h = tt
+list_failed texts names log job told (ReadFault JobFile) is h = h
+list_failed texts names log job told (ReadFault PartFile) is h = h
+list_failed texts names log job told (ReadFault ProgramFile) is h = h
+list_failed texts names log job told (ReadFault ListFile) is h = h
+list_failed texts names log job told (ReadFault (StepProgram k)) is h = absurd is
+list_failed texts names log job told (Unfit fault) is h = tt
+
+-- that of the program of a step
+pub step_failed : (texts : RestTexts) (names : RestFiles) (job : Job) (part : List Tri) (steps : List Step) (log : List Reading) (f : LoadFault) → ReadsSetup texts.setup job part
+    → ReadsList texts job steps → StopsAtStep texts.programs job steps log f → FailsInRest texts names log f
+step_failed texts names job part steps log f r l s = which f s.stops s.failed
+  where
+    step : Step
+    step = step_at steps s.number
+
+    before : ReadsToStep texts job step s.number
+    before = record { part = part; steps = steps; files = s.files; setup_is = r; list_is = l; there = s.there; step_is = refl; before = s.before }
+
+    which : (g : LoadFault) → LoadsProgram job (texts.programs step.program) (StepProgram s.number) (Err g) → NamesFault (λ file. step.program) log g → FailsInRest texts names log g
+    which Memory is h = tt
+    which (ReadFault file) is h = subst (λ (x : File). FailsInRest texts names log (ReadFault x)) (sym is) (record { job = job; step = step; before = before; last = h })
+    which (Unfit fault) is h = tt
+
+-- so the outcome names the file
+pub rest_failed : (contents : List ℕ → Option (List ℕ)) (job part list : List ℕ) (workers : ℕ) (log : List Reading) (f : LoadFault)
+    → FailsInRest (rest_texts contents (record { job = job; part = part; list = list })) (record { job = job; part = part; list = list }) log f
+    → Fails contents (rest job part list workers) log (fault_outcome f)
+rest_failed contents job part list workers log Memory h = tt
+rest_failed contents job part list workers log (ReadFault JobFile) h = h
+rest_failed contents job part list workers log (ReadFault PartFile) h = h
+rest_failed contents job part list workers log (ReadFault ProgramFile) h = h
+rest_failed contents job part list workers log (ReadFault ListFile) h = h
+rest_failed contents job part list workers log (ReadFault (StepProgram k)) h = h
+rest_failed contents job part list workers log (Unfit fault) h = tt
+
 pub rest_load_fault : (contents : List ℕ → Option (List ℕ)) (job part list : List ℕ) (workers : ℕ) (f : LoadFault)
     → LoadsFiles (rest_texts contents (record { job = job; part = part; list = list })) (Err f) → IsOutcome contents (rest job part list workers) (fault_outcome f)
 rest_load_fault contents job part list workers Memory h = tt
@@ -173,4 +227,4 @@ rest_serves job part list workers call l read loads (inl v) =
     (record { steps = read.0; all_read = read.1; is = v.is; safe = v.safe; named = v.named })
     (answer_shows call (judged_files l.job l.part l.files.items v.verdict) refl loads.only loads.reads v.printed)
 rest_serves job part list workers call l read loads (inr m) =
-    record { outcome = no_memory; is = tt; shows = printed_shows call no_memory refl loads.only loads.reads m }
+    record { outcome = no_memory; is = tt; failed = tt; shows = printed_shows call no_memory refl loads.only loads.reads m }

@@ -88,4 +88,4 @@ sample_serves n workers call same tried = go tried
 
     go : TriesSample n call.status call.sink call.sink_after → Serves (sample n workers) call
     go (inl p) = answer_serves (sample n workers) call (sampled n p.answer) (refl, p.is) (answer_shows call (sampled n p.answer) refl only reads p.printed)
-    go (inr m) = record { outcome = no_memory; is = tt; shows = printed_shows call no_memory refl only reads m }
+    go (inr m) = record { outcome = no_memory; is = tt; failed = tt; shows = printed_shows call no_memory refl only reads m }

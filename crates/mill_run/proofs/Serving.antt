@@ -7,8 +7,10 @@ use Rattle.mill_command.specs.Requests.{ReadsWords, Request, request, verify, dr
 use Rattle.mill_command.specs.declared.refusal.Refusal.{Refusal}
 use Rattle.mill_command.specs.declared.refusal.Refusal.TheVariants as refusal
 use Rattle.mill_decimal.specs.declared.fault.DecFault.{DecFault}
+use Rattle.mill_io.specs.Readings.{LastFails, Reading}
 use Rattle.mill_io.specs.Views.{StoreView, SinkView, ReadsOnly}
 use Rattle.mill_job.specs.declared.job.Job.{Job}
+use Rattle.mill_load.specs.declared.file.File.{File}
 use Rattle.mill_load.specs.declared.load.LoadFault.{LoadFault}
 use Rattle.mill_load.specs.declared.load.LoadFault.TheVariants as load_fault
 use Rattle.mill_load.specs.declared.load.Setup.{Setup}
@@ -21,13 +23,14 @@ use Rattle.mill_run.specs.Drop.{HasPlace}
 use Rattle.mill_load.specs.Places.{ReadsPlace, RefusesWord, ReadsHeight, RefusesZ}
 use Rattle.mill_run.specs.Level.{HasHeight}
 use Rattle.mill_run.specs.inner.Loads.{Loads}
-use Rattle.mill_load.specs.Loads.{LoadsUnder, OnlyLoads}
-use Rattle.mill_run.specs.Outcomes.{Outcome, help, bad_words, no_memory, read_fault, answered, outcome_file, IsOutcome, IsOutcomeOf, CountsReads, Shows, ShowsOr, Serves, HasOutcome}
+use Rattle.mill_load.specs.Loads.{LoadsUnder, NamesFault, OnlyLoads}
+use Rattle.mill_run.specs.Outcomes.{Outcome, help, bad_words, no_memory, read_fault, answered, outcome_file, file_name, Fails, FailsAt, IsOutcome, IsOutcomeOf, CountsReads, Shows, ShowsOr, Serves, HasOutcome}
 use Rattle.mill_load.specs.Prints.{Prints, PrintsMade, PrintsFault}
 use Rattle.mill_run.specs.inner.Prints.{PrintsOutcome, PrintsOr, fault_outcome, refusal_outcome, TriesVerdict, PrintsHeight, TriesLevel}
 use Rattle.mill_load.specs.Setup.{setup_texts, ReadsJob}
 use Rattle.mill_run.specs.Verify.{texts_of}
 use Rattle.mill_load.proofs.Reading.{rises, under_loads, HasFault}
+use Rattle.mill_run.proofs.Taken.{same_request}
 
 -- ---- where nothing is stored
 
@@ -51,17 +54,25 @@ answer_shows call a none only reads (inr m) = inr (printed_shows call no_memory 
 
 -- so the work on a request is done, if this is its answer
 pub answer_serves : (asked : Request) (call : Call) (a : Answer) → IsOutcome call.store.contents asked (answered a) → ShowsOr (answered a) call → Serves asked call
-answer_serves asked call a is (inl s) = record { outcome = answered a; is = is; shows = s }
-answer_serves asked call a is (inr m) = record { outcome = no_memory; is = tt; shows = m }
+answer_serves asked call a is (inl s) = record { outcome = answered a; is = is; failed = tt; shows = s }
+answer_serves asked call a is (inr m) = record { outcome = no_memory; is = tt; failed = tt; shows = m }
 
 -- what kept a command from its files is printed
-pub fault_serves : {T : Type 0} (asked : Request) (call : Call) (f : LoadFault) → IsOutcome call.store.contents asked (fault_outcome f) → CanCount call.store call.sink
+pub fault_serves : {T : Type 0} (asked : Request) (call : Call) (f : LoadFault) → IsOutcome call.store.contents asked (fault_outcome f)
+    → Fails call.store.contents asked call.store_after.log (fault_outcome f) → CanCount call.store call.sink
     → (let r : Result T LoadFault = Err f in OnlyLoads call.store call.store_after r) → PrintsFault f call.status call.sink call.sink_after → Serves asked call
-fault_serves asked call load_fault.Memory is room loads p = record { outcome = no_memory; is = tt; shows = printed_shows call no_memory refl loads.only loads.reads p }
-fault_serves asked call (load_fault.ReadFault file) is room loads p =
-    record { outcome = read_fault file; is = is; shows = printed_shows call (read_fault file) refl loads.only (rises _ _ room.reads loads.reads) p }
-fault_serves asked call (load_fault.Unfit fault) is room loads p =
+fault_serves asked call load_fault.Memory is failed room loads p = record { outcome = no_memory; is = tt; failed = tt; shows = printed_shows call no_memory refl loads.only loads.reads p }
+fault_serves asked call (load_fault.ReadFault file) is failed room loads p =
+    record { outcome = read_fault file; is = is; failed = failed; shows = printed_shows call (read_fault file) refl loads.only (rises _ _ room.reads loads.reads) p }
+fault_serves asked call (load_fault.Unfit fault) is failed room loads p =
     answer_serves asked call (unfit fault) is (answer_shows call (unfit fault) refl loads.only loads.reads p)
+
+-- a read fault is that of the file that it names, which isn't the program of a list
+pub fails_named : (contents : List ℕ → Option (List ℕ)) (asked : Request) (log : List Reading) (f : LoadFault) → ((file : File) → LastFails (file_name asked file) log → FailsAt contents asked file log)
+    → NamesFault (file_name asked) log f → Fails contents asked log (fault_outcome f)
+fails_named contents asked log load_fault.Memory one h = tt
+fails_named contents asked log (load_fault.ReadFault file) one h = one file h
+fails_named contents asked log (load_fault.Unfit fault) one h = tt
 
 -- ---- lines
 
@@ -94,7 +105,7 @@ verdict_serves job part program workers call l read loads (inl v) =
     answer_serves (verify job part program workers) call (judged l.job l.part l.moves.items v.verdict) (record { all_read = read; is = v.is; safe = v.safe; named = v.named })
     (answer_shows call (judged l.job l.part l.moves.items v.verdict) refl loads.only loads.reads v.printed)
 verdict_serves job part program workers call l read loads (inr m) =
-    record { outcome = no_memory; is = tt; shows = printed_shows call no_memory refl loads.only loads.reads m }
+    record { outcome = no_memory; is = tt; failed = tt; shows = printed_shows call no_memory refl loads.only loads.reads m }
 
 -- ---- `drop`
 
@@ -160,7 +171,7 @@ level_serves job part z call j height s read words under loads (inl p) =
     })
     (answer_shows call (leveled s.job.unit p.answer) refl loads.only loads.reads p.printed)
 level_serves job part z call j height s read words under loads (inr m) =
-    record { outcome = no_memory; is = tt; shows = printed_shows call no_memory refl loads.only loads.reads m }
+    record { outcome = no_memory; is = tt; failed = tt; shows = printed_shows call no_memory refl loads.only loads.reads m }
 
 -- ---- words
 
@@ -168,7 +179,12 @@ pub same_store : (store : StoreView) → ReadsOnly store store
 same_store store = record { contents = λ name. refl; tells = refl; write_faults = refl }
 
 pub served_outcome : (words : List (List ℕ)) (asked : Request) (call : Call) → request words ≡ Some asked → Serves asked call → HasOutcome words call
-served_outcome words asked call taken s = record { outcome = s.outcome; is = of_words s.outcome s.is; shows = s.shows }
+served_outcome words asked call taken s = record {
+  outcome = s.outcome;
+  is = of_words s.outcome s.is;
+  failed = λ other is. subst (λ (r : Request). Fails call.store.contents r call.store_after.log s.outcome) (same_request (request words) asked other taken is) s.failed;
+  shows = s.shows;
+}
   where
     of_words : (o : Outcome) → IsOutcome call.store.contents asked o → IsOutcomeOf words call.store.contents o
     of_words (help text) is = absurd is
@@ -187,6 +203,11 @@ refusal_file (refusal.Help text) = refl
 refusal_file (refusal.NotTaken text) = refl
 refusal_file refusal.WantOfMemory = refl
 
+refusal_fails : (contents : List ℕ → Option (List ℕ)) (asked : Request) (log : List Reading) (r : Refusal) → Fails contents asked log (refusal_outcome r)
+refusal_fails contents asked log (refusal.Help text) = tt
+refusal_fails contents asked log (refusal.NotTaken text) = tt
+refusal_fails contents asked log refusal.WantOfMemory = tt
+
 refusal_reads : (r : Refusal) (a b : ℕ) → b ≡ a → CountsReads (refusal_outcome r) a b
 refusal_reads (refusal.Help text) a b e = e
 refusal_reads (refusal.NotTaken text) a b e = e
@@ -197,6 +218,7 @@ pub refused_outcome : (words : List (List ℕ)) (call : Call) (r : Refusal) → 
 refused_outcome words call r h same p = record {
   outcome = refusal_outcome r;
   is = refusal_is words call.store.contents r h;
+  failed = λ asked is. refusal_fails call.store.contents asked call.store_after.log r;
   shows = printed_shows call (refusal_outcome r) (refusal_file r) (subst (λ (v : StoreView). ReadsOnly call.store v) (sym same) (same_store call.store))
       (refusal_reads r _ _ (ap (λ (v : StoreView). v.read_faults) same)) p;
 }

@@ -17,7 +17,7 @@ use Rattle.mill_load.specs.Loads.{LoadsJob, LoadsProgram, OnlyLoads}
 use Rattle.mill_run.specs.Outcomes.{no_memory, answered, IsOutcome, ShowsOr, Serves}
 use Rattle.mill_run.specs.inner.Prints.{ShowsStockOr, fault_outcome}
 use Rattle.mill_run.specs.Stock.{StockAnswer, StockTexts, stock_texts, IsStockAnswer, IsReadBeforeStock, IsUnfitStock, ReadsStockJob}
-use Rattle.mill_run.proofs.Storing.{from, same_view}
+use Rattle.mill_run.proofs.Storing.{from, logged_anyhow, same_view}
 
 -- ---- what kept it from its files
 
@@ -79,6 +79,6 @@ pub stock_serves : (job program name : List ℕ) (call : Call) (store : StoreVie
     → (let r : Result Cutting LoadFault = Ok c in OnlyLoads call.store store r) → ShowsStockOr c name (from call store) → Serves (stock job program name) call
 stock_serves job program name call store c read loads shown = whole (subst (λ (view : StoreView). ShowsStockOr c name (from call view)) (same_view call.store store loads.only loads.reads) shown)
   where
-    whole : ShowsStockOr c name (from call call.store) → Serves (stock job program name) call
-    whole (inl p) = record { outcome = answered (stocked name p.answer); is = (refl, record { job = c.job; moves = c.moves.items; all_read = read; is = p.is }); shows = p.shows }
-    whole (inr m) = record { outcome = no_memory; is = tt; shows = m }
+    whole : ShowsStockOr c name (from call (record call.store { log = store.log })) → Serves (stock job program name) call
+    whole (inl p) = record { outcome = answered (stocked name p.answer); is = (refl, record { job = c.job; moves = c.moves.items; all_read = read; is = p.is }); failed = tt; shows = logged_anyhow call store.log _ p.shows }
+    whole (inr m) = record { outcome = no_memory; is = tt; failed = tt; shows = logged_anyhow call store.log _ m }

@@ -1,11 +1,12 @@
 -- The work of a command that stores a text: the store before it, and what is stored and printed.
-use Rattle.std.proofs.Common.{◌≡◌, ℕ, List, Option, Some, refl, sym, ap, subst, ◌∙◌, inl, inr}
+use Rattle.std.proofs.Common.{◌≡◌, ◌⊎◌, ℕ, List, Option, None, Some, refl, sym, ap, subst, ◌∙◌, inl, inr}
 use Rattle.std.proofs.Math.Path.{fun_ext}
 use Rattle.mill_io.specs.Contents.{AppendedPart}
-use Rattle.mill_io.specs.Views.{StoreView, ReadsOnly, IsStored, IsPartStored, IsWritten}
+use Rattle.mill_io.specs.Readings.{Reading}
+use Rattle.mill_io.specs.Views.{StoreView, ReadsOnly, WritesOnly, IsStored, IsPartStored, IsWritten}
 use Rattle.mill_run.specs.Answers.{Answer, answer_file, answer_line, answer_status}
 use Rattle.mill_run.specs.Calls.{Call, CanCount, NamedText, Stores}
-use Rattle.mill_run.specs.Outcomes.{no_memory, answered, Shows}
+use Rattle.mill_run.specs.Outcomes.{Outcome, no_memory, answered, outcome_file, FailsToPrint, FailsToStore, Shows, ShowsWhole}
 use Rattle.mill_load.specs.Prints.{Prints}
 use Rattle.mill_run.specs.inner.Prints.{PrintsOutcome}
 use Rattle.mill_load.proofs.Reading.{rises}
@@ -13,18 +14,57 @@ use Rattle.mill_run.proofs.Serving.{same_store, printed_shows}
 
 -- ---- the store is as it was
 
--- where no read failed, a store that was only read shows what it did before
-pub same_view : (old new : StoreView) → ReadsOnly old new → new.read_faults ≡ old.read_faults → new ≡ old
+-- where no read failed, a store that was only read shows what it did before, but for its reads
+pub same_view : (old new : StoreView) → ReadsOnly old new → new.read_faults ≡ old.read_faults → new ≡ record old { log = new.log }
 same_view old new only reads = λ i. record {
   tells = only.tells i;
   contents = fun_ext (λ (name : List ℕ). only.contents name) i;
   read_faults = reads i;
   write_faults = only.write_faults i;
+  log = new.log;
 }
 
 -- the call from a later view of the store on
 abbrev pub from : Call → StoreView → Call
 from call store = record { status = call.status; store = store; store_after = call.store_after; sink = call.sink; sink_after = call.sink_after }
+
+-- what was read before a store shows in nothing else that it shows
+module _ (old new : StoreView) (log : List Reading) where
+  reads_anyhow : ReadsOnly (record old { log = log }) new → ReadsOnly old new
+  reads_anyhow h = record { contents = h.contents; tells = h.tells; write_faults = h.write_faults }
+
+  writes_anyhow : (name : List ℕ) → WritesOnly name (record old { log = log }) new → WritesOnly name old new
+  writes_anyhow name h = record { others = h.others; tells = h.tells; read_faults = h.read_faults }
+
+  stored_anyhow : (name text : List ℕ) → IsStored name text (record old { log = log }) new → IsStored name text old new
+  stored_anyhow name text h = record { stored = h.stored; told = h.told; only = writes_anyhow name h.only; write_faults = h.write_faults }
+
+  part_anyhow : (name text : List ℕ) → IsPartStored name text (record old { log = log }) new → IsPartStored name text old new
+  part_anyhow name text h = record { stored = h.stored; only = writes_anyhow name h.only; write_faults = h.write_faults }
+
+module _ (call : Call) (log : List Reading) where
+  -- the call from where the reads of the store were these
+  abbrev later : Call
+  later = from call (record call.store { log = log })
+
+  stores_anyhow : (file : Option NamedText) → Stores later file → Stores call file
+  stores_anyhow None h = reads_anyhow call.store call.store_after log h
+  stores_anyhow (Some file) h = stored_anyhow call.store call.store_after log file.name file.text h
+
+  way_anyhow : (o : Outcome) → ShowsWhole later o ⊎ (FailsToStore later o ⊎ FailsToPrint later o) → ShowsWhole call o ⊎ (FailsToStore call o ⊎ FailsToPrint call o)
+  way_anyhow o (inl w) = inl (record { status = w.status; printed = w.printed; stored = stores_anyhow (outcome_file o) w.stored })
+  way_anyhow o (inr (inl f)) = inr (inl (record {
+    file = f.file;
+    text_is = f.text_is;
+    status = f.status;
+    silent = f.silent;
+    stored = part_anyhow call.store call.store_after log f.file.name f.file.text f.stored;
+    risen = f.risen;
+  }))
+  way_anyhow o (inr (inr f)) = inr (inr (record { status = f.status; printed = f.printed; risen = f.risen; stored = stores_anyhow (outcome_file o) f.stored }))
+
+  pub logged_anyhow : (o : Outcome) → Shows later o → Shows call o
+  logged_anyhow o h = record { reads = h.reads; way = way_anyhow o h.way }
 
 pub untouched : (call : Call) → call.store_after ≡ call.store → ReadsOnly call.store call.store_after
 untouched call same = subst (λ (v : StoreView). ReadsOnly call.store v) (sym same) (same_store call.store)

@@ -1,5 +1,7 @@
 -- One call of the program, as the outside sees it.
 use Rattle.std.specs.Prelude.{◌≡◌, ◌⊎◌, ◌↔◌, ◌<◌, ◌-◌, ◌^◌, ℕ, List, Option, Some, None}
+use Rattle.std.specs.Process.{exit_status}
+use Rattle.std.specs.declared.process.ExitCode.{ExitCode}
 use Rattle.mill_io.specs.Views.{StoreView, SinkView, ReadsOnly, IsStored}
 use Rattle.mill_load.specs.declared.status.Status.{Status}
 use Rattle.mill_load.specs.Statuses.{status_code}
@@ -15,6 +17,11 @@ pub record Call : Type 0 where
 abbrev pub call_of : Status → StoreView → StoreView → SinkView → SinkView → Call
 call_of status store store_after sink sink_after =
     record { status = status_code status; store = store; store_after = store_after; sink = sink; sink_after = sink_after }
+
+-- the same, where the process ends with this code
+abbrev pub ended_call : ExitCode → StoreView → StoreView → SinkView → SinkView → Call
+ended_call code store store_after sink sink_after =
+    record { status = exit_status code; store = store; store_after = store_after; sink = sink; sink_after = sink_after }
 
 -- each count of faults can still rise, so that a failed call is seen in it
 pub record CanCount (store : StoreView) (sink : SinkView) : Type 0 where

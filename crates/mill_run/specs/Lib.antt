@@ -9,5 +9,6 @@ pub mod Rest
 pub mod Sample
 pub mod Answers
 pub mod Outcomes
+pub mod Laws
 pub mod Headline
 pub mod inner

@@ -1,15 +1,17 @@
 -- What a call comes to, and how it shows that.
-use Rattle.std.specs.Prelude.{◌⊎◌, ◌≡◌, ◌<◌, ℕ, false, List, Option, None, Some}
+use Rattle.std.specs.Prelude.{◌⊎◌, ◌≡◌, ◌<◌, ℕ, false, List, [], Option, None, Some}
 use Rattle.mill_io.specs.Contents.{AppendedPart}
+use Rattle.mill_io.specs.Readings.{LastFails, Reading}
 use Rattle.mill_io.specs.Views.{IsWritten, IsPartStored}
 use Rattle.mill_command.specs.Requests.{AsksHelp, IsMistaken, Request, faults, is_taken, request, verify, plan, drop, level, stock, rest, sample}
 use Rattle.mill_load.specs.declared.file.File.{File}
+use Rattle.mill_load.specs.declared.file.File.TheVariants.{Job as JobFile, Part as PartFile, Program as ProgramFile, List as ListFile, StepProgram}
 use Rattle.mill_run.specs.Answers.{Answer, IsAnswer, answer_status, answer_line, answer_file}
 use Rattle.mill_run.specs.Calls.{Call, NamedText, Stores}
 use Rattle.mill_run.specs.Drop.{HasPlace}
 use Rattle.mill_load.specs.Faults.{memory_line, read_fault_line}
 use Rattle.mill_run.specs.Level.{HasHeight}
-use Rattle.mill_run.specs.Rest.{rest_texts, IsReadBeforeRest}
+use Rattle.mill_run.specs.Rest.{rest_texts, FailsAtStep, IsReadBeforeRest}
 use Rattle.mill_load.specs.Setup.{setup_texts, IsReadBefore, IsReadBeforeWith}
 use Rattle.mill_run.specs.Stock.{stock_texts, IsReadBeforeStock}
 use Rattle.mill_run.specs.Verify.{texts_of, IsReadBeforeProgram}
@@ -54,6 +56,34 @@ ReadsBefore contents (level job part z) file = IsReadBeforeWith (HasHeight (setu
 ReadsBefore contents (stock job program out) file = IsReadBeforeStock (stock_texts contents job program) file
 ReadsBefore contents (rest job part list workers) file = IsReadBeforeRest (rest_texts contents (record { job = job; part = part; list = list })) file
 ReadsBefore contents (sample n workers) file = ⊥
+
+-- the name that a request gives to each of its files but the programs of a list
+abbrev pub file_name : Request → File → List ℕ
+file_name (verify job part program workers) JobFile = job
+file_name (verify job part program workers) PartFile = part
+file_name (verify job part program workers) ProgramFile = program
+file_name (plan job part out workers) JobFile = job
+file_name (plan job part out workers) PartFile = part
+file_name (drop job part x y) JobFile = job
+file_name (drop job part x y) PartFile = part
+file_name (level job part z) JobFile = job
+file_name (level job part z) PartFile = part
+file_name (stock job program out) JobFile = job
+file_name (stock job program out) ProgramFile = program
+file_name (rest job part list workers) JobFile = job
+file_name (rest job part list workers) PartFile = part
+file_name (rest job part list workers) ListFile = list
+file_name _ _ = []
+
+-- the last read was one of this file, and it failed
+abbrev pub FailsAt : (List ℕ → Option (List ℕ)) → Request → File → List Reading → Type 0
+FailsAt contents (rest job part list workers) (StepProgram k) log = FailsAtStep (rest_texts contents (record { job = job; part = part; list = list })) k log
+FailsAt contents asked file log = LastFails (file_name asked file) log
+
+-- where the work on a request comes to a read fault, that is a fault of the file that it names
+abbrev pub Fails : (List ℕ → Option (List ℕ)) → Request → List Reading → Outcome → Type 0
+Fails contents asked log (read_fault file) = FailsAt contents asked file log
+Fails contents asked log outcome = Unit {0}
 
 -- the work on a request comes to this: memory was short; or a file couldn't be read, and all before it could; or this is the answer
 abbrev pub IsOutcome : (List ℕ → Option (List ℕ)) → Request → Outcome → Type 0
@@ -110,7 +140,7 @@ pub record FailsToPrint (call : Call) (outcome : Outcome) : Type 0 where
   pub risen : call.sink.faults < call.sink_after.faults
   pub stored : Stores call (outcome_file outcome)
 
--- the count of failed reads rises with a read fault, and else stays
+-- the count of failed reads rises with a read fault, so that a read of this call failed, and else stays
 abbrev pub CountsReads : Outcome → ℕ → ℕ → Type 0
 CountsReads (read_fault file) before after = before < after
 CountsReads outcome before after = after ≡ before
@@ -128,10 +158,12 @@ ShowsOr outcome call = Shows call outcome ⊎ Shows call no_memory
 pub record Serves (asked : Request) (call : Call) : Type 0 where
   pub outcome : Outcome
   pub is : IsOutcome call.store.contents asked outcome
+  pub failed : Fails call.store.contents asked call.store_after.log outcome
   pub shows : Shows call outcome
 
 -- a call with these words came to an outcome, which is right by each file that the store tells, and shows it
 pub record HasOutcome (words : List (List ℕ)) (call : Call) : Type 0 where
   pub outcome : Outcome
   pub is : IsOutcomeOf words call.store.contents outcome
+  pub failed : (asked : Request) → request words ≡ Some asked → Fails call.store.contents asked call.store_after.log outcome
   pub shows : Shows call outcome

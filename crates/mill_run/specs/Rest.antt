@@ -20,7 +20,8 @@ use Rattle.mill_load.specs.declared.file.File.TheVariants.{List as ListFile, Ste
 use Rattle.mill_load.specs.declared.load.Unfit.{Unfit}
 use Rattle.mill_load.specs.declared.load.Unfit.TheVariants.{TooLong, ListRefused, ProgramRefused}
 use Rattle.mill_load.specs.Printed.{column_words}
-use Rattle.mill_load.specs.Setup.{SetupTexts, setup_texts, AreSetupTold, Fits, IsTooLong, ReadsSetup, IsUnfit, IsReadBefore}
+use Rattle.mill_io.specs.Readings.{LastFails, Reading}
+use Rattle.mill_load.specs.Setup.{SetupTexts, setup_texts, AreSetupTold, FitsJobFile, IsTooLong, IsTooLongJob, ReadsSetup, IsUnfit, IsReadBefore}
 use Rattle.mill_load.specs.Programs.{IsProgramText, IsRefusedProgram}
 use Rattle.mill_run.specs.Verify.{NamesMove, reason_words}
 use Rattle.mill_run.specs.Words.{RestFiles}
@@ -44,12 +45,12 @@ pub record AreRestTold (texts : RestTexts) (steps : List Step) : Type 0 where
 
 -- a text within the limit that reads, for the job, as these steps
 pub record IsListText (job : Job) (text : List ℕ) (steps : List Step) : Type 0 where
-  pub fits : Fits text
+  pub fits : FitsJobFile text
   pub reads : IsListOf job text (Ok steps)
 
 -- a text within the limit that is refused, with its first fault
 pub record IsRefusedList (job : Job) (text : List ℕ) (fault : JobFault) : Type 0 where
-  pub fits : Fits text
+  pub fits : FitsJobFile text
   pub refused : IsListOf job text (Err fault)
 
 -- where the list's file is told, it reads, for the job, as these steps
@@ -86,7 +87,7 @@ pub record LongList (texts : RestTexts) : Type 0 where
   pub job : Job
   pub part : List Tri
   pub setup_is : ReadsSetup texts.setup job part
-  pub long : IfSome texts.list IsTooLong
+  pub long : IfSome texts.list IsTooLongJob
 
 -- job and part are read, and the part isn't too high; where the list's file is told, it is refused for the job
 pub record RefusesList (texts : RestTexts) (fault : JobFault) : Type 0 where
@@ -133,6 +134,13 @@ abbrev pub IsReadBeforeRest : RestTexts → File → Type 0
 IsReadBeforeRest texts ListFile = (job : Job) × (part : List Tri) × ReadsSetup texts.setup job part
 IsReadBeforeRest texts (StepProgram k) = (job : Job) × (step : Step) × ReadsToStep texts job step k
 IsReadBeforeRest texts file = IsReadBefore texts.setup file
+
+-- the last read was one of the program of step k, and it failed; all that comes before it is read
+pub record FailsAtStep (texts : RestTexts) (k : ℕ) (log : List Reading) : Type 0 where
+  pub job : Job
+  pub step : Step
+  pub before : ReadsToStep texts job step k
+  pub last : LastFails step.program log
 
 -- ---- the verdict
 

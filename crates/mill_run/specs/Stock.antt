@@ -13,7 +13,7 @@ use Rattle.mill_load.specs.declared.file.File.{File}
 use Rattle.mill_load.specs.declared.file.File.TheVariants.{Job as JobFile, Program as ProgramFile}
 use Rattle.mill_load.specs.declared.load.Unfit.{Unfit}
 use Rattle.mill_load.specs.declared.load.Unfit.TheVariants.{TooLong, JobRefused, ProgramRefused}
-use Rattle.mill_load.specs.Setup.{Fits, IsTooLong, IsJobText, IsRefusedJob}
+use Rattle.mill_load.specs.Setup.{Fits, IsTooLong, IsTooLongJob, IsJobText, IsRefusedJob}
 use Rattle.mill_load.specs.Programs.{IsProgramText, IsRefusedProgram}
 
 -- ---- the files
@@ -56,7 +56,7 @@ pub record RefusesStockProgram (texts : StockTexts) (fault : NgcFault) : Type 0 
 
 -- the first check of the two files that fails
 abbrev pub IsUnfitStock : StockTexts → Unfit → Type 0
-IsUnfitStock texts (TooLong JobFile) = IfSome texts.job IsTooLong
+IsUnfitStock texts (TooLong JobFile) = IfSome texts.job IsTooLongJob
 IsUnfitStock texts (TooLong ProgramFile) = LongStockProgram texts
 IsUnfitStock texts (JobRefused fault) = IfSome texts.job (λ text. IsRefusedJob text fault)
 IsUnfitStock texts (ProgramRefused ProgramFile fault) = RefusesStockProgram texts fault

@@ -12,6 +12,7 @@ ghost use Rattle.mill_run.specs.inner.Prints.{PrintsPlanFault, ShowsPlanOr};
 ghost use Rattle.mill_load.specs.Statuses.{status_code};
 
 use mill_base::{Unit, WantOfMemory};
+use mill_crew::Threaded;
 use mill_io::{Failed, Shelf, Sink, store};
 use mill_line::Word::{Length, Number, Text};
 use mill_line::line_of;
@@ -62,7 +63,7 @@ fn tell_plan<R: Threads + Sync, S: Shelf, O: Sink>(
     ensures { ShowsPlanOr setup.now name.now
         (call_of result (S.shows shelf.old) (S.shows shelf.new) (O.shows out.old) (O.shows out.new)) }
 {
-    match plan(rt, alloc, &setup.job, &setup.part, workers) {
+    match plan(&Threaded { rt, workers }, alloc, &setup.job, &setup.part) {
         Ok(planned) => store_plan(alloc, shelf, setup.job.unit, name, &planned, out),
         Err(fault) => tell_plan_fault(alloc, fault, setup.job.unit, out),
     }

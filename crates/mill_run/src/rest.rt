@@ -1,22 +1,24 @@
 //! The command `rest`: the verdict on the programs of a list, in turn on one stock.
-ghost use Rattle.std.specs.Prelude.{◌≡◌, ◌-◌, ◌^◌, ◌<◌, ◌≤◌, length, All, IfErr, IfOk, Some};
+ghost use Rattle.std.specs.Prelude.{◌≡◌, ◌-◌, ◌^◌, ◌<◌, ◌≤◌, ℕ, List, length, All, IfErr, IfOk, Some};
 ghost use Rattle.mill_command.specs.Requests.{rest as asks_rest};
 ghost use Rattle.mill_job.specs.Jobs.{FitsJob, IsJob};
 ghost use Rattle.mill_list.specs.declared.limits.TheConstants.{MAX_STEPS};
 ghost use Rattle.mill_verify.specs.Files.{IsFileOf};
 ghost use Rattle.mill_run.specs.Answers.{judged_files};
 ghost use Rattle.mill_run.specs.Calls.{CanCount, call_of};
-ghost use Rattle.mill_load.specs.declared.file.File.TheVariants.{StepProgram};
-ghost use Rattle.mill_run.specs.inner.Loads.{AreFilesReady, AreWorkers, LoadsFiles, LoadsList, StopsAtStep};
-ghost use Rattle.mill_load.specs.Loads.{CountsFault, LoadsProgram, OnlyLoads};
+ghost use Rattle.mill_load.specs.declared.file.File.{File as AnyFile};
+ghost use Rattle.mill_load.specs.declared.file.File.TheVariants.{List as ListFile, StepProgram};
+ghost use Rattle.mill_run.specs.inner.Loads.{AreFilesReady, AreWorkers, FailsInRest, LoadsFiles, LoadsList, StopsAtStep};
+ghost use Rattle.mill_load.specs.Loads.{CountsFault, LoadsProgram, NamesFault, OnlyLoads};
 ghost use Rattle.mill_run.specs.Outcomes.{Serves, answered};
 ghost use Rattle.mill_run.specs.inner.Prints.{PrintsOr, TriesListVerdict};
 ghost use Rattle.mill_run.specs.Rest.{NamesFileMove, ReadsStep, ReadsSteps, list_line, list_status, rest_texts};
-ghost use Rattle.mill_load.specs.Setup.{Fits};
+ghost use Rattle.mill_load.specs.Setup.{FitsJobFile};
 ghost use Rattle.mill_load.specs.Statuses.{status_code};
 
 use crate::verify::line_of_reason;
 use mill_base::WantOfMemory;
+use mill_crew::Threaded;
 use mill_io::{Shelf, Sink};
 use mill_job::{Job, JobFault};
 use mill_line::Word::{Length, Number, Text};
@@ -74,6 +76,9 @@ fn load_files<S: Shelf>(
     ensures told { LoadsFiles (rest_texts (S.shows shelf.old).contents
         (record { job = job.now; part = part.now; list = list.now })) result }
     ensures ready { IfOk result AreFilesReady }
+    ensures failed { IfErr result (FailsInRest (rest_texts (S.shows shelf.old).contents
+        (record { job = job.now; part = part.now; list = list.now }))
+        (record { job = job.now; part = part.now; list = list.now }) (S.shows shelf.new).log) }
     ensures store { OnlyLoads (S.shows shelf.old) (S.shows shelf.new) result }
 {
     let setup = match load_setup(alloc, shelf, job, part) {
@@ -105,6 +110,8 @@ fn load_list<S: Shelf>(
     ensures told { LoadsList job.now ((S.shows shelf.old).contents name.now) result }
     ensures fit { IfOk result (λ steps. All (λ step. FitsJob job.now step.cutter) steps.items) }
     ensures few { IfOk result (λ steps. length steps.items ≤ MAX_STEPS) }
+    ensures failed { (names : AnyFile → List ℕ) → names ListFile ≡ name.now →
+        IfErr result (NamesFault names (S.shows shelf.new).log) }
     ensures store { OnlyLoads (S.shows shelf.old) (S.shows shelf.new) result }
 {
     match read_file(alloc, shelf, name, File::List) {
@@ -114,7 +121,7 @@ fn load_list<S: Shelf>(
 }
 
 fn list_from(alloc: Global, text: &[u8], job: &Job) -> Result<Vec<Step>, LoadFault>
-    requires { Fits text.now }
+    requires { FitsJobFile text.now }
     ensures told { LoadsList job.now (Some text.now) result }
     ensures fit { IfOk result (λ steps. All (λ step. FitsJob job.now step.cutter) steps.items) }
     ensures few { IfOk result (λ steps. length steps.items ≤ MAX_STEPS) }
@@ -139,7 +146,7 @@ fn load_steps<S: Shelf>(
     requires few { length steps.now ≤ MAX_STEPS }
     ensures read { IfOk result (λ files.
         ReadsSteps (S.shows shelf.old).contents job.now steps.now files.items) }
-    ensures fault { IfErr result (StopsAtStep (S.shows shelf.old).contents job.now steps.now) }
+    ensures fault { IfErr result (StopsAtStep (S.shows shelf.old).contents job.now steps.now (S.shows shelf.new).log) }
     ensures ready { IfOk result (λ files. All (IsFileOf job.now) files.items) }
     ensures few { IfOk result (λ files. length files.items ≤ MAX_STEPS) }
     ensures store { OnlyLoads (S.shows shelf.old) (S.shows shelf.new) result }
@@ -170,6 +177,7 @@ fn load_step<S: Shelf>(
     ensures read { IfOk result (ReadsStep (S.shows shelf.old).contents job.now step.now) }
     ensures fault { IfErr result (λ fault. LoadsProgram job.now
         ((S.shows shelf.old).contents step.now.program) (StepProgram number) (Err fault)) }
+    ensures failed { IfErr result (NamesFault (λ file. step.now.program) (S.shows shelf.new).log) }
     ensures ready { IfOk result (IsFileOf job.now) }
     ensures store { OnlyLoads (S.shows shelf.old) (S.shows shelf.new) result }
 {
@@ -196,7 +204,8 @@ fn tell_list_verdict<R: Threads + Sync, O: Sink>(
     requires prints { (O.shows out.old).faults < 2 ^ 64 - 1 }
     ensures { TriesListVerdict listed.now (status_code result) (O.shows out.old) (O.shows out.new) }
 {
-    match verify_list(rt, alloc, &listed.job, &listed.part, &listed.files, workers) {
+    let crew = Threaded { rt, workers };
+    match verify_list(&crew, alloc, &listed.job, &listed.part, &listed.files) {
         Ok(verdict) => tell_line_of_list(alloc, listed, verdict, out),
         Err(WantOfMemory) => tell_memory(out),
     }

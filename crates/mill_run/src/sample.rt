@@ -17,7 +17,9 @@ ghost use Rattle.mill_run.specs.inner.Prints.{TriesSample};
 ghost use Rattle.mill_load.specs.Statuses.{status_code};
 
 use crate::plan::tell_plan_fault;
+use crate::verify::verdict_on;
 use mill_base::{Move, Unit, WantOfMemory};
+use mill_crew::Threaded;
 use mill_io::Sink;
 use mill_job::Job;
 use mill_line::Word::{Length, Number, Text};
@@ -26,7 +28,7 @@ use mill_load::{Setup, Status, read_moves, tell_made, tell_memory};
 use mill_ngc::NgcFault;
 use mill_plan::{Planned, plan};
 use mill_sample::sample_setup;
-use mill_verify::{Verdict, one_verdict, verify};
+use mill_verify::{Verdict, one_verdict};
 use std::alloc::Global;
 use std::thread::Threads;
 
@@ -67,7 +69,7 @@ fn tell_sample<R: Threads + Sync, O: Sink>(
     requires prints { (O.shows out.old).faults < 2 ^ 64 - 1 }
     ensures { TriesSample size (status_code result) (O.shows out.old) (O.shows out.new) }
 {
-    match plan(rt, alloc, &setup.job, &setup.part, workers) {
+    match plan(&Threaded { rt, workers }, alloc, &setup.job, &setup.part) {
         Ok(planned) => tell_planned(rt, alloc, size, setup, &planned, workers, out),
         Err(fault) => tell_plan_fault(alloc, fault, Unit::Hundredth, out),
     }
@@ -123,7 +125,7 @@ fn verified<R: Threads + Sync>(
     // A law without code: there is at most one verdict, and the plan has one.
     one_verdict();
     let moves = read_back(alloc, &setup.job, &planned.program)?;
-    verify(rt, alloc, &setup.job, &setup.part, &moves, workers)
+    verdict_on(rt, alloc, &setup.job, &setup.part, &moves, workers)
 }
 
 /// The moves of a program's text, which has some.

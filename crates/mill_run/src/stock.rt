@@ -1,6 +1,6 @@
 //! The command `stock`: what a program leaves of the stock, stored as the surface through the columns'
 //! tops.
-ghost use Rattle.std.specs.Prelude.{◌≡◌, ℕ, All, IfOk, IsErrOf};
+ghost use Rattle.std.specs.Prelude.{◌≡◌, ℕ, List, All, IfErr, IfOk, IsErrOf};
 ghost use Rattle.mill_base.specs.Ranges.{MovesInRange};
 ghost use Rattle.mill_command.specs.Requests.{stock as asks_stock};
 ghost use Rattle.mill_dexel.specs.Rows.{IsRowOf};
@@ -11,7 +11,9 @@ ghost use Rattle.mill_surface.specs.declared.fault.SurfaceFault.TheVariants.{Too
 ghost use Rattle.mill_run.specs.Answers.{stocked};
 ghost use Rattle.mill_run.specs.Calls.{CanCount, call_of};
 ghost use Rattle.mill_run.specs.inner.Loads.{IsCutting, LoadsCutting};
-ghost use Rattle.mill_load.specs.Loads.{OnlyLoads};
+ghost use Rattle.mill_load.specs.Loads.{NamesFault, OnlyLoads};
+ghost use Rattle.mill_load.specs.declared.file.File.{File as AnyFile};
+ghost use Rattle.mill_load.specs.declared.file.File.TheVariants.{Job as JobFile, Program as ProgramFile};
 ghost use Rattle.mill_run.specs.Outcomes.{Serves, ShowsOr, answered};
 ghost use Rattle.mill_run.specs.inner.Prints.{ShowsStockOr};
 ghost use Rattle.mill_run.specs.Stock.{IsSurface, drawn as drawn_answer, stock_texts, triangles_line};
@@ -72,6 +74,8 @@ fn load_cutting<S: Shelf>(
 ) -> Result<Cutting, LoadFault>
     ensures told { LoadsCutting (stock_texts (S.shows shelf.old).contents job.now program.now) result }
     ensures ready { IfOk result IsCutting }
+    ensures failed { (names : AnyFile → List ℕ) → names JobFile ≡ job.now → names ProgramFile ≡ program.now →
+        IfErr result (NamesFault names (S.shows shelf.new).log) }
     ensures store { OnlyLoads (S.shows shelf.old) (S.shows shelf.new) result }
 {
     let job = match load_job(alloc, shelf, job) {

@@ -1,17 +1,30 @@
 //! The command `verify`: the verdict on a program.
-ghost use Rattle.std.specs.Prelude.{◌≡◌, ◌-◌, ◌^◌, ◌<◌, [], ◌++◌, length, map, IfOk};
+ghost use Rattle.std.specs.Prelude.{◌≡◌, ℕ, ◌-◌, ◌^◌, ◌<◌, ◌≤◌, ℤ, List, [], ◌++◌, length, map, Ok, IfErr, IfOk};
+ghost use Rattle.mill_base.specs.Covers.{IsUnder};
+ghost use Rattle.mill_base.specs.Motion.{Follow};
+ghost use Rattle.mill_base.specs.Ranges.{MovesInRange};
+ghost use Rattle.mill_base.specs.declared.limits.TheConstants.{MAX_MOVES};
+ghost use Rattle.mill_dexel.specs.Tops.{uncut};
+ghost use Rattle.mill_job.specs.Columns.{home};
+ghost use Rattle.mill_job.specs.Jobs.{IsJob};
+ghost use Rattle.mill_verify.specs.Claims.{CutsSafely};
+ghost use Rattle.mill_verify.specs.Verdicts.{IsVerdict, NamesLeaf};
+ghost use Rattle.mill_verify.specs.declared.verdict.Reason.{Reason as Why};
 ghost use Rattle.mill_command.specs.Requests.{verify as asks_verify};
 ghost use Rattle.mill_line.specs.Lines.{line, word_text};
 ghost use Rattle.mill_run.specs.Answers.{judged};
 ghost use Rattle.mill_run.specs.Calls.{CanCount, call_of};
 ghost use Rattle.mill_run.specs.inner.Loads.{Loads, AreWorkers, IsReady};
-ghost use Rattle.mill_load.specs.Loads.{OnlyLoads};
+ghost use Rattle.mill_load.specs.Loads.{NamesFault, OnlyLoads};
+ghost use Rattle.mill_load.specs.declared.file.File.{File as AnyFile};
+ghost use Rattle.mill_load.specs.declared.file.File.TheVariants.{Job as JobFile, Part as PartFile, Program as ProgramFile};
 ghost use Rattle.mill_run.specs.Outcomes.{Serves, answered};
 ghost use Rattle.mill_run.specs.inner.Prints.{PrintsOr, TriesVerdict};
 ghost use Rattle.mill_load.specs.Statuses.{status_code};
 ghost use Rattle.mill_run.specs.Verify.{texts_of, verdict_status, verdict_line, reason_words, triangle_words, blocked_words, NamesMove, NamesVerdictMove};
 
 use mill_base::{Move, Unit, WantOfMemory};
+use mill_crew::Threaded;
 use mill_io::{Shelf, Sink};
 use mill_job::Job;
 use mill_line::Word::{Length, Number, Text};
@@ -20,7 +33,7 @@ use mill_load::{
     File, LoadFault, Status, line_of_column, load_program, load_setup, tell_fault, tell_made,
     tell_memory,
 };
-use mill_part::Part;
+use mill_part::{Part, SortedPart};
 use mill_sweep::Leaf;
 use mill_verify::{Reason, Verdict, verify};
 use std::alloc::Global;
@@ -69,6 +82,8 @@ fn load<S: Shelf>(
     ensures told { Loads (texts_of (S.shows shelf.old).contents
         (record { job = job.now; part = part.now; program = program.now })) result }
     ensures ready { IfOk result IsReady }
+    ensures failed { (names : AnyFile → List ℕ) → names JobFile ≡ job.now → names PartFile ≡ part.now → names ProgramFile ≡ program.now →
+        IfErr result (NamesFault names (S.shows shelf.new).log) }
     ensures store { OnlyLoads (S.shows shelf.old) (S.shows shelf.new) result }
 {
     let setup = match load_setup(alloc, shelf, job, part) {
@@ -99,10 +114,37 @@ fn tell_verdict<R: Threads + Sync, O: Sink>(
     requires prints { (O.shows out.old).faults < 2 ^ 64 - 1 }
     ensures { TriesVerdict loaded.now (status_code result) (O.shows out.old) (O.shows out.new) }
 {
-    match verify(rt, alloc, &loaded.job, &loaded.part, &loaded.moves, workers) {
+    match verdict_on(rt, alloc, &loaded.job, &loaded.part, &loaded.moves, workers) {
         Ok(verdict) => tell_line_of(alloc, loaded, verdict, out),
         Err(WantOfMemory) => tell_memory(out),
     }
+}
+
+/// The verdict on a program, by so many threads. The only error is want of memory.
+pub(crate) fn verdict_on<R: Threads + Sync>(
+    rt: &R,
+    alloc: Global,
+    job: &Job,
+    part: &Part,
+    moves: &[Move],
+    workers: u32,
+) -> Result<Verdict, WantOfMemory>
+    requires job_ok { IsJob job.now }
+    requires moves_ok { MovesInRange moves.now }
+    requires under { IsUnder part.now job.now.top }
+    requires follow { Follow (home job.now) moves.now }
+    requires few { length moves.now ≤ MAX_MOVES }
+    ensures verdict { IfOk result (IsVerdict job.now part.now moves.now) }
+    ensures safe { (count columns : ℕ) (left : ℤ)
+        → result ≡ Ok (Verdict.Accept count columns left)
+        → CutsSafely job.now part.now moves.now }
+    ensures blocked { (reason : Why)
+        → result ≡ Ok (Verdict.Reject reason)
+        → NamesLeaf job.now part.now (uncut job.now) moves.now reason }
+{
+    let sorted = SortedPart::new(alloc, part)?;
+    let crew = Threaded { rt, workers };
+    verify(&crew, alloc, job, part, sorted.cells(), moves)
 }
 
 /// Prints the line of a verdict.

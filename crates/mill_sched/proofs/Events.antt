@@ -32,7 +32,7 @@ done_set ws w old new within is =
 -- a worker draws
 
 -- the places after a free worker comes to what holds no piece
-draws_placed : (s : State) (w claim : ℕ) (k : Worker) → IsPlaced s → worker_at s w ≡ Free → s.claim ≤ claim
+pub draws_placed : (s : State) (w claim : ℕ) (k : Worker) → IsPlaced s → worker_at s w ≡ Free → s.claim ≤ claim
     → ((n : ℕ) → k ≢ Holding n)
     → ((n : ℕ) → number_of k ≡ Some n → (s.claim ≤ n) × (n < claim) × (n < length s.pieces))
     → IsPlaced record s { claim = claim; workers = set s.workers w k }
@@ -76,7 +76,7 @@ pub piece_there : (s : State) (w n : ℕ) (k : Worker) → Kept s → worker_at 
 piece_there s w n k h is number = let t = h.placed.drawn w n (ap number_of is ∙ number) in t.1
 
 -- the places after a worker that has this number comes to another state, and its piece with it
-moves_placed : (s : State) (w n : ℕ) (k : Worker) (q : Piece) → IsPlaced s → w < length s.workers → number_of (worker_at s w) ≡ Some n
+pub moves_placed : (s : State) (w n : ℕ) (k : Worker) (q : Piece) → IsPlaced s → w < length s.workers → number_of (worker_at s w) ≡ Some n
     → ((m : ℕ) → number_of k ≡ Some m → m ≡ n)
     → (k ≡ Holding n) ↔ (q.holder ≡ Some w)
     → ((v : ℕ) → q.holder ≡ Some v → v ≡ w)
@@ -171,18 +171,18 @@ not_or true b e = absurd (cc)
 not_or false b e = (refl, e)
 
 -- a piece with a turn to do hasn't failed, and its turns aren't through
-has_turn : (least : ℕ) (p : Piece) → is_stopped least p ≡ false → (p.failed ≡ false) × (p.next < p.task.limit)
+pub has_turn : (least : ℕ) (p : Piece) → is_stopped least p ≡ false → (p.failed ≡ false) × (p.next < p.task.limit)
 has_turn least p e =
     let a = not_or (p.failed || leb p.task.limit p.next) (ltb least p.next) e in
     let b = not_or p.failed (leb p.task.limit p.next) a.0 in
     let through : leb p.task.limit p.next ≡ false = b.1 in
     (b.0, grind (arith, nat_tests))
 
-failure_is : (o : Option ℕ) (t : ℕ) → is_failure o t ≡ true → o ≡ Some t
+pub failure_is : (o : Option ℕ) (t : ℕ) → is_failure o t ≡ true → o ≡ Some t
 failure_is None t e = absurd (cc)
 failure_is (Some f) t e = let same : f ≡ t = grind (arith, nat_tests) in ap Some same
 
-failure_not : (o : Option ℕ) (t f : ℕ) → is_failure o t ≡ false → o ≡ Some f → t ≢ f
+pub failure_not : (o : Option ℕ) (t f : ℕ) → is_failure o t ≡ false → o ≡ Some f → t ≢ f
 failure_not None t f e is = absurd (cc)
 failure_not (Some g) t f e is = λ same. let x : g ≡ f = cc in let y : g ≡ t = x ∙ sym same in grind (arith, nat_tests)
 
@@ -212,6 +212,23 @@ is_looked least p = by_test (IsLooked p) (is_stopped least p) p (turned p)
     (λ e. record { task = refl; holder = refl; goes_on = λ h. h; stays = λ failed. (failed, refl) })
     (λ e. let t = has_turn least p e in by_test (IsLooked p) (is_failure p.task.fails p.next) _ _ (λ u. fails_now p t.0 u) (λ u. passes_now p t.0 t.1 u))
 
+-- the places after the piece that a worker holds is looked at
+pub looks_placed : (s : State) (w n : ℕ) → IsPlaced s → worker_at s w ≡ Holding n → IsPlaced record s { pieces = set s.pieces n (looked s.least (piece_at s n)) }
+looks_placed s w n h is =
+    let at_n = h.drawn w n (ap number_of is) in
+    let room : n < length s.pieces = at_n.1 in
+    let q : Piece = looked s.least (piece_at s n) in
+    let one : IsLooked (piece_at s n) q = is_looked s.least (piece_at s n) in
+    let len : length (set s.pieces n q) ≡ length s.pieces = length-set s.pieces n q in
+    record {
+      untouched = each_set (λ m p. s.claim ≤ m → IsUntouched p) s.pieces n q (untouched no_task) room (λ m _. h.untouched m) (λ over. absurd (omega (arith, at_n.0)));
+      drawn = λ v m e. let t = h.drawn v m e in (t.0, omega (arith, len));
+      held = λ v. each_set (λ m (p : Piece). (worker_at s v ≡ Holding m) ↔ (p.holder ≡ Some v)) s.pieces n q (untouched no_task) room
+          (λ m _. h.held v m)
+          (λ e. one.holder ∙ (h.held v n).0 e, λ e. (h.held v n).1 (sym one.holder ∙ e));
+      apart = h.apart;
+    }
+
 looks_at : (s : State) (w n : ℕ) → Kept s → worker_at s w ≡ Holding n → Kept record s { pieces = set s.pieces n (looked s.least (piece_at s n)) }
 looks_at s w n h is =
     let at_n = h.placed.drawn w n (ap number_of is) in
@@ -221,14 +238,7 @@ looks_at s w n h is =
     let len : length (set s.pieces n q) ≡ length s.pieces = length-set s.pieces n q in
     record {
       pieces = each_set (λ m p. GoesOn p) s.pieces n q (untouched no_task) room (λ m _. h.pieces m) (one.goes_on (h.pieces n));
-      placed = record {
-        untouched = each_set (λ m p. s.claim ≤ m → IsUntouched p) s.pieces n q (untouched no_task) room (λ m _. h.placed.untouched m) (λ over. absurd (omega (arith, at_n.0)));
-        drawn = λ v m e. let t = h.placed.drawn v m e in (t.0, omega (arith, len));
-        held = λ v. each_set (λ m (p : Piece). (worker_at s v ≡ Holding m) ↔ (p.holder ≡ Some v)) s.pieces n q (untouched no_task) room
-            (λ m _. h.placed.held v m)
-            (λ e. one.holder ∙ (h.placed.held v n).0 e, λ e. (h.placed.held v n).1 (sym one.holder ∙ e));
-        apart = h.placed.apart;
-      };
+      placed = looks_placed s w n h.placed is;
       claim = let t = h.claim in omega (arith, len);
       cause = caused_set s n q room one.stays h.cause;
       under = h.under;

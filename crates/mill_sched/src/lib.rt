@@ -1,16 +1,11 @@
 //! How workers share numbered pieces of work, as a machine that takes one event of a worker after
 //! another.
 //!
-//! Each piece has turns, and may fail at one of them. What is wanted is the least turn at which any
-//! piece fails, and each piece at that turn. A worker draws a number, takes that piece, does its turns
-//! one by one up to the least failing turn that is known by then, lowers that where its piece fails,
-//! and puts the piece back.
-//!
-//! It stands on mill_base. `Core::step` and `Core::run` do exactly what `specs/Steps` says of an
-//! event, and the state that they leave, which `specs/States` describes, keeps the laws of
-//! `specs/Laws`, whatever the events and in whichever order they come, for every number of pieces and
-//! workers. `specs/Kept` is what every core keeps, so that it does. No worker is a thread here: this
-//! says what workers may do, and nothing of when they do it.
+//! It stands on mill_base; no worker is a thread here. `Core::step` and `Core::run` do exactly
+//! what `specs/Steps` says of an event. After every list of events (`specs/Laws`) each number was
+//! drawn once, each piece is at home or held by one worker, and, once nothing is left to be done,
+//! the least value is the least turn at which a piece fails. `specs/States` describes a state,
+//! `specs/Kept` what each keeps.
 #![tactic(auto)]
 
 mod event;

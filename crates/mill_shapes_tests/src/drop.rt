@@ -6,8 +6,9 @@ ghost use Rattle.mill_drop.specs.Paths.{IsRow, IsTolerance};
 
 use crate::tables::{coordinate, first_word, halves, part_of, tool};
 use mill_base::{Box2, Cutter, Lattice, Pt3, Tool};
+use mill_crew::Threaded;
 use mill_drop::{
-    drop_at, drop_heights_are_unique, drop_map, drop_once, one_path, path_drop, paths_are_halved,
+    DropCrew, drop_at, drop_heights_are_unique, drop_once, one_path, path_drop, paths_are_halved,
 };
 use mill_part::SortedPart;
 use std::alloc::Global;
@@ -131,7 +132,8 @@ fn row_heights<R: Threads + Sync + AllocGlobal>(
         step: 75,
     };
     let (part, cells) = (shape.part(), shape.cells());
-    Ok(drop_map(rt, rt.alloc(), part, cells, &tool, &lattice, 0)?)
+    let crew = Threaded { rt, workers: 1 };
+    Ok(crew.drop_map(rt.alloc(), part, cells, &tool, &lattice, 0)?)
 }
 
 #[test]

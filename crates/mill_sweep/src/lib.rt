@@ -1,15 +1,11 @@
 //! Which moves pass a triangle or a point at every moment, by halving the move into leaves.
 //!
-//! It stands on `mill_base`, `mill_shape` and the contact crates, and says by mill_cells when boxes
-//! meet. Definitions: `specs/Leaves` says what the leaves of a move are and where they lie,
-//! `specs/Halving` which moves pass and which leaf of another move fails, `specs/Apart` when a
-//! triangle lies beside a move or under it, `specs/Reach` in which box and over which height each
-//! triangle comes that a move doesn't pass, `specs/Moments` what passing implies at each moment,
-//! `specs/Vertical` what a move straight up or down passes, and `specs/Holders` what a cutter's
-//! holder passes, which is a solid of its own on the move higher by the stickout. `passes_tri`
-//! decides whether a move passes, and `first_block` names its failing leaf; `holder_passes_tri` and
-//! `holder_block` do so of the holder. A `Sweep` does so for many triangles and one move.
-//! `reach_box` says which triangles need to be tried at all.
+//! It stands on `mill_base`, `mill_shape` and the contact crates, and says by mill_cells when
+//! boxes meet. `passes_tri` is so exactly where the halving says (`specs/Leaves`,
+//! `specs/Halving`); passing means that nothing is inside at any moment (`specs/Moments`), and a
+//! failing leaf has a reach of at most 2 units, and is blocked. `holder_passes_tri` and
+//! `holder_block` promise the same of a holder (`specs/Holders`). `reach_box` says which triangles
+//! need to be tried at all (`specs/Reach`).
 #![tactic(auto)]
 
 mod beside;

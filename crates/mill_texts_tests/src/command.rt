@@ -109,9 +109,9 @@ level -h => Usage: camtool level [OPTIONS] --z <Z> <JOB> <PART>
 level -h => as in --z=-1.5
 stock -h => Usage: camtool stock [OPTIONS] <JOB> <FILE> <OUT>
 sample -h => Usage: camtool sample [OPTIONS] <N>
---version => camtool 0.1.0\n
--V => camtool 0.1.0\n
--V verify => camtool 0.1.0\n";
+--version => camtool 0.2.0\n
+-V => camtool 0.2.0\n
+-V verify => camtool 0.2.0\n";
 
 #[test]
 fn shows_help_and_version(rt: HostRuntime) -> Result<(), Fail> {

@@ -1,12 +1,10 @@
 ghost use Rattle.std.specs.Prelude.{◌≡◌, ◌<◌, ◌≤◌, pos, ◌-ℤ◌, ◌≤ℤ◌, length, MatchOption, MatchResult};
-ghost use Rattle.mill_base.specs.declared.limits.TheConstants.{MAX_WORKERS};
 ghost use Rattle.mill_base.specs.Covers.{Covered};
 ghost use Rattle.mill_cells.specs.Sorted.{sorted_of};
 ghost use Rattle.mill_job.specs.Jobs.{IsJob, IsFrom};
 ghost use Rattle.mill_job.specs.Columns.{row_count};
-ghost use Rattle.mill_dexel.specs.Stocks.{ShowsStock, shown_by};
-ghost use Rattle.mill_dexel.specs.Tops.{Stock};
-ghost use Rattle.mill_verify.specs.inner.Firsts.{AreRowsTold, IsBoth, IsCutTo, IsMostWith, IsRowLeft, IsRowUncut, IsStockTold};
+ghost use Rattle.mill_dexel.specs.Stocks.{shown_by};
+ghost use Rattle.mill_verify.specs.inner.Firsts.{AreRowsTold, IsBoth, IsCutTo, IsMostWith, IsRowLeft, IsRowUncut};
 ghost use Rattle.mill_verify.specs.inner.Readiness.{AreJobRows, AreRowsReady, IsColumnReady};
 ghost use denote.Param.Send.{IsSync};
 
@@ -24,41 +22,11 @@ pub struct Uncut {
     pub top: i32,
 }
 
-/// Test (iv): how much is left over the part at most, or the first column that isn't cut, by row
-/// first, by `workers` threads.
-pub fn stock_left<R: Threads + Sync>(
-    rt: &R,
-    job: &Job,
-    part: &Part,
-    cells: &Cells,
-    rows: &[Row],
-    workers: u32,
-) -> Result<i32, Uncut>
-    requires job_ok { IsJob job.now }
-    requires cells_ok { cells.now ≡ sorted_of part.now }
-    requires rows_ok { AreJobRows job.now rows.now }
-    requires few_workers { workers ≤ MAX_WORKERS }
-    ensures { (stock : Stock) → ShowsStock job.now stock rows.now → IsStockTold job.now part.now stock result }
-{
-    let end = rows.len();
-    rows_left(rt, job, part, cells, rows, 0, end, workers)
-}
-
-/// Test (iv) of [`stock_left`], by this thread alone.
-pub fn stock_left_alone(job: &Job, part: &Part, cells: &Cells, rows: &[Row]) -> Result<i32, Uncut>
-    requires job_ok { IsJob job.now }
-    requires cells_ok { cells.now ≡ sorted_of part.now }
-    requires rows_ok { AreJobRows job.now rows.now }
-    ensures { (stock : Stock) → ShowsStock job.now stock rows.now → IsStockTold job.now part.now stock result }
-{
-    scan_rows(job, part, cells, rows, 0, rows.len())
-}
-
 /// Test (iv) on the rows from number `start` to before `end`; 0 is left where there is none.
 ///
 /// The rows are halved among `workers` threads, at most 64, until each has its own, and the first
 /// column of the left half comes before that of the right.
-fn rows_left<R: Threads + Sync>(
+pub fn rows_left<R: Threads + Sync>(
     rt: &R,
     job: &Job,
     part: &Part,
@@ -103,7 +71,7 @@ fn both(left: Result<i32, Uncut>, right: Result<i32, Uncut>) -> Result<i32, Uncu
 }
 
 /// One worker's rows, one by one.
-fn scan_rows(
+pub fn scan_rows(
     job: &Job,
     part: &Part,
     cells: &Cells,

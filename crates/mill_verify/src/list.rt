@@ -1,5 +1,4 @@
 ghost use Rattle.std.specs.Prelude.{◌≡◌, ℕ, ◌≤◌, ℤ, All, length, Ok, IfOk, MatchResult};
-ghost use Rattle.mill_base.specs.declared.limits.TheConstants.{MAX_WORKERS};
 ghost use Rattle.mill_base.specs.Covers.{IsUnder};
 ghost use Rattle.mill_cells.specs.Sorted.{sorted_of};
 ghost use Rattle.mill_job.specs.Jobs.{IsJob};
@@ -11,19 +10,18 @@ ghost use Rattle.mill_verify.specs.inner.Listed.{AreFilesPassed, IsFileStopped};
 ghost use Rattle.mill_verify.specs.declared.list.TheConstants.{MAX_FILES};
 ghost use Rattle.mill_verify.specs.declared.verdict.Reason.{Reason as Why};
 
+use crate::crew::TestCrew;
 use crate::file::{CutFile, job_with, moves_of};
-use crate::left::{Uncut, stock_left};
+use crate::left::Uncut;
 use crate::moves::rows_after;
 use crate::start::{Start, rows_of_start};
 use crate::verdict::Reason;
 use mill_base::WantOfMemory;
-use mill_board::NoGate;
 use mill_cells::Cells;
 use mill_dexel::Row;
 use mill_job::Job;
 use mill_part::{Part, SortedPart};
 use std::alloc::Global;
-use std::thread::Threads;
 
 /// How many files a list may have.
 pub const MAX_FILES: usize = 16;
@@ -62,7 +60,7 @@ pub enum ListVerdict {
 /// allowance before the end. A file that fails ends the work. Accepted files cut safely, at every fraction
 /// of every move.
 ///
-/// Job, part and workers are as `verify` takes them; each file is as it asks of a program, from the job's
+/// Job, part and crew are as `verify` takes them; each file is as it asks of a program, from the job's
 /// home on, and its cutter as the job asks of its own: the band is at most its radius, and the job's holder,
 /// if it has one, is wider. How the machine comes home between two files, and its cutter is changed, isn't
 /// tested. For one file the verdict is that of `verify`; where there is none, only test (iv) is made, of
@@ -70,20 +68,18 @@ pub enum ListVerdict {
 ///
 /// The only error is want of memory, for the cells of the part, the bands of the moves and the rows of the
 /// stock.
-pub fn verify_list<R: Threads + Sync>(
-    rt: &R,
+pub fn verify_list<C: TestCrew>(
+    crew: &C,
     alloc: Global,
     job: &Job,
     part: &Part,
     files: &[CutFile],
-    workers: u32,
 ) -> Result<ListVerdict, WantOfMemory>
+    requires crew_ok { C.ready }
     requires job_ok { IsJob job.now }
     requires under { IsUnder part.now job.now.top }
     requires files_ok { All (IsFileOf job.now) files.now }
     requires few { length files.now ≤ MAX_FILES }
-    requires some_workers { 1 ≤ workers }
-    requires few_workers { workers ≤ MAX_WORKERS }
     ensures verdict { IfOk result (IsListVerdict job.now part.now files.now) }
     ensures safe { (count moves columns : ℕ) (left : ℤ)
         → result ≡ Ok (ListVerdict.Accept count moves columns left)
@@ -93,8 +89,8 @@ pub fn verify_list<R: Threads + Sync>(
         → NamesLeaf (job_of job.now (file_at files.now file)) part.now (stock_before job.now files.now file) (file_at files.now file).moves reason }
 {
     let sorted = SortedPart::new(alloc, part)?;
-    match rows_after_files(rt, alloc, job, part, sorted.cells(), files, workers)? {
-        Ok(rows) => Ok(last_verdict(rt, job, part, sorted.cells(), files, &rows, workers)),
+    match rows_after_files(crew, alloc, job, part, sorted.cells(), files)? {
+        Ok(rows) => Ok(last_verdict(crew, job, part, sorted.cells(), files, &rows)),
         Err(stop) => Ok(ListVerdict::Reject {
             file: stop.file,
             reason: stop.reason,
@@ -111,15 +107,15 @@ pub struct Stop {
 
 /// Tests (i) to (iii h) of the files in turn: the rows of the stock that all of them leave, or the first
 /// test that fails.
-fn rows_after_files<R: Threads + Sync>(
-    rt: &R,
+fn rows_after_files<C: TestCrew>(
+    crew: &C,
     alloc: Global,
     job: &Job,
     part: &Part,
     cells: &Cells,
     files: &[CutFile],
-    workers: u32,
 ) -> Result<Result<Vec<Row>, Stop>, WantOfMemory>
+    requires crew_ok { C.ready }
     requires job_ok { IsJob job.now }
     requires cells_ok { cells.now ≡ sorted_of part.now }
     requires files_ok { All (IsFileOf job.now) files.now }
@@ -134,7 +130,7 @@ fn rows_after_files<R: Threads + Sync>(
         let file = &files[number];
         let job = job_with(job, file);
         let moves = file.moves();
-        match rows_after(rt, alloc, NoGate, &job, part, cells, &start, moves, workers)? {
+        match rows_after(crew, alloc, &job, part, cells, &start, moves)? {
             Ok(rows) => start = Start::Rows(rows),
             Err(reason) => {
                 return Ok(Err(Stop {
@@ -148,25 +144,24 @@ fn rows_after_files<R: Threads + Sync>(
 }
 
 /// The verdict after the last file, all files being good.
-fn last_verdict<R: Threads + Sync>(
-    rt: &R,
+fn last_verdict<C: TestCrew>(
+    crew: &C,
     job: &Job,
     part: &Part,
     cells: &Cells,
     files: &[CutFile],
     rows: &[Row],
-    workers: u32,
 ) -> ListVerdict
+    requires crew_ok { C.ready }
     requires job_ok { IsJob job.now }
     requires cells_ok { cells.now ≡ sorted_of part.now }
     requires files_ok { All (IsFileOf job.now) files.now }
     requires few { length files.now ≤ MAX_FILES }
     requires passed { AreFilesPassed job.now part.now files.now rows.now }
-    requires few_workers { workers ≤ MAX_WORKERS }
     ensures verdict { IsListVerdict job.now part.now files.now result }
     ensures not_rejected { (file : ℕ) (reason : Why) → ¬ (result ≡ ListVerdict.Reject file reason) }
 {
-    match stock_left(rt, job, part, cells, rows, workers) {
+    match crew.stock_left(job, part, cells, rows) {
         Ok(most_left) => ListVerdict::Accept {
             files: files.len() as u32,
             moves: moves_of(files),

@@ -4,54 +4,29 @@ ghost use Rattle.mill_verify.specs.inner.Pieces.{AreReady, AreTested};
 ghost use Rattle.mill_verify.specs.inner.Readiness.{AreAsked, rows_at, stock_of};
 
 use crate::block::Block;
+use crate::crew::TestCrew;
 use crate::failure::{first_failed, reason_of};
 use crate::floor::floor_end;
 use crate::piece::Piece;
 use crate::start::Start;
 use crate::stock::rows_of;
 use crate::verdict::Reason;
-use crate::work::Tests;
 use mill_base::{Move, WantOfMemory};
-use mill_board::{Closed, Gate, NoGate, run_all, run_alone};
+use mill_board::Closed;
 use mill_cells::Cells;
 use mill_dexel::Row;
 use mill_job::Job;
 use mill_part::Part;
 use mill_sweep::{failing_is_blocked, holder_failing_is_blocked};
 use std::alloc::Global;
-use std::thread::Threads;
 
-/// Tests (i) to (iii h) of a program from this stock on, where each test of a move passes this gate first:
-/// the rows of the stock that all moves leave, or the first test that a move fails.
+/// Tests (i) to (iii h) of a program from this stock on: the rows of the stock that all moves leave, or the
+/// first test that a move fails.
 ///
-/// Threads share the tests against the part and the stock of the moves before the first that fails test
+/// The crew shares the tests against the part and the stock of the moves before the first that fails test
 /// (i). What these come to has the first that fails.
-pub fn rows_after<R: Threads + Sync, G: Gate>(
-    rt: &R,
-    alloc: Global,
-    gate: G,
-    job: &Job,
-    part: &Part,
-    cells: &Cells,
-    start: &Start,
-    moves: &[Move],
-    workers: u32,
-) -> Result<Result<Vec<Row>, Reason>, WantOfMemory>
-    requires asked { AreAsked job.now part.now cells.now start.now moves.now }
-    ensures { IfOk result (λ told. MatchResult
-        told
-        (λ rows. ArePassed job.now part.now (stock_of job.now start.now) moves.now rows.items)
-        (IsStopped job.now part.now (stock_of job.now start.now) moves.now)) }
-{
-    let turns = floor_end(job, moves) as u64;
-    let work = Tests::new(alloc, job, part, cells, start, moves, turns, gate)?;
-    let pieces = work.pieces();
-    let closed = run_all(rt, alloc, work, pieces, turns, workers)?;
-    told_by(alloc, job, part, cells, start, moves, turns, closed)
-}
-
-/// The tests of [`rows_after`], by this thread alone and with no gate.
-pub fn rows_after_alone(
+pub fn rows_after<C: TestCrew>(
+    crew: &C,
     alloc: Global,
     job: &Job,
     part: &Part,
@@ -59,6 +34,7 @@ pub fn rows_after_alone(
     start: &Start,
     moves: &[Move],
 ) -> Result<Result<Vec<Row>, Reason>, WantOfMemory>
+    requires crew_ok { C.ready }
     requires asked { AreAsked job.now part.now cells.now start.now moves.now }
     ensures { IfOk result (λ told. MatchResult
         told
@@ -66,9 +42,7 @@ pub fn rows_after_alone(
         (IsStopped job.now part.now (stock_of job.now start.now) moves.now)) }
 {
     let turns = floor_end(job, moves) as u64;
-    let work = Tests::new(alloc, job, part, cells, start, moves, turns, NoGate)?;
-    let pieces = work.pieces();
-    let closed = run_alone(alloc, work, pieces, turns)?;
+    let closed = crew.tested(alloc, job, part, cells, start, moves, turns)?;
     told_by(alloc, job, part, cells, start, moves, turns, closed)
 }
 

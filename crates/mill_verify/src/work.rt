@@ -6,7 +6,7 @@ use crate::block::Block;
 use crate::piece::Piece;
 use crate::start::{Start, fresh_row};
 use mill_base::{Move, WantOfMemory};
-use mill_board::{Gate, Work};
+use mill_board::Work;
 use mill_cells::Cells;
 use mill_dexel::Bands;
 use mill_job::Job;
@@ -18,16 +18,15 @@ use std::marker::Model;
 /// after them, the rows of the stock, and each has a turn a move. The moves that have turns are those
 /// before the first that fails test (i).
 #[derive(Drop)]
-pub struct Tests<'a, G> {
+pub struct Tests<'a> {
     job: &'a Job,
     part: &'a Part,
     cells: &'a Cells,
     start: &'a Start,
     bands: Bands<'a>,
-    gate: G,
 }
 
-impl<'a, G> Model for Tests<'a, G> {
+impl<'a> Model for Tests<'a> {
     ghost use Rattle.mill_verify.specs.inner.Pieces.{AreReady, TestsShown};
     ghost use Rattle.mill_verify.specs.inner.Readiness.{IsStart, rows_at, stock_of};
 
@@ -38,9 +37,9 @@ impl<'a, G> Model for Tests<'a, G> {
     ghost invariant = { λ w. AreReady w.job.now w.part.now w.cells.now (stock_of w.job.now w.start.now) w.bands.moves w.bands.count × IsStart w.job.now w.start.now };
 }
 
-impl<'a, G: Gate> Tests<'a, G> {
-    /// The tests of the first `turns` moves on this stock, each of which passes this gate. The only error
-    /// is want of memory, for the bands of the moves.
+impl<'a> Tests<'a> {
+    /// The tests of the first `turns` moves on this stock. The only error is want of memory, for the bands of
+    /// the moves.
     pub fn new(
         alloc: Global,
         job: &'a Job,
@@ -49,8 +48,7 @@ impl<'a, G: Gate> Tests<'a, G> {
         start: &'a Start,
         moves: &'a [Move],
         turns: u64,
-        gate: G,
-    ) -> Result<Tests<'a, G>, WantOfMemory>
+    ) -> Result<Tests<'a>, WantOfMemory>
         requires ready { AreReady job.now part.now cells.now (stock_of job.now start.now) moves.now turns }
         requires start_ok { IsStart job.now start.now }
         ensures { IfOk result (λ tests. tests ≡ record { job = job.now; part = part.now; start = rows_at start.now; moves = moves.now; turns = turns }) }
@@ -62,7 +60,6 @@ impl<'a, G: Gate> Tests<'a, G> {
             cells,
             start,
             bands,
-            gate,
         })
     }
 
@@ -75,7 +72,7 @@ impl<'a, G: Gate> Tests<'a, G> {
     }
 }
 
-impl<'a, G: Gate> Work for Tests<'a, G> {
+impl<'a> Work for Tests<'a> {
     type Piece = Piece;
 
     ghost use Rattle.mill_verify.specs.inner.Pieces.{tests};
@@ -102,32 +99,21 @@ impl<'a, G: Gate> Work for Tests<'a, G> {
         Ok(Piece::Stock { number, row })
     }
 
-    /// A row goes over the moves that stay far away from it, and a block over none. The gate is passed by
-    /// each turn, also by one that is gone over.
+    /// A row goes over the moves that stay far away from it, and a block over none.
     fn pass_over(&self, piece: &mut Piece, turn: u64) -> u64 {
         match piece {
             Piece::Block { .. } => turn,
-            Piece::Stock { number, row } => {
-                let next = row.go_over(self.job, &self.bands, turn);
-                for passed in turn..next {
-                    self.gate.pass(*number, passed);
-                }
-                next
-            }
+            Piece::Stock { number: _, row } => row.go_over(self.job, &self.bands, turn),
         }
     }
 
     fn turn(&self, piece: &mut Piece, turn: u64) -> bool {
         let moves = self.bands.moves();
         match piece {
-            Piece::Block { number, block } => {
-                self.gate.pass(*number, turn);
+            Piece::Block { number: _, block } => {
                 block.turn(self.job, self.part, self.cells, moves, turn)
             }
-            Piece::Stock { number, row } => {
-                self.gate.pass(*number, turn);
-                row.turn_on(self.job, moves, turn)
-            }
+            Piece::Stock { number: _, row } => row.turn_on(self.job, moves, turn),
         }
     }
 }

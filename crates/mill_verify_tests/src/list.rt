@@ -6,6 +6,7 @@ ghost use Rattle.mill_verify.specs.Files.{IsFileOf};
 use crate::samples::{FLAT_BLOCK, PLATE, job_of, part_under, program};
 use crate::tables::{halves, same};
 use mill_base::Cutter;
+use mill_crew::Threaded;
 use mill_job::Job;
 use mill_verify::{CutFile, verify_list};
 use std::alloc::Global;
@@ -66,7 +67,7 @@ fn told_of<R: Threads + Sync + AllocGlobal>(
     if files.len() > 16 {
         return Err(Fail::from("too many files"));
     }
-    let verdict = verify_list(rt, alloc, &job, &part, &files, workers)?;
+    let verdict = verify_list(&Threaded { rt, workers }, alloc, &job, &part, &files)?;
     Ok(format!(in alloc; "{verdict:?}")?)
 }
 

@@ -5,14 +5,14 @@ use crate::samples::{
     ANY_BLOCK, FLAT_BLOCK, Keys, LINE, NARROW_BLOCK, PLATE, job_of, part_under, program,
 };
 use crate::tables::{add, first_word, halves, same};
+use mill_crew::Threaded;
 use mill_job::Job;
+use mill_part::SortedPart;
 use mill_verify::verify;
 use std::alloc::Global;
 use std::process::Abort;
 use std::test::Fail;
 use std::thread::Threads;
-
-mod gated;
 
 /// Stock over the whole range in thousandths, and 105 rows of 105 columns in it, 10,000 apart.
 const WHOLE_RANGE: Keys<'static> = (
@@ -114,7 +114,9 @@ fn told_of<R: Threads + Sync + AllocGlobal>(
     let job = job_named(alloc, keys)?;
     let part = part_under(alloc, job.top, corners)?;
     let moves = program(alloc, &job, &text)?;
-    let verdict = verify(rt, alloc, &job, &part, &moves, workers)?;
+    let sorted = SortedPart::new(alloc, &part)?;
+    let crew = Threaded { rt, workers };
+    let verdict = verify(&crew, alloc, &job, &part, sorted.cells(), &moves)?;
     Ok(format!(in alloc; "{verdict:?}")?)
 }
 

@@ -1,11 +1,10 @@
 //! Reads one line of a program: whether a slash and a line number stand there, and its words.
 //!
-//! It stands on nothing but std, and takes no memory. [`read_line`] promises exactly what the line
-//! says, or its first fault with the place in the line, after NISTIR 6556 (RS274/NGC version 3),
-//! 3.3. [`plain_number_behind`] takes the number of one word, for a caller that needs no list of
-//! them, and says how the line goes on behind it. `specs/Marks.antt` defines what of a line stands
-//! outside its blanks and comments, `specs/Lines.antt` what words that makes, and `specs/Plain.antt`
-//! which numbers are plain.
+//! It stands on nothing but std, and takes no memory. `read_line` promises exactly what the line
+//! says, or its first fault with the place, after NISTIR 6556 (RS274/NGC version 3), 3.3;
+//! `plain_number_behind` takes the number of one word alone. `specs/Marks.antt` defines what
+//! counts of a line, `specs/Lines.antt` what words that makes, `specs/Plain.antt` which numbers
+//! are plain.
 #![tactic(auto)]
 
 mod decimals;

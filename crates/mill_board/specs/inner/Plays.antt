@@ -1,5 +1,5 @@
 -- What each step of a seat tells it.
-use Rattle.std.specs.Prelude.{◌≡◌, ℕ, min, ◌<◌, ◌≤◌, ◌⊎◌, true, [], ◌∷◌, ◌++◌, Option, Some, None}
+use Rattle.std.specs.Prelude.{◌≡◌, ℕ, min, ◌<◌, ◌≤◌, ◌⊎◌, [], ◌∷◌, ◌++◌, Option, Some, None}
 use Rattle.atomic_table.specs.Table.{Me, Step}
 use Rattle.mill_board.specs.declared.work.Held.{Held}
 use Rattle.mill_board.specs.declared.view.View.{View}
@@ -21,7 +21,7 @@ pub record Drew {W P : Type 0} (M : Means W P) (me : Mine W P) (found : ℕ) (af
 -- no piece was left
 pub record Ended {W P : Type 0} (M : Means W P) (me : Mine W P) (found : ℕ) (after : Mine W P) : Type 0 where
   pub over : M.pieces me.0.terms.work ≤ found
-  pub view : after.0 ≡ record me.0 { ended = true }
+  pub view : after.0 ≡ record me.0 { ended = Some found }
   pub carried : after.1 ≡ me.1
 
 -- what drawing tells

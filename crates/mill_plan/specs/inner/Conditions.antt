@@ -1,15 +1,9 @@
 -- What the planner's steps ask for. It serves the functions within.
-use Rattle.std.specs.Prelude.{ℕ, ◌≤◌, List, [], All}
-use Rattle.mill_base.specs.declared.limits.TheConstants.{MAX_WORKERS}
+use Rattle.std.specs.Prelude.{List, [], All}
 use Rattle.mill_dexel.specs.Rows.{IsRowOf}
 use Rattle.mill_dexel.specs.declared.row.Row.{Row}
 use Rattle.mill_job.specs.declared.job.Job.{Job}
 use Rattle.mill_links.specs.Links.{FollowStock}
-
--- a number of workers that may share the work
-pub record AreWorkers (workers : ℕ) : Type 0 where
-  pub some : 1 ≤ workers
-  pub few : workers ≤ MAX_WORKERS
 
 -- rows of the job's, which are those of the uncut stock where the job limits the depth of cut
 pub record AreFirstRows (job : Job) (rows : List Row) : Type 0 where

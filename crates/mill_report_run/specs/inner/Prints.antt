@@ -6,7 +6,7 @@ use Rattle.mill_io.specs.Views.{SinkView}
 use Rattle.mill_load.specs.Prints.{Prints}
 use Rattle.mill_load.specs.declared.load.LoadFault.{LoadFault}
 use Rattle.mill_load.specs.declared.load.LoadFault.TheVariants.{Memory, ReadFault, Unfit}
-use Rattle.mill_report_run.specs.Outcomes.{IsOutcome, IsTextOf, Outcome, Shows, bad_words, failed, help, outcome_status}
+use Rattle.mill_report_run.specs.Outcomes.{Fails, IsOutcome, IsTextOf, Outcome, Shows, bad_words, failed, help, outcome_status}
 use Rattle.mill_report_run.specs.declared.load.Loaded.{Loaded}
 use Rattle.mill_report_text.specs.Reports.{IsReportText}
 use Rattle.mill_report_text.specs.Sources.{texts_of_sources}
@@ -51,4 +51,5 @@ TriesReport l status sink sink_after = TellsReport l status sink sink_after ⊎ 
 pub record Serves (files : Files) (call : Call) : Type 0 where
   pub outcome : Outcome
   pub is : IsOutcome (texts_of call.store.contents files) outcome
+  pub fails : Fails files call.store_after.log outcome
   pub shows : Shows call outcome

@@ -1,5 +1,5 @@
 -- What reading a list, and reading all that a command needs, comes to.
-use Rattle.std.specs.Prelude.{◌≤◌, ◌<◌, ℕ, List, length, take, All, Option, IfSome, Result, Ok, Err}
+use Rattle.std.specs.Prelude.{◌≤◌, ◌<◌, ℕ, List, [], length, take, All, Option, IfSome, Result, Ok, Err}
 use Rattle.std.specs.Global.{Vec}
 use Rattle.mill_base.specs.declared.limits.TheConstants.{MAX_WORKERS}
 use Rattle.mill_base.specs.Covers.{IsUnder}
@@ -8,18 +8,21 @@ use Rattle.mill_job.specs.Jobs.{IsJob}
 use Rattle.mill_list.specs.declared.limits.TheConstants.{MAX_STEPS}
 use Rattle.mill_list.specs.declared.step.Step.{Step}
 use Rattle.mill_verify.specs.Files.{File as CutFile, IsFileOf}
-use Rattle.mill_load.specs.declared.file.File.TheVariants.{List as ListFile, StepProgram}
+use Rattle.mill_io.specs.Readings.{LastFails, Reading}
+use Rattle.mill_load.specs.declared.file.File.{File}
+use Rattle.mill_load.specs.declared.file.File.TheVariants.{Job as JobFile, Part as PartFile, List as ListFile, StepProgram}
 use Rattle.mill_load.specs.declared.load.LoadFault.{LoadFault}
 use Rattle.mill_load.specs.declared.load.LoadFault.TheVariants.{Memory, ReadFault, Unfit}
 use Rattle.mill_load.specs.declared.load.Unfit.TheVariants.{TooLong, ListRefused}
 use Rattle.mill_run.specs.declared.verify.Loaded.{Loaded}
 use Rattle.mill_run.specs.declared.rest.Listed.{Listed}
 use Rattle.mill_run.specs.declared.stock.Cutting.{Cutting}
-use Rattle.mill_run.specs.Rest.{RestTexts, ReadsRest, ReadsSteps, step_at, IsListText, IsRefusedList, IsUnfitRest, IsReadBeforeRest}
-use Rattle.mill_load.specs.Setup.{IsTooLong}
+use Rattle.mill_run.specs.Rest.{RestTexts, FailsAtStep, ReadsRest, ReadsSteps, step_at, IsListText, IsRefusedList, IsUnfitRest, IsReadBeforeRest}
+use Rattle.mill_load.specs.Setup.{IsTooLongJob}
 use Rattle.mill_run.specs.Stock.{StockTexts, ReadsStock, IsUnfitStock, IsReadBeforeStock}
 use Rattle.mill_run.specs.Verify.{Texts, Reads, IsUnfitProgram, IsReadBeforeProgram}
-use Rattle.mill_load.specs.Loads.{AreMoves, LoadsProgram}
+use Rattle.mill_load.specs.Loads.{AreMoves, LoadsProgram, NamesFault}
+use Rattle.mill_run.specs.Words.{RestFiles}
 
 -- ---- a list and its programs
 
@@ -28,17 +31,32 @@ abbrev pub LoadsList : Job → Option (List ℕ) → Result (Vec Step) LoadFault
 LoadsList job told (Ok steps) = IfSome told (λ text. IsListText job text steps.items)
 LoadsList job told (Err Memory) = Unit {0}
 LoadsList job told (Err (ReadFault ListFile)) = Unit {0}
-LoadsList job told (Err (Unfit (TooLong ListFile))) = IfSome told IsTooLong
+LoadsList job told (Err (Unfit (TooLong ListFile))) = IfSome told IsTooLongJob
 LoadsList job told (Err (Unfit (ListRefused fault))) = IfSome told (λ text. IsRefusedList job text fault)
 LoadsList job told (Err _) = ⊥
 
--- why the program of a step has no moves, where all steps before it are read
-pub record StopsAtStep (programs : List ℕ → Option (List ℕ)) (job : Job) (steps : List Step) (fault : LoadFault) : Type 0 where
+-- why the program of a step has no moves, where all steps before it are read; a read fault is that of its file
+pub record StopsAtStep (programs : List ℕ → Option (List ℕ)) (job : Job) (steps : List Step) (log : List Reading) (fault : LoadFault) : Type 0 where
   pub number : ℕ
   pub files : List CutFile
   pub there : number < length steps
   pub before : ReadsSteps programs job (take number steps) files
   pub stops : LoadsProgram job (programs (step_at steps number).program) (StepProgram number) (Err fault)
+  pub failed : NamesFault (λ file. (step_at steps number).program) log fault
+
+-- the name of each of a list's files but its programs
+abbrev pub rest_name : RestFiles → File → List ℕ
+rest_name names JobFile = names.job
+rest_name names PartFile = names.part
+rest_name names ListFile = names.list
+rest_name names _ = []
+
+-- a read fault is one of the last read, which was of the file that it names
+abbrev pub FailsInRest : RestTexts → RestFiles → List Reading → LoadFault → Type 0
+FailsInRest texts names log Memory = Unit {0}
+FailsInRest texts names log (ReadFault (StepProgram k)) = FailsAtStep texts k log
+FailsInRest texts names log (ReadFault file) = LastFails (rest_name names file) log
+FailsInRest texts names log (Unfit fault) = Unit {0}
 
 -- ---- all that a command needs
 

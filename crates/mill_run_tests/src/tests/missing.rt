@@ -61,3 +61,31 @@ fn refuses_a_long_file(rt: HostRuntime) -> Result<(), Fail> {
         "4 refused too-long part\n",
     )
 }
+
+// A job or a list may have 1,048,576 bytes: one byte more is refused for that.
+#[test]
+fn refuses_a_long_job(rt: HostRuntime) -> Result<(), Fail> {
+    let alloc = rt.alloc();
+    let long = vec![in alloc; b'?'; 1_048_577]?;
+    look_at_long(
+        &rt,
+        alloc,
+        &long,
+        "verify program plate absent",
+        "4 refused too-long job\n",
+    )?;
+    look_at_long(
+        &rt,
+        alloc,
+        &long,
+        "rest job plate program",
+        "4 refused too-long list\n",
+    )?;
+    look_at_long(
+        &rt,
+        alloc,
+        &long[1..],
+        "verify program plate absent",
+        "4 refused job syntax\n",
+    )
+}

@@ -11,8 +11,8 @@ const UNTAKEN: &str = r"--help => 0 Usage: camtool <COMMAND>
 help drop => 0 --x <X>
 drop --help => 0 --x <X>
 verify job --help => 0 Usage: camtool
---version => 0 camtool 0.1.0\n
--V => 0 camtool 0.1.0\n
+--version => 0 camtool 0.2.0\n
+-V => 0 camtool 0.2.0\n
 => 2 requires a subcommand
 Verify job part program => 2 unrecognized
 verify job => 2 <PART>

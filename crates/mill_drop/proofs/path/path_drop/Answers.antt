@@ -7,8 +7,8 @@ use Rattle.mill_drop.proofs.Straightness.{tolerance_stored}
 use Rattle.mill_drop.proofs.PathLemmas.{along_row, are_heights, some_heights, places_inside, is_path, path_keeps}
 use Rattle.mill_drop.proofs.path.path_drop.Goals as goal
 
-pub drop_map_alone-requires-clause-lattice_ok : goal.drop_map_alone-requires-clause-lattice_ok
-drop_map_alone-requires-clause-lattice_ok c =
+pub map_in_turn-requires-clause-lattice_ok : goal.map_in_turn-requires-clause-lattice_ok
+map_in_turn-requires-clause-lattice_ok c =
     let r = c.requires.row_ok in
     let row = rw (coordinate c.args.y r.y_ok, coordinate c.args.x0 r.x0_ok, coordinate c.args.x1 r.x1_ok) at c.row.ensures in
     rw row (row_is_map c.args.y c.args.x0 c.args.x1 r)

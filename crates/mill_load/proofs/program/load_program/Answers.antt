@@ -26,5 +26,9 @@ returns g c =
             c.home.ensures.value refl c.in-Ok.ensures.takes (sym c.in-Err-finish.is ∙ c.finish.ensures.answer other),
       );
       ready = tt;
+      failed = λ names same. tt;
       store = record { only = c.in-Ok.ensures.store.only; reads = c.in-Ok.ensures.store.reads };
     }
+
+pub returns-in-Err-clause-failed : goal.returns-in-Err-clause-failed
+returns-in-Err-clause-failed g c = λ names same. c.in-Err.ensures.failed names same

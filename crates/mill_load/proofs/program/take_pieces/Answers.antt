@@ -1,8 +1,10 @@
-use Rattle.std.proofs.Common.{◌+◌, ◌≤◌, ◌<◌, ◌++◌, length, take, arith, ◌∙◌, rules, refl}
+use Rattle.std.proofs.Common.{◌≡◌, ℕ, List, ◌+◌, ◌≤◌, ◌<◌, ◌++◌, length, take, arith, ◌∙◌, rules, refl, subst, sym}
 use Rattle.mill_base.specs.declared.limits.TheConstants.{MAX_FILE_BYTES}
 use Rattle.mill_io.proofs.Read.{reads_on}
+use Rattle.mill_io.specs.Readings.{LastFails}
 use Rattle.mill_load.specs.inner.Steps.{HasTaken, TakesFront}
-use Rattle.mill_load.proofs.Programs.{front_first, front_more, front_whole}
+use Rattle.mill_load.proofs.Reading.{next_long}
+use Rattle.mill_load.proofs.Programs.{front_first, front_more, front_whole, too_long}
 use Rattle.mill_load.proofs.program.take_pieces.Goals as goal
 
 pub loop-reader-init : goal.loop-reader-init
@@ -25,7 +27,7 @@ pub returns-in-Ok-eq0-clause-takes : goal.returns-in-Ok-eq0-clause-takes
 returns-in-Ok-eq0-clause-takes g c =
     let pieces = c.args.pieces.now in
     let here = c.loop-reader.pieces in
-    let next = c.in-Ok-eq0.ensures.next c.loop-reader.invariant.going in
+    let next = c.in-Ok-eq0.ensures.next (g.S.Shelf.shows here.shelf.now).contents c.next.ensures.held c.loop-reader.invariant.going in
     let room : 0 < length c.next.new.buf = search rules in
     let fits : here.given ≤ MAX_FILE_BYTES = omega (arith, here.within, c.loop-reader.invariant.limit) in
     front_whole c.args.start c.args.unit ((g.S.Shelf.shows pieces.shelf.now).contents pieces.name.now) ((g.S.Shelf.shows here.shelf.now).contents here.name.now) here.given c.next.new.buf
@@ -35,7 +37,7 @@ pub loop-reader-preserved : goal.loop-reader-preserved
 loop-reader-preserved g c =
     let pieces = c.args.pieces.now in
     let here = c.loop-reader.pieces in
-    let next = c.in-Ok.ensures.next c.loop-reader.invariant.going in
+    let next = c.in-Ok.ensures.next (g.S.Shelf.shows here.shelf.now).contents c.next.ensures.held c.loop-reader.invariant.going in
     let text = c.loop-reader.invariant.front.text in
     let taken : HasTaken c.args.start c.args.unit c.take_piece.new.reader c.take_piece.new.moves.items (text ++ take c.in-Ok.count c.next.new.buf) = c.in_ok-take_piece.ensures c.args.start c.args.unit text c.loop-reader.invariant.front.taken in
     let front : TakesFront c.args.start c.args.unit ((g.S.Shelf.shows pieces.shelf.now).contents pieces.name.now) (here.given + c.in-Ok.count) c.take_piece.new.reader c.take_piece.new.moves.items =
@@ -51,3 +53,16 @@ loop-reader-preserved g c =
       faults = c.in-Ok.ensures.cause c.loop-reader.invariant.going ∙ c.loop-reader.invariant.faults;
       front = rw c.in-Ok.ensures.given front;
     }
+
+pub returns-in-Err-ReadFault-clause-failed : goal.returns-in-Err-ReadFault-clause-failed
+returns-in-Err-ReadFault-clause-failed g c = λ names same.
+    subst (λ (name : List ℕ). LastFails name (g.S.Shelf.shows c.next.new.self.shelf.now).log) (c.loop-reader.invariant.name ∙ sym same)
+    (c.next.ensures.failed c.loop-reader.invariant.going cc)
+
+pub returns-in-Err-TooLong-clause-fault : goal.returns-in-Err-TooLong-clause-fault
+returns-in-Err-TooLong-clause-fault g c =
+    let pieces = c.args.pieces.now in
+    let here = c.loop-reader.pieces in
+    let contents = (g.S.Shelf.shows here.shelf.now).contents in
+    let next = next_long (contents here.name.now) here.limit here.given _ c.next.result (cc) (c.next.ensures.next contents c.next.ensures.held c.loop-reader.invariant.going) in
+    too_long ((g.S.Shelf.shows pieces.shelf.now).contents pieces.name.now) ((g.S.Shelf.shows here.shelf.now).contents here.name.now) c.args.file here.limit (search rules) c.loop-reader.invariant.limit next

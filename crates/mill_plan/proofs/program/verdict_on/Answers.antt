@@ -3,11 +3,11 @@ use Rattle.mill_job.specs.Columns.{home}
 use Rattle.mill_plan.proofs.Good.{follow, good, in_range}
 use Rattle.mill_plan.proofs.program.verdict_on.Goals as goal
 
-pub verify_with_cells-requires-clause-moves_ok : goal.verify_with_cells-requires-clause-moves_ok
-verify_with_cells-requires-clause-moves_ok g c = moves_of_unit c.args.job.now.unit _ (in_range c.args.job.now c.args.part.now (home c.args.job.now) (home c.args.job.now) c.args.moves.now c.requires.safe)
+pub verify-requires-clause-moves_ok : goal.verify-requires-clause-moves_ok
+verify-requires-clause-moves_ok g c = moves_of_unit c.args.job.now.unit _ (in_range c.args.job.now c.args.part.now (home c.args.job.now) (home c.args.job.now) c.args.moves.now c.requires.safe)
 
-pub verify_with_cells-requires-clause-follow : goal.verify_with_cells-requires-clause-follow
-verify_with_cells-requires-clause-follow g c = follow c.args.job.now c.args.part.now (home c.args.job.now) (home c.args.job.now) c.args.moves.now c.requires.safe
+pub verify-requires-clause-follow : goal.verify-requires-clause-follow
+verify-requires-clause-follow g c = follow c.args.job.now c.args.part.now (home c.args.job.now) (home c.args.job.now) c.args.moves.now c.requires.safe
 
 pub verdict_on_stock-requires-clause-moves_ok : goal.verdict_on_stock-requires-clause-moves_ok
 verdict_on_stock-requires-clause-moves_ok g c = moves_of_unit c.args.job.now.unit _ (in_range c.args.job.now c.args.part.now (home c.args.job.now) (home c.args.job.now) c.args.moves.now c.requires.safe)

@@ -1,3 +1,4 @@
+use Rattle.mill_load.proofs.Reading.{none_failed}
 use Rattle.mill_report_run.proofs.Loading.{loads_with, no_job_text}
 use Rattle.mill_report_run.proofs.load.load_job.Goals as goal
 
@@ -9,3 +10,9 @@ returns-in-Ok-clause-store g c = loads_with _ _ _ c.job_with.result c.in-Ok.ensu
 
 pub returns-in-Err-clause-told : goal.returns-in-Err-clause-told
 returns-in-Err-clause-told g c = no_job_text ((g.S.Shelf.shows c.args.shelf.now).contents c.args.name.now) c.in-Err.fault c.in-Err.ensures.told
+
+pub returns-in-Ok-clause-failed : goal.returns-in-Ok-clause-failed
+returns-in-Ok-clause-failed g c = λ names same. none_failed names _ c.job_with.result c.job_with.ensures.cause
+
+pub returns-in-Err-clause-failed : goal.returns-in-Err-clause-failed
+returns-in-Err-clause-failed g c = λ names same. c.in-Err.ensures.failed names same

@@ -17,3 +17,9 @@ returns-in-Ok-clause-store g c = loads_on _ _ _ _ c.load_part.result c.in-Ok.ens
 pub returns-in-Err-clause-told : goal.returns-in-Err-clause-told
 returns-in-Err-clause-told g c =
     job_fault (setup_texts (g.S.Shelf.shows c.args.shelf.now).contents c.args.job.now c.args.part.now) c.in-Err.fault c.in-Err.ensures.told
+
+pub returns-in-Ok-clause-failed : goal.returns-in-Ok-clause-failed
+returns-in-Ok-clause-failed g c = λ names job part. c.load_part.ensures.failed names part
+
+pub returns-in-Err-clause-failed : goal.returns-in-Err-clause-failed
+returns-in-Err-clause-failed g c = λ names job part. c.in-Err.ensures.failed names job

@@ -3,8 +3,8 @@ use Rattle.mill_base.proofs.Ranges.{moves_of_unit}
 use Rattle.mill_run.proofs.Named.{is_safe}
 use Rattle.mill_report_text.proofs.whole.judged.Goals as goal
 
-pub verify_with_cells-requires-clause-moves_ok : goal.verify_with_cells-requires-clause-moves_ok
-verify_with_cells-requires-clause-moves_ok g c κs within = moves_of_unit c.args.job.now.unit c.args.moves.now c.requires.ready.moves_ok.in_range
+pub verify-requires-clause-moves_ok : goal.verify-requires-clause-moves_ok
+verify-requires-clause-moves_ok g c = moves_of_unit c.args.job.now.unit c.args.moves.now c.requires.ready.moves_ok.in_range
 
 pub returns : goal.returns
 returns g c = record {

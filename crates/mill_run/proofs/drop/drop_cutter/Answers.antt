@@ -6,10 +6,11 @@ use Rattle.mill_load.specs.declared.load.Setup.{Setup}
 use Rattle.mill_run.specs.Answers.{refused_word}
 use Rattle.mill_run.specs.Calls.{Call, call_of}
 use Rattle.mill_run.specs.Drop.{HasPlace}
+use Rattle.mill_run.specs.Outcomes.{file_name}
 use Rattle.mill_load.specs.Setup.{SetupTexts, setup_texts}
 use Rattle.mill_load.specs.Loads.{LoadsUnder}
 use Rattle.mill_load.proofs.Reading.{job_fault_with, part_fault_with, loads_on}
-use Rattle.mill_run.proofs.Serving.{word_serves, height_serves, fault_serves, drop_fault, made_prints}
+use Rattle.mill_run.proofs.Serving.{fails_named, word_serves, height_serves, fault_serves, drop_fault, made_prints}
 use Rattle.mill_run.proofs.drop.drop_cutter.Goals as goal
 
 pub returns-in-Err : goal.returns-in-Err
@@ -21,6 +22,7 @@ returns-in-Err g c =
     fault_serves (drop job part c.args.x.now c.args.y.now) call c.in-Err.fault
     (drop_fault call.store.contents job part c.args.x.now c.args.y.now c.in-Err.fault
     (job_fault_with (HasPlace texts c.args.x.now c.args.y.now) texts c.in-Err.fault c.in-Err.ensures.told))
+    (fails_named call.store.contents (drop job part c.args.x.now c.args.y.now) call.store_after.log c.in-Err.fault (λ file failed. failed) (c.in-Err.ensures.failed (file_name (drop job part c.args.x.now c.args.y.now)) refl))
     c.requires c.in-Err.ensures.store c.tell_fault.ensures
 
 pub returns-in-Err-read_place : goal.returns-in-Err-read_place
@@ -51,4 +53,5 @@ returns-in-Err-load_under g c =
     (drop_fault call.store.contents job part c.args.x.now c.args.y.now f
     (part_fault_with (HasPlace texts c.args.x.now c.args.y.now) texts c.in-Ok.job f place c.in-Ok.ensures.told
     (subst (λ (t : Option (List ℕ)). LoadsUnder c.in-Ok.job t r) (c.in-Ok.ensures.store.only.contents part) c.in-Err-load_under.ensures.told)))
+    (fails_named call.store.contents (drop job part c.args.x.now c.args.y.now) call.store_after.log f (λ file failed. failed) (c.in-Err-load_under.ensures.failed (file_name (drop job part c.args.x.now c.args.y.now)) refl))
     c.requires (loads_on _ _ _ c.in-Ok.job r c.in-Ok.ensures.store c.in-Err-load_under.ensures.store) c.tell_fault-in-Err-load_under.ensures

@@ -8,10 +8,11 @@ use Rattle.mill_load.specs.declared.load.Setup.{Setup}
 use Rattle.mill_run.specs.Answers.{refused_word}
 use Rattle.mill_run.specs.Calls.{Call, call_of}
 use Rattle.mill_run.specs.Level.{HasHeight}
+use Rattle.mill_run.specs.Outcomes.{file_name}
 use Rattle.mill_load.specs.Setup.{SetupTexts, setup_texts}
 use Rattle.mill_load.specs.Loads.{LoadsUnder}
 use Rattle.mill_load.proofs.Reading.{job_fault_with, part_fault_with, loads_on}
-use Rattle.mill_run.proofs.Serving.{height_word_serves, level_serves, fault_serves, level_fault, made_prints}
+use Rattle.mill_run.proofs.Serving.{fails_named, height_word_serves, level_serves, fault_serves, level_fault, made_prints}
 use Rattle.mill_run.proofs.level.level_part.Goals as goal
 
 pub returns-in-Err : goal.returns-in-Err
@@ -23,6 +24,7 @@ returns-in-Err g c =
     fault_serves (level job part c.args.z.now) call c.in-Err.fault
     (level_fault call.store.contents job part c.args.z.now c.in-Err.fault
     (job_fault_with (HasHeight texts c.args.z.now) texts c.in-Err.fault c.in-Err.ensures.told))
+    (fails_named call.store.contents (level job part c.args.z.now) call.store_after.log c.in-Err.fault (λ file failed. failed) (c.in-Err.ensures.failed (file_name (level job part c.args.z.now)) refl))
     c.requires c.in-Err.ensures.store c.tell_fault.ensures
 
 pub returns-in-Err-read_height : goal.returns-in-Err-read_height
@@ -59,4 +61,5 @@ returns-in-Err-load_under g c =
     (level_fault call.store.contents job part c.args.z.now f
     (part_fault_with (HasHeight texts c.args.z.now) texts c.in-Ok.job f height c.in-Ok.ensures.told
     (subst (λ (t : Option (List ℕ)). LoadsUnder c.in-Ok.job t r) (c.in-Ok.ensures.store.only.contents part) c.in-Err-load_under.ensures.told)))
+    (fails_named call.store.contents (level job part c.args.z.now) call.store_after.log f (λ file failed. failed) (c.in-Err-load_under.ensures.failed (file_name (level job part c.args.z.now)) refl))
     c.requires (loads_on _ _ _ c.in-Ok.job r c.in-Ok.ensures.store c.in-Err-load_under.ensures.store) c.tell_fault-in-Err-load_under.ensures

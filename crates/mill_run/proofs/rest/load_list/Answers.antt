@@ -1,5 +1,12 @@
+use Rattle.mill_load.proofs.Reading.{none_failed}
 use Rattle.mill_run.proofs.Rests.{list_told}
 use Rattle.mill_run.proofs.rest.load_list.Goals as goal
+
+pub returns-in-Ok-clause-failed : goal.returns-in-Ok-clause-failed
+returns-in-Ok-clause-failed g c = λ names same. none_failed names _ c.list_from.result c.list_from.ensures.cause
+
+pub returns-in-Err-clause-failed : goal.returns-in-Err-clause-failed
+returns-in-Err-clause-failed g c = λ names same. c.in-Err.ensures.failed names same
 
 pub returns-in-Ok-clause-told : goal.returns-in-Ok-clause-told
 returns-in-Ok-clause-told g c =

@@ -1,4 +1,4 @@
-use Rattle.std.proofs.Common.{ℕ, List, Err, refl, subst}
+use Rattle.std.proofs.Common.{ℕ, List, Err, refl, subst, sym}
 use Rattle.mill_base.proofs.Ranges.{moves_of_unit}
 use Rattle.mill_load.specs.declared.file.File.TheVariants.{StepProgram}
 use Rattle.mill_load.specs.Loads.{LoadsProgram}
@@ -11,6 +11,9 @@ pub returns-in-Ok-clause-ready : goal.returns-in-Ok-clause-ready
 returns-in-Ok-clause-ready g c =
     let moves = c.in-Ok.ensures.ready in
     record { fits = c.requires.fits; moves_ok = moves_of_unit c.args.job.now.unit c.in-Ok.moves.items moves.in_range; follow = moves.follow; few = moves.few }
+
+pub returns-in-Err-clause-failed : goal.returns-in-Err-clause-failed
+returns-in-Err-clause-failed g c = c.in-Err.ensures.failed (λ file. c.args.step.now.program) (sym c.as_str-program.ensures)
 
 pub returns-in-Err-clause-fault : goal.returns-in-Err-clause-fault
 returns-in-Err-clause-fault g c =

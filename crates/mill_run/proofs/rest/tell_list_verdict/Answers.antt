@@ -4,7 +4,7 @@ use Rattle.mill_run.proofs.Named.{files_told}
 use Rattle.mill_run.proofs.rest.tell_list_verdict.Goals as goal
 
 pub verify_list-requires-clause-files_ok : goal.verify_list-requires-clause-files_ok
-verify_list-requires-clause-files_ok g c κs within = rw c.deref.ensures.value c.requires.ready.files_ok
+verify_list-requires-clause-files_ok g c = rw c.deref.ensures.value c.requires.ready.files_ok
 
 pub tell_line_of_list-requires-clause-names : goal.tell_line_of_list-requires-clause-names
 tell_line_of_list-requires-clause-names g c =

@@ -1,6 +1,6 @@
 use Rattle.mill_command.specs.Requests.{rest}
 use Rattle.mill_run.specs.Calls.{Call, call_of}
-use Rattle.mill_run.proofs.Rests.{rest_load_fault, rest_serves}
+use Rattle.mill_run.proofs.Rests.{rest_failed, rest_load_fault, rest_serves}
 use Rattle.mill_run.proofs.Serving.{fault_serves}
 use Rattle.mill_run.proofs.rest.verify_files.Goals as goal
 
@@ -13,5 +13,6 @@ pub returns-in-Err : goal.returns-in-Err
 returns-in-Err g c =
     let call : Call = call_of c.tell_fault.result (g.S.Shelf.shows c.args.shelf.now) (g.S.Shelf.shows c.load_files.new.shelf) (g.O.Sink.shows c.args.out.now) (g.O.Sink.shows c.tell_fault.new.out) in
     fault_serves (rest c.args.job.now c.args.part.now c.args.list.now c.args.workers) call c.in-Err.fault
-    (rest_load_fault call.store.contents c.args.job.now c.args.part.now c.args.list.now c.args.workers c.in-Err.fault c.in-Err.ensures.told) c.requires.counts
+    (rest_load_fault call.store.contents c.args.job.now c.args.part.now c.args.list.now c.args.workers c.in-Err.fault c.in-Err.ensures.told)
+    (rest_failed call.store.contents c.args.job.now c.args.part.now c.args.list.now c.args.workers call.store_after.log c.in-Err.fault c.in-Err.ensures.failed) c.requires.counts
     c.in-Err.ensures.store c.tell_fault.ensures

@@ -1,6 +1,8 @@
 use Rattle.mill_command.specs.Requests.{stock}
 use Rattle.mill_run.specs.Calls.{Call, call_of}
-use Rattle.mill_run.proofs.Serving.{fault_serves}
+use Rattle.std.proofs.Common.{refl}
+use Rattle.mill_run.specs.Outcomes.{file_name}
+use Rattle.mill_run.proofs.Serving.{fails_named, fault_serves}
 use Rattle.mill_run.proofs.Stocks.{stock_serves, stock_load_fault}
 use Rattle.mill_run.proofs.stock.stock_program.Goals as goal
 
@@ -13,5 +15,6 @@ pub returns-in-Err : goal.returns-in-Err
 returns-in-Err g c =
     let call : Call = call_of c.tell_fault.result (g.S.Shelf.shows c.args.shelf.now) (g.S.Shelf.shows c.load_cutting.new.shelf) (g.O.Sink.shows c.args.out.now) (g.O.Sink.shows c.tell_fault.new.out) in
     fault_serves (stock c.args.job.now c.args.program.now c.args.name.now) call c.in-Err.fault
-    (stock_load_fault call.store.contents c.args.job.now c.args.program.now c.args.name.now c.in-Err.fault c.in-Err.ensures.told) c.requires
+    (stock_load_fault call.store.contents c.args.job.now c.args.program.now c.args.name.now c.in-Err.fault c.in-Err.ensures.told)
+    (fails_named call.store.contents (stock c.args.job.now c.args.program.now c.args.name.now) call.store_after.log c.in-Err.fault (λ file failed. failed) (c.in-Err.ensures.failed (file_name (stock c.args.job.now c.args.program.now c.args.name.now)) refl refl)) c.requires
     c.in-Err.ensures.store c.tell_fault.ensures

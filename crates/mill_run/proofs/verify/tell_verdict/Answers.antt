@@ -4,8 +4,8 @@ use Rattle.mill_base.proofs.Ranges.{moves_of_unit}
 use Rattle.mill_run.proofs.Named.{told}
 use Rattle.mill_run.proofs.verify.tell_verdict.Goals as goal
 
-pub verify-requires-clause-moves_ok : goal.verify-requires-clause-moves_ok
-verify-requires-clause-moves_ok g c κs within = rw c.deref.ensures.value (moves_of_unit c.args.loaded.now.job.unit c.args.loaded.now.moves.items c.requires.ready.moves_ok.in_range)
+pub verdict_on-requires-clause-moves_ok : goal.verdict_on-requires-clause-moves_ok
+verdict_on-requires-clause-moves_ok g c κs within = rw c.deref.ensures.value (moves_of_unit c.args.loaded.now.job.unit c.args.loaded.now.moves.items c.requires.ready.moves_ok.in_range)
 
 pub returns-in-Ok : goal.returns-in-Ok
 returns-in-Ok g c =

@@ -9,7 +9,7 @@ use Rattle.mill_verify.proofs.Starts.{shown_rows}
 use Rattle.mill_verify.proofs.list.last_verdict.Goals as goal
 
 pub stock_left-requires-clause-rows_ok : goal.stock_left-requires-clause-rows_ok
-stock_left-requires-clause-rows_ok g c _ _ =
+stock_left-requires-clause-rows_ok g c =
     shown_rows c.args.job.now (after_files c.args.job.now (uncut c.args.job.now) c.args.files.now) c.args.rows.now
     (files_stay c.args.job.now (uncut c.args.job.now) c.args.files.now (uncut_stays c.args.job.now c.requires.job_ok.stock)) c.requires.passed.shows
 

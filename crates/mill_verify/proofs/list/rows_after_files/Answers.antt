@@ -7,7 +7,7 @@ pub loop-number-init : goal.loop-number-init
 loop-number-init g c = none_passed c.args.job.now c.args.part.now c.args.files.now _ refl
 
 pub rows_after-requires-clause-asked : goal.rows_after-requires-clause-asked
-rows_after-requires-clause-asked g c _ _ =
+rows_after-requires-clause-asked g c =
     let asked : AreAsked c.job_with-job.result c.args.part.now c.args.cells.now c.loop-number.start c.moves-moves.result.now = record {
       job_ok = c.job_with-job.ensures.job_ok;
       cells_ok = c.requires.cells_ok;

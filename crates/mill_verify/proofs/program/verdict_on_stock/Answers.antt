@@ -4,7 +4,7 @@ use Rattle.mill_verify.proofs.Starts.{job_rows}
 use Rattle.mill_verify.proofs.program.verdict_on_stock.Goals as goal
 
 pub stock_left-requires-clause-rows_ok : goal.stock_left-requires-clause-rows_ok
-stock_left-requires-clause-rows_ok g c _ _ = job_rows c.args.job.now c.args.moves.now c.args.rows.now c.requires.job_ok c.requires.rows_ok
+stock_left-requires-clause-rows_ok g c = job_rows c.args.job.now c.args.moves.now c.args.rows.now c.requires.job_ok c.requires.rows_ok
 
 pub returns-clause-verdict : goal.returns-clause-verdict
 returns-clause-verdict g c =

@@ -2,7 +2,7 @@ use Rattle.std.proofs.Common.{◌≡◌, ◌∙◌, sym, subst, List, Option}
 use Rattle.std.specs.Slots.{slots_items}
 use Rattle.mill_board.specs.declared.work.Held.{Held}
 use Rattle.mill_board.specs.declared.work.Terms.{Terms}
-use Rattle.mill_board.specs.Works.{HasSpans}
+use Rattle.mill_board.specs.Works.{HasSpans, IsFailure}
 use Rattle.mill_board.specs.inner.Closings.{HasTrueFrom, IsSound}
 use Rattle.mill_board.proofs.Closing.{left}
 use Rattle.mill_board.proofs.board.Board.close.Goals as goal
@@ -13,6 +13,13 @@ settle-requires-clause-spans g c κs within =
     let f = c.close_with-closed.ensures in
     let l = left M c.self.inside.table.shared.key _ _ _ _ _ _ _ f.values.2 c.word-claim.ensures c.word-least.ensures c.word-back.ensures in
     subst (λ (t : Terms g.row.W.Denot). HasSpans M t.work t.turns) c.self.invariant.told l.spans
+
+pub settle-requires-clause-least : goal.settle-requires-clause-least
+settle-requires-clause-least g c κs within =
+    let M = g.W.Work.means in
+    let f = c.close_with-closed.ensures in
+    let l = left M c.self.inside.table.shared.key _ _ _ _ _ _ _ f.values.2 c.word-claim.ensures c.word-least.ensures c.word-back.ensures in
+    subst (λ (t : Terms g.row.W.Denot). IsFailure M t c.word-least.result) c.self.invariant.told l.failure
 
 pub settle-requires-clause-slots : goal.settle-requires-clause-slots
 settle-requires-clause-slots g c κs within =

@@ -1,6 +1,6 @@
-use Rattle.std.proofs.Common.{◌∙◌, ap, arith, sym, subst, inr}
+use Rattle.std.proofs.Common.{◌∙◌, ap, arith, sym, subst}
 use Rattle.mill_board.specs.declared.work.Terms.{Terms}
-use Rattle.mill_board.specs.Works.{IsFailure}
+use Rattle.mill_board.specs.Works.{FailsAt}
 use Rattle.mill_board.specs.Seats.{SeatShown, BoardShown}
 use Rattle.mill_board.proofs.Lowering.{lowers}
 use Rattle.mill_board.proofs.board.Board.lower.Goals as goal
@@ -13,5 +13,6 @@ fetch_min-requires g c =
     let words = c.self.invariant.words in
     let held = c.requires.held in
     let terms = ap (λ (s : V). s.view.terms) c.seat.view_is ∙ c.requires.seat.terms in
-    let failure = subst (λ (t : Terms W). IsFailure g.W.Work.means t c.args.held.now.next) (sym terms) (inr (c.args.held.now.number, held.number, (held.failed c.requires.failed).0)) in
-    (table, omega (arith, words), lowers g.W.Work.means c.self.inside.table.shared.key _ _ c.args.held.now.next c.seat.inside.pass.me failure)
+    let out = ap (λ (s : V). s.view.out) c.seat.view_is ∙ c.requires.out in
+    let failure = subst (λ (t : Terms W). FailsAt g.W.Work.means t.work c.args.held.now.number c.args.held.now.next) (sym terms) (held.failed c.requires.failed).0 in
+    (table, omega (arith, words), lowers g.W.Work.means c.self.inside.table.shared.key _ _ c.args.held.now.number c.args.held.now.next c.seat.inside.pass.me out failure)

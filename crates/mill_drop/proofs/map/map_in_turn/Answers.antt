@@ -1,0 +1,43 @@
+use Rattle.std.proofs.Common.{◌<◌, ◌≤◌, ℤ, List, ◌∙◌, sym, subst, pos}
+use Rattle.std.specs.List.{All}
+use Rattle.std.proofs.lemmas.List.Elements.{All-push}
+use Rattle.mill_base.specs.Lattices.{lattice_xs, lattice_ys, nodes_of}
+use Rattle.mill_base.specs.Numbers.{Within}
+use Rattle.mill_base.specs.declared.limits.TheConstants.{MAX_COORDINATE}
+use Rattle.mill_base.proofs.NodeLemmas.{length-rows}
+use Rattle.mill_base.proofs.Ranges.{coordinate}
+use Rattle.mill_drop.specs.Maps.{IsHeightAt}
+use Rattle.mill_drop.proofs.RowLemmas.{zip_more, zip_all}
+use Rattle.mill_drop.proofs.map.map_in_turn.Goals as goal
+
+pub height_at-requires : goal.height_at-requires
+height_at-requires c =
+    let lattice = c.args.lattice.now in
+    let count = c.nodes-nodes.ensures ∙ sym (length-rows (lattice_xs lattice) (lattice_ys lattice)) in
+    rw (coordinate c.args.floor c.requires.floor_ok) (record {
+      cells_ok = c.requires.cells_ok;
+      tool_ok = c.requires.tool_ok;
+      lattice_ok = c.requires.lattice_ok;
+      floor_ok = c.requires.floor_ok;
+      number_ok = subst (λ n. c.loop-number.number < n) count c.loop-number-test.true;
+    })
+
+pub loop-number-preserved : goal.loop-number-preserved
+loop-number-preserved c =
+    let lattice = c.args.lattice.now in
+    let count = c.nodes-nodes.ensures ∙ sym (length-rows (lattice_xs lattice) (lattice_ys lattice)) in
+    let inside = subst (λ n. c.loop-number.number < n) count c.loop-number-test.true in
+    let more = rw (coordinate c.height_at.result c.height_at.ensures.bound) at c.in_ok-push.ensures.items in (
+      zip_more (IsHeightAt c.args.tool.now c.args.part.now _) (nodes_of lattice) c.loop-number.dropped.items c.push.new.self.items c.loop-number.number (pos 0, pos 0) c.height_at.result inside c.loop-number.invariant.0
+          c.height_at.ensures.height more,
+      subst (λ (zs : List ℤ). All (Within MAX_COORDINATE) zs) (sym more)
+          (All-push (Within MAX_COORDINATE) c.loop-number.dropped.items c.height_at.result c.loop-number.invariant.1 c.height_at.ensures.bound),
+    )
+
+pub returns-clause-heights : goal.returns-clause-heights
+returns-clause-heights c =
+    let lattice = c.args.lattice.now in
+    let count = c.nodes-nodes.ensures ∙ sym (length-rows (lattice_xs lattice) (lattice_ys lattice)) in
+    let end = subst (λ n. n ≤ c.loop-number.number) count c.loop-number-test.false in
+    zip_all (IsHeightAt c.args.tool.now c.args.part.now c.args.floor) (nodes_of lattice) c.loop-number.dropped.items c.loop-number.number end
+    (rw (coordinate c.args.floor c.requires.floor_ok) at c.loop-number.invariant.0)

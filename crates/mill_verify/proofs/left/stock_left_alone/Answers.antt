@@ -1,5 +1,0 @@
-use Rattle.mill_verify.proofs.SameTests.{rows_told}
-use Rattle.mill_verify.proofs.left.stock_left_alone.Goals as goal
-
-pub returns : goal.returns
-returns c = rows_told c.args.job.now c.args.part.now c.args.rows.now c.scan_rows.result c.requires.rows_ok c.scan_rows.ensures

@@ -1,6 +1,0 @@
-use Rattle.std.proofs.Common.{rules, w32}
-use Rattle.std.proofs.lemmas.Int.{to_z-of_z}
-use Rattle.mill_verify_tests.proofs.program.gated.told_with.Goals as goal
-
-pub verify_with-requires-clause-under : goal.verify_with-requires-clause-under
-verify_with-requires-clause-under g c κs within = rw (to_z-of_z w32 c.in_ok-job.job.top (search rules)) at c.in_ok-part.ensures
