@@ -11,7 +11,8 @@ ghost use Rattle.mill_base.specs.Lattices.{IsMapLattice};
 
 use crate::task::Task;
 use anyhow::{Context, Result};
-use mill_drop::drop_map;
+use mill_crew::Threaded;
+use mill_drop::DropCrew;
 use mill_part::SortedPart;
 use std::alloc::Global;
 use std::thread::Threads;
@@ -32,8 +33,8 @@ pub fn call<R: Threads + Sync>(
         lattice,
         height,
     } = task;
-    drop_map(
-        rt,
+    let crew = Threaded { rt, workers: 1 };
+    crew.drop_map(
         alloc,
         part.part(),
         part.cells(),
@@ -68,4 +69,4 @@ CASES = {"sample 32": Case(100, 8, 0), "sample 100": Case(100, 20, 0), "bumps": 
 
 def drop_program(folder):
     """Proves and builds it."""
-    return Program(folder, "drop_bench", "mill_sweep mill_drop rayon", LATTICE, CALL)
+    return Program(folder, "drop_bench", "mill_sweep mill_crew mill_drop rayon", LATTICE, CALL)

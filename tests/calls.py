@@ -20,18 +20,19 @@ def option(words, name, usual=None):
 
 
 def program(words, name="camtool", word="program"):
-    """The file of a program: that of the word --program=FILE, or the built one, which is built where it isn't."""
+    """The file of a program: that of the word --program=FILE, or the one that the launcher runs, which is built where it
+    has to be."""
     named = option(words, word)
     if named:
         return os.path.abspath(named)
-    subprocess.run([os.path.join(ROOT, name), "--version"], stdout=subprocess.DEVNULL, check=True)
-    return os.path.join(ROOT, "crates", name, "out", name)
+    script = 'set -u; root=$1; . "$root/tools/launch"; find_program "$2" yes && printf %s "$program"'
+    return subprocess.run(["bash", "-c", script, "bash", ROOT, name], stdout=subprocess.PIPE, text=True, check=True).stdout
 
 
 class Ended(typing.NamedTuple):
     """How a call ended: its status, or minus the signal that stopped it, and what it wrote; None where it had to be stopped."""
 
-    status: int | None
+    status: typing.Optional[int]
     printed: bytes
     errors: bytes
 

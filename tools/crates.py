@@ -1,11 +1,15 @@
-"""What the tools share that go over the crates: which there are, what each stands on, about how long each takes,
-and how a build ends and tells of a failure."""
+"""What the tools share: how they read their words, which crates there are, what each stands on, about how long each
+takes, and how a build ends and tells of a failure."""
 import os
 import re
 import signal
 import sys
 
 ROOT = os.path.dirname(os.path.dirname(os.path.realpath(__file__)))
+sys.path.insert(0, os.path.join(ROOT, "python"))
+from camtool.command import Words
+
+__all__ = ["ROOT", "Words", "ahead", "below", "chains", "named", "processors", "run_until_ended", "seconds", "show_end"]
 # Lines of the checker that say nothing of a failure.
 QUIET = re.compile(r": proved$|modules loaded=|^so far: |^rt: chose |^statements ")
 

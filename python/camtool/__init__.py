@@ -14,13 +14,17 @@ an array for results is then as it was. No call keeps anything for the next one.
 threads run meanwhile, which must not write the arrays that it was given, nor read those that it
 writes.
 
-The shared library is that of tools/library, or the one that the environment's CAMTOOL_LIBRARY names.
+The shared library is that of tools/library, or the one that the environment's CAMTOOL_LIBRARY names. It is loaded
+when the first call is made, which raises an ImportError where there is none. The package's other modules, which are
+the commands camtool-where, camtool-job and so on, don't need it.
 """
 import array
 import ctypes
 import operator
 import os
 import typing
+
+from camtool.version import __version__
 
 __all__ = [
     "MAX_COORDINATE", "BadArray", "BadCoordinate", "BadCutter", "BadFiber", "BadFloor", "BadHeight", "BadHolder", "BadJob",
@@ -249,6 +253,7 @@ _ERRORS = {error.status: error for error in (
     JobRange, JobRelation, HighPart, BadProgram, BadHeight, BadLattice, TooManyNodes, TooManyMoves, Uncut, Held)}
 
 
+# The structs of include/camtool.h, by the same names.
 class _Triangle(ctypes.Structure):
     _fields_ = [("corners", ctypes.c_int32 * 9)]
 
@@ -453,6 +458,7 @@ def runs(triangles, tool, fibers):
     counted = (ctypes.c_uint64 * fibers_count).from_buffer(counts) if fibers_count else (ctypes.c_uint64 * 1)()
 
     def called(room, count):
+        """Calls with this room, in runs."""
         return _library.camtool_runs(
             corners, triangles_count, _numbers_of(tool), lines, fibers_count, counted, fibers_count, room, count, told)
 
@@ -508,6 +514,7 @@ def waterline(triangles, tool, z, area, step):
     z = _number(z, BadHeight)
 
     def called(chains, chains_count, points, points_count):
+        """Calls with this room, in chains and in points."""
         return _library.camtool_waterline(
             corners, triangles_count, numbers, z, lattice, chains, chains_count, points, points_count, told)
 
@@ -614,6 +621,7 @@ def _number(value, error):
 
 
 def _lattice(area, step):
+    """C's lattice, of an area and a step."""
     try:
         x0, y0, x1, y1 = area
     except (TypeError, ValueError):
@@ -623,6 +631,7 @@ def _lattice(area, step):
 
 
 def _numbers_of(tool):
+    """C's tool, of a Tool."""
     if not isinstance(tool, Tool):
         raise BadCutter("the tool is no Tool: flat, ball and cone make one")
     cutter = [_number(value, BadCutter) for value in (tool.kind, tool.radius, tool.rise, tool.run)]
@@ -678,11 +687,13 @@ def _written(name, value, others):
 
 
 def _overlap(one, other):
+    """Whether two arrays of C's have bytes in common."""
     start, other_start = ctypes.addressof(one), ctypes.addressof(other)
     return start < other_start + ctypes.sizeof(other) and other_start < start + ctypes.sizeof(one)
 
 
 def _loaded():
+    """The shared library, with the kinds of its calls' arguments."""
     root = os.path.dirname(os.path.dirname(os.path.dirname(os.path.abspath(__file__))))
     built = os.path.join(root, "crates", "mill_c", "out", "libcamtool.so")
     path = os.environ.get("CAMTOOL_LIBRARY", built)
@@ -717,4 +728,14 @@ def _loaded():
     return library
 
 
-_library = _loaded()
+class _Library:
+    """The shared library, before the first call is made."""
+
+    def __getattr__(self, name):
+        """Loads it, and gives a call of it."""
+        global _library
+        _library = _loaded()
+        return getattr(_library, name)
+
+
+_library = _Library()

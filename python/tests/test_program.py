@@ -2,13 +2,14 @@
 fibers, 10 heights, each program's verdict and each plan. It is left out with a line where the program isn't built, or
 Python is older than 3.11. CAMTOOL_PROGRAM names another program than the built one.
 
-From the root: python3 -m unittest discover -s python
+From the root: PYTHONPATH=python:python/tests python3 -m unittest test_program
 """
 import array
 import concurrent.futures
 import glob
 import os
 import random
+import re
 import subprocess
 import tempfile
 import typing
@@ -21,7 +22,7 @@ try:
 except ImportError:
     tomllib = None
 
-ROOT = os.path.dirname(os.path.dirname(os.path.abspath(__file__)))
+ROOT = os.path.dirname(os.path.dirname(os.path.dirname(os.path.abspath(__file__))))
 PROGRAM = os.environ.get("CAMTOOL_PROGRAM", os.path.join(ROOT, "crates", "camtool", "out", "camtool"))
 PLACES, FIBERS, HEIGHTS = 10_000, 100, 10
 SQUARES = 10
@@ -115,7 +116,7 @@ def examples():
     """Each job of examples/ with its part."""
     found = []
     for job_file in sorted(glob.glob(os.path.join(ROOT, "examples", "*", "*.toml"))):
-        if b"[[steps]]" not in read(job_file):
+        if not re.search(rb"^\[\[(steps|tools)\]\]", read(job_file), re.M):
             found.append(case_of(job_file, os.path.join(os.path.dirname(job_file), "part.stl")))
     return found
 

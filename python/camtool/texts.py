@@ -1,9 +1,11 @@
-"""Reads jobs, lists, parts and programs anew, for the scripts. It is no part of what is proved.
+"""Reads jobs, lists, parts and programs anew, for the commands. It is no part of what is proved.
 
 It takes the form of the texts from docs/FORMATS.md, and that camtool takes them: of texts that camtool refuses it
-tells nothing. Places are in the job's units. Python 3.8 or later, with its standard library alone.
+tells nothing. Places are in the job's units. Python 3.9 or later, with its standard library alone.
 """
 import collections
+import functools
+import json
 import re
 from decimal import ROUND_HALF_UP, Decimal
 
@@ -24,30 +26,41 @@ class Grid:
         self.places = 3 if job.get("unit") == "thousandth" else 2
 
     def units(self, millimetres):
+        """Returns a length in millimetres, of any kind that Decimal takes, as units: a Decimal."""
         return Decimal(millimetres) * 10**self.places
 
     def millimetres(self, units):
-        """As many digits as the unit has, or two more where the place lies between two units."""
+        """Returns units as a text in millimetres, with as many digits as the unit has, or two more where it lies between two units."""
         whole, digits = f"{abs(float(units)) / 10**self.places:.{self.places + 2}f}".split(".")
         text = f"{whole}.{digits[:self.places]}{digits[self.places:].rstrip('0')}"
         return f"-{text}" if units < 0 and text.strip("0.") else text
 
     def point(self, place):
+        """Returns a place in units, of two or three axes, as `X1.00 Y2.00 Z3.00`."""
         return " ".join(f"{axis}{self.millimetres(it)}" for axis, it in zip("XYZ", place))
 
 
 def job_of(text):
-    """Returns the job's keys. With no reader of TOML it takes lines KEY = NUMBER, KEY = [NUMBER, ..] and KEY = "TEXT" alone."""
+    """Returns the job's keys. With no reader of TOML it takes lines KEY = NUMBER, KEY = [NUMBER, ..], KEY = "TEXT" and
+    KEY = 'TEXT' alone."""
+    # (camtool takes a byte order mark before a job or a list)
+    plain = text.decode("utf-8-sig")
     if tomllib:
-        return tomllib.loads(text.decode("utf-8"))
+        return tomllib.loads(plain)
     job = {}
-    for key, value in re.findall(r"^\s*(\w+)\s*=\s*([-+]?\d+|\[[^\]]*\]|\"[^\"]*\")", text.decode("utf-8"), re.M):
-        if value.startswith('"'):
-            job[key] = value.strip('"')
+    for key, value in re.findall(r"""^\s*(\w+)\s*=\s*([-+]?\d\w*|\[[^\]]*\]|"[^"\n]*"|'[^'\n]*')""", plain, re.M):
+        if value[0] in "\"'":
+            job[key] = value[1:-1]
             continue
-        numbers = [int(it) for it in re.findall(r"[-+]?\d+", value)]
+        numbers = [int(it, 0) for it in re.findall(r"[-+]?\d\w*", re.sub(r"#.*", "", value))]
         job[key] = numbers if value.startswith("[") else numbers[0]
     return job
+
+
+def job_text(job):
+    """Returns the text of a job with these keys."""
+    values = ((key, json.dumps(value) if isinstance(value, (str, list)) else value) for key, value in job.items())
+    return "".join(f"{key} = {value}\n" for key, value in values)
 
 
 def start_of(job):
@@ -57,7 +70,7 @@ def start_of(job):
 
 def steps_of(text):
     """Returns the steps of a list."""
-    return tomllib.loads(text.decode("utf-8"))["steps"] if tomllib else [job_of(it) for it in text.split(b"[[steps]]")[1:]]
+    return job_of(text)["steps"] if tomllib else [job_of(it) for it in text.split(b"[[steps]]")[1:]]
 
 
 def words_of(line):
@@ -94,9 +107,16 @@ def moves_of(text, start, grid):
     return moves
 
 
+def box_of(places):
+    """Returns the least and the greatest corner of places; None where there are none."""
+    places = list(places)
+    return tuple(tuple(pick(it[axis] for it in places) for axis in range(3)) for pick in (min, max)) if places else None
+
+
 def triangles_of(text, grid):
     """Returns the corners of each triangle of an ASCII STL text, rounded to whole units."""
     found = re.findall(rb"vertex\s+(\S+)\s+(\S+)\s+(\S+)", text, re.I)
-    units = lambda it: int(grid.units(it.decode("ascii", "replace")).to_integral_value(ROUND_HALF_UP))
-    corners = [tuple(units(it) for it in row) for row in found]
+    # (a mesh has each corner about six times, and on many of them one coordinate)
+    units = functools.lru_cache(None)(lambda it: int(grid.units(it.decode("ascii", "replace")).to_integral_value(ROUND_HALF_UP)))
+    corners = [tuple(map(units, row)) for row in found]
     return [tuple(corners[it : it + 3]) for it in range(0, len(corners) - 2, 3)]

@@ -1,6 +1,6 @@
 """Tests of the module: each call against the program, and each exception. CAMTOOL_PROGRAM names another program.
 
-From the root: python3 -m unittest discover -s python
+From the root: PYTHONPATH=python:python/tests python3 -m unittest test_camtool
 """
 import array
 import os
@@ -10,7 +10,7 @@ import unittest
 
 import camtool
 
-ROOT = os.path.dirname(os.path.dirname(os.path.abspath(__file__)))
+ROOT = os.path.dirname(os.path.dirname(os.path.dirname(os.path.abspath(__file__))))
 PROGRAM = os.environ.get("CAMTOOL_PROGRAM", os.path.join(ROOT, "camtool"))
 PLATE = os.path.join(ROOT, "examples", "plate")
 

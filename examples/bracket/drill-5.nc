@@ -1,0 +1,62 @@
+(Exported by FreeCAD)
+(Post Processor: PathScripts.post.grbl_post)
+(Output Time:2026-11-30 10:59:33.776253)
+(Begin preamble)
+G17 G21 G90 G94 G40 G49 G54 G61 G80(Begin operation: 5mm drill)
+(Path: 5mm drill)
+(5mm drill)
+(Begin toolchange)
+( M6 T3 )
+M3 S3000
+(Finish operation: 5mm drill)
+(Begin operation: Drill3)
+(Path: Drill3)
+(Drill3)
+(Begin Drilling)
+G0 Z18.000
+G90
+( G98 )
+G0 X15.000 Y20.000
+G0 Z16.000
+(G83 X15.000 Y20.000 Z-2.000 F150.000 Q3.750 R16.000)
+G0 X15.000 Y20.000
+G1 Z12.250 F150.00
+G0 Z16.000
+G0 Z12.438
+G1 Z8.500 F150.00
+G0 Z16.000
+G0 Z8.688
+G1 Z4.750 F150.00
+G0 Z16.000
+G0 Z4.938
+G1 Z1.000 F150.00
+G0 Z16.000
+G0 Z1.188
+G1 Z-2.000 F150.00
+G0 Z16.000
+G0 X40.000 Y20.000
+G0 Z16.000
+(G83 X40.000 Y20.000 Z-2.000 F150.000 Q3.750 R16.000)
+G0 X40.000 Y20.000
+G1 Z12.250 F150.00
+G0 Z16.000
+G0 Z12.438
+G1 Z8.500 F150.00
+G0 Z16.000
+G0 Z8.688
+G1 Z4.750 F150.00
+G0 Z16.000
+G0 Z4.938
+G1 Z1.000 F150.00
+G0 Z16.000
+G0 Z1.188
+G1 Z-2.000 F150.00
+G0 Z16.000
+( G80 )
+G0 Z16.000
+G0 Z18.000
+(Finish operation: Drill3)
+(Begin postamble)
+M5
+G17 G90
+M2
