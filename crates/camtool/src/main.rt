@@ -10,6 +10,9 @@
 //! Before that it ends with status 2 where a text would be stored over a file that it is made of.
 #![tactic(auto)]
 
+ghost use Rattle.std.specs.Prelude.{map, string_bytes, IfOk, IfSome};
+ghost use Rattle.camtool.specs.inner.Own.{AreOverOwn};
+
 mod own_files;
 
 use mill_base::WantOfMemory;
@@ -20,18 +23,33 @@ use std::env;
 use std::env::Env;
 use std::io::ErrorKind;
 use std::process::ExitCode;
+use std::rt::Files;
 
 fn main(rt: HostRuntime) -> ExitCode {
     let alloc = rt.alloc();
-    let words = words_of(&rt);
-    if let Ok(words) = &words {
-        if !may_store(&rt, alloc, words) {
-            return ExitCode::from(2);
-        }
-    }
+    let words = match words_to_run(&rt) {
+        Ok(None) => return ExitCode::from(2),
+        Ok(Some(words)) => Ok(words),
+        Err(short) => Err(short),
+    };
     let mut shelf = FileShelf::new(alloc, &rt);
     let mut sink = StdSink::new(&rt);
     end(&rt, alloc, words, &mut shelf, &mut sink)
+}
+
+// The words of the call; none where they would store a text over a file that it is made of.
+fn words_to_run<R: Env + AllocGlobal + Files + Eprint>(
+    rt: &R,
+) -> Result<Option<Vec<String>>, WantOfMemory>
+    ensures { IfOk result (λ found.
+        IfSome found (λ words. ¬ AreOverOwn (map string_bytes words.items))) }
+{
+    let words = words_of(rt)?;
+    if may_store(rt, rt.alloc(), &words)? {
+        Ok(Some(words))
+    } else {
+        Ok(None)
+    }
 }
 
 // The words after the program's name; none where they aren't UTF-8, so that they are refused.

@@ -1,5 +1,5 @@
 -- The chains of a waterline, one after another.
-use Rattle.std.proofs.Common.{◌≡◌, refl, ap, ◌∙◌, sym}
+use Rattle.std.proofs.Common.{◌≡◌, ap, ◌∙◌, sym}
 use Rattle.std.proofs.lemmas.List.{flat_map_more, map-append}
 use Rattle.std.specs.List.{flat_map}
 use Rattle.std.specs.Prelude.{List, [], ◌∷◌, ◌++◌, map}
@@ -9,9 +9,6 @@ use Rattle.mill_c_data.specs.Raw.{corner_of}
 use Rattle.mill_c_data.specs.declared.raw.RawChain.{RawChain}
 use Rattle.mill_c_data.specs.declared.raw.RawPoint.{RawPoint}
 use Rattle.mill_c.specs.Levels.{AreOutlines, head_of}
-
-pub outlines_start : AreOutlines [] [] []
-outlines_start = record { heads = refl; all = refl }
 
 -- one chain more
 pub outlines_more : (outlines before : List Outline) (outline : Outline) (chains more : List RawChain) (points all : List RawPoint) → outlines ≡ before ++ outline ∷ [] → more ≡ chains ++ head_of outline ∷ [] → map corner_of all ≡ map corner_of points ++ outline.points → AreOutlines before chains points → AreOutlines outlines more all

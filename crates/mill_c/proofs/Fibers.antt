@@ -10,9 +10,6 @@ use Rattle.mill_c_data.specs.declared.raw.RawFiber.{RawFiber}
 use Rattle.mill_c_data.specs.declared.raw.RawRun.{RawRun}
 use Rattle.mill_c.specs.Fibers.{AreRunsAt, IsRunsOf, joined, run_of}
 
-pub runs_start : (tool : Tool) (part : List Tri) → AreRunsAt tool part [] [] []
-runs_start tool part = record { lists = []; each = tt; counted = refl; all = refl }
-
 zip_push : {A B : Type 0} (R : A → B → Type 0) (xs : List A) (ys : List B) (x : A) (y : B) → AllZip R xs ys → R x y → AllZip R (xs ++ x ∷ []) (ys ++ y ∷ [])
 zip_push R [] [] x y zipped here = (here, tt)
 zip_push R [] (b ∷ ys) x y zipped here = absurd zipped

@@ -1,11 +1,11 @@
 -- What a finding names is there.
-use Rattle.std.proofs.Common.{◌≡◌, ℕ, ◌<◌, List, length, refl}
+use Rattle.std.proofs.Common.{◌≡◌, ℕ, ◌<◌, List, refl}
 use Rattle.std.specs.Prelude.{ℤ, Option, IfSome}
 use Rattle.mill_base.specs.Points.{tri_at}
 use Rattle.mill_base.specs.Ranges.{MoveInRange}
 use Rattle.mill_base.specs.declared.motion.Move.{Move}
 use Rattle.mill_base.specs.declared.points.Tri.{Tri}
-use Rattle.mill_details.specs.Details.{column_numbers, column_of, failure_of, leaf_of, segment_of, test_of, triangle_number, triangle_of}
+use Rattle.mill_details.specs.Details.{column_of, failure_of, leaf_of, segment_of, test_of, triangle_of}
 use Rattle.mill_document.specs.declared.failure.Column.{Column}
 use Rattle.mill_document.specs.declared.failure.Failure.{Failure}
 use Rattle.mill_document.specs.declared.failure.Segment.{Segment}
@@ -14,29 +14,10 @@ use Rattle.mill_document.specs.declared.failure.Triangle.{Triangle}
 use Rattle.mill_details.specs.inner.Leaves.{IsLeaf}
 use Rattle.mill_details.proofs.LeafLemmas.{failing_leaf, held_leaf}
 use Rattle.mill_dexel.specs.Turns.{move_at}
-use Rattle.mill_job.specs.Columns.{IsColumn}
 use Rattle.mill_job.specs.declared.job.Job.{Job}
 use Rattle.mill_report.specs.Findings.{IsFinding, move_of}
 use Rattle.mill_verify.specs.declared.verdict.Reason.{Reason}
 use Rattle.mill_verify.specs.declared.verdict.Reason.TheVariants.{Floor, Gouge, Holder, Rapid, Cut, HolderStock, Left}
-
-pub names_triangle : (job : Job) (part : List Tri) (moves : List Move) (reason : Reason) → IsFinding job part moves reason → IfSome (triangle_number reason) (λ t. t < length part)
-names_triangle job part moves (Floor k) f = tt
-names_triangle job part moves (Gouge k t leaf) f = f.fails.rejects.tri
-names_triangle job part moves (Holder k t leaf) f = f.fails.rejects.tri
-names_triangle job part moves (Rapid k j i leaf) f = tt
-names_triangle job part moves (Cut k j i leaf) f = tt
-names_triangle job part moves (HolderStock k j i leaf) f = tt
-names_triangle job part moves (Left j i top) f = tt
-
-pub names_column : (job : Job) (part : List Tri) (moves : List Move) (reason : Reason) → IsFinding job part moves reason → IfSome (column_numbers reason) (λ c. IsColumn job c.0 c.1)
-names_column job part moves (Floor k) f = tt
-names_column job part moves (Gouge k t leaf) f = tt
-names_column job part moves (Holder k t leaf) f = tt
-names_column job part moves (Rapid k j i leaf) f = f.fails.rejects.column
-names_column job part moves (Cut k j i leaf) f = f.fails.rejects.column
-names_column job part moves (HolderStock k j i leaf) f = f.fails.rejects.column
-names_column job part moves (Left j i top) f = tt
 
 pub names_leaf : (job : Job) (part : List Tri) (moves : List Move) (reason : Reason) → MoveInRange (move_at moves (move_of reason)) → IsFinding job part moves reason → IfSome (leaf_of reason) IsLeaf
 names_leaf job part moves (Floor k) range f = tt

@@ -43,13 +43,6 @@ module _ (job : Job) (rows : List RowState) (j i : ℕ) (row : RowState) (tops :
   inside : j < length rows
   inside = let c = column.row in omega (c, count, arith)
 
-  pub row_columns : All (IsRowOf job) rows → i < length tops
-  row_columns rows_ok =
-      let is : IsRowOf job row = subst (IsRowOf job) (sym read) (rows_ok j row inside) in
-      let c = column.column in
-      let n = is.columns in
-      subst (λ (ts : List ℤ). i < length ts) (sym same) (omega (c, n, arith))
-
   pub top_from : All (IsRowOf job) rows → IsFrom job.floor job.top (get_or tops i (pos 0))
   top_from rows_ok =
       let is : IsRowOf job row = subst (IsRowOf job) (sym read) (rows_ok j row inside) in

@@ -22,7 +22,8 @@ pub trait DropCrew: Crew {
     /// machine has processors.
     ///
     /// `cells` are those of the part's triangles, and the lattice has at most `MAX_NODES` nodes. Lengths
-    /// are in units, of at most `MAX_COORDINATE` in magnitude. The only error is want of memory.
+    /// are in units, of at most `MAX_COORDINATE` in magnitude, those of the result too. The only error
+    /// is want of memory.
     fn drop_map(
         &self,
         alloc: Global,
@@ -37,7 +38,9 @@ pub trait DropCrew: Crew {
         requires tool_ok { IsTool tool.now }
         requires lattice_ok { IsMapLattice lattice.now }
         requires floor_ok { Within MAX_COORDINATE floor }
-        ensures { IfOk result (λ heights. AreDropHeights tool.now part.now floor lattice.now heights.items) };
+        ensures heights { IfOk result
+            (λ heights. AreDropHeights tool.now part.now floor lattice.now heights.items) }
+        ensures bound { IfOk result (λ heights. All (Within MAX_COORDINATE) heights.items) };
 }
 
 impl<'a, R: Threads + Sync> DropCrew for Threaded<'a, R> {
@@ -68,7 +71,8 @@ impl DropCrew for Alone {
     }
 }
 
-/// The drop heights at all nodes of the lattice, by the threads of a runtime.
+/// The drop heights at all nodes of the lattice, by the threads of a runtime. None of them is over
+/// `MAX_COORDINATE` in magnitude.
 fn map_by_threads<R: Threads + Sync>(
     rt: &R,
     alloc: Global,
@@ -82,7 +86,9 @@ fn map_by_threads<R: Threads + Sync>(
     requires tool_ok { IsTool tool.now }
     requires lattice_ok { IsMapLattice lattice.now }
     requires floor_ok { Within MAX_COORDINATE floor }
-    ensures { IfOk result (λ heights. AreDropHeights tool.now part.now floor lattice.now heights.items) }
+    ensures heights { IfOk result
+        (λ heights. AreDropHeights tool.now part.now floor lattice.now heights.items) }
+    ensures bound { IfOk result (λ heights. All (Within MAX_COORDINATE) heights.items) }
 {
     let nodes = lattice.nodes() as u32;
     let heights = (0..nodes)
@@ -90,7 +96,8 @@ fn map_by_threads<R: Threads + Sync>(
         .map(
             |number: u32| -> i32
                 requires { IsNodeTask part.now cells.now tool.now lattice.now floor number }
-                ensures { IsHeightAt tool.entry.now part.entry.now floor (node_at lattice.entry.now number) result }
+                ensures { IsHeightAt tool.entry.now part.entry.now floor
+                    (node_at lattice.entry.now number) result × Within MAX_COORDINATE result }
             { height_at(part, cells, tool, lattice, floor, number) },
         )
         .collect(rt, alloc)?;
@@ -111,7 +118,8 @@ pub(crate) fn map_in_turn(
     requires tool_ok { IsTool tool.now }
     requires lattice_ok { IsMapLattice lattice.now }
     requires floor_ok { Within MAX_COORDINATE floor }
-    ensures heights { IfOk result (λ heights. AreDropHeights tool.now part.now floor lattice.now heights.items) }
+    ensures heights { IfOk result
+        (λ heights. AreDropHeights tool.now part.now floor lattice.now heights.items) }
     ensures bound { IfOk result (λ heights. All (Within MAX_COORDINATE) heights.items) }
 {
     let nodes = lattice.nodes() as u32;

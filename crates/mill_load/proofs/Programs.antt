@@ -8,6 +8,7 @@ use Rattle.mill_base.specs.declared.unit.Unit.{Unit as LengthUnit}
 use Rattle.mill_base.specs.Motion.{Follow}
 use Rattle.mill_base.specs.Ranges.{MovesInUnitRange}
 use Rattle.mill_io.specs.Contents.{GivesFrom}
+use Rattle.mill_io.specs.Readings.{AreHeld, Reading as FileReading}
 use Rattle.mill_io.proofs.Read.{length_more, read_more, read_all}
 use Rattle.mill_ngc.specs.Programs.{program_of}
 use Rattle.mill_ngc.specs.Pieces.{Reading, reading_at, after_lines, fed, at_end, last_answer, lines_read, AreSound, MovesSoFar}
@@ -35,10 +36,10 @@ unfolding fed after_lines
 taken_first start unit reader moves new_reader moves_ok none = record { all = rw (new_reader, none) refl; lines = rw new_reader (omega arith); moves_ok = rw none moves_ok }
 
 -- and so no front but the empty one
-pub front_first : (start : Pt3) (unit : LengthUnit) (told : Option (List ℕ)) (reader : Reading) (moves : List Move) → reader ≡ reading_at start unit → MovesSoFar start unit reader [] → moves ≡ []
-    → TakesFront start unit told 0 reader moves
-front_first start unit told reader moves new_reader moves_ok none =
-    record { text = []; front = no_front told; size = refl; taken = taken_first start unit reader moves new_reader moves_ok none }
+pub front_first : (start : Pt3) (unit : LengthUnit) (name : List ℕ) (log : List FileReading) (reader : Reading) (moves : List Move) → reader ≡ reading_at start unit → MovesSoFar start unit reader [] → moves ≡ []
+    → TakesFront start unit name log log 0 reader moves
+front_first start unit name log reader moves new_reader moves_ok none =
+    record { text = []; front = λ contents held. no_front (contents name); size = refl; taken = taken_first start unit reader moves new_reader moves_ok none }
 
 -- the next piece goes on the text
 pub taken_more : (start : Pt3) (unit : LengthUnit) (old new : Reading) (before moves : List Move) (text piece : List ℕ) → HasTaken start unit old before text
@@ -50,26 +51,32 @@ taken_more start unit old new before moves text piece taken all lines moves_ok =
   moves_ok = moves_ok;
 }
 
+-- what files hold that hold all that was read: what was read so far, and the next bytes of this name
+abbrev HoldNext : List ℕ → List FileReading → List FileReading → List FileReading → ℕ → ℕ → List ℕ → Type 0
+HoldNext name before now after given n buf = (contents : List ℕ → Option (List ℕ)) → AreHeld contents before after → AreHeld contents before now × IfSome (contents name) (λ bytes. GivesFrom bytes given n buf)
+
 -- the next piece of a file goes on its front
-pub front_more : (start : Pt3) (unit : LengthUnit) (told now : Option (List ℕ)) (given n : ℕ) (buf : List ℕ) (old new : Reading) (before moves : List Move) → now ≡ told
-    → (f : TakesFront start unit told given old before) → IfSome now (λ bytes. GivesFrom bytes given n buf) → n ≤ length buf
-    → HasTaken start unit new moves (f.text ++ take n buf) → TakesFront start unit told (given + n) new moves
-front_more start unit told now given n buf old new before moves same f gives fits taken =
-    let here : IfSome now (λ bytes. GivesFrom bytes (length f.text) n buf) = rw f.size gives in record {
-      text = f.text ++ take n buf;
-      front = read_more told now f.text buf (f.text ++ take n buf) n same f.front here fits refl;
-      size = omega (arith, length_more f.text buf (f.text ++ take n buf) n fits refl, f.size);
-      taken = taken;
-    }
+pub front_more : (start : Pt3) (unit : LengthUnit) (name here : List ℕ) (log now after : List FileReading) (given n : ℕ) (buf : List ℕ) (old new : Reading) (before moves : List Move) → here ≡ name
+    → (f : TakesFront start unit name log now given old before) → HoldNext here log now after given n buf → n ≤ length buf
+    → HasTaken start unit new moves (f.text ++ take n buf) → TakesFront start unit name log after (given + n) new moves
+front_more start unit name here log now after given n buf old new before moves same f holds fits taken = record {
+  text = f.text ++ take n buf;
+  front = λ contents held.
+      let next = holds contents held in
+      let gives : IfSome (contents name) (λ bytes. GivesFrom bytes (length f.text) n buf) = rw (f.size, ← same) next.1 in
+      read_more (contents name) (contents name) f.text buf (f.text ++ take n buf) n refl (f.front contents next.0) gives fits refl;
+  size = omega (arith, length_more f.text buf (f.text ++ take n buf) n fits refl, f.size);
+  taken = taken;
+}
 
 -- where no bytes come any more, the front is the whole file
-pub front_whole : (start : Pt3) (unit : LengthUnit) (told now : Option (List ℕ)) (given : ℕ) (buf : List ℕ) (reader : Reading) (moves : List Move) → now ≡ told
-    → TakesFront start unit told given reader moves → IfSome now (λ bytes. GivesFrom bytes given 0 buf) → 0 < length buf → given ≤ MAX_FILE_BYTES
-    → TakesFile start unit told reader moves
-front_whole start unit told now given buf reader moves same f gives room fits =
-    let here : IfSome told (λ bytes. GivesFrom bytes (length f.text) 0 buf) = rw (f.size, ← same) gives in record {
+pub front_whole : (start : Pt3) (unit : LengthUnit) (name here : List ℕ) (contents : List ℕ → Option (List ℕ)) (log now : List FileReading) (given : ℕ) (buf : List ℕ) (reader : Reading) (moves : List Move) → here ≡ name
+    → TakesFront start unit name log now given reader moves → AreHeld contents log now → IfSome (contents here) (λ bytes. GivesFrom bytes given 0 buf) → 0 < length buf → given ≤ MAX_FILE_BYTES
+    → TakesFile start unit (contents name) reader moves
+front_whole start unit name here contents log now given buf reader moves same f held gives room fits =
+    let next : IfSome (contents name) (λ bytes. GivesFrom bytes (length f.text) 0 buf) = rw (f.size, ← same) gives in record {
       text = f.text;
-      whole = read_all told f.text buf f.front here room;
+      whole = read_all (contents name) f.text buf (f.front contents held) next room;
       fits = omega (arith, f.size, fits);
       taken = f.taken;
     }

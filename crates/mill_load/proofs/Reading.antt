@@ -3,6 +3,7 @@ use Rattle.std.proofs.Common.{◌≡◌, ℕ, List, length, Option, Some, None, 
 use Rattle.std.specs.Prelude.{◌<◌, ◌-◌, ◌^◌, ℤ, IfErr, IfSome}
 use Rattle.mill_base.specs.declared.points.Tri.{Tri}
 use Rattle.mill_base.specs.Covers.{IsUnder}
+use Rattle.std.specs.Global.{Vec}
 use Rattle.std.specs.Prelude.{Vec as AnyVec}
 use Rattle.std.specs.declared.alloc.Global.{Global}
 use Rattle.mill_io.specs.Causes.{Rose}
@@ -18,12 +19,12 @@ use Rattle.mill_load.specs.declared.file.File.TheVariants.{Job as JobFile, Part 
 use Rattle.mill_load.specs.declared.load.LoadFault.{LoadFault}
 use Rattle.mill_load.specs.declared.load.LoadFault.TheVariants.{Memory, ReadFault, Unfit}
 use Rattle.mill_load.specs.declared.load.Unfit.TheVariants.{TooLong, JobRefused, PartRefused, ListRefused, ProgramRefused, PartTop}
-use Rattle.mill_io.specs.Views.{StoreView}
+use Rattle.mill_io.specs.Views.{ReadsOnly, StoreView}
+use Rattle.mill_io.proofs.Held.{held_as, held_on}
 use Rattle.mill_io.proofs.Read.{reads_on}
-use Rattle.mill_load.specs.declared.load.Unfit.{Unfit as UnfitFault}
 use Rattle.mill_load.specs.declared.load.Setup.{Setup}
-use Rattle.mill_load.specs.Loads.{LoadsJob, LoadsPart, LoadsUnder, LoadsSetup, JoinsPart, CountsFault, NamesFault, OnlyLoads}
-use Rattle.mill_io.specs.Readings.{LastFails, Reading}
+use Rattle.mill_load.specs.Loads.{ReadsFile, LoadsJob, LoadsPart, LoadsUnder, LoadsSetup, JoinsPart, CountsFault, NamesFault, OnlyLoads}
+use Rattle.mill_io.specs.Readings.{AreHeld, Reading}
 use Rattle.mill_load.specs.declared.file.File.{File}
 use Rattle.mill_load.specs.inner.Steps.{IsLow}
 use Rattle.mill_load.specs.Setup.{SetupTexts, ReadsJob, IsPartText, IsUnfitWith, IsReadBeforeWith}
@@ -78,6 +79,41 @@ pub part_told : (job : Job) (told : Option (List ℕ)) (items : List ℕ) (r : R
     → LoadsPart job told r
 part_told job None items r same h = untold_part job items r h
 part_told job (Some text) items r same h = subst (λ (t : List ℕ). LoadsPart job (Some t) r) same h
+
+-- ---- why a file has no text
+
+-- the job's file
+pub no_job_text : (told : Option (List ℕ)) (f : LoadFault) → (let r : Result (Vec ℕ) LoadFault = Err f in ReadsFile told JobFile r) → LoadsJob told (Err f)
+no_job_text told Memory h = tt
+no_job_text told (ReadFault file) h = subst (λ (x : File). LoadsJob told (Err (ReadFault x))) (sym h) tt
+no_job_text told (Unfit (TooLong file)) h = subst (λ (x : File). LoadsJob told (Err (Unfit (TooLong x)))) (sym h.0) h.1
+no_job_text told (Unfit (JobRefused fault)) h = absurd h
+no_job_text told (Unfit (PartRefused fault)) h = absurd h
+no_job_text told (Unfit (ListRefused fault)) h = absurd h
+no_job_text told (Unfit (ProgramRefused file fault)) h = absurd h
+no_job_text told (Unfit (PartTop height top unit)) h = absurd h
+
+-- the part's file
+pub no_part_text : (job : Job) (told : Option (List ℕ)) (f : LoadFault) → (let r : Result (Vec ℕ) LoadFault = Err f in ReadsFile told PartFile r) → LoadsPart job told (Err f)
+no_part_text job told Memory h = tt
+no_part_text job told (ReadFault file) h = subst (λ (x : File). LoadsPart job told (Err (ReadFault x))) (sym h) tt
+no_part_text job told (Unfit (TooLong file)) h = subst (λ (x : File). LoadsPart job told (Err (Unfit (TooLong x)))) (sym h.0) h.1
+no_part_text job told (Unfit (JobRefused fault)) h = absurd h
+no_part_text job told (Unfit (PartRefused fault)) h = absurd h
+no_part_text job told (Unfit (ListRefused fault)) h = absurd h
+no_part_text job told (Unfit (ProgramRefused file fault)) h = absurd h
+no_part_text job told (Unfit (PartTop height top unit)) h = absurd h
+
+-- where there is no part, none is put to a job
+pub part_under : (job : Job) (told : Option (List ℕ)) (f : LoadFault) → LoadsPart job told (Err f) → LoadsUnder job told (Err f)
+part_under job told Memory h = h
+part_under job told (ReadFault file) h = h
+part_under job told (Unfit (TooLong file)) h = h
+part_under job told (Unfit (JobRefused fault)) h = h
+part_under job told (Unfit (PartRefused fault)) h = h
+part_under job told (Unfit (ListRefused fault)) h = h
+part_under job told (Unfit (ProgramRefused file fault)) h = h
+part_under job told (Unfit (PartTop height top unit)) h = absurd h
 
 -- ---- what kept a command from one of its files
 
@@ -215,14 +251,14 @@ none_failed names log (Err (Unfit fault)) h = tt
 
 -- ---- one reading after another
 
+-- the contents that the store tells hold what was read in turn: the first reads left them
+pub held_next : (a b c : StoreView) → ReadsOnly a b → AreHeld a.contents a.log b.log → AreHeld b.contents b.log c.log → AreHeld a.contents a.log c.log
+held_next a b c only first next = held_on a.contents a.log b.log c.log first (held_as b.contents a.contents b.log c.log (λ name. sym (only.contents name)) next)
+
 -- what was read first left the count of failed reads as it was
 pub loads_on : {T U : Type 0} (a b c : StoreView) (x : T) (r : Result U LoadFault) → (let q : Result T LoadFault = Ok x in OnlyLoads a b q) → OnlyLoads b c r → OnlyLoads a c r
-loads_on a b c x r first next = record { only = reads_on a b c first.only next.only; reads = subst (λ (n : ℕ). CountsFault n c.read_faults r) first.reads next.reads }
-
--- so it is whatever is made of what was read
-pub loads_as : {T U : Type 0} (a b : StoreView) (x : T) (y : U) → (let q : Result T LoadFault = Ok x in OnlyLoads a b q) → (let r : Result U LoadFault = Ok y in OnlyLoads a b r)
-loads_as a b x y loads = record { only = loads.only; reads = loads.reads }
-
-pub loads_unfit : {T U : Type 0} (a b : StoreView) (x : T) (u : UnfitFault) → (let q : Result T LoadFault = Ok x in OnlyLoads a b q)
-    → (let r : Result U LoadFault = Err (Unfit u) in OnlyLoads a b r)
-loads_unfit a b x u loads = record { only = loads.only; reads = loads.reads }
+loads_on a b c x r first next = record {
+  only = reads_on a b c first.only next.only;
+  reads = subst (λ (n : ℕ). CountsFault n c.read_faults r) first.reads next.reads;
+  held = held_next a b c first.only first.held next.held;
+}

@@ -9,7 +9,7 @@ use Rattle.mill_base.specs.Motion.{Follow}
 use Rattle.mill_base.specs.Ranges.{MovesInUnitRange}
 use Rattle.mill_base.specs.Covers.{IsUnder}
 use Rattle.mill_io.specs.Causes.{Rose}
-use Rattle.mill_io.specs.Readings.{Reading, LastFails}
+use Rattle.mill_io.specs.Readings.{AreHeld, Reading, LastFails}
 use Rattle.mill_io.specs.Views.{StoreView, ReadsOnly}
 use Rattle.mill_part.specs.Tops.{IsTop}
 use Rattle.mill_part.specs.declared.part.Part.{Part}
@@ -79,7 +79,7 @@ pub record HasHighPart (job : Job) (told : Option (List ℕ)) (height top : ℤ)
   pub unit_is : unit ≡ job.unit
   pub over : top <ℤ height
 
--- this job with a part, or why there is none, by what the store tells of the part's file
+-- this job with a part, or why there is none, by what is told of the part's file
 abbrev pub LoadsUnder : Job → Option (List ℕ) → Result Setup LoadFault → Type 0
 LoadsUnder job told (Ok s) = (s.job ≡ job) × IfSome told (λ text. IsPartText job text s.part) × IsUnder s.part job.top
 LoadsUnder job told (Err (Unfit (PartTop height top unit))) = HasHighPart job told height top unit
@@ -101,10 +101,12 @@ CountsFault before now (Err Memory) = now ≡ before
 CountsFault before now (Err (ReadFault file)) = Rose before now
 CountsFault before now (Err (Unfit fault)) = now ≡ before
 
--- nothing but the count of failed reads changes, and that rises with a read fault alone
+-- nothing but the log of reads and the count of those that failed changes, and that rises with a read fault alone;
+-- files that hold what the store tells hold what was read, so that what is said of all contents that hold it is said of the store's own
 pub record OnlyLoads {T : Type 0} (old new : StoreView) (result : Result T LoadFault) : Type 0 where
   pub only : ReadsOnly old new
   pub reads : CountsFault old.read_faults new.read_faults result
+  pub held : AreHeld old.contents old.log new.log
 
 -- a read fault is that of the last read, which was one of the name that these names give to the file
 abbrev pub NamesFault : (File → List ℕ) → List Reading → LoadFault → Type 0

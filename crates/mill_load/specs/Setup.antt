@@ -1,4 +1,4 @@
--- What the job's and the part's file say, each where the store tells it: what a command works on, or why it gets nothing to work on.
+-- What the job's and the part's file say, each where it is told: what a command works on, or why it gets nothing to work on.
 use Rattle.std.specs.Prelude.{◌≡◌, ℕ, ◌≤◌, ◌<◌, ℤ, ◌<ℤ◌, List, length, Option, IsSome, IfSome, Ok, Err}
 use Rattle.mill_base.specs.declared.limits.TheConstants.{MAX_FILE_BYTES}
 use Rattle.mill_base.specs.declared.points.Tri.{Tri}
@@ -16,7 +16,7 @@ use Rattle.mill_load.specs.declared.limits.TheConstants.{MAX_JOB_BYTES}
 use Rattle.mill_load.specs.declared.load.Unfit.{Unfit}
 use Rattle.mill_load.specs.declared.load.Unfit.TheVariants.{TooLong, JobRefused, PartRefused, PartTop}
 
--- what the store tells of the job's and of the part's file
+-- what is told of the job's and of the part's file: the text of each, or nothing
 pub record SetupTexts : Type 0 where
   pub job : Option (List ℕ)
   pub part : Option (List ℕ)

@@ -3,9 +3,10 @@
 //! It stands on the store and the sink of `mill_io`, on the readers `mill_job`, `mill_stl` and
 //! `mill_ngc`, and on `mill_line`. It promises that what is read of a file is what its text means,
 //! or the first fault, with all that was read before; that reading changes nothing in the store;
-//! and which line and status tell of a fault. Definitions: `specs/Setup`, `specs/Programs`,
-//! `specs/Places`, `specs/Loads` of reading, `specs/Faults`, `specs/Statuses`, `specs/Prints` of
-//! telling.
+//! and which line and status tell of a fault. What it says of a text is right by whatever the files
+//! hold, if they hold what the reads gave: so it is by what the store tells of them. Definitions:
+//! `specs/Setup`, `specs/Programs`, `specs/Places`, `specs/Loads` of reading, `specs/Faults`,
+//! `specs/Statuses`, `specs/Prints` of telling.
 #![tactic(auto)]
 
 mod faults;

@@ -1,5 +1,6 @@
 //! Reading the job and the part of a command, and the bytes of any of its files.
-ghost use Rattle.std.specs.Prelude.{◌≡◌, ◌≤◌, ℕ, List, length, IfErr, IfOk, Some};
+ghost use Rattle.std.specs.Prelude.{◌≡◌, ◌≤◌, ℕ, List, length, IfErr, IfOk, Option, Some};
+ghost use Rattle.mill_io.specs.Readings.{AreHeld};
 ghost use Rattle.mill_job.specs.Jobs.{IsJob};
 ghost use Rattle.mill_load.specs.Loads.{ReadsFile, LoadsJob, LoadsPart, LoadsUnder, LoadsSetup, JoinsPart, NamesFault, OnlyLoads, CountsFault, IsSetup};
 ghost use Rattle.mill_load.specs.inner.Steps.{IsLow};
@@ -76,7 +77,9 @@ pub fn load_setup<S: Shelf>(
     job: &str,
     part: &str,
 ) -> Result<Setup, LoadFault>
-    ensures told { LoadsSetup (setup_texts (S.shows shelf.old).contents job.now part.now) result }
+    ensures told { (contents : List ℕ → Option (List ℕ)) →
+        AreHeld contents (S.shows shelf.old).log (S.shows shelf.new).log →
+        LoadsSetup (setup_texts contents job.now part.now) result }
     ensures ready { IfOk result IsSetup }
     ensures failed { (names : AnyFile → List ℕ) → names JobFile ≡ job.now → names PartFile ≡ part.now →
         IfErr result (NamesFault names (S.shows shelf.new).log) }
@@ -96,7 +99,9 @@ pub fn load_under<S: Shelf>(
     name: &str,
 ) -> Result<Setup, LoadFault>
     requires { IsJob job }
-    ensures told { LoadsUnder job ((S.shows shelf.old).contents name.now) result }
+    ensures told { (contents : List ℕ → Option (List ℕ)) →
+        AreHeld contents (S.shows shelf.old).log (S.shows shelf.new).log →
+        LoadsUnder job (contents name.now) result }
     ensures ready { IfOk result IsSetup }
     ensures failed { (names : AnyFile → List ℕ) → names PartFile ≡ name.now →
         IfErr result (NamesFault names (S.shows shelf.new).log) }
@@ -137,7 +142,9 @@ fn height_over(job: &Job, part: &Part) -> Option<i32>
 
 /// Reads the job.
 pub fn load_job<S: Shelf>(alloc: Global, shelf: &mut S, name: &str) -> Result<Job, LoadFault>
-    ensures told { LoadsJob ((S.shows shelf.old).contents name.now) result }
+    ensures told { (contents : List ℕ → Option (List ℕ)) →
+        AreHeld contents (S.shows shelf.old).log (S.shows shelf.new).log →
+        LoadsJob (contents name.now) result }
     ensures in_range { IfOk result IsJob }
     ensures failed { (names : AnyFile → List ℕ) → names JobFile ≡ name.now →
         IfErr result (NamesFault names (S.shows shelf.new).log) }
@@ -155,7 +162,9 @@ fn load_part<S: Shelf>(
     name: &str,
     job: &Job,
 ) -> Result<Part, LoadFault>
-    ensures told { LoadsPart job.now ((S.shows shelf.old).contents name.now) result }
+    ensures told { (contents : List ℕ → Option (List ℕ)) →
+        AreHeld contents (S.shows shelf.old).log (S.shows shelf.new).log →
+        LoadsPart job.now (contents name.now) result }
     ensures failed { (names : AnyFile → List ℕ) → names PartFile ≡ name.now →
         IfErr result (NamesFault names (S.shows shelf.new).log) }
     ensures store { OnlyLoads (S.shows shelf.old) (S.shows shelf.new) result }
@@ -174,7 +183,9 @@ pub fn read_file<S: Shelf>(
     name: &str,
     file: File,
 ) -> Result<Vec<u8>, LoadFault>
-    ensures told { ReadsFile ((S.shows shelf.old).contents name.now) file result }
+    ensures told { (contents : List ℕ → Option (List ℕ)) →
+        AreHeld contents (S.shows shelf.old).log (S.shows shelf.new).log →
+        ReadsFile (contents name.now) file result }
     ensures fits { IfOk result (λ text. length text.items ≤ most_bytes file) }
     ensures failed { (names : AnyFile → List ℕ) → names file ≡ name.now →
         IfErr result (NamesFault names (S.shows shelf.new).log) }

@@ -1,8 +1,9 @@
 //! Reading a program: a file in pieces, or a text that is held whole.
-ghost use Rattle.std.specs.Prelude.{◌≡◌, ◌≢◌, ◌+◌, ◌<◌, ◌^◌, ◌++◌, ℕ, List, [], length, IfOk, IfErr, OnOk, Err, Ok, Some};
+ghost use Rattle.std.specs.Prelude.{◌≡◌, ◌≢◌, ◌+◌, ◌<◌, ◌^◌, ◌++◌, ℕ, List, [], length, IfOk, IfErr, OnOk, Err, Ok, Option, Some};
 ghost use Rattle.mill_base.specs.Ranges.{IsInUnitRange};
 ghost use Rattle.mill_base.specs.declared.points.Pt3.{Pt3 as Point};
 ghost use Rattle.mill_base.specs.declared.unit.Unit.{Unit as LengthUnit};
+ghost use Rattle.mill_io.specs.Readings.{AreHeld};
 ghost use Rattle.mill_job.specs.Columns.{home};
 ghost use Rattle.mill_job.specs.Jobs.{IsJob};
 ghost use Rattle.mill_ngc.specs.Pieces.{lines_read};
@@ -38,7 +39,9 @@ pub fn load_program<S: Shelf>(
     file: File,
 ) -> Result<Vec<Move>, LoadFault>
     requires { IsJob job.now }
-    ensures told { LoadsProgram job.now ((S.shows shelf.old).contents name.now) file result }
+    ensures told { (contents : List ℕ → Option (List ℕ)) →
+        AreHeld contents (S.shows shelf.old).log (S.shows shelf.new).log →
+        LoadsProgram job.now (contents name.now) file result }
     ensures ready { IfOk result (λ moves. AreMoves job.now moves.items) }
     ensures failed { (names : AnyFile → List ℕ) → names file ≡ name.now →
         IfErr result (NamesFault names (S.shows shelf.new).log) }
@@ -78,9 +81,12 @@ fn take_file<S: Shelf>(
     requires start { IsInUnitRange unit start }
     requires buf { 0 < length buf.old }
     requires moves { moves.old.items ≡ [] }
-    ensures takes { IfOk result (λ reader.
-        TakesFile start unit ((S.shows shelf.old).contents name.now) reader moves.new.items) }
-    ensures fault { IfErr result (LoadsNone ((S.shows shelf.old).contents name.now) file) }
+    ensures takes { (contents : List ℕ → Option (List ℕ)) →
+        AreHeld contents (S.shows shelf.old).log (S.shows shelf.new).log →
+        IfOk result (λ reader. TakesFile start unit (contents name.now) reader moves.new.items) }
+    ensures fault { (contents : List ℕ → Option (List ℕ)) →
+        AreHeld contents (S.shows shelf.old).log (S.shows shelf.new).log →
+        IfErr result (LoadsNone (contents name.now) file) }
     ensures failed { (names : AnyFile → List ℕ) → names file ≡ name.now →
         IfErr result (NamesFault names (S.shows shelf.new).log) }
     ensures store { OnlyLoads (S.shows shelf.old) (S.shows shelf.new) result }
@@ -102,9 +108,13 @@ fn take_pieces<S: Shelf>(
     requires buf { 0 < length buf.old }
     requires moves { moves.old.items ≡ [] }
     requires first { IsFirst pieces.old.limit pieces.old.given pieces.old.end }
-    ensures takes { IfOk result (λ reader.
-        TakesFile start unit ((S.shows pieces.old.shelf.now).contents pieces.old.name.now) reader moves.new.items) }
-    ensures fault { IfErr result (LoadsNone ((S.shows pieces.old.shelf.now).contents pieces.old.name.now) file) }
+    ensures takes { (contents : List ℕ → Option (List ℕ)) →
+        AreHeld contents (S.shows pieces.old.shelf.now).log (S.shows pieces.new.shelf.now).log →
+        IfOk result (λ reader.
+        TakesFile start unit (contents pieces.old.name.now) reader moves.new.items) }
+    ensures fault { (contents : List ℕ → Option (List ℕ)) →
+        AreHeld contents (S.shows pieces.old.shelf.now).log (S.shows pieces.new.shelf.now).log →
+        IfErr result (LoadsNone (contents pieces.old.name.now) file) }
     ensures failed { (names : AnyFile → List ℕ) → names file ≡ pieces.old.name.now →
         IfErr result (NamesFault names (S.shows pieces.new.shelf.now).log) }
     ensures store { OnlyLoads (S.shows pieces.old.shelf.now) (S.shows pieces.new.shelf.now) result }

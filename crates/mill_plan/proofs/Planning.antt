@@ -66,12 +66,16 @@ module _ (job : Job) (part : List Tri) where
   round_told visits (TooManyNodes n) nodes are h = absurd h
   round_told visits TooManyMoves nodes are (inl begun) = record {
     nodes = nodes;
+    shown = inr (inl (record { visits = visits; are = are; begun = begun.begun; begins = begun.begins; many = begun.many }));
     many = λ moves plan. over MAX_MOVES (length begun.begun) (length moves) begun.many (plan_is_longer job part visits begun.begun moves are begun.begins plan);
   }
-  round_told visits TooManyMoves nodes are (inr long) = record {
-    nodes = nodes;
-    many = λ moves plan. subst (λ (ms : List Move). MAX_MOVES < length ms) (one_plan job part long.moves moves (plan_of visits long.moves are long.round) plan) long.many;
-  }
+  round_told visits TooManyMoves nodes are (inr long) =
+      let made : IsPlan job part long.moves = plan_of visits long.moves are long.round in
+      record {
+        nodes = nodes;
+        shown = inr (inr (record { moves = long.moves; plan = made; many = long.many }));
+        many = λ moves plan. subst (λ (ms : List Move). MAX_MOVES < length ms) (one_plan job part long.moves moves made plan) long.many;
+      }
   round_told visits (Uncut row col top) nodes are h = absurd h
   round_told visits (Held number row col) nodes are h = absurd h
   round_told visits WantOfMemory nodes are h = tt
@@ -81,21 +85,21 @@ module _ (job : Job) (part : List Tri) where
       → ((n : ℕ) → IsErrOf r (path.TooManyNodes n) ↔ (((pos 0) <ℤ job.layer) × HasManyNodes (rough_lattice job) n))
       → (IsErrOf r path.TooManyVisits → ((pos 0) <ℤ job.layer) × HaveManyRoughVisits job part) → IsPlanFault job part (plan_fault_of fault)
   rough_told r (path.TooManyNodes n) is nodes many visits = let h = (many n).0 is in inr (record { finish = nodes.finish; layer = h.0; rough = h.1 })
-  rough_told r path.TooManyVisits is nodes many visits = let h = visits is in record { nodes = nodes; many = λ moves plan. many_rough job part moves h.0 h.1 plan }
+  rough_told r path.TooManyVisits is nodes many visits = let h = visits is in record { nodes = nodes; shown = inl (inl h.1); many = λ moves plan. many_rough job part moves h.0 h.1 plan }
   rough_told r path.WantOfMemory is nodes many visits = tt
 
   pub level_told : {T : Type 0} (r : Result T PathFault) (fault : PathFault) → r ≡ Err fault → HasFewNodes job
       → ((n : ℕ) → IsErrOf r (path.TooManyNodes n) ↔ ((0 < length job.levels) × HasManyNodes (finish_lattice job) n))
       → (IsErrOf r path.TooManyVisits → HaveManyLevelVisits job part) → IsPlanFault job part (plan_fault_of fault)
   level_told r (path.TooManyNodes n) is nodes many visits = inl ((many n).0 is).1
-  level_told r path.TooManyVisits is nodes many visits = record { nodes = nodes; many = λ moves plan. many_level job part moves (visits is) plan }
+  level_told r path.TooManyVisits is nodes many visits = record { nodes = nodes; shown = inl (inr (inl (visits is))); many = λ moves plan. many_level job part moves (visits is) plan }
   level_told r path.WantOfMemory is nodes many visits = tt
 
   pub finish_told : {T : Type 0} (r : Result T PathFault) (fault : PathFault) → r ≡ Err fault → HasFewNodes job
       → ((n : ℕ) → IsErrOf r (path.TooManyNodes n) ↔ HasManyNodes (finish_lattice job) n)
       → (IsErrOf r path.TooManyVisits → HaveManyFinishVisits job part) → IsPlanFault job part (plan_fault_of fault)
   finish_told r (path.TooManyNodes n) is nodes many visits = inl ((many n).0 is)
-  finish_told r path.TooManyVisits is nodes many visits = record { nodes = nodes; many = λ moves plan. many_finish job part moves (visits is) plan }
+  finish_told r path.TooManyVisits is nodes many visits = record { nodes = nodes; shown = inl (inr (inr (visits is))); many = λ moves plan. many_finish job part moves (visits is) plan }
   finish_told r path.WantOfMemory is nodes many visits = tt
 
 -- where a round of few moves is made, it is the plan

@@ -14,8 +14,9 @@ use Rattle.mill_ngc.specs.Programs.{program_of}
 use Rattle.mill_links.specs.declared.visit.Visit.{Visit}
 use Rattle.mill_paths.specs.Lattices.{finish_lattice, rough_lattice}
 use Rattle.mill_paths.specs.Limits.{HasManyNodes}
-use Rattle.mill_paths.specs.Plans.{IsPlan}
-use Rattle.mill_paths.specs.Visits.{AreFinishVisits}
+use Rattle.mill_paths.specs.Plans.{ArePlanVisits, IsPlan}
+use Rattle.mill_paths.specs.Unique.{BeginsTour}
+use Rattle.mill_paths.specs.Visits.{AreFinishVisits, HaveManyFinishVisits, HaveManyLevelVisits, HaveManyRoughVisits}
 use Rattle.mill_post.specs.Texts.{program_text}
 use Rattle.mill_verify.specs.Claims.{CutsSafely}
 use Rattle.mill_verify.specs.Verdicts.{IsVerdict}
@@ -53,9 +54,32 @@ pub record HasManyRoughNodes (job : Job) (nodes : ℕ) : Type 0 where
 abbrev pub IsOverNodes : Job → ℕ → Type 0
 IsOverNodes job nodes = HasManyNodes (finish_lattice job) nodes ⊎ HasManyRoughNodes job nodes
 
--- the lattices are within their limits, and the plan's list of moves is too long
+-- already of the visits of a plan's roughing, of its levels or of its finishing path more differ from the one before them than a plan may have moves
+abbrev pub HasManyVisits : Job → List Tri → Type 0
+HasManyVisits job part = HaveManyRoughVisits job part ⊎ (HaveManyLevelVisits job part ⊎ HaveManyFinishVisits job part)
+
+-- these are a plan's visits, and these moves, with which it begins, go from home through the first of them and are too many
+pub record BeginsLong (job : Job) (part : List Tri) : Type 0 where
+  pub visits : List Visit
+  pub are : ArePlanVisits job part visits
+  pub begun : List Move
+  pub begins : BeginsTour job part (home job) visits begun
+  pub many : MAX_MOVES < length begun
+
+-- these moves are a plan, and they are too many
+pub record HasLongPlan (job : Job) (part : List Tri) : Type 0 where
+  pub moves : List Move
+  pub plan : IsPlan job part moves
+  pub many : MAX_MOVES < length moves
+
+-- a plan is shown to be too long by visits that it comes to, by moves with which it begins, or by all its moves
+abbrev pub IsShownLong : Job → List Tri → Type 0
+IsShownLong job part = HasManyVisits job part ⊎ (BeginsLong job part ⊎ HasLongPlan job part)
+
+-- the lattices are within their limits, and the plan's list of moves is too long, as visits or moves of it show
 pub record IsOverMoves (job : Job) (part : List Tri) : Type 0 where
   pub nodes : HasFewNodes job
+  pub shown : IsShownLong job part
   pub many : (moves : List Move) → IsPlan job part moves → MAX_MOVES < length moves
 
 -- the lattices are within their limits, and so is this list of moves, which is the plan

@@ -30,7 +30,8 @@ use std::thread::Threads;
 /// on its moves. The verdict is shared by its workers; the links go to as many threads as the machine has
 /// processors.
 ///
-/// What is made doesn't depend on it. The cells are always those of the part's triangles.
+/// What is made doesn't depend on it. The cells are always those of the part's triangles. It is
+/// sealed: `Threaded` and `Alone` are such crews, and no other.
 pub trait PlanCrew: PathCrew {
     /// For each visit, in their order, whether the link to it is clear, as `goes_clear` says: to the first
     /// from home, and to each other from the visit before it.

@@ -51,11 +51,11 @@ use std::alloc::Global;
 ///
 /// The first of these: `TooManyNodes` exactly where the finishing lattice has more than 4,000,000
 /// nodes, or, where there is a layer, the rough lattice; the finishing one is named first.
-/// `TooManyMoves` where the plan has more than 1,000,000 moves. `Uncut` where the verdict on the plan
-/// is that this column's top is left too high: the finishing path can't come to it. `Held` where the
-/// verdict on the plan is that on this move the holder would touch what the moves before it left of this
-/// column. By `one_plan_answer` no two of the answers are right at a time. `WantOfMemory` may come in the
-/// place of any of them.
+/// `TooManyMoves` where the plan has more than 1,000,000 moves, as visits or moves of it show. `Uncut`
+/// where the verdict on the plan is that this column's top is left too high: the finishing path can't
+/// come to it. `Held` where the verdict on the plan is that on this move the holder would touch what the
+/// moves before it left of this column. By `one_plan_answer` no two of the answers are right at a time.
+/// `WantOfMemory` may come in the place of any of them.
 pub fn plan<C: PlanCrew>(
     crew: &C,
     alloc: Global,

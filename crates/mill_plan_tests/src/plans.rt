@@ -101,7 +101,7 @@ shallow | plate => 11 moves, 9 columns, 0 left: %\nG17 G21 G90\nG1 X0.00 Y0.00 Z
 shallow max_cut = 50 | plate => 26 moves, 9 columns, 0 left: %\nG17 G21 G90\nG0 X0.00 Y0.00 Z4.00\nG0 X0.00 Y0.00 Z3.00\nG1 X0.00 Y0.00 Z2.50\nG1 X0.00 Y0.00 Z2.00\n .. M2\n%\n
 shallow layer = 50; max_cut = 50 | plate => 29 moves, 9 columns, 0 left: %\nG17 G21 G90\nG1 X0.00 Y0.00 Z2.50\nG1 X1.00 Y0.00 Z2.50\n .. M2\n%\n
 shallow layer = 50; max_cut = 25 | plate => 68 moves, 9 columns, 0 left: %\nG17 G21 G90\nG0 X0.00 Y0.00 Z4.00\nG0 X0.00 Y0.00 Z3.00\nG1 X0.00 Y0.00 Z2.75\nG1 X0.00 Y0.00 Z2.50\n .. M2\n%\n
-shallow layer = 50 | plate =>  .. M2\n%\n
+shallow layer = 50 | plate => 29 moves, 9 columns, 0 left: %\n .. M2\n%\n
 shallow path_tol = 0 | plate => 8 moves, 9 columns, 0 left: %\nG17 G21 G90\nG1 X0.00 Y0.00 Z2.00\nG1 X2.00 Y0.00 Z2.00\nG1 X2.00 Y1.00 Z2.00\nG1 X0.00 Y1.00 Z2.00\nG1 X0.00 Y2.00 Z2.00\nG1 X2.00 Y2.00 Z2.00\nG0 X2.00 Y2.00 Z4.00\nG0 X1.00 Y1.00 Z4.00\nM2\n%\n
 shallow holder_radius = 190; stickout = 50 | plate => Held { at: 0, row: 0, col: 0 }
 shallow holder_radius = 190; stickout = 99 | plate => Held { at: 0, row: 0, col: 0 }

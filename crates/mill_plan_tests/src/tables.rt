@@ -48,6 +48,11 @@ const POST: &str = "cutter = 'flat'; radius = 100; floor = 0; top = 400; clear =
     area = [-300, -300, 300, 300]; home = [-300, 0]; pitch = 100; sample = 100; allowance = 0; band = 0; \
     raster = 100; rough_raster = 200";
 
+/// The job over the sample part of size 1: nine finishing nodes 50 apart, and four roughing nodes.
+const SAMPLE: &str = "cutter = 'ball'; radius = 100; floor = 0; top = 200; clear = 300; \
+    area = [0, 0, 100, 100]; home = [0, 0]; pitch = 50; sample = 50; allowance = 40; band = 0; \
+    raster = 50; rough_raster = 100; layer = 50";
+
 /// What stands before the `=>` of a row, and what behind it.
 pub(crate) fn halves(row: &str) -> Result<(&str, &str), Fail> {
     Ok(row.split_once(" => ").ok_or("a row without =>")?)
@@ -86,6 +91,7 @@ fn keys_of(name: &str) -> Result<&'static str, Fail> {
         "far" => Ok(FAR),
         "level" => Ok(LEVEL),
         "post" => Ok(POST),
+        "sample" => Ok(SAMPLE),
         _ => Err(Fail::from("no such job")),
     }
 }

@@ -95,6 +95,9 @@ finish shallow lift = 99 | plate => 9 visits, 0: 0 0 299 by 100, 1: 100 0 299 by
     2: 200 0 299 by 100, 3: 200 100 299 by 100, 4: 100 100 299 by 100, 5: 0 100 299 by 100, \
     6: 0 200 299 by 100, 7: 100 200 299 by 100, 8: 200 200 299 by 100
 finish shallow lift = 100 | plate => 0 visits
+finish sample | sample => 9 visits, 0: 0 0 102 by 50, 1: 50 0 106 by 50, 2: 100 0 109 by 50, \
+    3: 100 50 118 by 50, 4: 50 50 115 by 50, 5: 0 50 109 by 50, 6: 0 100 114 by 50, \
+    7: 50 100 120 by 50, 8: 100 100 125 by 50
 finish wide | peak => 121 visits, 10: 1000 0 0 by 100, 11: 1000 100 0 by 100, \
     59: 600 500 0 by 100, 60: 500 500 300 by 100, 61: 400 500 0 by 100, 120: 1000 1000 0 by 100
 finish wide path_tol = 0 | peak => 41 visits, 9: 1000 400 0 by 1000, 10: 1000 500 0 by 100, \

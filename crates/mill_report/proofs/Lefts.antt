@@ -24,7 +24,7 @@ use Rattle.mill_report.specs.inner.Lefts.{IsLeftTo, shown_more}
 use Rattle.mill_report.specs.declared.left.LeftColumn.{LeftColumn}
 use Rattle.mill_report.specs.declared.left.LeftColumns.{LeftColumns}
 use Rattle.mill_report.specs.declared.left.TheConstants.{MAX_LEFT}
-use Rattle.mill_report.proofs.Listed.{listing_bare, listing_more, listing_start}
+use Rattle.mill_report.proofs.Listed.{listing_bare, listing_more}
 use Rattle.mill_report.proofs.Listings.{same_place}
 
 small : (z : ℤ) → IsFrom (pos 0) (pos 10000) z → nat_abs z ≤ 10000
@@ -67,10 +67,6 @@ take_less {A} n xs x total shown count first = ⊎_elim inside full (cases_lt to
 module _ (job : Job) (part : List Tri) (stock : Stock) where
   abbrev number : LeftColumn → ℕ
   number c = column_number job c.row c.col
-
-  -- before the first column there is none
-  pub left_none : (g : LeftColumns) → g.shown.items ≡ [] → g.total ≡ 0 → IsLeftTo job part stock 0 g
-  left_none g shown total = record { left = []; are = listing_start LeftColumn number (IsLeftColumn job part stock) (IsCutAt job part stock); first = shown; count = total }
 
   module _ (j i : ℕ) (column : IsColumn job j i) (old : LeftColumns) (h : IsLeftTo job part stock (column_number job j i) old) where
     next : column_number job j i + 1 ≡ column_number job j (i + 1)

@@ -1,8 +1,8 @@
 -- A row of the uncut stock goes through all moves, and what the rows so far tell of each move.
-use Rattle.std.specs.Prelude.{◌≡◌, ◌≢◌, ◌⊎◌, ℕ, ◌+◌, ◌<◌, ◌≤◌, List, [], ◌∷◌, ◌++◌, All, length, take, drop, Option, None, Some, MatchOption, replicate, slice_index_or, refl}
+use Rattle.std.specs.Prelude.{◌≡◌, ◌≢◌, ◌⊎◌, ℕ, ◌+◌, ◌<◌, ◌≤◌, List, [], ◌∷◌, ◌++◌, All, length, take, drop, Option, None, Some, MatchOption, slice_index_or, refl}
 use Rattle.std.proofs.Common.{sym, ◌∙◌, ap, subst, inl, inr, ⊎_elim, arith}
 use Rattle.std.proofs.lemmas.Bool.{cases_lt}
-use Rattle.std.proofs.lemmas.List.{get_or_append_left, get_or-replicate, get_or_push, length-replicate, length_push, take-append-le, take_all}
+use Rattle.std.proofs.lemmas.List.{get_or_append_left, get_or_push, length_push, take-append-le, take_all}
 use Rattle.std.proofs.lemmas.List.Elements.{All-nil, All-push}
 use Rattle.mill_base.specs.declared.motion.Move.{Move}
 use Rattle.mill_job.specs.declared.job.Job.{Job}
@@ -211,17 +211,6 @@ all_told job moves stops told = record {
   count = told.count;
   each = λ k there. told_on job (stock_met job (uncut job) moves k) (row_met job moves k) (λ j. met_shows job (uncut job) j moves k) (move_at moves k) (slice_index_or stops k None) (told.each k there);
 }
-
--- before the first row nothing is told
-pub none_told : (job : Job) (moves : List Move) (stops : List (Option Stop)) → stops ≡ replicate (length moves) None → AreToldBy job moves 0 stops
-none_told job moves stops is = record {
-  count = ap length is ∙ length-replicate (length moves) None;
-  each = λ k there. subst (λ (o : Option Stop). IsToldBy job (row_met job moves k) (move_at moves k) 0 o)
-      (sym (ap (λ (os : List (Option Stop)). slice_index_or os k None) is ∙ get_or-replicate (length moves) k None None there)) (nothing k);
-}
-  where
-    nothing : (k : ℕ) → IsToldBy job (row_met job moves k) (move_at moves k) 0 None
-    nothing k = record { cut = λ j less. absurd (omega (less, arith)); holder = λ j less. absurd (omega (less, arith)) }
 
 -- a list that was written as a whole is what was written
 pub all_written : {A : Type 0} (n : ℕ) (new old : List A) → n ≡ length new → take n (new ++ drop (length new) old) ≡ new

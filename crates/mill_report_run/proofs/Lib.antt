@@ -4,3 +4,4 @@ pub mod Loading
 pub mod Telling
 pub mod Blaming
 pub mod Headlines
+mod OneDocuments

@@ -7,8 +7,8 @@ use Rattle.mill_base.specs.declared.points.Tri.{Tri}
 use Rattle.mill_io.specs.Causes.{Rose}
 use Rattle.mill_io.specs.Views.{StoreView}
 use Rattle.mill_job.specs.declared.job.Job.{Job}
-use Rattle.mill_load.proofs.Reading.{under_loads}
-use Rattle.mill_load.specs.Loads.{CountsFault, IsSetup, JoinsPart, LoadsJob, LoadsPart, LoadsProgram, LoadsSetup, LoadsUnder, OnlyLoads, ReadsFile}
+use Rattle.mill_load.proofs.Reading.{loads_on, under_loads}
+use Rattle.mill_load.specs.Loads.{CountsFault, IsSetup, JoinsPart, LoadsProgram, LoadsSetup, OnlyLoads, ReadsFile}
 use Rattle.mill_load.specs.Programs.{IsProgramText}
 use Rattle.mill_load.specs.Setup.{IsJobText, IsPartText, ReadsSetup as ReadsBoth, SetupTexts}
 use Rattle.mill_load.specs.declared.file.File.{File}
@@ -21,6 +21,7 @@ use Rattle.mill_report_run.specs.Outcomes.{AreTextsOf}
 use Rattle.mill_report_run.specs.declared.load.JobRead.{JobRead}
 use Rattle.mill_report_run.specs.declared.load.SetupRead.{SetupRead}
 use Rattle.mill_report_run.specs.inner.Loads.{AreSetupTexts, HoldsJob, HoldsSetup, IsOfThree, Loads, ReadsPart, ReadsSetup, ReadsSource}
+use Rattle.mill_report_text.specs.ReportFiles.{IsReportFile}
 use Rattle.mill_report_text.specs.Reports.{Read, Texts}
 use Rattle.mill_run.specs.Verify.{IsReadBeforeProgram, IsUnfitProgram, Reads, Texts as ToldTexts}
 
@@ -36,41 +37,6 @@ pub source_read : (told : Option (List ℕ)) (file : File) (text : List ℕ) (r 
     → ReadsSource told file r
 source_read told file text (Ok source) same is short = subst (λ (t : List ℕ). IfSome told (λ bytes. t ≡ bytes)) (sym is) same
 source_read told file text (Err fault) same is short = subst (λ (x : LoadFault). (let r : Result (Vec ℕ) LoadFault = Err x in ReadsFile told file r)) (sym short) tt
-
--- ---- why a file has no text
-
--- of the job's file
-pub no_job_text : (told : Option (List ℕ)) (f : LoadFault) → (let r : Result (Vec ℕ) LoadFault = Err f in ReadsFile told JobFile r) → LoadsJob told (Err f)
-no_job_text told Memory h = tt
-no_job_text told (ReadFault file) h = subst (λ (x : File). LoadsJob told (Err (ReadFault x))) (sym h) tt
-no_job_text told (Unfit (TooLong file)) h = subst (λ (x : File). LoadsJob told (Err (Unfit (TooLong x)))) (sym h.0) h.1
-no_job_text told (Unfit (JobRefused fault)) h = absurd h
-no_job_text told (Unfit (PartRefused fault)) h = absurd h
-no_job_text told (Unfit (ListRefused fault)) h = absurd h
-no_job_text told (Unfit (ProgramRefused file fault)) h = absurd h
-no_job_text told (Unfit (PartTop height top unit)) h = absurd h
-
--- of the part's file
-pub no_part_text : (job : Job) (told : Option (List ℕ)) (f : LoadFault) → (let r : Result (Vec ℕ) LoadFault = Err f in ReadsFile told PartFile r) → LoadsUnder job told (Err f)
-no_part_text job told Memory h = tt
-no_part_text job told (ReadFault file) h = subst (λ (x : File). LoadsUnder job told (Err (ReadFault x))) (sym h) tt
-no_part_text job told (Unfit (TooLong file)) h = subst (λ (x : File). LoadsUnder job told (Err (Unfit (TooLong x)))) (sym h.0) h.1
-no_part_text job told (Unfit (JobRefused fault)) h = absurd h
-no_part_text job told (Unfit (PartRefused fault)) h = absurd h
-no_part_text job told (Unfit (ListRefused fault)) h = absurd h
-no_part_text job told (Unfit (ProgramRefused file fault)) h = absurd h
-no_part_text job told (Unfit (PartTop height top unit)) h = absurd h
-
--- a text that says no part gives none under any job's top
-pub part_under : (job : Job) (told : Option (List ℕ)) (f : LoadFault) → LoadsPart job told (Err f) → LoadsUnder job told (Err f)
-part_under job told Memory h = h
-part_under job told (ReadFault file) h = h
-part_under job told (Unfit (TooLong file)) h = h
-part_under job told (Unfit (JobRefused fault)) h = h
-part_under job told (Unfit (PartRefused fault)) h = h
-part_under job told (Unfit (ListRefused fault)) h = h
-part_under job told (Unfit (ProgramRefused file fault)) h = h
-part_under job told (Unfit (PartTop height top unit)) h = absurd h
 
 -- ---- why there is nothing to report on
 
@@ -142,6 +108,12 @@ of_three told (ReadFault ListFile) h = h
 of_three told (ReadFault (StepProgram number)) h = h
 of_three told (Unfit fault) h = tt
 
+-- so is that of the program's file
+pub program_of_three : (told : Option (List ℕ)) (f : LoadFault) → (let r : Result (Vec ℕ) LoadFault = Err f in ReadsFile told ProgramFile r) → IsOfThree f
+program_of_three told Memory h = tt
+program_of_three told (ReadFault file) h = subst (λ (x : File). IsReportFile x) (sym h) tt
+program_of_three told (Unfit fault) h = tt
+
 -- ---- what was read
 
 -- job and part are those of their files
@@ -187,7 +159,17 @@ no_rise rose = omega (rose, arith)
 
 -- what is made of a text that was read changes nothing more
 pub loads_with : {T U : Type 0} (a b : StoreView) (x : T) (r : Result U LoadFault) → (let q : Result T LoadFault = Ok x in OnlyLoads a b q) → CountsFault 0 0 r → OnlyLoads a b r
-loads_with a b x (Ok y) loads cause = record { only = loads.only; reads = loads.reads }
-loads_with a b x (Err Memory) loads cause = record { only = loads.only; reads = loads.reads }
+loads_with a b x (Ok y) loads cause = record { only = loads.only; reads = loads.reads; held = loads.held }
+loads_with a b x (Err Memory) loads cause = record { only = loads.only; reads = loads.reads; held = loads.held }
 loads_with a b x (Err (ReadFault file)) loads cause = absurd (no_rise cause)
-loads_with a b x (Err (Unfit fault)) loads cause = record { only = loads.only; reads = loads.reads }
+loads_with a b x (Err (Unfit fault)) loads cause = record { only = loads.only; reads = loads.reads; held = loads.held }
+
+-- a fault of a later read is that of all
+fault_kept : {T U : Type 0} (a b : StoreView) (f : LoadFault) → (let q : Result T LoadFault = Err f in OnlyLoads a b q) → (let r : Result U LoadFault = Err f in OnlyLoads a b r)
+fault_kept a b Memory loads = record { only = loads.only; reads = loads.reads; held = loads.held }
+fault_kept a b (ReadFault file) loads = record { only = loads.only; reads = loads.reads; held = loads.held }
+fault_kept a b (Unfit fault) loads = record { only = loads.only; reads = loads.reads; held = loads.held }
+
+pub fault_on : {T U V : Type 0} (a b c : StoreView) (x : T) (f : LoadFault) → (let q : Result T LoadFault = Ok x in OnlyLoads a b q) → (let r : Result U LoadFault = Err f in OnlyLoads b c r)
+    → (let s : Result V LoadFault = Err f in OnlyLoads a c s)
+fault_on a b c x f first next = fault_kept a c f (loads_on a b c x (Err f) first next)

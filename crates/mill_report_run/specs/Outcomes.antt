@@ -4,8 +4,10 @@ use Rattle.mill_base.specs.declared.motion.Move.{Move}
 use Rattle.mill_base.specs.declared.points.Tri.{Tri}
 use Rattle.mill_io.specs.Readings.{LastFails, Reading}
 use Rattle.mill_io.specs.Views.{ReadsOnly}
+use Rattle.mill_job.specs.Jobs.{IsJob}
 use Rattle.mill_job.specs.declared.job.Job.{Job}
 use Rattle.mill_load.specs.Faults.{fault_status}
+use Rattle.mill_load.specs.Loads.{AreMoves}
 use Rattle.mill_load.specs.Prints.{Prints}
 use Rattle.mill_load.specs.declared.file.File.{File}
 use Rattle.mill_load.specs.declared.file.File.TheVariants.{Job as JobFile, Part as PartFile, Program as ProgramFile}
@@ -13,54 +15,61 @@ use Rattle.mill_load.specs.declared.load.LoadFault.{LoadFault}
 use Rattle.mill_load.specs.declared.load.LoadFault.TheVariants.{Memory, ReadFault, Unfit}
 use Rattle.mill_report_text.specs.Reports.{IsFaultText, IsReportText, Texts}
 use Rattle.mill_report_run.specs.Words.{Request, RefusesWords, ShowsHelp, request}
-use Rattle.mill_run.specs.Calls.{Call}
+use Rattle.mill_run.specs.Calls.{Call, HoldsReads}
 use Rattle.mill_run.specs.Verify.{IsReadBeforeProgram, IsUnfitProgram, Texts as ToldTexts, texts_of}
 use Rattle.mill_run.specs.Words.{Files}
 
--- what a call comes to before it prints: clap's text of help or of a mistake in the words; or what kept it from a report; or a report, as its text and its status
+-- a report: the texts of the three files, the job, the part and the moves that they read as, and the report's text and status
+pub record Reported : Type 0 where
+  pub texts : Texts
+  pub job : Job
+  pub part : List Tri
+  pub moves : List Move
+  pub report : List ℕ
+  pub status : ℕ
+
+-- what a call comes to before it prints: clap's text of help or of a mistake in the words; or what kept it from a report; or a report
 pub data Outcome : Type 0 where
   help : List ℕ → Outcome
   bad_words : List ℕ → Outcome
   failed : LoadFault → Outcome
-  reported : List ℕ → ℕ → Outcome
+  reported : Reported → Outcome
 
 -- its exit status
 abbrev pub outcome_status : Outcome → ℕ
 outcome_status (help shown) = 0
 outcome_status (bad_words shown) = 2
 outcome_status (failed fault) = fault_status fault
-outcome_status (reported report status) = status
+outcome_status (reported r) = r.status
 
 -- this text tells it
 abbrev pub IsTextOf : Outcome → List ℕ → Type 0
 IsTextOf (help shown) text = text ≡ shown
 IsTextOf (bad_words shown) text = text ≡ shown
 IsTextOf (failed fault) text = IsFaultText fault text
-IsTextOf (reported report status) text = text ≡ report
+IsTextOf (reported r) text = text ≡ r.report
 
 -- ---- which outcome it is
 
--- each text is that of its file, where the store tells that
+-- each text is that of its file, where that is told
 pub record AreTextsOf (told : ToldTexts) (texts : Texts) : Type 0 where
   pub job : IfSome told.setup.job (λ text. texts.job ≡ text)
   pub part : IfSome told.setup.part (λ text. texts.part ≡ text)
   pub program : IfSome told.program (λ text. texts.program ≡ text)
 
--- the files' texts read as a job, a part and moves, and the report on them has this text and this status
-pub record Reports (told : ToldTexts) (report : List ℕ) (status : ℕ) : Type 0 where
-  pub texts : Texts
-  pub agree : AreTextsOf told texts
-  pub job : Job
-  pub part : List Tri
-  pub moves : List Move
-  pub is : IsReportText texts job part moves report status
+-- each of its texts is that of its file, where that is told; they read as its job, its part and its moves, which are in their ranges, and the report on them has its text and its status
+pub record Reports (told : ToldTexts) (r : Reported) : Type 0 where
+  pub agree : AreTextsOf told r.texts
+  pub job_ok : IsJob r.job
+  pub moves_ok : AreMoves r.job r.moves
+  pub is : IsReportText r.texts r.job r.part r.moves r.report r.status
 
 -- the work on these files comes to this: memory was short; or a file couldn't be read, and all before it could; or the first check of them that fails is this one; or this is the report on them
 abbrev pub IsOutcome : ToldTexts → Outcome → Type 0
 IsOutcome told (failed Memory) = Unit {0}
 IsOutcome told (failed (ReadFault file)) = IsReadBeforeProgram told file
 IsOutcome told (failed (Unfit fault)) = IsUnfitProgram told fault
-IsOutcome told (reported report status) = Reports told report status
+IsOutcome told (reported r) = Reports told r
 IsOutcome told outcome = ⊥
 
 -- the name of each of the three files
@@ -88,7 +97,7 @@ IsOutcomeOf words contents (bad_words shown) = RefusesWords words
 IsOutcomeOf words contents (failed Memory) = Unit {0}
 IsOutcomeOf words contents (failed (ReadFault file)) = AsksFor words contents (failed (ReadFault file))
 IsOutcomeOf words contents (failed (Unfit fault)) = AsksFor words contents (failed (Unfit fault))
-IsOutcomeOf words contents (reported report status) = AsksFor words contents (reported report status)
+IsOutcomeOf words contents (reported r) = AsksFor words contents (reported r)
 
 -- ---- how it is told
 
@@ -99,7 +108,7 @@ CountsReads (bad_words shown) before after = after ≡ before
 CountsReads (failed Memory) before after = after ≡ before
 CountsReads (failed (ReadFault file)) before after = before < after
 CountsReads (failed (Unfit fault)) before after = after ≡ before
-CountsReads (reported report status) before after = after ≡ before
+CountsReads (reported r) before after = after ≡ before
 
 -- its text was printed, with its status, or the printing failed; nothing of the store has changed but the count of failed reads
 pub record Shows (call : Call) (outcome : Outcome) : Type 0 where
@@ -109,9 +118,10 @@ pub record Shows (call : Call) (outcome : Outcome) : Type 0 where
   pub only : ReadsOnly call.store call.store_after
   pub reads : CountsReads outcome call.store.read_faults call.store_after.read_faults
 
--- a call with these words came to an outcome, which is right by each file that the store tells, and tells it
+-- a call with these words came to one outcome, which is right by whatever the files hold, if they hold what the reads gave, and tells it; the contents that the store tells hold that
 pub record HasOutcome (words : List (List ℕ)) (call : Call) : Type 0 where
   pub outcome : Outcome
-  pub is : IsOutcomeOf words call.store.contents outcome
+  pub is : (contents : List ℕ → Option (List ℕ)) → HoldsReads contents call → IsOutcomeOf words contents outcome
+  pub held : HoldsReads call.store.contents call
   pub fails : (asked : Request) → request words ≡ Some asked → Fails asked.files call.store_after.log outcome
   pub shows : Shows call outcome

@@ -1,9 +1,12 @@
 //! The end of the program: its exit status.
-ghost use Rattle.std.specs.Prelude.{◌≡◌, IfErr, IfOk, map, string_bytes};
+ghost use Rattle.std.specs.Prelude.{◌≡◌, IfErr, IfOk, false, map, string_bytes};
+ghost use Rattle.mill_io.specs.Readings.{AreHeld};
+ghost use Rattle.mill_io.specs.Views.{ReadsOnly};
 ghost use Rattle.mill_load.specs.declared.load.LoadFault.TheVariants.{Memory};
-ghost use Rattle.mill_report_run.specs.Headline.{Completes, Headline};
+ghost use Rattle.mill_report_run.specs.Headline.{Completes, Headline, Untaken};
 ghost use Rattle.mill_report_run.specs.Outcomes.{HasOutcome, Shows, failed};
-ghost use Rattle.mill_run.specs.Calls.{CanCount, ended_call};
+ghost use Rattle.mill_report_run.specs.Words.{is_taken};
+ghost use Rattle.mill_run.specs.Calls.{BlamesFaults, CanCount, ended_call};
 
 use crate::program::run;
 use crate::tell::tell_memory;
@@ -17,7 +20,9 @@ use std::thread::Threads;
 /// All that the program does, and the code that its process is to end with.
 ///
 /// The words don't have the program's name; where there was no memory for them, that is printed and
-/// no call on the store is made. The code is that of the status of [`run`].
+/// no call on the store is made. The code is that of the status of [`run`], and all that `run`
+/// promises is promised of it: of the files, for whatever they hold, if they hold what the reads
+/// gave.
 pub fn end<R: Threads + Sync, S: Shelf, O: Sink>(
     rt: &R,
     alloc: Global,
@@ -27,21 +32,37 @@ pub fn end<R: Threads + Sync, S: Shelf, O: Sink>(
 ) -> ExitCode
     requires { CanCount (S.shows shelf.old) (O.shows out.old) }
 
-    // What the call came to, and what was printed; the code is the outcome's.
+    // It is that of a failed write or of a failed read exactly where such a call has failed.
+    ensures faults { BlamesFaults (ended_call result
+        (S.shows shelf.old) (S.shows shelf.new) (O.shows out.old) (O.shows out.new)) }
+
+    // Nothing is written to the store; where there are no words, or they aren't taken, no call on
+    // it is made.
+    ensures kept { ReadsOnly (S.shows shelf.old) (S.shows shelf.new) }
+    ensures untouched { IfOk words (λ words. is_taken (map string_bytes words.items) ≡ false) →
+        shelf.new ≡ shelf.old }
+
+    // What the store tells of its files holds what the reads gave.
+    ensures held { AreHeld (S.shows shelf.old).contents
+        (S.shows shelf.old).log (S.shows shelf.new).log }
+
+    // What the call came to, by whatever the files hold, if they hold what the reads gave, and what
+    // was printed; the code is the outcome's.
     ensures outcome { IfOk words (λ words. HasOutcome (map string_bytes words.items) (ended_call result
         (S.shows shelf.old) (S.shows shelf.new) (O.shows out.old) (O.shows out.new))) }
 
-    // Where the files are told and read, nothing of the outside failed and memory was enough, it is 0 or 3,
-    // and what these mean.
+    // Where the files are told and read, nothing of the outside failed and memory was enough, it is
+    // 0 or 3, and what these mean; and what it is where the words aren't taken.
     ensures completes { IfOk words (λ words. Completes (map string_bytes words.items) (ended_call result
+        (S.shows shelf.old) (S.shows shelf.new) (O.shows out.old) (O.shows out.new))) }
+    ensures untaken { IfOk words (λ words. Untaken (map string_bytes words.items) (ended_call result
         (S.shows shelf.old) (S.shows shelf.new) (O.shows out.old) (O.shows out.new))) }
     ensures headline { IfOk words (λ words. Headline (map string_bytes words.items) (ended_call result
         (S.shows shelf.old) (S.shows shelf.new) (O.shows out.old) (O.shows out.new))) }
 
-    // Without memory for the words that is shown, and the store isn't touched.
+    // Without memory for the words that is shown.
     ensures short { IfErr words (λ _. Shows (ended_call result
         (S.shows shelf.old) (S.shows shelf.new) (O.shows out.old) (O.shows out.new)) (failed Memory)) }
-    ensures untouched { IfErr words (λ _. shelf.new ≡ shelf.old) }
 {
     match words {
         Ok(words) => exit_code_of(run(rt, alloc, &words, shelf, out)),

@@ -1,6 +1,7 @@
 //! Reading the three files. Each text is kept, so that the checksums of a report are those of the very
 //! bytes that were judged. They begin as soon as a text is there, and go on beside all that follows.
 ghost use Rattle.std.specs.Prelude.{◌≡◌, ◌≤◌, IfErr, IfOk, IfSome, List, ℕ, Option, length};
+ghost use Rattle.mill_io.specs.Readings.{AreHeld};
 ghost use Rattle.mill_load.specs.Loads.{CountsFault, NamesFault, OnlyLoads};
 ghost use Rattle.mill_load.specs.Setup.{Fits, FitsJobFile, IsPartText, most_bytes, setup_texts};
 ghost use Rattle.mill_load.specs.declared.file.File.{File as AnyFile};
@@ -50,7 +51,9 @@ pub fn load<R: Threads, S: Shelf>(
     part: &str,
     program: &str,
 ) -> Result<Loaded, LoadFault>
-    ensures told { Loads (texts_of (S.shows shelf.old).contents
+    ensures told { (contents : List ℕ → Option (List ℕ)) →
+        AreHeld contents (S.shows shelf.old).log (S.shows shelf.new).log →
+        Loads (texts_of contents
         (record { job = job.now; part = part.now; program = program.now })) result }
     ensures ready { IfOk result IsReady }
     ensures of_three { IfErr result IsOfThree }
@@ -76,7 +79,9 @@ fn load_setup<R: Threads, S: Shelf>(
     job: &str,
     part: &str,
 ) -> Result<SetupRead, LoadFault>
-    ensures told { ReadsSetup (setup_texts (S.shows shelf.old).contents job.now part.now) result }
+    ensures told { (contents : List ℕ → Option (List ℕ)) →
+        AreHeld contents (S.shows shelf.old).log (S.shows shelf.new).log →
+        ReadsSetup (setup_texts contents job.now part.now) result }
     ensures ready { IfOk result HoldsSetup }
     ensures failed { (names : AnyFile → List ℕ) → names JobFile ≡ job.now → names PartFile ≡ part.now →
         IfErr result (NamesFault names (S.shows shelf.new).log) }
@@ -96,7 +101,9 @@ fn read_source<R: Threads, S: Shelf>(
     name: &str,
     file: File,
 ) -> Result<Source, LoadFault>
-    ensures told { ReadsSource ((S.shows shelf.old).contents name.now) file result }
+    ensures told { (contents : List ℕ → Option (List ℕ)) →
+        AreHeld contents (S.shows shelf.old).log (S.shows shelf.new).log →
+        ReadsSource (contents name.now) file result }
     ensures fits { IfOk result (λ source. length source ≤ most_bytes file) }
     ensures failed { (names : AnyFile → List ℕ) → names file ≡ name.now →
         IfErr result (NamesFault names (S.shows shelf.new).log) }
@@ -125,7 +132,9 @@ fn load_job<R: Threads, S: Shelf>(
     shelf: &mut S,
     name: &str,
 ) -> Result<JobRead, LoadFault>
-    ensures told { ReadsJob ((S.shows shelf.old).contents name.now) result }
+    ensures told { (contents : List ℕ → Option (List ℕ)) →
+        AreHeld contents (S.shows shelf.old).log (S.shows shelf.new).log →
+        ReadsJob (contents name.now) result }
     ensures ready { IfOk result HoldsJob }
     ensures failed { (names : AnyFile → List ℕ) → names JobFile ≡ name.now →
         IfErr result (NamesFault names (S.shows shelf.new).log) }
@@ -161,7 +170,9 @@ fn load_part<R: Threads, S: Shelf>(
     name: &str,
 ) -> Result<SetupRead, LoadFault>
     requires { HoldsJob before }
-    ensures told { ReadsPart before ((S.shows shelf.old).contents name.now) result }
+    ensures told { (contents : List ℕ → Option (List ℕ)) →
+        AreHeld contents (S.shows shelf.old).log (S.shows shelf.new).log →
+        ReadsPart before (contents name.now) result }
     ensures ready { IfOk result HoldsSetup }
     ensures failed { (names : AnyFile → List ℕ) → names PartFile ≡ name.now →
         IfErr result (NamesFault names (S.shows shelf.new).log) }

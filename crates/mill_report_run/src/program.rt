@@ -1,5 +1,6 @@
 //! All that the program does: the words, the files, and the document.
 ghost use Rattle.std.specs.Prelude.{◌≡◌, false, map, string_bytes};
+ghost use Rattle.mill_io.specs.Readings.{AreHeld};
 ghost use Rattle.mill_io.specs.Views.{ReadsOnly};
 ghost use Rattle.mill_report_run.specs.Headline.{Completes, Headline, Untaken};
 ghost use Rattle.mill_report_run.specs.Outcomes.{HasOutcome};
@@ -18,6 +19,10 @@ use std::thread::Threads;
 
 /// All that the program does: takes the words, reads the three files that they name, and prints the
 /// report on them.
+///
+/// What it promises of the files holds for whatever they hold, if they hold what the reads gave:
+/// the clauses say it of any `contents`, which tell of each name what its file holds, or nothing.
+/// What the store tells of its own files holds that.
 ///
 /// The words don't have the program's name. What keeps it from a report is printed as a document too,
 /// and clap's text of help or of a mistake in the words as it is. The text goes to the sink whole, or the
@@ -42,8 +47,13 @@ pub fn run<R: Threads + Sync, S: Shelf, O: Sink>(
     ensures kept { ReadsOnly (S.shows shelf.old) (S.shows shelf.new) }
     ensures untouched { is_taken (map string_bytes words.now) ≡ false → shelf.new ≡ shelf.old }
 
-    // What the call came to, whatever the outside did, by each file that the store tells; and what was
-    // printed.
+    // What the store tells of its files holds what the reads gave. So what is said below of
+    // whatever the files hold, if they hold that, is said of what the store tells.
+    ensures held { AreHeld (S.shows shelf.old).contents
+        (S.shows shelf.old).log (S.shows shelf.new).log }
+
+    // What the call came to, whatever the outside did, by whatever the files hold, if they hold
+    // what the reads gave; and what was printed.
     ensures outcome { HasOutcome (map string_bytes words.now) (call_of result
         (S.shows shelf.old) (S.shows shelf.new) (O.shows out.old) (O.shows out.new)) }
 

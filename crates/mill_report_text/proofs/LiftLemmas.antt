@@ -1,5 +1,5 @@
 -- The lifts of the findings.
-use Rattle.std.proofs.Common.{◌≡◌, ℕ, ◌+◌, ◌*◌, ◌<◌, ◌≤◌, Bool, true, false, cond, List, [], ◌∷◌, ◌++◌, length, get_or, take, refl, sym, subst, arith}
+use Rattle.std.proofs.Common.{◌≡◌, ℕ, ◌+◌, ◌*◌, ◌<◌, ◌≤◌, Bool, true, false, cond, List, [], ◌∷◌, ◌++◌, length, get_or, take, sym, subst, arith}
 use Rattle.std.proofs.lemmas.Int.{ints}
 use Rattle.std.proofs.lemmas.List.{take_more}
 use Rattle.std.proofs.lemmas.Slice.Zip.{all_zipped_more}
@@ -28,9 +28,6 @@ use Rattle.mill_verify.specs.declared.verdict.Reason.TheVariants.{Floor, Gouge, 
 some_same : (a b : ℕ) → Some a ≡ Some b → a ≡ b
 some_same a b e = cc
 
-some_is_not_none : (a : ℕ) → Some a ≡ None → ⊥
-some_is_not_none a e = cc
-
 none_is_not_some : (a : ℕ) → None ≡ Some a → ⊥
 none_is_not_some a e = cc
 
@@ -45,20 +42,10 @@ number_is (HolderStock k j i leaf) number e = absurd (none_is_not_some number e)
 number_is (Left j i top) number e = absurd (none_is_not_some number e)
 
 module _ (job : Job) (part : List Tri) (moves : List Move) where
-  -- without such a move there is no lift
-  pub no_lift : (reason : Reason) → lifted_move reason ≡ None → IsLift job part moves reason None
-  no_lift (Floor k) e = refl
-  no_lift (Gouge k t leaf) e = absurd (some_is_not_none k e)
-  no_lift (Holder k t leaf) e = absurd (some_is_not_none k e)
-  no_lift (Rapid k j i leaf) e = refl
-  no_lift (Cut k j i leaf) e = refl
-  no_lift (HolderStock k j i leaf) e = refl
-  no_lift (Left j i top) e = refl
-
   lift_at : (k number : ℕ) (lift : Option ℤ) → Some k ≡ Some number → IsLiftOf job part (move_at moves number) lift → IsLiftOf job part (move_at moves k) lift
   lift_at k number lift e is = subst (λ (n : ℕ). IsLiftOf job part (move_at moves n) lift) (sym (some_same k number e)) is
 
-  -- and with one it is that move's
+  -- the lift of a finding against the part is that of its move
   pub lift_is : (reason : Reason) (number : ℕ) (lift : Option ℤ) → lifted_move reason ≡ Some number → IsLiftOf job part (move_at moves number) lift → IsLift job part moves reason lift
   lift_is (Floor k) number lift e is = absurd (none_is_not_some number e)
   lift_is (Gouge k t leaf) number lift e is = lift_at k number lift e is

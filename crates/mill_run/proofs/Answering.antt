@@ -202,11 +202,11 @@ is_judged contents files workers job part moves (refused_word coordinate fault) 
 is_judged contents files workers job part moves (unfit u) told r h = absurd (fit_program (texts_of contents files) job part moves u told r h)
 is_judged contents files workers job part moves (judged j p m v) told r h =
     record { verdict = v; is = judged_is (texts_of contents files) job j part p moves m v told r h; same = refl }
-is_judged contents files workers job part moves (planned unit name answer) told r h = absurd h
+is_judged contents files workers job part moves (planned j q name answer) told r h = absurd h
 is_judged contents files workers job part moves (dropped unit height) told r h = absurd h
 is_judged contents files workers job part moves (leveled unit answer) told r h = absurd h
-is_judged contents files workers job part moves (stocked name answer) told r h = absurd h
-is_judged contents files workers job part moves (judged_files j q fs v) told r h = absurd h
+is_judged contents files workers job part moves (stocked j m name answer) told r h = absurd h
+is_judged contents files workers job part moves (judged_files j q ss fs v) told r h = absurd h
 is_judged contents files workers job part moves (sampled n answer) told r h = absurd h
 
 -- ---- `plan`
@@ -218,15 +218,15 @@ pub is_planned : (contents : List ℕ → Option (List ℕ)) (files : PlanFiles)
 is_planned contents files workers job part (refused_word coordinate fault) told r h = absurd h
 is_planned contents files workers job part (unfit u) told r h = absurd (fit_setup (setup_texts contents files.job files.part) job part u told r h)
 is_planned contents files workers job part (judged j p m v) told r h = absurd h
-is_planned contents files workers job part (planned unit name (done text count columns left)) told r h = inl refl
-is_planned contents files workers job part (planned unit name (uncut row col top)) told r h = inr (inl refl)
-is_planned contents files workers job part (planned unit name (held number row col)) told r h = inr (inl refl)
-is_planned contents files workers job part (planned unit name (too_many_nodes nodes)) told r h = inr (inr refl)
-is_planned contents files workers job part (planned unit name too_many_moves) told r h = inr (inr refl)
+is_planned contents files workers job part (planned j q name (done text count columns left)) told r h = inl refl
+is_planned contents files workers job part (planned j q name (uncut row col top)) told r h = inr (inl refl)
+is_planned contents files workers job part (planned j q name (held number row col)) told r h = inr (inl refl)
+is_planned contents files workers job part (planned j q name (too_many_nodes nodes)) told r h = inr (inr refl)
+is_planned contents files workers job part (planned j q name too_many_moves) told r h = inr (inr refl)
 is_planned contents files workers job part (dropped unit height) told r h = absurd h
 is_planned contents files workers job part (leveled unit answer) told r h = absurd h
-is_planned contents files workers job part (stocked name answer) told r h = absurd h
-is_planned contents files workers job part (judged_files j q fs v) told r h = absurd h
+is_planned contents files workers job part (stocked j m name answer) told r h = absurd h
+is_planned contents files workers job part (judged_files j q ss fs v) told r h = absurd h
 is_planned contents files workers job part (sampled n answer) told r h = absurd h
 
 -- ---- `drop`
@@ -250,11 +250,11 @@ pub is_dropped : (contents : List ℕ → Option (List ℕ)) (given : DropWords)
 is_dropped contents given place job part (refused_word coordinate fault) p told r h = absurd (place_read contents given place job coordinate fault p told.job r.job_is h)
 is_dropped contents given place job part (unfit u) p told r h = absurd (fit_setup (setup_texts contents given.job given.part) job part u told r (unfit_of _ _ u h))
 is_dropped contents given place job part (judged j q m v) p told r h = absurd h
-is_dropped contents given place job part (planned unit name answer) p told r h = absurd h
+is_dropped contents given place job part (planned j q name answer) p told r h = absurd h
 is_dropped contents given place job part (dropped unit height) p told r h = refl
 is_dropped contents given place job part (leveled unit answer) p told r h = absurd h
-is_dropped contents given place job part (stocked name answer) p told r h = absurd h
-is_dropped contents given place job part (judged_files j q fs v) p told r h = absurd h
+is_dropped contents given place job part (stocked j m name answer) p told r h = absurd h
+is_dropped contents given place job part (judged_files j q ss fs v) p told r h = absurd h
 is_dropped contents given place job part (sampled n answer) p told r h = absurd h
 
 -- ---- `level`
@@ -278,12 +278,12 @@ pub is_leveled : (contents : List ℕ → Option (List ℕ)) (given : LevelWords
 is_leveled contents given height job part (refused_word coordinate fault) z told r h = absurd (height_read contents given height job coordinate fault z told.job r.job_is h)
 is_leveled contents given height job part (unfit u) z told r h = absurd (fit_setup (setup_texts contents given.job given.part) job part u told r (unfit_of _ _ u h))
 is_leveled contents given height job part (judged j q m v) z told r h = absurd h
-is_leveled contents given height job part (planned unit name answer) z told r h = absurd h
+is_leveled contents given height job part (planned j q name answer) z told r h = absurd h
 is_leveled contents given height job part (dropped unit place) z told r h = absurd h
 is_leveled contents given height job part (leveled unit (outlines found)) z told r h = inl refl
 is_leveled contents given height job part (leveled unit (too_fine nodes)) z told r h = inr refl
-is_leveled contents given height job part (stocked name answer) z told r h = absurd h
-is_leveled contents given height job part (judged_files j q fs v) z told r h = absurd h
+is_leveled contents given height job part (stocked j m name answer) z told r h = absurd h
+is_leveled contents given height job part (judged_files j q ss fs v) z told r h = absurd h
 is_leveled contents given height job part (sampled n answer) z told r h = absurd h
 
 -- ---- `stock`
@@ -330,12 +330,12 @@ pub is_stocked : (contents : List ℕ → Option (List ℕ)) (files : StockFiles
 is_stocked contents files job moves (refused_word coordinate fault) told r h = absurd h
 is_stocked contents files job moves (unfit u) told r h = absurd (fit_stock (stock_texts contents files.job files.program) job moves u told r h)
 is_stocked contents files job moves (judged j p m v) told r h = absurd h
-is_stocked contents files job moves (planned unit name answer) told r h = absurd h
+is_stocked contents files job moves (planned j q name answer) told r h = absurd h
 is_stocked contents files job moves (dropped unit height) told r h = absurd h
 is_stocked contents files job moves (leveled unit answer) told r h = absurd h
-is_stocked contents files job moves (stocked name (drawn text count)) told r h = inl refl
-is_stocked contents files job moves (stocked name (too_many_triangles count)) told r h = inr refl
-is_stocked contents files job moves (judged_files j q fs v) told r h = absurd h
+is_stocked contents files job moves (stocked j m name (drawn text count)) told r h = inl refl
+is_stocked contents files job moves (stocked j m name (too_many_triangles count)) told r h = inr refl
+is_stocked contents files job moves (judged_files j q ss fs v) told r h = absurd h
 is_stocked contents files job moves (sampled n answer) told r h = absurd h
 
 -- ---- `rest`
@@ -435,13 +435,13 @@ fit_rest texts job part steps files (ProgramRefused (StepProgram k) fault) told 
 fit_rest texts job part steps files (PartTop height top unit) told r h = fit_setup texts.setup job part (PartTop height top unit) told.setup r.setup_is h
 
 -- what was judged is what was read
-pub judged_list_is : (texts : RestTexts) (job j : Job) (part p : List Tri) (steps : List Step) (files fs : List CutFile) (v : ListVerdict) → AreRestTold texts steps → ReadsRest texts job part steps files
-    → JudgesFiles texts j p fs v → IsListVerdict job part files v
-judged_list_is texts job j part p steps files fs v told r h =
+pub judged_list_is : (texts : RestTexts) (job j : Job) (part p : List Tri) (steps ss : List Step) (files fs : List CutFile) (v : ListVerdict) → AreRestTold texts steps → ReadsRest texts job part steps files
+    → JudgesFiles texts j p ss fs v → IsListVerdict job part files v
+judged_list_is texts job j part p steps ss files fs v told r h =
     let e : j ≡ job = same_job texts.setup j job told.setup.job h.all_read.setup_is.job_is r.setup_is.job_is in
     let f : p ≡ part = same_part texts.setup job p part told.setup.part (subst (λ (x : Job). ReadsPart texts.setup x p) e h.all_read.setup_is.part_is) r.setup_is.part_is in
-    let list : h.steps ≡ steps = same_steps texts job h.steps steps told.list (subst (λ (x : Job). ReadsList texts x h.steps) e h.all_read.list_is) r.list_is in
-    let here : ReadsSteps texts.programs job steps fs = subst (λ (xs : List Step). ReadsSteps texts.programs job xs fs) list (subst (λ (x : Job). ReadsSteps texts.programs x h.steps fs) e h.all_read.files_are) in
+    let list : ss ≡ steps = same_steps texts job ss steps told.list (subst (λ (x : Job). ReadsList texts x ss) e h.all_read.list_is) r.list_is in
+    let here : ReadsSteps texts.programs job steps fs = subst (λ (xs : List Step). ReadsSteps texts.programs job xs fs) list (subst (λ (x : Job). ReadsSteps texts.programs x ss fs) e h.all_read.files_are) in
     let g : fs ≡ files = same_files texts.programs job steps fs files told.programs here r.files_are in
     subst (λ (x : List CutFile). IsListVerdict job part x v) g (subst (λ (x : List Tri). IsListVerdict job x fs v) f (subst (λ (x : Job). IsListVerdict x p fs v) e h.is))
 
@@ -458,12 +458,12 @@ pub is_judged_in_turn : (contents : List ℕ → Option (List ℕ)) (names : Res
 is_judged_in_turn contents names workers job part steps files (refused_word coordinate fault) told r h = absurd h
 is_judged_in_turn contents names workers job part steps files (unfit u) told r h = absurd (fit_rest (rest_texts contents names) job part steps files u told r h)
 is_judged_in_turn contents names workers job part steps files (judged j p m v) told r h = absurd h
-is_judged_in_turn contents names workers job part steps files (planned unit name answer) told r h = absurd h
+is_judged_in_turn contents names workers job part steps files (planned j q name answer) told r h = absurd h
 is_judged_in_turn contents names workers job part steps files (dropped unit height) told r h = absurd h
 is_judged_in_turn contents names workers job part steps files (leveled unit answer) told r h = absurd h
-is_judged_in_turn contents names workers job part steps files (stocked name answer) told r h = absurd h
-is_judged_in_turn contents names workers job part steps files (judged_files j p fs v) told r h =
-    record { verdict = v; is = judged_list_is (rest_texts contents names) job j part p steps files fs v told r h; same = refl }
+is_judged_in_turn contents names workers job part steps files (stocked j m name answer) told r h = absurd h
+is_judged_in_turn contents names workers job part steps files (judged_files j p ss fs v) told r h =
+    record { verdict = v; is = judged_list_is (rest_texts contents names) job j part p steps ss files fs v told r h; same = refl }
 is_judged_in_turn contents names workers job part steps files (sampled n answer) told r h = absurd h
 
 -- ---- `sample`
@@ -474,11 +474,11 @@ pub is_sampled : (contents : List ℕ → Option (List ℕ)) (n workers : ℕ) (
 is_sampled contents n workers (refused_word coordinate fault) h = absurd h
 is_sampled contents n workers (unfit u) h = absurd h
 is_sampled contents n workers (judged j p m v) h = absurd h
-is_sampled contents n workers (planned unit name answer) h = absurd h
+is_sampled contents n workers (planned j q name answer) h = absurd h
 is_sampled contents n workers (dropped unit height) h = absurd h
 is_sampled contents n workers (leveled unit answer) h = absurd h
-is_sampled contents n workers (stocked name answer) h = absurd h
-is_sampled contents n workers (judged_files j q fs v) h = absurd h
+is_sampled contents n workers (stocked j m name answer) h = absurd h
+is_sampled contents n workers (judged_files j q ss fs v) h = absurd h
 is_sampled contents n workers (sampled size (done text count columns left)) h = inl refl
 is_sampled contents n workers (sampled size (uncut row col top)) h = inr (inl refl)
 is_sampled contents n workers (sampled size (held number row col)) h = inr (inl refl)

@@ -27,19 +27,19 @@ status_not n n0 n3 n4 n8 n9 (refused_word coordinate fault) e = n4 e
 status_not n n0 n3 n4 n8 n9 (unfit fault) e = n4 e
 status_not n n0 n3 n4 n8 n9 (judged job part moves (Accept count columns left)) e = n0 e
 status_not n n0 n3 n4 n8 n9 (judged job part moves (Reject reason)) e = n3 e
-status_not n n0 n3 n4 n8 n9 (planned unit name (done text moves columns left)) e = n0 e
-status_not n n0 n3 n4 n8 n9 (planned unit name (uncut row column top)) e = n8 e
-status_not n n0 n3 n4 n8 n9 (planned unit name (held number row column)) e = n8 e
-status_not n n0 n3 n4 n8 n9 (planned unit name (too_many_nodes nodes)) e = n9 e
-status_not n n0 n3 n4 n8 n9 (planned unit name too_many_moves) e = n9 e
+status_not n n0 n3 n4 n8 n9 (planned j p name (done text moves columns left)) e = n0 e
+status_not n n0 n3 n4 n8 n9 (planned j p name (uncut row column top)) e = n8 e
+status_not n n0 n3 n4 n8 n9 (planned j p name (held number row column)) e = n8 e
+status_not n n0 n3 n4 n8 n9 (planned j p name (too_many_nodes nodes)) e = n9 e
+status_not n n0 n3 n4 n8 n9 (planned j p name too_many_moves) e = n9 e
 status_not n n0 n3 n4 n8 n9 (dropped unit height) e = n0 e
 status_not n n0 n3 n4 n8 n9 (leveled unit (outlines found)) e = n0 e
 status_not n n0 n3 n4 n8 n9 (leveled unit (too_fine nodes)) e = n9 e
-status_not n n0 n3 n4 n8 n9 (stocked name (drawn text count)) e = n0 e
-status_not n n0 n3 n4 n8 n9 (stocked name (too_many_triangles count)) e = n9 e
-status_not n n0 n3 n4 n8 n9 (judged_files job part files (list.Accept count moves columns left)) e = n0 e
-status_not n n0 n3 n4 n8 n9 (judged_files job part files (list.Reject file reason)) e = n3 e
-status_not n n0 n3 n4 n8 n9 (judged_files job part files (list.Left row column top)) e = n3 e
+status_not n n0 n3 n4 n8 n9 (stocked j m name (drawn text count)) e = n0 e
+status_not n n0 n3 n4 n8 n9 (stocked j m name (too_many_triangles count)) e = n9 e
+status_not n n0 n3 n4 n8 n9 (judged_files job part steps files (list.Accept count moves columns left)) e = n0 e
+status_not n n0 n3 n4 n8 n9 (judged_files job part steps files (list.Reject file reason)) e = n3 e
+status_not n n0 n3 n4 n8 n9 (judged_files job part steps files (list.Left row column top)) e = n3 e
 status_not n n0 n3 n4 n8 n9 (sampled size (done text moves columns left)) e = n0 e
 status_not n n0 n3 n4 n8 n9 (sampled size (uncut row column top)) e = n8 e
 status_not n n0 n3 n4 n8 n9 (sampled size (held number row column)) e = n8 e
@@ -157,23 +157,23 @@ answer_stores : (contents : List ℕ → Option (List ℕ)) (words : List (List 
 answer_stores contents words asked (refused_word coordinate fault) taken nothing h = refl
 answer_stores contents words asked (unfit fault) taken nothing h = refl
 answer_stores contents words asked (judged job part moves verdict) taken nothing h = refl
-answer_stores contents words (verify job part program workers) (planned unit name answer) taken nothing h = absurd h
-answer_stores contents words (plan job part out workers) (planned unit name answer) taken nothing h = absurd (nothing.no_plan (record { job = job; part = part; out = out }) (workers, taken))
-answer_stores contents words (drop job part x y) (planned unit name answer) taken nothing h = absurd h
-answer_stores contents words (level job part z) (planned unit name answer) taken nothing h = absurd h
-answer_stores contents words (stock job program out) (planned unit name answer) taken nothing h = absurd h
-answer_stores contents words (rest job part list workers) (planned unit name answer) taken nothing h = absurd h
-answer_stores contents words (sample n workers) (planned unit name answer) taken nothing h = absurd h
+answer_stores contents words (verify job part program workers) (planned j p name answer) taken nothing h = absurd h
+answer_stores contents words (plan job part out workers) (planned j p name answer) taken nothing h = absurd (nothing.no_plan (record { job = job; part = part; out = out }) (workers, taken))
+answer_stores contents words (drop job part x y) (planned j p name answer) taken nothing h = absurd h
+answer_stores contents words (level job part z) (planned j p name answer) taken nothing h = absurd h
+answer_stores contents words (stock job program out) (planned j p name answer) taken nothing h = absurd h
+answer_stores contents words (rest job part list workers) (planned j p name answer) taken nothing h = absurd h
+answer_stores contents words (sample n workers) (planned j p name answer) taken nothing h = absurd h
 answer_stores contents words asked (dropped unit height) taken nothing h = refl
 answer_stores contents words asked (leveled unit answer) taken nothing h = refl
-answer_stores contents words (verify job part program workers) (stocked name answer) taken nothing h = absurd h
-answer_stores contents words (plan job part out workers) (stocked name answer) taken nothing h = absurd h
-answer_stores contents words (drop job part x y) (stocked name answer) taken nothing h = absurd h
-answer_stores contents words (level job part z) (stocked name answer) taken nothing h = absurd h
-answer_stores contents words (stock job program out) (stocked name answer) taken nothing h = absurd (nothing.no_stock (record { job = job; program = program; out = out }) taken)
-answer_stores contents words (rest job part list workers) (stocked name answer) taken nothing h = absurd h
-answer_stores contents words (sample n workers) (stocked name answer) taken nothing h = absurd h
-answer_stores contents words asked (judged_files job part files verdict) taken nothing h = refl
+answer_stores contents words (verify job part program workers) (stocked j m name answer) taken nothing h = absurd h
+answer_stores contents words (plan job part out workers) (stocked j m name answer) taken nothing h = absurd h
+answer_stores contents words (drop job part x y) (stocked j m name answer) taken nothing h = absurd h
+answer_stores contents words (level job part z) (stocked j m name answer) taken nothing h = absurd h
+answer_stores contents words (stock job program out) (stocked j m name answer) taken nothing h = absurd (nothing.no_stock (record { job = job; program = program; out = out }) taken)
+answer_stores contents words (rest job part list workers) (stocked j m name answer) taken nothing h = absurd h
+answer_stores contents words (sample n workers) (stocked j m name answer) taken nothing h = absurd h
+answer_stores contents words asked (judged_files job part steps files verdict) taken nothing h = refl
 answer_stores contents words asked (sampled n answer) taken nothing h = refl
 
 outcome_stores : (contents : List ℕ → Option (List ℕ)) (words : List (List ℕ)) (o : Outcome) → AsksNoFileStored words → IsOutcomeOf words contents o → outcome_file o ≡ None
@@ -187,7 +187,7 @@ pub keeps : (words : List (List ℕ)) (call : Call) → HasOutcome words call �
 keeps words call has nothing = which has.shows.way
   where
     none : outcome_file has.outcome ≡ None
-    none = outcome_stores call.store.contents words has.outcome nothing has.is
+    none = outcome_stores call.store.contents words has.outcome nothing (has.is call.store.contents has.held)
 
     which : ShowsWhole call has.outcome ⊎ (FailsToStore call has.outcome ⊎ FailsToPrint call has.outcome) → ReadsOnly call.store call.store_after
     which (inl w) = subst (λ (f : Option NamedText). Stores call f) none w.stored

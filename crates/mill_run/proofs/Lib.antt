@@ -8,6 +8,7 @@ pub mod Planning
 pub mod Stocks
 pub mod Rests
 pub mod Samples
+pub mod Follows
 pub mod Lengths
 pub mod Outcomes
 pub mod Headlines

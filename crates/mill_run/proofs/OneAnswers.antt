@@ -1,5 +1,5 @@
 -- Where its files are told, a request has one answer: each answer is that of the first check that fails, and there is one such check.
-use Rattle.std.proofs.Common.{◌≡◌, ◌⊎◌, ℕ, List, Option, Result, Ok, Err, length, take, refl, sym, ap, subst, ◌∙◌, inl, inr, arith, length-take-le}
+use Rattle.std.proofs.Common.{◌≡◌, ◌⊎◌, ℕ, List, Option, Result, Err, length, take, refl, sym, ap, subst, ◌∙◌, inl, inr, arith, length-take-le}
 use Rattle.std.specs.Prelude.{◌<◌, ◌≤◌, ℤ, ◌≤ℤ◌, All, IfSome, IsSome}
 use Rattle.std.proofs.lemmas.Bool.{cases_lt}
 use Rattle.std.proofs.lemmas.Int.{ints}
@@ -11,7 +11,7 @@ use Rattle.mill_base.specs.declared.motion.Move.{Move}
 use Rattle.mill_base.specs.declared.points.Tri.{Tri}
 use Rattle.mill_base.specs.declared.unit.Unit.{Unit as LengthUnit}
 use Rattle.mill_block.specs.declared.fault.NgcFault.{NgcFault}
-use Rattle.mill_command.specs.Requests.{Request, verify, plan, drop, level, stock, rest, sample}
+use Rattle.mill_command.specs.Requests.{verify, plan, drop, level, stock, rest, sample}
 use Rattle.mill_decimal.specs.declared.fault.DecFault.{DecFault}
 use Rattle.mill_drop.proofs.Uniqueness.{one_height}
 use Rattle.mill_drop.specs.Drops.{IsDropHeight}
@@ -20,12 +20,12 @@ use Rattle.mill_job.specs.Jobs.{tool_of}
 use Rattle.mill_job.specs.declared.fault.JobFault.{JobFault}
 use Rattle.mill_job.specs.declared.job.Job.{Job}
 use Rattle.mill_job.specs.declared.job.Place.{Place}
-use Rattle.mill_level.specs.Waterlines.{HasManyNodes, IsWaterline, OneWaterline}
+use Rattle.mill_level.specs.Waterlines.{HasManyNodes, OneWaterline}
 use Rattle.mill_list.proofs.OneList.{one_list}
 use Rattle.mill_list.specs.declared.step.Step.{Step}
 use Rattle.mill_load.specs.Places.{ReadsHeight, ReadsPlace, RefusesWord, RefusesZ}
 use Rattle.mill_load.specs.Programs.{IsProgramText, IsRefusedProgram}
-use Rattle.mill_load.specs.Setup.{AreSetupTold, HighPart, IsJobText, IsPartText, IsRefusedJob, IsRefusedPart, IsTooLong, IsTooLongJob, IsUnfit, IsUnfitWith, LongPart, ReadsJob, ReadsPart, ReadsSetup, RefusesPart, SetupTexts, setup_texts}
+use Rattle.mill_load.specs.Setup.{AreSetupTold, IsJobText, IsPartText, IsRefusedJob, IsRefusedPart, IsTooLong, IsTooLongJob, IsUnfit, IsUnfitWith, ReadsJob, ReadsPart, ReadsSetup, SetupTexts, setup_texts}
 use Rattle.mill_load.specs.declared.file.File.{File}
 use Rattle.mill_load.specs.declared.file.File.TheVariants.{Job as JobFile, List as ListFile, Part as PartFile, Program as ProgramFile, StepProgram}
 use Rattle.mill_load.specs.declared.load.Unfit.{Unfit}
@@ -45,16 +45,16 @@ use Rattle.mill_run.specs.Plan.{Plans}
 use Rattle.mill_run.specs.Laws.{IsListTold, OneAnswer}
 use Rattle.mill_run.specs.Rest.{AreRestTold, IsListText, IsRefusedList, IsUnfitRest, JudgesFiles, ReadsList, ReadsRest, ReadsStep, ReadsSteps, ReadsToStep, RestTexts, rest_texts, step_at}
 use Rattle.mill_run.specs.Sample.{Samples}
-use Rattle.mill_run.specs.Stock.{AreStockTold, DrawsStock, IsStockAnswer, IsUnfitStock, LongStockProgram, ReadsStock, ReadsStockJob, RefusesStockProgram, StockAnswer, StockTexts, drawn, stock_surface, stock_texts, too_many_triangles}
-use Rattle.mill_run.specs.Verify.{AreTold, IsUnfitProgram, Judges, LongProgram, Reads, ReadsProgram, RefusesProgram, Texts, texts_of}
+use Rattle.mill_run.specs.Stock.{AreStockTold, DrawsStock, IsStockAnswer, IsUnfitStock, ReadsStockJob, StockAnswer, StockTexts, drawn, stock_surface, stock_texts, too_many_triangles}
+use Rattle.mill_run.specs.Verify.{AreTold, IsUnfitProgram, Judges, ReadsProgram, Texts, texts_of}
 use Rattle.mill_stl.specs.declared.fault.StlFault.{StlFault}
 use Rattle.mill_sample.specs.Sample.{sample_job, sample_part}
 use Rattle.mill_run.proofs.Triangles.{length-surface}
 use Rattle.mill_surface.specs.Surfaces.{HasManyTriangles}
 use Rattle.mill_dexel.specs.Tops.{top_point}
 use Rattle.mill_verify.specs.Files.{File as CutFile}
-use Rattle.mill_verify.specs.Lists.{IsListVerdict, OneListVerdict}
-use Rattle.mill_verify.specs.Verdicts.{IsVerdict, OneVerdict}
+use Rattle.mill_verify.specs.Lists.{OneListVerdict}
+use Rattle.mill_verify.specs.Verdicts.{OneVerdict}
 use Rattle.mill_verify.specs.declared.list.ListVerdict.{ListVerdict}
 use Rattle.mill_verify.specs.declared.verdict.Verdict.{Verdict}
 
@@ -247,11 +247,11 @@ verify_answer : (contents : List ℕ → Option (List ℕ)) (job part program : 
 verify_answer contents job part program workers (refused_word coordinate fault) h = absurd h
 verify_answer contents job part program workers (unfit u) h = inl (u, refl, h)
 verify_answer contents job part program workers (judged j p m v) h = inr (j, p, m, v, refl, h)
-verify_answer contents job part program workers (planned unit name answer) h = absurd h
+verify_answer contents job part program workers (planned j p name answer) h = absurd h
 verify_answer contents job part program workers (dropped unit height) h = absurd h
 verify_answer contents job part program workers (leveled unit answer) h = absurd h
-verify_answer contents job part program workers (stocked name answer) h = absurd h
-verify_answer contents job part program workers (judged_files j p fs v) h = absurd h
+verify_answer contents job part program workers (stocked j m name answer) h = absurd h
+verify_answer contents job part program workers (judged_files j p ss fs v) h = absurd h
 verify_answer contents job part program workers (sampled size answer) h = absurd h
 
 one_verify : OneVerdict → (texts : Texts) (a b : Answer) → AreTold texts → VerifyAnswers texts a → VerifyAnswers texts b → a ≡ b
@@ -263,35 +263,34 @@ one_verify one texts a b told (inr s) (inr t) = s.4 ∙ one_judged one texts s.0
 
 -- ---- `plan`
 
-one_planned : OnePlanAnswer → (texts : SetupTexts) (unit other : LengthUnit) (name : List ℕ) (answer next : PlanAnswer) → AreSetupTold texts → Plans texts unit answer → Plans texts other next
-    → planned unit name answer ≡ planned other name next
-one_planned one texts unit other name answer next told h k =
-    let e : h.job ≡ k.job = same_job texts h.job k.job told.job h.setup_is.job_is k.setup_is.job_is in
-    let f : h.part ≡ k.part = same_part texts k.job h.part k.part told.part (subst (λ (x : Job). ReadsPart texts x h.part) e h.setup_is.part_is) k.setup_is.part_is in
-    let is : IsPlanAnswer k.job k.part answer = subst (λ (x : List Tri). IsPlanAnswer k.job x answer) f (subst (λ (x : Job). IsPlanAnswer x h.part answer) e h.is) in
-    let u : unit ≡ other = h.unit_is ∙ ap (λ (x : Job). x.unit) e ∙ sym k.unit_is in
-    let same : answer ≡ next = one k.job k.part answer next is k.is in
-    λ i. planned (u i) name (same i)
+one_planned : OnePlanAnswer → (texts : SetupTexts) (j q : Job) (p o : List Tri) (name : List ℕ) (answer next : PlanAnswer) → AreSetupTold texts → Plans texts j p answer → Plans texts q o next
+    → planned j p name answer ≡ planned q o name next
+one_planned one texts j q p o name answer next told h k =
+    let e : j ≡ q = same_job texts j q told.job h.setup_is.job_is k.setup_is.job_is in
+    let f : p ≡ o = same_part texts q p o told.part (subst (λ (x : Job). ReadsPart texts x p) e h.setup_is.part_is) k.setup_is.part_is in
+    let is : IsPlanAnswer q o answer = subst (λ (x : List Tri). IsPlanAnswer q x answer) f (subst (λ (x : Job). IsPlanAnswer x p answer) e h.is) in
+    let same : answer ≡ next = one q o answer next is k.is in
+    λ i. planned (e i) (f i) name (same i)
 
 abbrev PlanAnswers : SetupTexts → List ℕ → Answer → Type 0
-PlanAnswers texts out a = ((u : Unfit) × (a ≡ unfit u) × IsUnfit texts u) ⊎ ((unit : LengthUnit) × (answer : PlanAnswer) × (a ≡ planned unit out answer) × Plans texts unit answer)
+PlanAnswers texts out a = ((u : Unfit) × (a ≡ unfit u) × IsUnfit texts u) ⊎ ((j : Job) × (p : List Tri) × (answer : PlanAnswer) × (a ≡ planned j p out answer) × Plans texts j p answer)
 
 plan_answer : (contents : List ℕ → Option (List ℕ)) (job part out : List ℕ) (workers : ℕ) (a : Answer) → IsAnswer contents (plan job part out workers) a → PlanAnswers (setup_texts contents job part) out a
 plan_answer contents job part out workers (refused_word coordinate fault) h = absurd h
 plan_answer contents job part out workers (unfit u) h = inl (u, refl, h)
 plan_answer contents job part out workers (judged j p m v) h = absurd h
-plan_answer contents job part out workers (planned unit name answer) h = inr (unit, answer, ap (λ n. planned unit n answer) h.0, h.1)
+plan_answer contents job part out workers (planned j p name answer) h = inr (j, p, answer, ap (λ n. planned j p n answer) h.0, h.1)
 plan_answer contents job part out workers (dropped unit height) h = absurd h
 plan_answer contents job part out workers (leveled unit answer) h = absurd h
-plan_answer contents job part out workers (stocked name answer) h = absurd h
-plan_answer contents job part out workers (judged_files j p fs v) h = absurd h
+plan_answer contents job part out workers (stocked j m name answer) h = absurd h
+plan_answer contents job part out workers (judged_files j p ss fs v) h = absurd h
 plan_answer contents job part out workers (sampled size answer) h = absurd h
 
 one_plan : OnePlanAnswer → (texts : SetupTexts) (out : List ℕ) (a b : Answer) → AreSetupTold texts → PlanAnswers texts out a → PlanAnswers texts out b → a ≡ b
 one_plan one texts out a b told (inl s) (inl t) = s.1 ∙ ap unfit (one_unfit texts s.0 t.0 told s.2 t.2) ∙ sym t.1
-one_plan one texts out a b told (inl s) (inr t) = absurd (fit_setup texts t.3.job t.3.part s.0 told t.3.setup_is s.2)
-one_plan one texts out a b told (inr s) (inl t) = absurd (fit_setup texts s.3.job s.3.part t.0 told s.3.setup_is t.2)
-one_plan one texts out a b told (inr s) (inr t) = s.2 ∙ one_planned one texts s.0 t.0 out s.1 t.1 told s.3 t.3 ∙ sym t.2
+one_plan one texts out a b told (inl s) (inr t) = absurd (fit_setup texts t.0 t.1 s.0 told t.4.setup_is s.2)
+one_plan one texts out a b told (inr s) (inl t) = absurd (fit_setup texts s.0 s.1 t.0 told s.4.setup_is t.2)
+one_plan one texts out a b told (inr s) (inr t) = s.3 ∙ one_planned one texts s.0 t.0 s.1 t.1 out s.2 t.2 told s.4 t.4 ∙ sym t.3
 
 -- ---- where words are read between job and part
 
@@ -331,11 +330,11 @@ drop_answer : (contents : List ℕ → Option (List ℕ)) (job part x y : List �
 drop_answer contents job part x y (refused_word coordinate fault) h = inl (coordinate, fault, refl, h)
 drop_answer contents job part x y (unfit u) h = inr (inl (u, refl, h))
 drop_answer contents job part x y (judged j p m v) h = absurd h
-drop_answer contents job part x y (planned unit name answer) h = absurd h
+drop_answer contents job part x y (planned j p name answer) h = absurd h
 drop_answer contents job part x y (dropped unit height) h = inr (inr (unit, height, refl, h))
 drop_answer contents job part x y (leveled unit answer) h = absurd h
-drop_answer contents job part x y (stocked name answer) h = absurd h
-drop_answer contents job part x y (judged_files j p fs v) h = absurd h
+drop_answer contents job part x y (stocked j m name answer) h = absurd h
+drop_answer contents job part x y (judged_files j p ss fs v) h = absurd h
 drop_answer contents job part x y (sampled size answer) h = absurd h
 
 module _ (texts : SetupTexts) (told : AreSetupTold texts) (x y : List ℕ) where
@@ -399,11 +398,11 @@ level_answer : (contents : List ℕ → Option (List ℕ)) (job part z : List �
 level_answer contents job part z (refused_word coordinate fault) h = inl (coordinate, fault, refl, h)
 level_answer contents job part z (unfit u) h = inr (inl (u, refl, h))
 level_answer contents job part z (judged j p m v) h = absurd h
-level_answer contents job part z (planned unit name answer) h = absurd h
+level_answer contents job part z (planned j p name answer) h = absurd h
 level_answer contents job part z (dropped unit height) h = absurd h
 level_answer contents job part z (leveled unit answer) h = inr (inr (unit, answer, refl, h))
-level_answer contents job part z (stocked name answer) h = absurd h
-level_answer contents job part z (judged_files j p fs v) h = absurd h
+level_answer contents job part z (stocked j m name answer) h = absurd h
+level_answer contents job part z (judged_files j p ss fs v) h = absurd h
 level_answer contents job part z (sampled size answer) h = absurd h
 
 few_or_many : (job : Job) (nodes : ℕ) → node_count (finish_lattice job) ≤ MAX_NODES → HasManyNodes (finish_lattice job) nodes → ⊥
@@ -502,32 +501,34 @@ one_stock_answer job moves (too_many_triangles n) (drawn s m) h k = absurd (draw
 one_stock_answer job moves (too_many_triangles n) (too_many_triangles m) h k = ap too_many_triangles (h.all ∙ sym k.all)
 
 abbrev StockAnswers : StockTexts → List ℕ → Answer → Type 0
-StockAnswers texts out a = ((u : Unfit) × (a ≡ unfit u) × IsUnfitStock texts u) ⊎ ((answer : StockAnswer) × (a ≡ stocked out answer) × DrawsStock texts answer)
+StockAnswers texts out a = ((u : Unfit) × (a ≡ unfit u) × IsUnfitStock texts u) ⊎ ((j : Job) × (m : List Move) × (answer : StockAnswer) × (a ≡ stocked j m out answer) × DrawsStock texts j m answer)
 
 stock_answer : (contents : List ℕ → Option (List ℕ)) (job program out : List ℕ) (a : Answer) → IsAnswer contents (stock job program out) a → StockAnswers (stock_texts contents job program) out a
 stock_answer contents job program out (refused_word coordinate fault) h = absurd h
 stock_answer contents job program out (unfit u) h = inl (u, refl, h)
 stock_answer contents job program out (judged j p m v) h = absurd h
-stock_answer contents job program out (planned unit name answer) h = absurd h
+stock_answer contents job program out (planned j p name answer) h = absurd h
 stock_answer contents job program out (dropped unit height) h = absurd h
 stock_answer contents job program out (leveled unit answer) h = absurd h
-stock_answer contents job program out (stocked name answer) h = inr (answer, ap (λ n. stocked n answer) h.0, h.1)
-stock_answer contents job program out (judged_files j p fs v) h = absurd h
+stock_answer contents job program out (stocked j m name answer) h = inr (j, m, answer, ap (λ n. stocked j m n answer) h.0, h.1)
+stock_answer contents job program out (judged_files j p ss fs v) h = absurd h
 stock_answer contents job program out (sampled size answer) h = absurd h
 
-one_drawn : (texts : StockTexts) (a b : StockAnswer) → AreStockTold texts → DrawsStock texts a → DrawsStock texts b → a ≡ b
-one_drawn texts a b told h k =
-    let e : h.job ≡ k.job = same_stock_job texts h.job k.job told.job h.all_read.job_is k.all_read.job_is in
-    let both = told_both (λ text. IsProgramText k.job text h.moves) (λ text. IsProgramText k.job text k.moves) texts.program told.program
-    (subst (λ (j : Job). IfSome texts.program (λ text. IsProgramText j text h.moves)) e h.all_read.moves_are) k.all_read.moves_are in
-    let f : h.moves ≡ k.moves = program_text k.job both.0 h.moves k.moves both.1 both.2 in
-    one_stock_answer k.job k.moves a b (subst (λ (m : List Move). IsStockAnswer k.job m a) f (subst (λ (j : Job). IsStockAnswer j h.moves a) e h.is)) k.is
+one_drawn : (texts : StockTexts) (out : List ℕ) (j q : Job) (m n : List Move) (a b : StockAnswer) → AreStockTold texts → DrawsStock texts j m a → DrawsStock texts q n b
+    → stocked j m out a ≡ stocked q n out b
+one_drawn texts out j q m n a b told h k =
+    let e : j ≡ q = same_stock_job texts j q told.job h.all_read.job_is k.all_read.job_is in
+    let both = told_both (λ text. IsProgramText q text m) (λ text. IsProgramText q text n) texts.program told.program
+    (subst (λ (x : Job). IfSome texts.program (λ text. IsProgramText x text m)) e h.all_read.moves_are) k.all_read.moves_are in
+    let f : m ≡ n = program_text q both.0 m n both.1 both.2 in
+    let same : a ≡ b = one_stock_answer q n a b (subst (λ (x : List Move). IsStockAnswer q x a) f (subst (λ (x : Job). IsStockAnswer x m a) e h.is)) k.is in
+    λ i. stocked (e i) (f i) out (same i)
 
 one_stock : (texts : StockTexts) (out : List ℕ) (a b : Answer) → AreStockTold texts → StockAnswers texts out a → StockAnswers texts out b → a ≡ b
 one_stock texts out a b told (inl s) (inl t) = s.1 ∙ ap unfit (one_stock_stop texts s.0 t.0 told (stock_stop texts s.0 s.2) (stock_stop texts t.0 t.2)) ∙ sym t.1
-one_stock texts out a b told (inl s) (inr t) = absurd (fit_stock texts t.2.job t.2.moves s.0 told t.2.all_read s.2)
-one_stock texts out a b told (inr s) (inl t) = absurd (fit_stock texts s.2.job s.2.moves t.0 told s.2.all_read t.2)
-one_stock texts out a b told (inr s) (inr t) = s.1 ∙ ap (stocked out) (one_drawn texts s.0 t.0 told s.2 t.2) ∙ sym t.1
+one_stock texts out a b told (inl s) (inr t) = absurd (fit_stock texts t.0 t.1 s.0 told t.4.all_read s.2)
+one_stock texts out a b told (inr s) (inl t) = absurd (fit_stock texts s.0 s.1 t.0 told s.4.all_read t.2)
+one_stock texts out a b told (inr s) (inr t) = s.3 ∙ one_drawn texts out s.0 t.0 s.1 t.1 s.2 t.2 told s.4 t.4 ∙ sym t.3
 
 -- ---- `sample`
 
@@ -538,11 +539,11 @@ sample_answer : (contents : List ℕ → Option (List ℕ)) (n workers : ℕ) (a
 sample_answer contents n workers (refused_word coordinate fault) h = absurd h
 sample_answer contents n workers (unfit u) h = absurd h
 sample_answer contents n workers (judged j p m v) h = absurd h
-sample_answer contents n workers (planned unit name answer) h = absurd h
+sample_answer contents n workers (planned j p name answer) h = absurd h
 sample_answer contents n workers (dropped unit height) h = absurd h
 sample_answer contents n workers (leveled unit answer) h = absurd h
-sample_answer contents n workers (stocked name answer) h = absurd h
-sample_answer contents n workers (judged_files j p fs v) h = absurd h
+sample_answer contents n workers (stocked j m name answer) h = absurd h
+sample_answer contents n workers (judged_files j p ss fs v) h = absurd h
 sample_answer contents n workers (sampled size answer) h = (answer, ap (λ m. sampled m answer) h.0, h.1)
 
 one_sample : OnePlanAnswer → (n : ℕ) (a b : Answer) → SampleAnswers n a → SampleAnswers n b → a ≡ b
@@ -669,44 +670,44 @@ one_rest_stop texts u w told (inr s) (inr t) =
 rest_told : (texts : RestTexts) (job : Job) (part : List Tri) (steps : List Step) (files : List CutFile) → IsListTold texts → ReadsRest texts job part steps files → AreRestTold texts steps
 rest_told texts job part steps files told r = record { setup = told.setup; list = told.list; programs = told.programs job steps r.setup_is.job_is r.list_is }
 
-one_judged_list : OneListVerdict → (texts : RestTexts) (j q : Job) (p o : List Tri) (m n : List CutFile) (v w : ListVerdict) → IsListTold texts → JudgesFiles texts j p m v → JudgesFiles texts q o n w
-    → judged_files j p m v ≡ judged_files q o n w
-one_judged_list one texts j q p o m n v w told h k =
-    let all = rest_told texts q o k.steps n told k.all_read in
+one_judged_list : OneListVerdict → (texts : RestTexts) (j q : Job) (p o : List Tri) (xs ys : List Step) (m n : List CutFile) (v w : ListVerdict) → IsListTold texts → JudgesFiles texts j p xs m v
+    → JudgesFiles texts q o ys n w → judged_files j p xs m v ≡ judged_files q o ys n w
+one_judged_list one texts j q p o xs ys m n v w told h k =
+    let all = rest_told texts q o ys n told k.all_read in
     let e : j ≡ q = same_job texts.setup j q told.setup.job h.all_read.setup_is.job_is k.all_read.setup_is.job_is in
     let f : p ≡ o = same_part texts.setup q p o told.setup.part (subst (λ (x : Job). ReadsPart texts.setup x p) e h.all_read.setup_is.part_is) k.all_read.setup_is.part_is in
-    let list : h.steps ≡ k.steps = same_steps texts q h.steps k.steps told.list (subst (λ (x : Job). ReadsList texts x h.steps) e h.all_read.list_is) k.all_read.list_is in
-    let here : ReadsSteps texts.programs q k.steps m = subst (λ (xs : List Step). ReadsSteps texts.programs q xs m) list (subst (λ (x : Job). ReadsSteps texts.programs x h.steps m) e h.all_read.files_are) in
-    let g : m ≡ n = same_files texts.programs q k.steps m n all.programs here k.all_read.files_are in
-    let same : v ≡ w = one q o n v w (judged_list_is texts q j o p k.steps n m v all k.all_read h) k.is in
-    λ i. judged_files (e i) (f i) (g i) (same i)
+    let list : xs ≡ ys = same_steps texts q xs ys told.list (subst (λ (x : Job). ReadsList texts x xs) e h.all_read.list_is) k.all_read.list_is in
+    let here : ReadsSteps texts.programs q ys m = subst (λ (x : List Step). ReadsSteps texts.programs q x m) list (subst (λ (x : Job). ReadsSteps texts.programs x xs m) e h.all_read.files_are) in
+    let g : m ≡ n = same_files texts.programs q ys m n all.programs here k.all_read.files_are in
+    let same : v ≡ w = one q o n v w (judged_list_is texts q j o p ys xs n m v all k.all_read h) k.is in
+    λ i. judged_files (e i) (f i) (list i) (g i) (same i)
 
 abbrev RestAnswers : RestTexts → Answer → Type 0
 RestAnswers texts a =
     ((u : Unfit) × (a ≡ unfit u) × IsUnfitRest texts u)
-    ⊎ ((j : Job) × (p : List Tri) × (fs : List CutFile) × (v : ListVerdict) × (a ≡ judged_files j p fs v) × JudgesFiles texts j p fs v)
+    ⊎ ((j : Job) × (p : List Tri) × (ss : List Step) × (fs : List CutFile) × (v : ListVerdict) × (a ≡ judged_files j p ss fs v) × JudgesFiles texts j p ss fs v)
 
 rest_answer : (contents : List ℕ → Option (List ℕ)) (job part list : List ℕ) (workers : ℕ) (a : Answer) → IsAnswer contents (rest job part list workers) a
     → RestAnswers (rest_texts contents (record { job = job; part = part; list = list })) a
 rest_answer contents job part list workers (refused_word coordinate fault) h = absurd h
 rest_answer contents job part list workers (unfit u) h = inl (u, refl, h)
 rest_answer contents job part list workers (judged j p m v) h = absurd h
-rest_answer contents job part list workers (planned unit name answer) h = absurd h
+rest_answer contents job part list workers (planned j p name answer) h = absurd h
 rest_answer contents job part list workers (dropped unit height) h = absurd h
 rest_answer contents job part list workers (leveled unit answer) h = absurd h
-rest_answer contents job part list workers (stocked name answer) h = absurd h
-rest_answer contents job part list workers (judged_files j p fs v) h = inr (j, p, fs, v, refl, h)
+rest_answer contents job part list workers (stocked j m name answer) h = absurd h
+rest_answer contents job part list workers (judged_files j p ss fs v) h = inr (j, p, ss, fs, v, refl, h)
 rest_answer contents job part list workers (sampled size answer) h = absurd h
 
 one_rest : OneListVerdict → (texts : RestTexts) (a b : Answer) → IsListTold texts → RestAnswers texts a → RestAnswers texts b → a ≡ b
 one_rest one texts a b told (inl s) (inl t) = s.1 ∙ ap unfit (one_rest_stop texts s.0 t.0 told (rest_stop texts s.0 s.2) (rest_stop texts t.0 t.2)) ∙ sym t.1
 one_rest one texts a b told (inl s) (inr t) =
-    let read = t.5.all_read in
-    absurd (fit_rest texts t.0 t.1 t.5.steps t.2 s.0 (rest_told texts t.0 t.1 t.5.steps t.2 told read) read s.2)
+    let read = t.6.all_read in
+    absurd (fit_rest texts t.0 t.1 t.2 t.3 s.0 (rest_told texts t.0 t.1 t.2 t.3 told read) read s.2)
 one_rest one texts a b told (inr s) (inl t) =
-    let read = s.5.all_read in
-    absurd (fit_rest texts s.0 s.1 s.5.steps s.2 t.0 (rest_told texts s.0 s.1 s.5.steps s.2 told read) read t.2)
-one_rest one texts a b told (inr s) (inr t) = s.4 ∙ one_judged_list one texts s.0 t.0 s.1 t.1 s.2 t.2 s.3 t.3 told s.5 t.5 ∙ sym t.4
+    let read = s.6.all_read in
+    absurd (fit_rest texts s.0 s.1 s.2 s.3 t.0 (rest_told texts s.0 s.1 s.2 s.3 told read) read t.2)
+one_rest one texts a b told (inr s) (inr t) = s.5 ∙ one_judged_list one texts s.0 t.0 s.1 t.1 s.2 t.2 s.3 t.3 s.4 t.4 told s.6 t.6 ∙ sym t.5
 
 -- ---- all commands
 

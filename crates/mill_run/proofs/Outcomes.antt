@@ -1,12 +1,12 @@
 -- What a call came to, where its words are taken and nothing of the outside is blamed.
-use Rattle.std.proofs.Common.{◌≡◌, ◌≢◌, ◌⊎◌, ℕ, List, Some, false, sym, ◌∙◌, inl, inr, arith}
+use Rattle.std.proofs.Common.{◌≡◌, ◌≢◌, ◌⊎◌, ℕ, List, Option, Some, false, sym, ◌∙◌, inl, inr, arith}
 use Rattle.mill_command.specs.Requests.{Request, is_taken, request, verify, plan, drop, level, stock, rest, sample}
 use Rattle.mill_verify.specs.declared.list.ListVerdict.{ListVerdict}
 use Rattle.mill_verify.specs.declared.list.ListVerdict.TheVariants as list
 use Rattle.mill_verify.specs.declared.verdict.Verdict.{Verdict}
 use Rattle.mill_verify.specs.declared.verdict.Verdict.TheVariants.{Accept, Reject}
 use Rattle.mill_run.specs.Answers.{answer_status}
-use Rattle.mill_run.specs.Calls.{Call, NoFault}
+use Rattle.mill_run.specs.Calls.{Call, HoldsReads, NoFault}
 use Rattle.mill_run.specs.Headline.{Answered, Answers, Completes, Untaken}
 use Rattle.mill_run.specs.Outcomes.{Outcome, help, bad_words, no_memory, read_fault, answered, outcome_status, IsOutcomeOf, ShowsHelp, RefusesWords, ShowsWhole, HasOutcome}
 use Rattle.mill_run.specs.Rest.{list_status}
@@ -17,15 +17,15 @@ use Rattle.mill_run.proofs.Taken.{not_taken, asked_outcome}
 
 -- ---- words that are taken
 
-served_by : (words : List (List ℕ)) (call : Call) (asked : Request) (o : Outcome) → IsOutcomeOf words call.store.contents o → ShowsWhole call o → request words ≡ Some asked
-    → call.status ≢ 6 → Answered call asked ⊎ (call.status ≡ 5)
-served_by words call asked (help text) is w taken n6 = absurd (not_taken words asked is.untaken taken)
-served_by words call asked (bad_words text) is w taken n6 = absurd (not_taken words asked is.untaken taken)
-served_by words call asked no_memory is w taken n6 = inr w.status
-served_by words call asked (read_fault file) is w taken n6 = absurd (n6 w.status)
-served_by words call asked (answered a) is w taken n6 = inl (record {
+served_by : (words : List (List ℕ)) (call : Call) (asked : Request) (o : Outcome) → ((contents : List ℕ → Option (List ℕ)) → HoldsReads contents call → IsOutcomeOf words contents o)
+    → HoldsReads call.store.contents call → ShowsWhole call o → request words ≡ Some asked → call.status ≢ 6 → Answered call asked ⊎ (call.status ≡ 5)
+served_by words call asked (help text) is own w taken n6 = absurd (not_taken words asked (is call.store.contents own).untaken taken)
+served_by words call asked (bad_words text) is own w taken n6 = absurd (not_taken words asked (is call.store.contents own).untaken taken)
+served_by words call asked no_memory is own w taken n6 = inr w.status
+served_by words call asked (read_fault file) is own w taken n6 = absurd (n6 w.status)
+served_by words call asked (answered a) is own w taken n6 = inl (record {
   answer = a;
-  is = asked_outcome words call.store.contents (answered a) asked is taken;
+  is = λ contents held. asked_outcome words contents (answered a) asked (is contents held) taken;
   status = w.status;
   printed = w.printed;
   stored = w.stored;
@@ -34,7 +34,7 @@ served_by words call asked (answered a) is w taken n6 = inl (record {
 -- a status that blames nothing is the answer's, or tells of memory
 pub served : (words : List (List ℕ)) (call : Call) (asked : Request) → HasOutcome words call → request words ≡ Some asked → call.status ≢ 6 → call.status ≢ 7
     → Answered call asked ⊎ (call.status ≡ 5)
-served words call asked has taken n6 n7 = served_by words call asked has.outcome has.is (shown_whole call has.outcome has.shows n7) taken n6
+served words call asked has taken n6 n7 = served_by words call asked has.outcome has.is has.held (shown_whole call has.outcome has.shows n7) taken n6
 
 pub answered_by : (words : List (List ℕ)) (call : Call) (asked : Request) → HasOutcome words call → request words ≡ Some asked → call.status ≢ 5 → call.status ≢ 6 → call.status ≢ 7
     → Answered call asked
@@ -72,39 +72,39 @@ level_statuses n m e (inr f) = inr (inl (e ∙ f))
 
 pub completes_of : (words : List (List ℕ)) (call : Call) → HasOutcome words call → Completes words call
 completes_of words call has = record {
-  verifies = λ files job part moves asks told read fine.
+  verifies = λ files contents job part moves asks held told read fine.
       elim (served_fine words call (verify files.job files.part files.program asks.0) has asks.1 fine) [
-        | inl a ↦ (let v = is_judged call.store.contents files asks.0 job part moves a.answer told read a.is in zero_three call.status v.verdict (a.status ∙ v.same))
+        | inl a ↦ (let v = is_judged contents files asks.0 job part moves a.answer told read (a.is contents held) in zero_three call.status v.verdict (a.status ∙ v.same))
         | inr e ↦ inr (inr e)
       ];
-  plans = λ files job part asks told read fine.
+  plans = λ files contents job part asks held told read fine.
       elim (served_fine words call (plan files.job files.part files.out asks.0) has asks.1 fine) [
-        | inl a ↦ plan_statuses call.status (answer_status a.answer) a.status (is_planned call.store.contents files asks.0 job part a.answer told read a.is)
+        | inl a ↦ plan_statuses call.status (answer_status a.answer) a.status (is_planned contents files asks.0 job part a.answer told read (a.is contents held))
         | inr e ↦ inr (inr (inr e))
       ];
-  drops = λ given place job part asks reads told read fine.
+  drops = λ given contents place job part asks reads held told read fine.
       elim (served_fine words call (drop given.job given.part given.x given.y) has asks fine) [
-        | inl a ↦ inl (a.status ∙ is_dropped call.store.contents given place job part a.answer reads told read a.is)
+        | inl a ↦ inl (a.status ∙ is_dropped contents given place job part a.answer reads told read (a.is contents held))
         | inr e ↦ inr e
       ];
-  levels = λ given height job part asks reads told read fine.
+  levels = λ given contents height job part asks reads held told read fine.
       elim (served_fine words call (level given.job given.part given.z) has asks fine) [
-        | inl a ↦ level_statuses call.status (answer_status a.answer) a.status (is_leveled call.store.contents given height job part a.answer reads told read a.is)
+        | inl a ↦ level_statuses call.status (answer_status a.answer) a.status (is_leveled contents given height job part a.answer reads told read (a.is contents held))
         | inr e ↦ inr (inr e)
       ];
-  stocks = λ files job moves asks told read fine.
+  stocks = λ files contents job moves asks held told read fine.
       elim (served_fine words call (stock files.job files.program files.out) has asks fine) [
-        | inl a ↦ level_statuses call.status (answer_status a.answer) a.status (is_stocked call.store.contents files job moves a.answer told read a.is)
+        | inl a ↦ level_statuses call.status (answer_status a.answer) a.status (is_stocked contents files job moves a.answer told read (a.is contents held))
         | inr e ↦ inr (inr e)
       ];
-  rests = λ names job part steps files asks told read fine.
+  rests = λ names contents job part steps files asks held told read fine.
       elim (served_fine words call (rest names.job names.part names.list asks.0) has asks.1 fine) [
-        | inl a ↦ (let v = is_judged_in_turn call.store.contents names asks.0 job part steps files a.answer told read a.is in list_statuses call.status v.verdict (a.status ∙ v.same))
+        | inl a ↦ (let v = is_judged_in_turn contents names asks.0 job part steps files a.answer told read (a.is contents held) in list_statuses call.status v.verdict (a.status ∙ v.same))
         | inr e ↦ inr (inr e)
       ];
   samples = λ n asks fine.
       elim (served_fine words call (sample n asks.0) has asks.1 fine) [
-        | inl a ↦ plan_statuses call.status (answer_status a.answer) a.status (is_sampled call.store.contents n asks.0 a.answer a.is)
+        | inl a ↦ plan_statuses call.status (answer_status a.answer) a.status (is_sampled call.store.contents n asks.0 a.answer (a.is call.store.contents has.held))
         | inr e ↦ inr (inr (inr e))
       ];
 }
@@ -128,8 +128,8 @@ mistaken_by words call (answered a) is e = absurd (answer_not_2 a e)
 
 pub untaken_of : (words : List (List ℕ)) (call : Call) → HasOutcome words call → Untaken words call
 untaken_of words call has = record {
-  refused = λ untaken fine n5. refused_by words call has.outcome has.is (shown_whole call has.outcome has.shows (not_7 call has.outcome has.shows fine)) untaken n5;
+  refused = λ untaken fine n5. refused_by words call has.outcome (has.is call.store.contents has.held) (shown_whole call has.outcome has.shows (not_7 call has.outcome has.shows fine)) untaken n5;
   mistaken = λ e.
       let w = shown_whole call has.outcome has.shows (λ (seven : call.status ≡ 7). no 2 7 (omega arith) (sym e ∙ seven)) in
-      mistaken_by words call has.outcome has.is (sym w.status ∙ e);
+      mistaken_by words call has.outcome (has.is call.store.contents has.held) (sym w.status ∙ e);
 }

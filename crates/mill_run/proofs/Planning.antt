@@ -1,6 +1,7 @@
 -- The work on `plan`: what was read, stored and printed, put together.
 use Rattle.std.proofs.Common.{◌≡◌, ℕ, List, Option, Result, Ok, Err, refl, subst, inl, inr}
 use Rattle.mill_command.specs.Requests.{plan}
+use Rattle.mill_io.specs.Readings.{AreHeld}
 use Rattle.mill_io.specs.Views.{StoreView}
 use Rattle.mill_plan.specs.Plans.{PlanAnswer, too_many_nodes, too_many_moves, uncut, held, IsPlanAnswer, IsPlanFault}
 use Rattle.mill_plan.specs.declared.fault.PlanFault.{PlanFault}
@@ -9,22 +10,29 @@ use Rattle.mill_load.specs.declared.load.LoadFault.{LoadFault}
 use Rattle.mill_load.specs.declared.load.LoadFault.TheVariants as load_fault
 use Rattle.mill_load.specs.declared.load.Setup.{Setup}
 use Rattle.mill_run.specs.Answers.{planned}
-use Rattle.mill_run.specs.Calls.{Call}
-use Rattle.mill_load.specs.Loads.{LoadsSetup, OnlyLoads}
-use Rattle.mill_run.specs.Outcomes.{no_memory, answered, IsOutcome, ShowsOr, Serves}
+use Rattle.mill_run.specs.Calls.{Call, HoldsReads}
+use Rattle.mill_load.specs.Loads.{IsSetup, LoadsSetup, OnlyLoads}
+use Rattle.mill_run.specs.Outcomes.{answered, IsOutcome, ShowsOr, Serves}
 use Rattle.mill_run.specs.inner.Prints.{PrintsPlanFault, ShowsPlanOr, fault_outcome}
 use Rattle.mill_load.specs.Setup.{setup_texts}
-use Rattle.mill_run.proofs.Serving.{answer_shows}
-use Rattle.mill_run.proofs.Storing.{from, logged_anyhow, same_view, short_shows, unread, untouched}
+use Rattle.mill_run.proofs.Serving.{answer_serves, answer_shows, short_serves}
+use Rattle.mill_run.proofs.Storing.{from, holds_after, holds_before, logged_anyhow, same_view, short_shows, unread, untouched}
 
 -- job and part were read, and the planner's answer is shown
-pub plan_serves : (job part name : List ℕ) (workers : ℕ) (call : Call) (store : StoreView) (s : Setup) → LoadsSetup (setup_texts call.store.contents job part) (Ok s)
-    → (let r : Result Setup LoadFault = Ok s in OnlyLoads call.store store r) → ShowsPlanOr s name (from call store) → Serves (plan job part name workers) call
-plan_serves job part name workers call store s read loads shown = whole (subst (λ (view : StoreView). ShowsPlanOr s name (from call view)) (same_view call.store store loads.only loads.reads) shown)
+pub plan_serves : (job part name : List ℕ) (workers : ℕ) (call : Call) (store : StoreView) (s : Setup)
+    → ((contents : List ℕ → Option (List ℕ)) → AreHeld contents call.store.log store.log → LoadsSetup (setup_texts contents job part) (Ok s)) → IsSetup s
+    → (let r : Result Setup LoadFault = Ok s in OnlyLoads call.store store r) → call.store_after.log ≡ store.log → ShowsPlanOr s name (from call store) → Serves (plan job part name workers) call
+plan_serves job part name workers call store s read ready loads logged shown = whole (subst (λ (view : StoreView). ShowsPlanOr s name (from call view)) (same_view call.store store loads.only loads.reads) shown)
   where
+    own : HoldsReads call.store.contents call
+    own = holds_after call.store.contents call store logged loads.held
+
     whole : ShowsPlanOr s name (from call (record call.store { log = store.log })) → Serves (plan job part name workers) call
-    whole (inl p) = record { outcome = answered (planned s.job.unit name p.answer); is = (refl, record { job = s.job; part = s.part; unit_is = refl; setup_is = read; is = p.is }); failed = tt; shows = logged_anyhow call store.log _ p.shows }
-    whole (inr m) = record { outcome = no_memory; is = tt; failed = tt; shows = logged_anyhow call store.log _ m }
+    whole (inl p) =
+        answer_serves (plan job part name workers) call (planned s.job s.part name p.answer)
+        (λ contents holds. (refl, record { setup_is = read contents (holds_before contents call store logged holds); job_ok = ready.job_ok; is = p.is })) own
+        (inl (logged_anyhow call store.log _ p.shows))
+    whole (inr m) = short_serves (plan job part name workers) call own (logged_anyhow call store.log _ m)
 
 pub plan_load_fault : (contents : List ℕ → Option (List ℕ)) (job part name : List ℕ) (workers : ℕ) (f : LoadFault) → LoadsSetup (setup_texts contents job part) (Err f)
     → IsOutcome contents (plan job part name workers) (fault_outcome f)
@@ -33,7 +41,7 @@ plan_load_fault contents job part name workers (load_fault.ReadFault file) h = h
 plan_load_fault contents job part name workers (load_fault.Unfit fault) h = h
 
 -- the answer is shown
-pub made_shows : (s : Setup) (name : List ℕ) (call : Call) (a : PlanAnswer) → IsPlanAnswer s.job s.part a → ShowsOr (answered (planned s.job.unit name a)) call → ShowsPlanOr s name call
+pub made_shows : (s : Setup) (name : List ℕ) (call : Call) (a : PlanAnswer) → IsPlanAnswer s.job s.part a → ShowsOr (answered (planned s.job s.part name a)) call → ShowsPlanOr s name call
 made_shows s name call a is (inl shown) = inl (record { answer = a; is = is; shows = shown })
 made_shows s name call a is (inr m) = inr m
 
@@ -41,11 +49,11 @@ made_shows s name call a is (inr m) = inr m
 pub fault_shows : (s : Setup) (name : List ℕ) (call : Call) (f : PlanFault) → IsPlanFault s.job s.part f → call.store_after ≡ call.store
     → PrintsPlanFault s.job.unit f call.status call.sink call.sink_after → ShowsPlanOr s name call
 fault_shows s name call (plan_fault.TooManyNodes nodes) is same p =
-    made_shows s name call (too_many_nodes nodes) is (answer_shows call (planned s.job.unit name (too_many_nodes nodes)) refl (untouched call same) (unread call same) p)
+    made_shows s name call (too_many_nodes nodes) is (answer_shows call (planned s.job s.part name (too_many_nodes nodes)) refl (untouched call same) (unread call same) p)
 fault_shows s name call plan_fault.TooManyMoves is same p =
-    made_shows s name call too_many_moves is (answer_shows call (planned s.job.unit name too_many_moves) refl (untouched call same) (unread call same) p)
+    made_shows s name call too_many_moves is (answer_shows call (planned s.job s.part name too_many_moves) refl (untouched call same) (unread call same) p)
 fault_shows s name call (plan_fault.Uncut row col top) is same p =
-    made_shows s name call (uncut row col top) is (answer_shows call (planned s.job.unit name (uncut row col top)) refl (untouched call same) (unread call same) p)
+    made_shows s name call (uncut row col top) is (answer_shows call (planned s.job s.part name (uncut row col top)) refl (untouched call same) (unread call same) p)
 fault_shows s name call (plan_fault.Held number row col) is same p =
-    made_shows s name call (held number row col) is (answer_shows call (planned s.job.unit name (held number row col)) refl (untouched call same) (unread call same) p)
+    made_shows s name call (held number row col) is (answer_shows call (planned s.job s.part name (held number row col)) refl (untouched call same) (unread call same) p)
 fault_shows s name call plan_fault.WantOfMemory is same p = inr (short_shows call same p)

@@ -1,13 +1,11 @@
 -- The work on `rest`: what was read and printed, put together.
 use Rattle.std.proofs.Common.{◌≡◌, ℕ, suc, ◌+◌, ◌<◌, List, [], ◌∷◌, ◌++◌, length, take, Option, Some, None, Result, Ok, Err, refl, sym, ap, subst, ◌∙◌, inl, inr}
-use Rattle.std.proofs.Math.Path.{fun_ext}
 use Rattle.std.proofs.lemmas.List.{get_or_default, take_more}
 use Rattle.std.specs.Prelude.{IfSome, slice_index_or}
 use Rattle.std.specs.Global.{Vec}
 use Rattle.mill_base.specs.declared.points.Tri.{Tri}
 use Rattle.mill_command.specs.Requests.{rest}
 use Rattle.mill_io.specs.Readings.{Reading}
-use Rattle.mill_io.specs.Views.{StoreView, ReadsOnly}
 use Rattle.mill_job.specs.declared.job.Job.{Job}
 use Rattle.mill_list.specs.declared.step.Step.{Step}
 use Rattle.mill_verify.specs.Files.{File as CutFile}
@@ -18,19 +16,15 @@ use Rattle.mill_load.specs.declared.load.LoadFault.TheVariants.{Memory, ReadFaul
 use Rattle.mill_load.specs.declared.load.Unfit.TheVariants.{TooLong, JobRefused, PartRefused, ListRefused, ProgramRefused, PartTop}
 use Rattle.mill_run.specs.declared.rest.Listed.{Listed}
 use Rattle.mill_run.specs.Answers.{judged_files}
-use Rattle.mill_run.specs.Calls.{Call}
-use Rattle.mill_run.specs.inner.Loads.{FailsInRest, LoadsFiles, LoadsList, StopsAtStep, rest_name}
-use Rattle.mill_load.specs.Loads.{LoadsProgram, LoadsSetup, NamesFault, OnlyLoads}
+use Rattle.mill_run.specs.Calls.{Call, HoldsReads}
+use Rattle.mill_run.specs.inner.Loads.{AreFilesReady, FailsInRest, LoadsFiles, LoadsList, StopsAtStep, rest_name}
+use Rattle.mill_load.specs.Loads.{LoadsProgram, LoadsSetup, NamesFault, OnlyLoads, ReadsFile}
 use Rattle.mill_run.specs.inner.Prints.{TriesListVerdict, fault_outcome}
 use Rattle.mill_run.specs.Outcomes.{no_memory, Fails, IsOutcome, Serves}
 use Rattle.mill_run.specs.Words.{RestFiles}
 use Rattle.mill_run.specs.Rest.{RestTexts, rest_texts, ReadsList, step_at, ReadsStep, ReadsSteps, ReadsToStep, IsUnfitRest, IsReadBeforeRest}
 use Rattle.mill_load.specs.Setup.{ReadsSetup}
-use Rattle.mill_run.proofs.Serving.{answer_serves, answer_shows, printed_shows}
-
--- a store that was only read tells the same of every name
-pub contents_stay : (old new : StoreView) → ReadsOnly old new → new.contents ≡ old.contents
-contents_stay old new only = fun_ext (λ (name : List ℕ). only.contents name)
+use Rattle.mill_run.proofs.Serving.{answer_serves, answer_shows, printed_shows, short_serves}
 
 -- ---- the list
 
@@ -59,6 +53,17 @@ pub list_told : (job : Job) (told : Option (List ℕ)) (items : List ℕ) (r : R
     → LoadsList job told r
 list_told job None items r same h = untold_list job items r h
 list_told job (Some text) items r same h = subst (λ (t : List ℕ). LoadsList job (Some t) r) same h
+
+-- there were no bytes of it
+pub no_list_bytes : (job : Job) (told : Option (List ℕ)) (f : LoadFault) → ReadsFile told ListFile (Err f) → LoadsList job told (Err f)
+no_list_bytes job told Memory h = tt
+no_list_bytes job told (ReadFault file) h = subst (λ (x : File). LoadsList job told (Err (ReadFault x))) (sym h) tt
+no_list_bytes job told (Unfit (TooLong file)) h = subst (λ (x : File). LoadsList job told (Err (Unfit (TooLong x)))) (sym h.0) h.1
+no_list_bytes job told (Unfit (JobRefused fault)) h = absurd h
+no_list_bytes job told (Unfit (PartRefused fault)) h = absurd h
+no_list_bytes job told (Unfit (ListRefused fault)) h = absurd h
+no_list_bytes job told (Unfit (ProgramRefused file fault)) h = absurd h
+no_list_bytes job told (Unfit (PartTop height top unit)) h = absurd h
 
 -- ---- its programs, in turn
 
@@ -162,45 +167,46 @@ no_step texts job part steps log f r l s = which f s.stops
 -- ---- which read failed
 
 -- that of the job or of the part
-pub setup_failed : (texts : RestTexts) (names : RestFiles) (log : List Reading) (f : LoadFault) → LoadsSetup texts.setup (Err f) → NamesFault (rest_name names) log f → FailsInRest texts names log f
-setup_failed texts names log Memory told h = tt
-setup_failed texts names log (ReadFault JobFile) told h = h
-setup_failed texts names log (ReadFault PartFile) told h = h
-setup_failed texts names log (ReadFault ProgramFile) told h = h
-setup_failed texts names log (ReadFault ListFile) told h = h
-setup_failed texts names log (ReadFault (StepProgram k)) told h = absurd told
-setup_failed texts names log (Unfit fault) told h = tt
+pub setup_failed : (contents : List ℕ → Option (List ℕ)) (names : RestFiles) (log : List Reading) (f : LoadFault) → LoadsSetup (rest_texts contents names).setup (Err f) → NamesFault (rest_name names) log f
+    → FailsInRest contents names log f
+setup_failed contents names log Memory told h = tt
+setup_failed contents names log (ReadFault JobFile) told h = h
+setup_failed contents names log (ReadFault PartFile) told h = h
+setup_failed contents names log (ReadFault ProgramFile) told h = h
+setup_failed contents names log (ReadFault ListFile) told h = h
+setup_failed contents names log (ReadFault (StepProgram k)) told h = absurd told
+setup_failed contents names log (Unfit fault) told h = tt
 
 -- that of the list
-pub list_failed : (texts : RestTexts) (names : RestFiles) (log : List Reading) (job : Job) (told : Option (List ℕ)) (f : LoadFault) → LoadsList job told (Err f) → NamesFault (rest_name names) log f
-    → FailsInRest texts names log f
-list_failed texts names log job told Memory is h = tt
-list_failed texts names log job told (ReadFault JobFile) is h = h
-list_failed texts names log job told (ReadFault PartFile) is h = h
-list_failed texts names log job told (ReadFault ProgramFile) is h = h
-list_failed texts names log job told (ReadFault ListFile) is h = h
-list_failed texts names log job told (ReadFault (StepProgram k)) is h = absurd is
-list_failed texts names log job told (Unfit fault) is h = tt
+pub list_failed : (contents : List ℕ → Option (List ℕ)) (names : RestFiles) (log : List Reading) (job : Job) (told : Option (List ℕ)) (f : LoadFault) → LoadsList job told (Err f) → NamesFault (rest_name names) log f
+    → FailsInRest contents names log f
+list_failed contents names log job told Memory is h = tt
+list_failed contents names log job told (ReadFault JobFile) is h = h
+list_failed contents names log job told (ReadFault PartFile) is h = h
+list_failed contents names log job told (ReadFault ProgramFile) is h = h
+list_failed contents names log job told (ReadFault ListFile) is h = h
+list_failed contents names log job told (ReadFault (StepProgram k)) is h = absurd is
+list_failed contents names log job told (Unfit fault) is h = tt
 
 -- that of the program of a step
-pub step_failed : (texts : RestTexts) (names : RestFiles) (job : Job) (part : List Tri) (steps : List Step) (log : List Reading) (f : LoadFault) → ReadsSetup texts.setup job part
-    → ReadsList texts job steps → StopsAtStep texts.programs job steps log f → FailsInRest texts names log f
-step_failed texts names job part steps log f r l s = which f s.stops s.failed
+pub step_failed : (contents : List ℕ → Option (List ℕ)) (names : RestFiles) (job : Job) (part : List Tri) (steps : List Step) (log : List Reading) (f : LoadFault)
+    → ReadsSetup (rest_texts contents names).setup job part → ReadsList (rest_texts contents names) job steps → StopsAtStep contents job steps log f → FailsInRest contents names log f
+step_failed contents names job part steps log f r l s = which f s.stops s.failed
   where
     step : Step
     step = step_at steps s.number
 
-    before : ReadsToStep texts job step s.number
+    before : ReadsToStep (rest_texts contents names) job step s.number
     before = record { part = part; steps = steps; files = s.files; setup_is = r; list_is = l; there = s.there; step_is = refl; before = s.before }
 
-    which : (g : LoadFault) → LoadsProgram job (texts.programs step.program) (StepProgram s.number) (Err g) → NamesFault (λ file. step.program) log g → FailsInRest texts names log g
+    which : (g : LoadFault) → LoadsProgram job (contents step.program) (StepProgram s.number) (Err g) → NamesFault (λ file. step.program) log g → FailsInRest contents names log g
     which Memory is h = tt
-    which (ReadFault file) is h = subst (λ (x : File). FailsInRest texts names log (ReadFault x)) (sym is) (record { job = job; step = step; before = before; last = h })
+    which (ReadFault file) is h = subst (λ (x : File). FailsInRest contents names log (ReadFault x)) (sym is) (record { job = job; step = step; before = before; last = h })
     which (Unfit fault) is h = tt
 
 -- so the outcome names the file
 pub rest_failed : (contents : List ℕ → Option (List ℕ)) (job part list : List ℕ) (workers : ℕ) (log : List Reading) (f : LoadFault)
-    → FailsInRest (rest_texts contents (record { job = job; part = part; list = list })) (record { job = job; part = part; list = list }) log f
+    → FailsInRest contents (record { job = job; part = part; list = list }) log f
     → Fails contents (rest job part list workers) log (fault_outcome f)
 rest_failed contents job part list workers log Memory h = tt
 rest_failed contents job part list workers log (ReadFault JobFile) h = h
@@ -220,11 +226,10 @@ rest_load_fault contents job part list workers (Unfit fault) h = h
 
 -- all was read, and the verdict on it is printed
 pub rest_serves : (job part list : List ℕ) (workers : ℕ) (call : Call) (l : Listed)
-    → LoadsFiles (rest_texts call.store.contents (record { job = job; part = part; list = list })) (Ok l)
+    → ((contents : List ℕ → Option (List ℕ)) → HoldsReads contents call → LoadsFiles (rest_texts contents (record { job = job; part = part; list = list })) (Ok l)) → AreFilesReady l
     → (let r : Result Listed LoadFault = Ok l in OnlyLoads call.store call.store_after r) → TriesListVerdict l call.status call.sink call.sink_after → Serves (rest job part list workers) call
-rest_serves job part list workers call l read loads (inl v) =
-    answer_serves (rest job part list workers) call (judged_files l.job l.part l.files.items v.verdict)
-    (record { steps = read.0; all_read = read.1; is = v.is; safe = v.safe; named = v.named })
-    (answer_shows call (judged_files l.job l.part l.files.items v.verdict) refl loads.only loads.reads v.printed)
-rest_serves job part list workers call l read loads (inr m) =
-    record { outcome = no_memory; is = tt; failed = tt; shows = printed_shows call no_memory refl loads.only loads.reads m }
+rest_serves job part list workers call l read ready loads (inl v) =
+    answer_serves (rest job part list workers) call (judged_files l.job l.part l.steps.items l.files.items v.verdict)
+    (λ contents held. record { all_read = read contents held; job_ok = ready.job_ok; files_ok = ready.files_ok; is = v.is; safe = v.safe; named = v.named }) loads.held
+    (answer_shows call (judged_files l.job l.part l.steps.items l.files.items v.verdict) refl loads.only loads.reads v.printed)
+rest_serves job part list workers call l read ready loads (inr m) = short_serves (rest job part list workers) call loads.held (printed_shows call no_memory refl loads.only loads.reads m)

@@ -27,7 +27,7 @@ use Rattle.mill_load.specs.Prints.{PrintsMade}
 use Rattle.mill_run.specs.inner.Prints.{PrintsPlanFault, TriesSample}
 use Rattle.mill_run.specs.Outcomes.{no_memory, Serves}
 use Rattle.mill_run.specs.Sample.{sample_line}
-use Rattle.mill_run.proofs.Serving.{same_store, answer_serves, answer_shows, made_prints, printed_shows}
+use Rattle.mill_run.proofs.Serving.{same_store, answer_serves, answer_shows, made_prints, printed_shows, short_serves, unread_holds}
 
 ok_is : {A E : Type 0} (a b : A) → (let r : Result A E = Ok a in r) ≡ Ok b → a ≡ b
 ok_is a b e = cc
@@ -87,5 +87,5 @@ sample_serves n workers call same tried = go tried
     reads = ap (λ (v : StoreView). v.read_faults) same
 
     go : TriesSample n call.status call.sink call.sink_after → Serves (sample n workers) call
-    go (inl p) = answer_serves (sample n workers) call (sampled n p.answer) (refl, p.is) (answer_shows call (sampled n p.answer) refl only reads p.printed)
-    go (inr m) = record { outcome = no_memory; is = tt; failed = tt; shows = printed_shows call no_memory refl only reads m }
+    go (inl p) = answer_serves (sample n workers) call (sampled n p.answer) (λ contents given. (refl, p.is)) (unread_holds call same) (answer_shows call (sampled n p.answer) refl only reads p.printed)
+    go (inr m) = short_serves (sample n workers) call (unread_holds call same) (printed_shows call no_memory refl only reads m)

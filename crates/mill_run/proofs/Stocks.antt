@@ -2,6 +2,7 @@
 use Rattle.std.proofs.Common.{◌≡◌, ℕ, List, ◌++◌, length, take, drop, Option, Result, Ok, Err, refl, sym, subst, inl, inr, arith}
 use Rattle.std.proofs.lemmas.List.{append-nil, drop_all, take_all}
 use Rattle.mill_command.specs.Requests.{stock}
+use Rattle.mill_io.specs.Readings.{AreHeld}
 use Rattle.mill_io.specs.Views.{StoreView}
 use Rattle.mill_job.specs.declared.job.Job.{Job}
 use Rattle.mill_load.specs.declared.file.File.{File}
@@ -11,13 +12,14 @@ use Rattle.mill_load.specs.declared.load.LoadFault.TheVariants.{Memory, ReadFaul
 use Rattle.mill_load.specs.declared.load.Unfit.TheVariants.{TooLong, JobRefused, PartRefused, ListRefused, ProgramRefused, PartTop}
 use Rattle.mill_run.specs.declared.stock.Cutting.{Cutting}
 use Rattle.mill_run.specs.Answers.{stocked}
-use Rattle.mill_run.specs.Calls.{Call}
-use Rattle.mill_run.specs.inner.Loads.{LoadsCutting}
+use Rattle.mill_run.specs.Calls.{Call, HoldsReads}
+use Rattle.mill_run.specs.inner.Loads.{IsCutting, LoadsCutting}
 use Rattle.mill_load.specs.Loads.{LoadsJob, LoadsProgram, OnlyLoads}
-use Rattle.mill_run.specs.Outcomes.{no_memory, answered, IsOutcome, ShowsOr, Serves}
+use Rattle.mill_run.specs.Outcomes.{answered, IsOutcome, ShowsOr, Serves}
 use Rattle.mill_run.specs.inner.Prints.{ShowsStockOr, fault_outcome}
 use Rattle.mill_run.specs.Stock.{StockAnswer, StockTexts, stock_texts, IsStockAnswer, IsReadBeforeStock, IsUnfitStock, ReadsStockJob}
-use Rattle.mill_run.proofs.Storing.{from, logged_anyhow, same_view}
+use Rattle.mill_run.proofs.Serving.{answer_serves, short_serves}
+use Rattle.mill_run.proofs.Storing.{from, holds_after, holds_before, logged_anyhow, same_view}
 
 -- ---- what kept it from its files
 
@@ -70,15 +72,22 @@ put_back old new n as_long long = rw (drop_all (length new) old (omega arith), a
 -- ---- the answer
 
 -- the answer is shown
-pub answer_drawn : (c : Cutting) (name : List ℕ) (call : Call) (a : StockAnswer) → IsStockAnswer c.job c.moves.items a → ShowsOr (answered (stocked name a)) call → ShowsStockOr c name call
+pub answer_drawn : (c : Cutting) (name : List ℕ) (call : Call) (a : StockAnswer) → IsStockAnswer c.job c.moves.items a → ShowsOr (answered (stocked c.job c.moves.items name a)) call → ShowsStockOr c name call
 answer_drawn c name call a is (inl shown) = inl (record { answer = a; is = is; shows = shown })
 answer_drawn c name call a is (inr m) = inr m
 
 -- job and program were read, and the answer to them is shown
-pub stock_serves : (job program name : List ℕ) (call : Call) (store : StoreView) (c : Cutting) → LoadsCutting (stock_texts call.store.contents job program) (Ok c)
-    → (let r : Result Cutting LoadFault = Ok c in OnlyLoads call.store store r) → ShowsStockOr c name (from call store) → Serves (stock job program name) call
-stock_serves job program name call store c read loads shown = whole (subst (λ (view : StoreView). ShowsStockOr c name (from call view)) (same_view call.store store loads.only loads.reads) shown)
+pub stock_serves : (job program name : List ℕ) (call : Call) (store : StoreView) (c : Cutting)
+    → ((contents : List ℕ → Option (List ℕ)) → AreHeld contents call.store.log store.log → LoadsCutting (stock_texts contents job program) (Ok c)) → IsCutting c
+    → (let r : Result Cutting LoadFault = Ok c in OnlyLoads call.store store r) → call.store_after.log ≡ store.log → ShowsStockOr c name (from call store) → Serves (stock job program name) call
+stock_serves job program name call store c read ready loads logged shown = whole (subst (λ (view : StoreView). ShowsStockOr c name (from call view)) (same_view call.store store loads.only loads.reads) shown)
   where
+    own : HoldsReads call.store.contents call
+    own = holds_after call.store.contents call store logged loads.held
+
     whole : ShowsStockOr c name (from call (record call.store { log = store.log })) → Serves (stock job program name) call
-    whole (inl p) = record { outcome = answered (stocked name p.answer); is = (refl, record { job = c.job; moves = c.moves.items; all_read = read; is = p.is }); failed = tt; shows = logged_anyhow call store.log _ p.shows }
-    whole (inr m) = record { outcome = no_memory; is = tt; failed = tt; shows = logged_anyhow call store.log _ m }
+    whole (inl p) =
+        answer_serves (stock job program name) call (stocked c.job c.moves.items name p.answer)
+        (λ contents held. (refl, record { all_read = read contents (holds_before contents call store logged held); job_ok = ready.job_ok; moves_ok = ready.moves_ok; is = p.is })) own
+        (inl (logged_anyhow call store.log _ p.shows))
+    whole (inr m) = short_serves (stock job program name) call own (logged_anyhow call store.log _ m)

@@ -2,10 +2,10 @@
 use Rattle.std.proofs.Common.{◌≡◌, ◌⊎◌, ℕ, List, Option, None, Some, refl, sym, ap, subst, ◌∙◌, inl, inr}
 use Rattle.std.proofs.Math.Path.{fun_ext}
 use Rattle.mill_io.specs.Contents.{AppendedPart}
-use Rattle.mill_io.specs.Readings.{Reading}
+use Rattle.mill_io.specs.Readings.{AreHeld, Reading}
 use Rattle.mill_io.specs.Views.{StoreView, ReadsOnly, WritesOnly, IsStored, IsPartStored, IsWritten}
 use Rattle.mill_run.specs.Answers.{Answer, answer_file, answer_line, answer_status}
-use Rattle.mill_run.specs.Calls.{Call, CanCount, NamedText, Stores}
+use Rattle.mill_run.specs.Calls.{Call, CanCount, HoldsReads, NamedText, Stores}
 use Rattle.mill_run.specs.Outcomes.{Outcome, no_memory, answered, outcome_file, FailsToPrint, FailsToStore, Shows, ShowsWhole}
 use Rattle.mill_load.specs.Prints.{Prints}
 use Rattle.mill_run.specs.inner.Prints.{PrintsOutcome}
@@ -65,6 +65,13 @@ module _ (call : Call) (log : List Reading) where
 
   pub logged_anyhow : (o : Outcome) → Shows later o → Shows call o
   logged_anyhow o h = record { reads = h.reads; way = way_anyhow o h.way }
+
+-- files that hold what each read of the call gave hold what was given before the storing, which makes no read
+pub holds_before : (contents : List ℕ → Option (List ℕ)) (call : Call) (store : StoreView) → call.store_after.log ≡ store.log → HoldsReads contents call → AreHeld contents call.store.log store.log
+holds_before contents call store unread held = subst (λ (log : List Reading). AreHeld contents call.store.log log) unread held
+
+pub holds_after : (contents : List ℕ → Option (List ℕ)) (call : Call) (store : StoreView) → call.store_after.log ≡ store.log → AreHeld contents call.store.log store.log → HoldsReads contents call
+holds_after contents call store unread held = subst (λ (log : List Reading). AreHeld contents call.store.log log) (sym unread) held
 
 pub untouched : (call : Call) → call.store_after ≡ call.store → ReadsOnly call.store call.store_after
 untouched call same = subst (λ (v : StoreView). ReadsOnly call.store v) (sym same) (same_store call.store)

@@ -2,6 +2,7 @@
 use Rattle.std.specs.Prelude.{◌≡◌, ◌⊎◌, ◌↔◌, ◌<◌, ◌-◌, ◌^◌, ℕ, List, Option, Some, None}
 use Rattle.std.specs.Process.{exit_status}
 use Rattle.std.specs.declared.process.ExitCode.{ExitCode}
+use Rattle.mill_io.specs.Readings.{AreHeld}
 use Rattle.mill_io.specs.Views.{StoreView, SinkView, ReadsOnly, IsStored}
 use Rattle.mill_load.specs.declared.status.Status.{Status}
 use Rattle.mill_load.specs.Statuses.{status_code}
@@ -22,6 +23,10 @@ call_of status store store_after sink sink_after =
 abbrev pub ended_call : ExitCode → StoreView → StoreView → SinkView → SinkView → Call
 ended_call code store store_after sink sink_after =
     record { status = exit_status code; store = store; store_after = store_after; sink = sink; sink_after = sink_after }
+
+-- files of these contents hold what each read of the call gave
+abbrev pub HoldsReads : (List ℕ → Option (List ℕ)) → Call → Type 0
+HoldsReads contents call = AreHeld contents call.store.log call.store_after.log
 
 -- each count of faults can still rise, so that a failed call is seen in it
 pub record CanCount (store : StoreView) (sink : SinkView) : Type 0 where
@@ -44,6 +49,11 @@ BlamesWrites call =
 abbrev pub BlamesReads : Call → Type 0
 BlamesReads call =
     (call.status ≡ 6) ↔ ((call.store.read_faults < call.store_after.read_faults) × (call.sink_after.faults ≡ call.sink.faults))
+
+-- the status tells of a failed write, and of a failed read
+pub record BlamesFaults (call : Call) : Type 0 where
+  pub write : BlamesWrites call
+  pub read : BlamesReads call
 
 -- a text and the name that it is to be stored under
 pub record NamedText : Type 0 where

@@ -1,17 +1,19 @@
--- What one call of the program means.
-use Rattle.std.specs.Prelude.{◌⊎◌, ◌≡◌, ◌≢◌, ℕ, ℤ, false, List, length, Some}
+-- What one call of the program means. What is said of files is said of whatever they hold, if they hold what the reads gave: `contents` tell of each name what its file holds, or nothing.
+-- What the store itself tells holds that too (`held` of HasOutcome).
+use Rattle.std.specs.Prelude.{◌⊎◌, ◌≡◌, ◌≢◌, ℕ, ℤ, false, List, length, All, Option, Some}
 use Rattle.mill_io.specs.Views.{IsWritten, IsStored}
 use Rattle.mill_base.specs.declared.points.Tri.{Tri}
 use Rattle.mill_base.specs.declared.motion.Move.{Move}
 use Rattle.mill_command.specs.Requests.{Request, is_taken, request}
 use Rattle.mill_dexel.specs.Tops.{uncut}
+use Rattle.mill_job.specs.Jobs.{IsJob}
 use Rattle.mill_job.specs.declared.job.Job.{Job}
 use Rattle.mill_plan.specs.Plans.{done}
 use Rattle.mill_stl.specs.Written.{ReadsBack}
 use Rattle.mill_verify.specs.Verdicts.{IsRejection, NamesLeaf}
 use Rattle.mill_list.specs.declared.step.Step.{Step}
 use Rattle.mill_verify.specs.Claims.{CutsSafely}
-use Rattle.mill_verify.specs.Files.{File as CutFile}
+use Rattle.mill_verify.specs.Files.{File as CutFile, IsFileOf}
 use Rattle.mill_verify.specs.ListClaims.{FilesCutSafely}
 use Rattle.mill_verify.specs.Lists.{IsListVerdict}
 use Rattle.mill_verify.specs.declared.list.ListVerdict.{ListVerdict}
@@ -19,22 +21,23 @@ use Rattle.mill_verify.specs.declared.verdict.Verdict.TheVariants.{Accept, Rejec
 use Rattle.mill_verify.specs.declared.verdict.Reason.{Reason}
 use Rattle.mill_job.specs.declared.job.Place.{Place}
 use Rattle.mill_run.specs.Answers.{Answer, IsAnswer, answer_status, answer_line, answer_file}
-use Rattle.mill_run.specs.Calls.{Call, NoFault, Stores}
+use Rattle.mill_run.specs.Calls.{Call, HoldsReads, NoFault, Stores}
+use Rattle.mill_load.specs.Loads.{AreMoves}
 use Rattle.mill_load.specs.Places.{ReadsPlace, ReadsHeight}
 use Rattle.mill_run.specs.Outcomes.{ShowsHelp, RefusesWords}
 use Rattle.mill_run.specs.Plan.{plan_line}
-use Rattle.mill_run.specs.Rest.{RestTexts, rest_texts, AreRestTold, ReadsRest, IsFileNamed, list_status, list_line}
+use Rattle.mill_run.specs.Rest.{rest_texts, AreRestTold, ReadsRest, IsFileNamed, list_status, list_line}
 use Rattle.mill_load.specs.Setup.{Fits, setup_texts, AreSetupTold, ReadsSetup}
 use Rattle.mill_run.specs.Stock.{stock_texts, AreStockTold, ReadsStock, stock_surface, drawn, stock_line}
-use Rattle.mill_run.specs.Verify.{Texts, texts_of, AreTold, Reads, Judges, verdict_line}
+use Rattle.mill_run.specs.Verify.{texts_of, AreTold, Reads, Judges, verdict_line}
 use Rattle.mill_run.specs.Words.{Files, AsksVerify, PlanFiles, AsksPlan, DropWords, AsksDrop, LevelWords, AsksLevel, StockFiles, AsksStock, RestFiles, AsksRest, AsksSample}
 
 -- ---- from bytes to bytes
 
--- status, line and stored text are those of the answer to the request
+-- status, line and stored text are those of the answer to the request, which is right by whatever the files hold, if they hold what the reads gave
 pub record Answered (call : Call) (asked : Request) : Type 0 where
   pub answer : Answer
-  pub is : IsAnswer call.store.contents asked answer
+  pub is : (contents : List ℕ → Option (List ℕ)) → HoldsReads contents call → IsAnswer contents asked answer
   pub status : call.status ≡ answer_status answer
   pub printed : IsWritten (answer_line answer) call.sink call.sink_after
   pub stored : Stores call (answer_file answer)
@@ -43,28 +46,29 @@ pub record Answered (call : Call) (asked : Request) : Type 0 where
 abbrev pub Answers : List (List ℕ) → Call → Type 0
 Answers words call = (asked : Request) → request words ≡ Some asked → NoFault call → call.status ≢ 5 → Answered call asked
 
--- where the files are told and read, the part isn't over the job's top and nothing of the outside failed, a program is accepted or rejected;
+-- where the files are told, hold what the reads gave and are read, the part isn't over the job's top and nothing of the outside failed, a program is accepted or rejected;
 -- a plan is stored, or leaves stock uncut, or its holder would touch stock, or it is too large; a drop height is told; the chains at a height are told, or the lattice is too large; or memory was short;
--- where the job's and the program's file are told and read and nothing of the outside failed, the stock is stored, or its surface is too large; or memory was short;
--- where the files and the programs that the list names are told and read, the part isn't over the job's top and nothing of the outside failed, the programs are accepted or rejected; or memory was short;
+-- where the job's and the program's file are told, hold what the reads gave and are read, and nothing of the outside failed, the stock is stored, or its surface is too large; or memory was short;
+-- where the files and the programs that the list names are told, hold what the reads gave and are read, the part isn't over the job's top and nothing of the outside failed, the programs are accepted or rejected; or memory was short;
 -- where nothing of the outside failed, a sample is planned, or its plan leaves stock uncut, or its holder would touch stock, or it is too large; or memory was short
 pub record Completes (words : List (List ℕ)) (call : Call) : Type 0 where
-  pub verifies : (files : Files) (job : Job) (part : List Tri) (moves : List Move) → AsksVerify words files → AreTold (texts_of call.store.contents files)
-      → Reads (texts_of call.store.contents files) job part moves → NoFault call → (call.status ≡ 0) ⊎ ((call.status ≡ 3) ⊎ (call.status ≡ 5))
-  pub plans : (files : PlanFiles) (job : Job) (part : List Tri) → AsksPlan words files → AreSetupTold (setup_texts call.store.contents files.job files.part)
-      → ReadsSetup (setup_texts call.store.contents files.job files.part) job part → NoFault call
+  pub verifies : (files : Files) (contents : List ℕ → Option (List ℕ)) (job : Job) (part : List Tri) (moves : List Move) → AsksVerify words files → HoldsReads contents call
+      → AreTold (texts_of contents files) → Reads (texts_of contents files) job part moves → NoFault call → (call.status ≡ 0) ⊎ ((call.status ≡ 3) ⊎ (call.status ≡ 5))
+  pub plans : (files : PlanFiles) (contents : List ℕ → Option (List ℕ)) (job : Job) (part : List Tri) → AsksPlan words files → HoldsReads contents call
+      → AreSetupTold (setup_texts contents files.job files.part) → ReadsSetup (setup_texts contents files.job files.part) job part → NoFault call
       → (call.status ≡ 0) ⊎ ((call.status ≡ 8) ⊎ ((call.status ≡ 9) ⊎ (call.status ≡ 5)))
-  pub drops : (given : DropWords) (place : Place) (job : Job) (part : List Tri) → AsksDrop words given → ReadsPlace job.unit given.x given.y place
-      → AreSetupTold (setup_texts call.store.contents given.job given.part) → ReadsSetup (setup_texts call.store.contents given.job given.part) job part
-      → NoFault call → (call.status ≡ 0) ⊎ (call.status ≡ 5)
-  pub levels : (given : LevelWords) (height : ℤ) (job : Job) (part : List Tri) → AsksLevel words given → ReadsHeight job.unit given.z height
-      → AreSetupTold (setup_texts call.store.contents given.job given.part) → ReadsSetup (setup_texts call.store.contents given.job given.part) job part
-      → NoFault call → (call.status ≡ 0) ⊎ ((call.status ≡ 9) ⊎ (call.status ≡ 5))
-  pub stocks : (files : StockFiles) (job : Job) (moves : List Move) → AsksStock words files → AreStockTold (stock_texts call.store.contents files.job files.program)
-      → ReadsStock (stock_texts call.store.contents files.job files.program) job moves → NoFault call → (call.status ≡ 0) ⊎ ((call.status ≡ 9) ⊎ (call.status ≡ 5))
-  pub rests : (names : RestFiles) (job : Job) (part : List Tri) (steps : List Step) (files : List CutFile) → AsksRest words names
-      → AreRestTold (rest_texts call.store.contents names) steps → ReadsRest (rest_texts call.store.contents names) job part steps files → NoFault call
-      → (call.status ≡ 0) ⊎ ((call.status ≡ 3) ⊎ (call.status ≡ 5))
+  pub drops : (given : DropWords) (contents : List ℕ → Option (List ℕ)) (place : Place) (job : Job) (part : List Tri) → AsksDrop words given
+      → ReadsPlace job.unit given.x given.y place → HoldsReads contents call → AreSetupTold (setup_texts contents given.job given.part)
+      → ReadsSetup (setup_texts contents given.job given.part) job part → NoFault call → (call.status ≡ 0) ⊎ (call.status ≡ 5)
+  pub levels : (given : LevelWords) (contents : List ℕ → Option (List ℕ)) (height : ℤ) (job : Job) (part : List Tri) → AsksLevel words given
+      → ReadsHeight job.unit given.z height → HoldsReads contents call → AreSetupTold (setup_texts contents given.job given.part)
+      → ReadsSetup (setup_texts contents given.job given.part) job part → NoFault call → (call.status ≡ 0) ⊎ ((call.status ≡ 9) ⊎ (call.status ≡ 5))
+  pub stocks : (files : StockFiles) (contents : List ℕ → Option (List ℕ)) (job : Job) (moves : List Move) → AsksStock words files → HoldsReads contents call
+      → AreStockTold (stock_texts contents files.job files.program) → ReadsStock (stock_texts contents files.job files.program) job moves → NoFault call
+      → (call.status ≡ 0) ⊎ ((call.status ≡ 9) ⊎ (call.status ≡ 5))
+  pub rests : (names : RestFiles) (contents : List ℕ → Option (List ℕ)) (job : Job) (part : List Tri) (steps : List Step) (files : List CutFile) → AsksRest words names
+      → HoldsReads contents call → AreRestTold (rest_texts contents names) steps
+      → ReadsRest (rest_texts contents names) job part steps files → NoFault call → (call.status ≡ 0) ⊎ ((call.status ≡ 3) ⊎ (call.status ≡ 5))
   pub samples : (n : ℕ) → AsksSample words n → NoFault call → (call.status ≡ 0) ⊎ ((call.status ≡ 8) ⊎ ((call.status ≡ 9) ⊎ (call.status ≡ 5)))
 
 -- where the words aren't taken and nothing of the outside failed, the status is that of help, of a mistake or of want of memory;
@@ -76,22 +80,26 @@ pub record Untaken (words : List (List ℕ)) (call : Call) : Type 0 where
 
 -- ---- what status 0 and status 3 mean
 
--- each file, where it is told, reads as this job, this part and these moves, and the moves are safe
-pub record AcceptsSafely (texts : Texts) : Type 0 where
+-- each file, if it holds what the reads gave, reads as this job, this part and these moves, which are in their ranges, and the moves are safe
+pub record AcceptsSafely (call : Call) (files : Files) : Type 0 where
   pub job : Job
   pub part : List Tri
   pub moves : List Move
-  pub all_read : Reads texts job part moves
+  pub all_read : (contents : List ℕ → Option (List ℕ)) → HoldsReads contents call → Reads (texts_of contents files) job part moves
+  pub job_ok : IsJob job
+  pub moves_ok : AreMoves job moves
   pub safe : CutsSafely job part moves
 
--- each file, where it is told, reads as this job, this part and these moves, the first written test that fails is this one, and the line names it;
+-- each file, if it holds what the reads gave, reads as this job, this part and these moves, which are in their ranges, the first written test that fails is this one, and the line names it;
 -- a leaf that it names is one of the last of its move, and blocked
-pub record RejectsFirst (call : Call) (texts : Texts) : Type 0 where
+pub record RejectsFirst (call : Call) (files : Files) : Type 0 where
   pub job : Job
   pub part : List Tri
   pub moves : List Move
   pub reason : Reason
-  pub all_read : Reads texts job part moves
+  pub all_read : (contents : List ℕ → Option (List ℕ)) → HoldsReads contents call → Reads (texts_of contents files) job part moves
+  pub job_ok : IsJob job
+  pub moves_ok : AreMoves job moves
   pub first : IsRejection job part moves reason
   pub named : NamesLeaf job part (uncut job) moves reason
   pub printed : IsWritten (verdict_line job moves (Reject reason)) call.sink call.sink_after
@@ -102,13 +110,13 @@ pub record RejectsFirst (call : Call) (texts : Texts) : Type 0 where
 -- inside the holder;
 -- status 3 names exactly the first written test that fails
 pub record Headline (words : List (List ℕ)) (call : Call) : Type 0 where
-  pub accepts : (files : Files) → AsksVerify words files → call.status ≡ 0 → AcceptsSafely (texts_of call.store.contents files)
-  pub rejects : (files : Files) → AsksVerify words files → call.status ≡ 3 → RejectsFirst call (texts_of call.store.contents files)
-  pub exactly : (files : Files) (job : Job) (part : List Tri) (moves : List Move) (reason : Reason) → AsksVerify words files
-      → AreTold (texts_of call.store.contents files) → Reads (texts_of call.store.contents files) job part moves → IsRejection job part moves reason
-      → NoFault call → call.status ≢ 5 → call.status ≡ 3
+  pub accepts : (files : Files) → AsksVerify words files → call.status ≡ 0 → AcceptsSafely call files
+  pub rejects : (files : Files) → AsksVerify words files → call.status ≡ 3 → RejectsFirst call files
+  pub exactly : (files : Files) (contents : List ℕ → Option (List ℕ)) (job : Job) (part : List Tri) (moves : List Move) (reason : Reason) → AsksVerify words files
+      → HoldsReads contents call → AreTold (texts_of contents files) → Reads (texts_of contents files) job part moves
+      → IsRejection job part moves reason → NoFault call → call.status ≢ 5 → call.status ≡ 3
 
--- the file holds a text that `verify` accepts with the same job and part, its moves are safe, and the line has its numbers
+-- the file holds a text that `verify` accepts with the same job and part, whatever their files hold, if they hold what the reads gave; its moves are safe, and the line has its numbers
 pub record StoresSafely (call : Call) (files : PlanFiles) : Type 0 where
   pub job : Job
   pub part : List Tri
@@ -117,7 +125,8 @@ pub record StoresSafely (call : Call) (files : PlanFiles) : Type 0 where
   pub columns : ℕ
   pub left : ℤ
   pub stored : IsStored files.out text call.store call.store_after
-  pub accepted : Judges (record { setup = setup_texts call.store.contents files.job files.part; program = Some text }) job part moves (Accept (length moves) columns left)
+  pub accepted : (contents : List ℕ → Option (List ℕ)) → HoldsReads contents call
+      → Judges (record { setup = setup_texts contents files.job files.part; program = Some text }) job part moves (Accept (length moves) columns left)
   pub safe : CutsSafely job part moves
   pub printed : IsWritten (plan_line job.unit (done text (length moves) columns left)) call.sink call.sink_after
 
@@ -125,13 +134,15 @@ pub record StoresSafely (call : Call) (files : PlanFiles) : Type 0 where
 abbrev pub PlanHeadline : List (List ℕ) → Call → Type 0
 PlanHeadline words call = (files : PlanFiles) → AsksPlan words files → call.status ≡ 0 → StoresSafely call files
 
--- the job and the program, where they are told, read as this job and these moves; the file holds a text that reads, in the job's unit, as exactly the surface of the stock after the moves,
--- of which each corner is the point at its column's top and no coordinate is rounded; and the line has the number of its triangles
+-- the job's and the program's file, if they hold what the reads gave, read as this job and these moves, which are in their ranges; the file holds a text that reads, in the job's unit,
+-- as exactly the surface of the stock after the moves, of which each corner is the point at its column's top and no coordinate is rounded; and the line has the number of its triangles
 pub record StoresStock (call : Call) (files : StockFiles) : Type 0 where
   pub job : Job
   pub moves : List Move
   pub text : List ℕ
-  pub all_read : ReadsStock (stock_texts call.store.contents files.job files.program) job moves
+  pub all_read : (contents : List ℕ → Option (List ℕ)) → HoldsReads contents call → ReadsStock (stock_texts contents files.job files.program) job moves
+  pub job_ok : IsJob job
+  pub moves_ok : AreMoves job moves
   pub stored : IsStored files.out text call.store call.store_after
   pub fits : Fits text
   pub reads : ReadsBack job.unit (stock_surface job moves) text
@@ -141,24 +152,28 @@ pub record StoresStock (call : Call) (files : StockFiles) : Type 0 where
 abbrev pub StockHeadline : List (List ℕ) → Call → Type 0
 StockHeadline words call = (files : StockFiles) → AsksStock words files → call.status ≡ 0 → StoresStock call files
 
--- each file, where it is told, reads as this job, this part, these steps and these files, and the files cut safely in turn, each with its step's cutter
-pub record AcceptsFilesSafely (texts : RestTexts) : Type 0 where
+-- each file, if it holds what the reads gave, reads as this job, this part, these steps and these files, which are in their ranges, and the files cut safely in turn, each with its step's cutter
+pub record AcceptsFilesSafely (call : Call) (names : RestFiles) : Type 0 where
   pub job : Job
   pub part : List Tri
   pub steps : List Step
   pub files : List CutFile
-  pub all_read : ReadsRest texts job part steps files
+  pub all_read : (contents : List ℕ → Option (List ℕ)) → HoldsReads contents call → ReadsRest (rest_texts contents names) job part steps files
+  pub job_ok : IsJob job
+  pub files_ok : All (IsFileOf job) files
   pub safe : FilesCutSafely job part files
 
--- each file, where it is told, reads as this job, this part, these steps and these files, the verdict on them is this rejection, and the line names it;
+-- each file, if it holds what the reads gave, reads as this job, this part, these steps and these files, which are in their ranges, the verdict on them is this rejection, and the line names it;
 -- a leaf that it names is one of the last of its move, and blocked
-pub record RejectsFilesFirst (call : Call) (texts : RestTexts) : Type 0 where
+pub record RejectsFilesFirst (call : Call) (names : RestFiles) : Type 0 where
   pub job : Job
   pub part : List Tri
   pub steps : List Step
   pub files : List CutFile
   pub verdict : ListVerdict
-  pub all_read : ReadsRest texts job part steps files
+  pub all_read : (contents : List ℕ → Option (List ℕ)) → HoldsReads contents call → ReadsRest (rest_texts contents names) job part steps files
+  pub job_ok : IsJob job
+  pub files_ok : All (IsFileOf job) files
   pub first : IsListVerdict job part files verdict
   pub rejects : list_status verdict ≡ 3
   pub named : IsFileNamed job part files verdict
@@ -167,8 +182,15 @@ pub record RejectsFilesFirst (call : Call) (texts : RestTexts) : Type 0 where
 -- when `rest` answers 0, the headline of `verify` holds for the moves of all the list's programs in turn, each with its own cutter;
 -- status 3 names exactly the first written test that fails
 pub record RestHeadline (words : List (List ℕ)) (call : Call) : Type 0 where
-  pub accepts : (names : RestFiles) → AsksRest words names → call.status ≡ 0 → AcceptsFilesSafely (rest_texts call.store.contents names)
-  pub rejects : (names : RestFiles) → AsksRest words names → call.status ≡ 3 → RejectsFilesFirst call (rest_texts call.store.contents names)
-  pub exactly : (names : RestFiles) (job : Job) (part : List Tri) (steps : List Step) (files : List CutFile) (verdict : ListVerdict) → AsksRest words names
-      → AreRestTold (rest_texts call.store.contents names) steps → ReadsRest (rest_texts call.store.contents names) job part steps files
-      → IsListVerdict job part files verdict → list_status verdict ≡ 3 → NoFault call → call.status ≢ 5 → call.status ≡ 3
+  pub accepts : (names : RestFiles) → AsksRest words names → call.status ≡ 0 → AcceptsFilesSafely call names
+  pub rejects : (names : RestFiles) → AsksRest words names → call.status ≡ 3 → RejectsFilesFirst call names
+  pub exactly : (names : RestFiles) (contents : List ℕ → Option (List ℕ)) (job : Job) (part : List Tri) (steps : List Step) (files : List CutFile) (verdict : ListVerdict)
+      → AsksRest words names → HoldsReads contents call → AreRestTold (rest_texts contents names) steps
+      → ReadsRest (rest_texts contents names) job part steps files → IsListVerdict job part files verdict → list_status verdict ≡ 3 → NoFault call → call.status ≢ 5 → call.status ≡ 3
+
+-- what status 0 and status 3 of `verify` and of `rest` mean, and status 0 of `plan` and of `stock`
+pub record Headlines (words : List (List ℕ)) (call : Call) : Type 0 where
+  pub verify : Headline words call
+  pub plan : PlanHeadline words call
+  pub stock : StockHeadline words call
+  pub rest : RestHeadline words call

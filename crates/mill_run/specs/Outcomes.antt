@@ -7,7 +7,7 @@ use Rattle.mill_command.specs.Requests.{AsksHelp, IsMistaken, Request, faults, i
 use Rattle.mill_load.specs.declared.file.File.{File}
 use Rattle.mill_load.specs.declared.file.File.TheVariants.{Job as JobFile, Part as PartFile, Program as ProgramFile, List as ListFile, StepProgram}
 use Rattle.mill_run.specs.Answers.{Answer, IsAnswer, answer_status, answer_line, answer_file}
-use Rattle.mill_run.specs.Calls.{Call, NamedText, Stores}
+use Rattle.mill_run.specs.Calls.{Call, HoldsReads, NamedText, Stores}
 use Rattle.mill_run.specs.Drop.{HasPlace}
 use Rattle.mill_load.specs.Faults.{memory_line, read_fault_line}
 use Rattle.mill_run.specs.Level.{HasHeight}
@@ -47,7 +47,7 @@ outcome_file _ = None
 
 -- ---- which outcome it is
 
--- all that a command reads and checks before one of its files holds, by each file that the store tells; `sample` has none
+-- all that a command reads and checks before one of its files holds, by each file that is told; `sample` has none
 abbrev pub ReadsBefore : (List ℕ → Option (List ℕ)) → Request → File → Type 0
 ReadsBefore contents (verify job part program workers) file = IsReadBeforeProgram (texts_of contents (record { job = job; part = part; program = program })) file
 ReadsBefore contents (plan job part out workers) file = IsReadBefore (setup_texts contents job part) file
@@ -154,16 +154,18 @@ pub record Shows (call : Call) (outcome : Outcome) : Type 0 where
 abbrev pub ShowsOr : Outcome → Call → Type 0
 ShowsOr outcome call = Shows call outcome ⊎ Shows call no_memory
 
--- the work on a request came to an outcome, and shows it
+-- the work on a request came to an outcome, which is right by whatever the files hold, if they hold what the reads gave, and shows it; the contents that the store tells hold that
 pub record Serves (asked : Request) (call : Call) : Type 0 where
   pub outcome : Outcome
-  pub is : IsOutcome call.store.contents asked outcome
-  pub failed : Fails call.store.contents asked call.store_after.log outcome
+  pub is : (contents : List ℕ → Option (List ℕ)) → HoldsReads contents call → IsOutcome contents asked outcome
+  pub failed : (contents : List ℕ → Option (List ℕ)) → HoldsReads contents call → Fails contents asked call.store_after.log outcome
+  pub held : HoldsReads call.store.contents call
   pub shows : Shows call outcome
 
--- a call with these words came to an outcome, which is right by each file that the store tells, and shows it
+-- a call with these words came to an outcome, which is right by whatever the files hold, if they hold what the reads gave, and shows it; the contents that the store tells hold that
 pub record HasOutcome (words : List (List ℕ)) (call : Call) : Type 0 where
   pub outcome : Outcome
-  pub is : IsOutcomeOf words call.store.contents outcome
-  pub failed : (asked : Request) → request words ≡ Some asked → Fails call.store.contents asked call.store_after.log outcome
+  pub is : (contents : List ℕ → Option (List ℕ)) → HoldsReads contents call → IsOutcomeOf words contents outcome
+  pub failed : (contents : List ℕ → Option (List ℕ)) → HoldsReads contents call → (asked : Request) → request words ≡ Some asked → Fails contents asked call.store_after.log outcome
+  pub held : HoldsReads call.store.contents call
   pub shows : Shows call outcome

@@ -1,20 +1,19 @@
 -- The command `plan`: the planner's answer to job and part, and how it is shown and stored.
-use Rattle.std.specs.Prelude.{◌≡◌, ℕ, codes, decimal, List, [], ◌∷◌}
+use Rattle.std.specs.Prelude.{ℕ, codes, decimal, List, [], ◌∷◌}
 use Rattle.mill_base.specs.declared.points.Tri.{Tri}
 use Rattle.mill_base.specs.declared.unit.Unit.{Unit}
 use Rattle.mill_decimal.specs.Decimals.{canonical}
+use Rattle.mill_job.specs.Jobs.{IsJob}
 use Rattle.mill_job.specs.declared.job.Job.{Job}
 use Rattle.mill_plan.specs.Plans.{PlanAnswer, IsPlanAnswer, done, too_many_nodes, too_many_moves, uncut, held}
 use Rattle.mill_line.specs.Lines.{line}
 use Rattle.mill_load.specs.Printed.{column_words, nodes_line}
 use Rattle.mill_load.specs.Setup.{SetupTexts, ReadsSetup}
 
--- job and part are read, and this is the planner's answer to them, in the job's unit
-pub record Plans (texts : SetupTexts) (unit : Unit) (answer : PlanAnswer) : Type 0 where
-  pub job : Job
-  pub part : List Tri
-  pub unit_is : unit ≡ job.unit
+-- job and part are read, the job is in its ranges, and this is the planner's answer to them
+pub record Plans (texts : SetupTexts) (job : Job) (part : List Tri) (answer : PlanAnswer) : Type 0 where
   pub setup_is : ReadsSetup texts job part
+  pub job_ok : IsJob job
   pub is : IsPlanAnswer job part answer
 
 -- the exit status of the planner's answer

@@ -1,14 +1,15 @@
--- The command `rest`: what its files say, each where the store tells it, and the verdict on the programs that its list names, in turn on one stock.
+-- The command `rest`: what its files say, each where it is told, and the verdict on the programs that its list names, in turn on one stock.
 use Rattle.std.specs.Prelude.{◌≡◌, ℕ, ◌<◌, pos, codes, decimal, List, [], ◌∷◌, length, take, slice_index_or, All, Option, IsSome, IfSome, Ok, Err}
 use Rattle.mill_base.specs.declared.cutter.Cutter.TheVariants.{Flat}
 use Rattle.mill_base.specs.declared.points.Tri.{Tri}
 use Rattle.mill_decimal.specs.Decimals.{canonical}
 use Rattle.mill_job.specs.declared.fault.JobFault.{JobFault}
+use Rattle.mill_job.specs.Jobs.{IsJob}
 use Rattle.mill_job.specs.declared.job.Job.{Job}
 use Rattle.mill_list.specs.Lists.{IsListOf}
 use Rattle.mill_list.specs.declared.step.Step.{Step}
 use Rattle.mill_block.specs.declared.fault.NgcFault.{NgcFault}
-use Rattle.mill_verify.specs.Files.{File as CutFile, file_at, job_of, stock_before}
+use Rattle.mill_verify.specs.Files.{File as CutFile, IsFileOf, file_at, job_of, stock_before}
 use Rattle.mill_verify.specs.ListClaims.{FilesCutSafely}
 use Rattle.mill_verify.specs.Lists.{IsListVerdict}
 use Rattle.mill_verify.specs.Verdicts.{NamesLeaf}
@@ -26,7 +27,7 @@ use Rattle.mill_load.specs.Programs.{IsProgramText, IsRefusedProgram}
 use Rattle.mill_run.specs.Verify.{NamesMove, reason_words}
 use Rattle.mill_run.specs.Words.{RestFiles}
 
--- what the store tells of the job's, the part's and the list's file, and of each name that a list may give
+-- what is told of the job's, the part's and the list's file, and of each name that a list may give: the text of each, or nothing
 pub record RestTexts : Type 0 where
   pub setup : SetupTexts
   pub list : Option (List ℕ)
@@ -35,7 +36,7 @@ pub record RestTexts : Type 0 where
 abbrev pub rest_texts : (List ℕ → Option (List ℕ)) → RestFiles → RestTexts
 rest_texts contents names = record { setup = setup_texts contents names.job names.part; list = contents names.list; programs = contents }
 
--- it tells job, part and list, and the program of each of these steps
+-- job, part and list are told, and the program of each of these steps
 pub record AreRestTold (texts : RestTexts) (steps : List Step) : Type 0 where
   pub setup : AreSetupTold texts.setup
   pub list : IsSome texts.list
@@ -135,7 +136,8 @@ IsReadBeforeRest texts ListFile = (job : Job) × (part : List Tri) × ReadsSetup
 IsReadBeforeRest texts (StepProgram k) = (job : Job) × (step : Step) × ReadsToStep texts job step k
 IsReadBeforeRest texts file = IsReadBefore texts.setup file
 
--- the last read was one of the program of step k, and it failed; all that comes before it is read
+-- the last read was one of the program of step k, and it failed; all that comes before it is read.
+-- Where the list isn't told, nothing says what its step k is: so this is to be said of every list that holds what was read, and each has that program at step k
 pub record FailsAtStep (texts : RestTexts) (k : ℕ) (log : List Reading) : Type 0 where
   pub job : Job
   pub step : Step
@@ -155,10 +157,11 @@ abbrev pub IsFileNamed : Job → List Tri → List CutFile → ListVerdict → T
 IsFileNamed job part files (Reject f reason) = NamesLeaf (job_of job (file_at files f)) part (stock_before job files f) (file_at files f).moves reason
 IsFileNamed job part files _ = Unit {0}
 
--- all is read, this is the verdict on the files, and if they are accepted they cut safely; what a rejection names blocks the move
-pub record JudgesFiles (texts : RestTexts) (job : Job) (part : List Tri) (files : List CutFile) (verdict : ListVerdict) : Type 0 where
-  pub steps : List Step
+-- all is read, job and files are in their ranges, this is the verdict on the files, and if they are accepted they cut safely; what a rejection names blocks the move
+pub record JudgesFiles (texts : RestTexts) (job : Job) (part : List Tri) (steps : List Step) (files : List CutFile) (verdict : ListVerdict) : Type 0 where
   pub all_read : ReadsRest texts job part steps files
+  pub job_ok : IsJob job
+  pub files_ok : All (IsFileOf job) files
   pub is : IsListVerdict job part files verdict
   pub safe : AreSafe job part files verdict
   pub named : IsFileNamed job part files verdict

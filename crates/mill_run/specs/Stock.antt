@@ -1,9 +1,10 @@
--- The command `stock`: what its two files say, each where the store tells it, and the surface of what the program's moves leave of the stock.
+-- The command `stock`: what its two files say, each where it is told, and the surface of what the program's moves leave of the stock.
 use Rattle.std.specs.Prelude.{◌≡◌, ◌≤◌, ℕ, codes, decimal, List, [], ◌∷◌, length, Option, IsSome, IfSome}
 use Rattle.mill_base.specs.declared.limits.TheConstants.{MAX_TRIANGLES}
 use Rattle.mill_base.specs.declared.motion.Move.{Move}
 use Rattle.mill_base.specs.declared.points.Tri.{Tri}
 use Rattle.mill_dexel.specs.Tops.{top_point}
+use Rattle.mill_job.specs.Jobs.{IsJob}
 use Rattle.mill_job.specs.declared.job.Job.{Job}
 use Rattle.mill_block.specs.declared.fault.NgcFault.{NgcFault}
 use Rattle.mill_stl.specs.Written.{ReadsBack, part_text}
@@ -13,12 +14,13 @@ use Rattle.mill_load.specs.declared.file.File.{File}
 use Rattle.mill_load.specs.declared.file.File.TheVariants.{Job as JobFile, Program as ProgramFile}
 use Rattle.mill_load.specs.declared.load.Unfit.{Unfit}
 use Rattle.mill_load.specs.declared.load.Unfit.TheVariants.{TooLong, JobRefused, ProgramRefused}
+use Rattle.mill_load.specs.Loads.{AreMoves}
 use Rattle.mill_load.specs.Setup.{Fits, IsTooLong, IsTooLongJob, IsJobText, IsRefusedJob}
 use Rattle.mill_load.specs.Programs.{IsProgramText, IsRefusedProgram}
 
 -- ---- the files
 
--- what the store tells of the job's and of the program's file
+-- what is told of the job's and of the program's file: the text of each, or nothing
 pub record StockTexts : Type 0 where
   pub job : Option (List ℕ)
   pub program : Option (List ℕ)
@@ -26,7 +28,7 @@ pub record StockTexts : Type 0 where
 abbrev pub stock_texts : (List ℕ → Option (List ℕ)) → List ℕ → List ℕ → StockTexts
 stock_texts contents job program = record { job = contents job; program = contents program }
 
--- it tells both
+-- both are told
 pub record AreStockTold (texts : StockTexts) : Type 0 where
   pub job : IsSome texts.job
   pub program : IsSome texts.program
@@ -92,11 +94,11 @@ abbrev pub IsStockAnswer : Job → List Move → StockAnswer → Type 0
 IsStockAnswer job moves (drawn text count) = IsSurface job moves text count
 IsStockAnswer job moves (too_many_triangles count) = HasManyTriangles job count
 
--- job and program are read, and this is the answer to them
-pub record DrawsStock (texts : StockTexts) (answer : StockAnswer) : Type 0 where
-  pub job : Job
-  pub moves : List Move
+-- job and program are read, both are in their ranges, and this is the answer to them
+pub record DrawsStock (texts : StockTexts) (job : Job) (moves : List Move) (answer : StockAnswer) : Type 0 where
   pub all_read : ReadsStock texts job moves
+  pub job_ok : IsJob job
+  pub moves_ok : AreMoves job moves
   pub is : IsStockAnswer job moves answer
 
 -- ---- how they are shown

@@ -1,4 +1,4 @@
--- The command `verify`: what its three files say, each where the store tells it, and the verdict on them.
+-- The command `verify`: what its three files say, each where it is told, and the verdict on them.
 use Rattle.std.specs.Prelude.{ℕ, ◌<◌, codes, decimal, List, [], ◌∷◌, length, Option, IsSome, IfSome}
 use Rattle.mill_base.specs.declared.points.Tri.{Tri}
 use Rattle.mill_base.specs.declared.motion.Move.{Move}
@@ -6,6 +6,7 @@ use Rattle.mill_base.specs.declared.unit.Unit.{Unit as LengthUnit}
 use Rattle.mill_decimal.specs.Decimals.{canonical}
 use Rattle.mill_sweep.specs.declared.leaf.Leaf.{Leaf}
 use Rattle.mill_block.specs.declared.fault.NgcFault.{NgcFault}
+use Rattle.mill_job.specs.Jobs.{IsJob}
 use Rattle.mill_job.specs.declared.job.Job.{Job}
 use Rattle.mill_dexel.specs.Tops.{uncut}
 use Rattle.mill_dexel.specs.Turns.{move_at}
@@ -20,12 +21,13 @@ use Rattle.mill_load.specs.declared.file.File.{File}
 use Rattle.mill_load.specs.declared.file.File.TheVariants.{Program as ProgramFile}
 use Rattle.mill_load.specs.declared.load.Unfit.{Unfit}
 use Rattle.mill_load.specs.declared.load.Unfit.TheVariants.{TooLong, ProgramRefused}
+use Rattle.mill_load.specs.Loads.{AreMoves}
 use Rattle.mill_load.specs.Printed.{column_words}
 use Rattle.mill_load.specs.Programs.{IsProgramText, IsRefusedProgram}
 use Rattle.mill_load.specs.Setup.{SetupTexts, setup_texts, AreSetupTold, IsTooLong, ReadsSetup, IsUnfit, IsReadBefore}
 use Rattle.mill_run.specs.Words.{Files}
 
--- what the store tells of the three files
+-- what is told of the three files: the text of each, or nothing
 pub record Texts : Type 0 where
   pub setup : SetupTexts
   pub program : Option (List ℕ)
@@ -33,7 +35,7 @@ pub record Texts : Type 0 where
 abbrev pub texts_of : (List ℕ → Option (List ℕ)) → Files → Texts
 texts_of contents files = record { setup = setup_texts contents files.job files.part; program = contents files.program }
 
--- it tells all three
+-- all three are told
 pub record AreTold (texts : Texts) : Type 0 where
   pub setup : AreSetupTold texts.setup
   pub program : IsSome texts.program
@@ -88,9 +90,11 @@ abbrev pub IsNamed : Job → List Tri → List Move → Verdict → Type 0
 IsNamed job part moves (Accept count columns left) = Unit {0}
 IsNamed job part moves (Reject reason) = NamesLeaf job part (uncut job) moves reason
 
--- all is read, this is the verdict on the moves, and if they are accepted they cut safely; what a rejection names blocks the move
+-- all is read, job and moves are in their ranges, this is the verdict on the moves, and if they are accepted they cut safely; what a rejection names blocks the move
 pub record Judges (texts : Texts) (job : Job) (part : List Tri) (moves : List Move) (verdict : Verdict) : Type 0 where
   pub all_read : Reads texts job part moves
+  pub job_ok : IsJob job
+  pub moves_ok : AreMoves job moves
   pub is : IsVerdict job part moves verdict
   pub safe : IsSafe job part moves verdict
   pub named : IsNamed job part moves verdict

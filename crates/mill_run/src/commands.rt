@@ -1,6 +1,7 @@
 //! All that the program does: the words, and the choice of the command.
 ghost use Rattle.std.specs.Prelude.{◌≡◌, ◌-◌, ◌^◌, ◌<◌, ℕ, map, string_bytes};
 ghost use Rattle.mill_command.specs.Requests.{IsBounded, request_of, sample as asks_sample};
+ghost use Rattle.mill_io.specs.Readings.{AreHeld};
 ghost use Rattle.mill_io.specs.Views.{ReadsOnly};
 ghost use Rattle.mill_run.specs.Calls.{CanCount, BlamesReads, BlamesWrites, call_of};
 ghost use Rattle.mill_run.specs.Headline.{Answers, Completes, Untaken, Headline, PlanHeadline, StockHeadline, RestHeadline};
@@ -25,6 +26,10 @@ use std::thread::Threads;
 
 /// All that the program does: takes the words, does the work on the files that they name, and
 /// prints its answer.
+///
+/// What it promises of the files it promises of whatever they hold, if they hold what the reads
+/// gave: the clauses say it of any `contents`, which tell of each name what its file holds, or
+/// nothing. What the store tells of its files holds what the reads gave.
 ///
 /// The words don't have the program's name. The answer goes to the sink whole, or the status is
 /// `WriteFault` and a prefix of it went there. The contents of every file stay, but where the words
@@ -55,8 +60,13 @@ pub fn run<R: Threads + Sync, S: Shelf, O: Sink>(
     // Where the words name no file, no call on the store is made.
     ensures untouched { AsksNoFile (map string_bytes words.now) → shelf.new ≡ shelf.old }
 
-    // What the call came to, whatever the outside did, by each file that the store tells; what was
-    // printed and what was stored.
+    // What the store tells of its files holds what the reads gave. So what the clauses below say of
+    // whatever the files hold, if they hold that, they say of what the store tells.
+    ensures held { AreHeld (S.shows shelf.old).contents
+        (S.shows shelf.old).log (S.shows shelf.new).log }
+
+    // What the call came to, whatever the outside did, and by whatever the files hold, if they hold
+    // what the reads gave; what was printed and what was stored.
     ensures outcome { HasOutcome (map string_bytes words.now) (call_of result
         (S.shows shelf.old) (S.shows shelf.new) (O.shows out.old) (O.shows out.new)) }
 

@@ -6,9 +6,9 @@ use mill_verify::{one_list_verdict, one_verdict};
 
 /// A request has at most one answer on files that are told.
 ///
-/// It has no code: what it promises is its contract. With that of `run` it says that two calls of one
-/// request on the same files end with the same status, the same line and the same stored text, where
-/// nothing of the outside fails and memory is enough.
+/// It has no code: what it promises is its contract. With that of `run` it says that two calls of
+/// one request on the same files, which hold what the reads of both gave, end with the same status,
+/// the same line and the same stored text, where nothing of the outside fails and memory is enough.
 pub fn one_answer()
     ensures { OneAnswer }
 {

@@ -60,11 +60,12 @@ fn tell_plan<R: Threads + Sync, S: Shelf, O: Sink>(
     requires workers { AreWorkers workers }
     requires ready { IsSetup setup.now }
     requires counts { CanCount (S.shows shelf.old) (O.shows out.old) }
-    ensures { ShowsPlanOr setup.now name.now
+    ensures shown { ShowsPlanOr setup.now name.now
         (call_of result (S.shows shelf.old) (S.shows shelf.new) (O.shows out.old) (O.shows out.new)) }
+    ensures unread { (S.shows shelf.new).log ≡ (S.shows shelf.old).log }
 {
     match plan(&Threaded { rt, workers }, alloc, &setup.job, &setup.part) {
-        Ok(planned) => store_plan(alloc, shelf, setup.job.unit, name, &planned, out),
+        Ok(planned) => store_plan(alloc, shelf, setup, name, &planned, out),
         Err(fault) => tell_plan_fault(alloc, fault, setup.job.unit, out),
     }
 }
@@ -76,16 +77,18 @@ fn tell_plan<R: Threads + Sync, S: Shelf, O: Sink>(
 fn store_plan<S: Shelf, O: Sink>(
     alloc: Global,
     shelf: &mut S,
-    unit: Unit,
+    setup: &Setup,
     name: &str,
     planned: &Planned,
     out: &mut O,
 ) -> Status
     requires counts { CanCount (S.shows shelf.old) (O.shows out.old) }
-    ensures { ShowsOr (answered (planned_answer unit name.now (answer_of planned.now)))
+    ensures shown { ShowsOr (answered
+        (planned_answer setup.now.job setup.now.part name.now (answer_of planned.now)))
         (call_of result (S.shows shelf.old) (S.shows shelf.new) (O.shows out.old) (O.shows out.new)) }
+    ensures unread { (S.shows shelf.new).log ≡ (S.shows shelf.old).log }
 {
-    let line = match line_of_plan(alloc, planned, unit) {
+    let line = match line_of_plan(alloc, planned, setup.job.unit) {
         Ok(line) => line,
         Err(WantOfMemory) => return tell_memory(out),
     };

@@ -1,6 +1,7 @@
 //! The command `rest`: the verdict on the programs of a list, in turn on one stock.
-ghost use Rattle.std.specs.Prelude.{◌≡◌, ◌-◌, ◌^◌, ◌<◌, ◌≤◌, ℕ, List, length, All, IfErr, IfOk, Some};
+ghost use Rattle.std.specs.Prelude.{◌≡◌, ◌-◌, ◌^◌, ◌<◌, ◌≤◌, ℕ, List, length, All, IfErr, IfOk, Option, Some};
 ghost use Rattle.mill_command.specs.Requests.{rest as asks_rest};
+ghost use Rattle.mill_io.specs.Readings.{AreHeld};
 ghost use Rattle.mill_job.specs.Jobs.{FitsJob, IsJob};
 ghost use Rattle.mill_list.specs.declared.limits.TheConstants.{MAX_STEPS};
 ghost use Rattle.mill_verify.specs.Files.{IsFileOf};
@@ -33,11 +34,13 @@ use mill_verify::{CutFile, ListVerdict, verify_list};
 use std::alloc::Global;
 use std::thread::Threads;
 
-/// What the verifier works on: a job, a part, and the moves of each program of a list, with its cutter.
+/// What the verifier works on: a job, a part, the steps of a list, and the moves of each step's
+/// program, with its cutter.
 #[derive(Drop)]
 pub struct Listed {
     pub job: Job,
     pub part: Part,
+    pub steps: Vec<Step>,
     pub files: Vec<CutFile>,
 }
 
@@ -73,11 +76,14 @@ fn load_files<S: Shelf>(
     part: &str,
     list: &str,
 ) -> Result<Listed, LoadFault>
-    ensures told { LoadsFiles (rest_texts (S.shows shelf.old).contents
+    ensures told { (contents : List ℕ → Option (List ℕ)) →
+        AreHeld contents (S.shows shelf.old).log (S.shows shelf.new).log →
+        LoadsFiles (rest_texts contents
         (record { job = job.now; part = part.now; list = list.now })) result }
     ensures ready { IfOk result AreFilesReady }
-    ensures failed { IfErr result (FailsInRest (rest_texts (S.shows shelf.old).contents
-        (record { job = job.now; part = part.now; list = list.now }))
+    ensures failed { (contents : List ℕ → Option (List ℕ)) →
+        AreHeld contents (S.shows shelf.old).log (S.shows shelf.new).log →
+        IfErr result (FailsInRest contents
         (record { job = job.now; part = part.now; list = list.now }) (S.shows shelf.new).log) }
     ensures store { OnlyLoads (S.shows shelf.old) (S.shows shelf.new) result }
 {
@@ -96,6 +102,7 @@ fn load_files<S: Shelf>(
     Ok(Listed {
         job: setup.job,
         part: setup.part,
+        steps,
         files,
     })
 }
@@ -107,7 +114,9 @@ fn load_list<S: Shelf>(
     name: &str,
     job: &Job,
 ) -> Result<Vec<Step>, LoadFault>
-    ensures told { LoadsList job.now ((S.shows shelf.old).contents name.now) result }
+    ensures told { (contents : List ℕ → Option (List ℕ)) →
+        AreHeld contents (S.shows shelf.old).log (S.shows shelf.new).log →
+        LoadsList job.now (contents name.now) result }
     ensures fit { IfOk result (λ steps. All (λ step. FitsJob job.now step.cutter) steps.items) }
     ensures few { IfOk result (λ steps. length steps.items ≤ MAX_STEPS) }
     ensures failed { (names : AnyFile → List ℕ) → names ListFile ≡ name.now →
@@ -144,9 +153,12 @@ fn load_steps<S: Shelf>(
     requires job_ok { IsJob job.now }
     requires fit { All (λ step. FitsJob job.now step.cutter) steps.now }
     requires few { length steps.now ≤ MAX_STEPS }
-    ensures read { IfOk result (λ files.
-        ReadsSteps (S.shows shelf.old).contents job.now steps.now files.items) }
-    ensures fault { IfErr result (StopsAtStep (S.shows shelf.old).contents job.now steps.now (S.shows shelf.new).log) }
+    ensures read { (contents : List ℕ → Option (List ℕ)) →
+        AreHeld contents (S.shows shelf.old).log (S.shows shelf.new).log →
+        IfOk result (λ files. ReadsSteps contents job.now steps.now files.items) }
+    ensures fault { (contents : List ℕ → Option (List ℕ)) →
+        AreHeld contents (S.shows shelf.old).log (S.shows shelf.new).log →
+        IfErr result (StopsAtStep contents job.now steps.now (S.shows shelf.new).log) }
     ensures ready { IfOk result (λ files. All (IsFileOf job.now) files.items) }
     ensures few { IfOk result (λ files. length files.items ≤ MAX_STEPS) }
     ensures store { OnlyLoads (S.shows shelf.old) (S.shows shelf.new) result }
@@ -174,9 +186,13 @@ fn load_step<S: Shelf>(
 ) -> Result<CutFile, LoadFault>
     requires job_ok { IsJob job.now }
     requires fits { FitsJob job.now step.now.cutter }
-    ensures read { IfOk result (ReadsStep (S.shows shelf.old).contents job.now step.now) }
-    ensures fault { IfErr result (λ fault. LoadsProgram job.now
-        ((S.shows shelf.old).contents step.now.program) (StepProgram number) (Err fault)) }
+    ensures read { (contents : List ℕ → Option (List ℕ)) →
+        AreHeld contents (S.shows shelf.old).log (S.shows shelf.new).log →
+        IfOk result (ReadsStep contents job.now step.now) }
+    ensures fault { (contents : List ℕ → Option (List ℕ)) →
+        AreHeld contents (S.shows shelf.old).log (S.shows shelf.new).log →
+        IfErr result (λ fault.
+        LoadsProgram job.now (contents step.now.program) (StepProgram number) (Err fault)) }
     ensures failed { IfErr result (NamesFault (λ file. step.now.program) (S.shows shelf.new).log) }
     ensures ready { IfOk result (IsFileOf job.now) }
     ensures store { OnlyLoads (S.shows shelf.old) (S.shows shelf.new) result }
@@ -221,7 +237,8 @@ fn tell_line_of_list<O: Sink>(
     requires names { NamesFileMove listed.now.files.items verdict }
     requires prints { (O.shows out.old).faults < 2 ^ 64 - 1 }
     ensures { PrintsOr
-        (answered (judged_files listed.now.job listed.now.part listed.now.files.items verdict))
+        (answered (judged_files listed.now.job listed.now.part listed.now.steps.items
+        listed.now.files.items verdict))
         (status_code result) (O.shows out.old) (O.shows out.new) }
 {
     let line = line_of_list_verdict(alloc, &listed.job, &listed.files, verdict);

@@ -1,11 +1,14 @@
 //! The command `stock`: what a program leaves of the stock, stored as the surface through the columns'
 //! tops.
-ghost use Rattle.std.specs.Prelude.{◌≡◌, ℕ, List, All, IfErr, IfOk, IsErrOf};
+ghost use Rattle.std.specs.Prelude.{◌≡◌, ℕ, List, All, Option, IfErr, IfOk, IsErrOf};
 ghost use Rattle.mill_base.specs.Ranges.{MovesInRange};
+ghost use Rattle.mill_base.specs.declared.motion.Move.{Move as AnyMove};
 ghost use Rattle.mill_command.specs.Requests.{stock as asks_stock};
 ghost use Rattle.mill_dexel.specs.Rows.{IsRowOf};
 ghost use Rattle.mill_dexel.specs.Stocks.{IsStock};
+ghost use Rattle.mill_io.specs.Readings.{AreHeld};
 ghost use Rattle.mill_job.specs.Jobs.{IsJob};
+ghost use Rattle.mill_job.specs.declared.job.Job.{Job as AnyJob};
 ghost use Rattle.mill_surface.specs.Surfaces.{HasManyTriangles};
 ghost use Rattle.mill_surface.specs.declared.fault.SurfaceFault.TheVariants.{TooManyTriangles};
 ghost use Rattle.mill_run.specs.Answers.{stocked};
@@ -72,7 +75,9 @@ fn load_cutting<S: Shelf>(
     job: &str,
     program: &str,
 ) -> Result<Cutting, LoadFault>
-    ensures told { LoadsCutting (stock_texts (S.shows shelf.old).contents job.now program.now) result }
+    ensures told { (contents : List ℕ → Option (List ℕ)) →
+        AreHeld contents (S.shows shelf.old).log (S.shows shelf.new).log →
+        LoadsCutting (stock_texts contents job.now program.now) result }
     ensures ready { IfOk result IsCutting }
     ensures failed { (names : AnyFile → List ℕ) → names JobFile ≡ job.now → names ProgramFile ≡ program.now →
         IfErr result (NamesFault names (S.shows shelf.new).log) }
@@ -99,8 +104,9 @@ fn tell_stock<S: Shelf, O: Sink>(
 ) -> Status
     requires ready { IsCutting cutting.now }
     requires counts { CanCount (S.shows shelf.old) (O.shows out.old) }
-    ensures { ShowsStockOr cutting.now name.now
+    ensures shown { ShowsStockOr cutting.now name.now
         (call_of result (S.shows shelf.old) (S.shows shelf.new) (O.shows out.old) (O.shows out.new)) }
+    ensures unread { (S.shows shelf.new).log ≡ (S.shows shelf.old).log }
 {
     match draw(alloc, cutting) {
         Ok(drawn) => store_surface(alloc, shelf, name, &drawn, out),
@@ -127,8 +133,11 @@ fn store_surface<S: Shelf, O: Sink>(
     out: &mut O,
 ) -> Status
     requires { CanCount (S.shows shelf.old) (O.shows out.old) }
-    ensures { ShowsOr (answered (stocked name.now (drawn_answer drawn.now.text.items drawn.now.triangles)))
+    ensures shown { (job : AnyJob) (moves : List AnyMove) →
+        ShowsOr (answered (stocked job moves name.now
+        (drawn_answer drawn.now.text.items drawn.now.triangles)))
         (call_of result (S.shows shelf.old) (S.shows shelf.new) (O.shows out.old) (O.shows out.new)) }
+    ensures unread { (S.shows shelf.new).log ≡ (S.shows shelf.old).log }
 {
     let line = match line_of_triangles(alloc, b"stock", drawn.triangles) {
         Ok(line) => line,

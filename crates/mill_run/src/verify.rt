@@ -1,10 +1,11 @@
 //! The command `verify`: the verdict on a program.
-ghost use Rattle.std.specs.Prelude.{◌≡◌, ℕ, ◌-◌, ◌^◌, ◌<◌, ◌≤◌, ℤ, List, [], ◌++◌, length, map, Ok, IfErr, IfOk};
+ghost use Rattle.std.specs.Prelude.{◌≡◌, ℕ, ◌-◌, ◌^◌, ◌<◌, ◌≤◌, ℤ, List, [], ◌++◌, length, map, Ok, Option, IfErr, IfOk};
 ghost use Rattle.mill_base.specs.Covers.{IsUnder};
 ghost use Rattle.mill_base.specs.Motion.{Follow};
 ghost use Rattle.mill_base.specs.Ranges.{MovesInRange};
 ghost use Rattle.mill_base.specs.declared.limits.TheConstants.{MAX_MOVES};
 ghost use Rattle.mill_dexel.specs.Tops.{uncut};
+ghost use Rattle.mill_io.specs.Readings.{AreHeld};
 ghost use Rattle.mill_job.specs.Columns.{home};
 ghost use Rattle.mill_job.specs.Jobs.{IsJob};
 ghost use Rattle.mill_verify.specs.Claims.{CutsSafely};
@@ -79,7 +80,9 @@ fn load<S: Shelf>(
     part: &str,
     program: &str,
 ) -> Result<Loaded, LoadFault>
-    ensures told { Loads (texts_of (S.shows shelf.old).contents
+    ensures told { (contents : List ℕ → Option (List ℕ)) →
+        AreHeld contents (S.shows shelf.old).log (S.shows shelf.new).log →
+        Loads (texts_of contents
         (record { job = job.now; part = part.now; program = program.now })) result }
     ensures ready { IfOk result IsReady }
     ensures failed { (names : AnyFile → List ℕ) → names JobFile ≡ job.now → names PartFile ≡ part.now → names ProgramFile ≡ program.now →

@@ -249,10 +249,18 @@ endsolid stock
 before
 "#;
 
-/// More files, made of FILES: `NAME: OF: OLD -> NEW; OLD -> NEW`. `thousandths` is the same as `job`,
-/// and `narrow` ends 0.50 before the last columns. A `held` and a `slim` job have a holder, as far over
-/// the tip as their name says.
+/// More files, made of FILES: `NAME: OF: OLD -> NEW; OLD -> NEW`. `thousandths` is the same as
+/// `job`; the numbers of `tenth` are those of `job`, in thousandths, for `low-plate`, which is 0.2 mm
+/// high. `narrow` ends 0.50 before the last columns. A `held` and a `slim` job have a holder, as far
+/// over the tip as their name says. A `plate-ball` is `job` with a ball, which may leave as much as
+/// its name says.
 const MADE: &str = r#"thousandths: job: cutter -> unit = "thousandth"\ncutter; 00 -> 000; 50 -> 500
+tenth: job: cutter -> unit = "thousandth"\ncutter
+low-plate: plate:  2\n ->  0.2\n
+tenth-planned: planned: 0.00 -> 0.000; 1.00 -> 0.100; 2.00 -> 0.200; 4.00 -> 0.400
+plate-ball-99: job: flat -> ball; allowance = 0 -> allowance = 99
+plate-ball-100: job: flat -> ball; allowance = 0 -> allowance = 100
+layered: job: band = 0 -> band = 0\nlayer = 50
 band-50: job: band = 0 -> band = 50
 band-51: job: band = 0 -> band = 51
 band-151: job: band = 0 -> band = 151

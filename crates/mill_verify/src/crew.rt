@@ -24,7 +24,8 @@ use std::thread::Threads;
 
 /// A crew that tests programs: as many threads as it has workers, or the calling thread alone.
 ///
-/// What it tells doesn't depend on it. The cells are always those of the part's triangles.
+/// What it tells doesn't depend on it. The cells are always those of the part's triangles. It is
+/// sealed: `Threaded` and `Alone` are such crews, and no other.
 pub trait TestCrew: Crew {
     /// What tests (ii) to (iii h) of the first `turns` moves come to on this stock. The only error is want of
     /// memory, for the bands of the moves and the pieces of the work.

@@ -8,6 +8,7 @@ use Rattle.mill_base.specs.declared.unit.Unit.{Unit as LengthUnit}
 use Rattle.mill_base.specs.Covers.{IsUnder}
 use Rattle.mill_decimal.specs.Decimals.{read_as}
 use Rattle.mill_decimal.specs.declared.snap.Snap.TheVariants.{Exact}
+use Rattle.mill_io.specs.Readings.{AreHeld, Reading as FileReading}
 use Rattle.mill_io.specs.declared.pieces.PieceEnd.{PieceEnd}
 use Rattle.mill_ngc.specs.Pieces.{Reading, reading_at, lines_read, fed, MovesSoFar}
 use Rattle.mill_part.specs.Tops.{IsTop}
@@ -35,10 +36,10 @@ pub record TakesFile (start : Pt3) (unit : LengthUnit) (told : Option (List ℕ)
   pub fits : Fits text
   pub taken : HasTaken start unit reader moves text
 
--- it has taken the front of a file
-pub record TakesFront (start : Pt3) (unit : LengthUnit) (told : Option (List ℕ)) (given : ℕ) (reader : Reading) (moves : List Move) : Type 0 where
+-- it has taken the front of the file of this name, whatever the files hold, if they hold what each read gave from one time to another
+pub record TakesFront (start : Pt3) (unit : LengthUnit) (name : List ℕ) (before after : List FileReading) (given : ℕ) (reader : Reading) (moves : List Move) : Type 0 where
   pub text : List ℕ
-  pub front : IfSome told (λ bytes. text ≡ take (length text) bytes)
+  pub front : (contents : List ℕ → Option (List ℕ)) → AreHeld contents before after → IfSome (contents name) (λ bytes. text ≡ take (length text) bytes)
   pub size : length text ≡ given
   pub taken : HasTaken start unit reader moves text
 

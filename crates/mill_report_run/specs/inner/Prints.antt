@@ -1,5 +1,5 @@
 -- What printing an outcome comes to.
-use Rattle.std.specs.Prelude.{◌⊎◌, ℕ, List, string_bytes}
+use Rattle.std.specs.Prelude.{◌⊎◌, ℕ, List, Option, string_bytes}
 use Rattle.mill_command.specs.declared.refusal.Refusal.{Refusal}
 use Rattle.mill_command.specs.declared.refusal.Refusal.TheVariants as refusal
 use Rattle.mill_io.specs.Views.{SinkView}
@@ -10,7 +10,7 @@ use Rattle.mill_report_run.specs.Outcomes.{Fails, IsOutcome, IsTextOf, Outcome, 
 use Rattle.mill_report_run.specs.declared.load.Loaded.{Loaded}
 use Rattle.mill_report_text.specs.Reports.{IsReportText}
 use Rattle.mill_report_text.specs.Sources.{texts_of_sources}
-use Rattle.mill_run.specs.Calls.{Call}
+use Rattle.mill_run.specs.Calls.{Call, HoldsReads}
 use Rattle.mill_run.specs.Verify.{texts_of}
 use Rattle.mill_run.specs.Words.{Files}
 
@@ -47,9 +47,10 @@ pub record TellsReport (l : Loaded) (status : ℕ) (sink sink_after : SinkView) 
 abbrev pub TriesReport : Loaded → ℕ → SinkView → SinkView → Type 0
 TriesReport l status sink sink_after = TellsReport l status sink sink_after ⊎ PrintsShort status sink sink_after
 
--- the work on these files came to an outcome, and shows it
+-- the work on these files came to one outcome, which is right by whatever they hold, if they hold what the reads gave, and shows it; the contents that the store tells hold that
 pub record Serves (files : Files) (call : Call) : Type 0 where
   pub outcome : Outcome
-  pub is : IsOutcome (texts_of call.store.contents files) outcome
+  pub is : (contents : List ℕ → Option (List ℕ)) → HoldsReads contents call → IsOutcome (texts_of contents files) outcome
+  pub held : HoldsReads call.store.contents call
   pub fails : Fails files call.store_after.log outcome
   pub shows : Shows call outcome

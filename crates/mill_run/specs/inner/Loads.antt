@@ -17,7 +17,7 @@ use Rattle.mill_load.specs.declared.load.Unfit.TheVariants.{TooLong, ListRefused
 use Rattle.mill_run.specs.declared.verify.Loaded.{Loaded}
 use Rattle.mill_run.specs.declared.rest.Listed.{Listed}
 use Rattle.mill_run.specs.declared.stock.Cutting.{Cutting}
-use Rattle.mill_run.specs.Rest.{RestTexts, FailsAtStep, ReadsRest, ReadsSteps, step_at, IsListText, IsRefusedList, IsUnfitRest, IsReadBeforeRest}
+use Rattle.mill_run.specs.Rest.{RestTexts, rest_texts, FailsAtStep, ReadsRest, ReadsSteps, step_at, IsListText, IsRefusedList, IsUnfitRest, IsReadBeforeRest}
 use Rattle.mill_load.specs.Setup.{IsTooLongJob}
 use Rattle.mill_run.specs.Stock.{StockTexts, ReadsStock, IsUnfitStock, IsReadBeforeStock}
 use Rattle.mill_run.specs.Verify.{Texts, Reads, IsUnfitProgram, IsReadBeforeProgram}
@@ -52,11 +52,11 @@ rest_name names ListFile = names.list
 rest_name names _ = []
 
 -- a read fault is one of the last read, which was of the file that it names
-abbrev pub FailsInRest : RestTexts → RestFiles → List Reading → LoadFault → Type 0
-FailsInRest texts names log Memory = Unit {0}
-FailsInRest texts names log (ReadFault (StepProgram k)) = FailsAtStep texts k log
-FailsInRest texts names log (ReadFault file) = LastFails (rest_name names file) log
-FailsInRest texts names log (Unfit fault) = Unit {0}
+abbrev pub FailsInRest : (List ℕ → Option (List ℕ)) → RestFiles → List Reading → LoadFault → Type 0
+FailsInRest contents names log Memory = Unit {0}
+FailsInRest contents names log (ReadFault (StepProgram k)) = FailsAtStep (rest_texts contents names) k log
+FailsInRest contents names log (ReadFault file) = LastFails (rest_name names file) log
+FailsInRest contents names log (Unfit fault) = Unit {0}
 
 -- ---- all that a command needs
 
@@ -74,9 +74,9 @@ LoadsCutting texts (Err Memory) = Unit {0}
 LoadsCutting texts (Err (ReadFault file)) = IsReadBeforeStock texts file
 LoadsCutting texts (Err (Unfit fault)) = IsUnfitStock texts fault
 
--- job, part and files, or why there are none
+-- job, part, steps and files, or why there are none
 abbrev pub LoadsFiles : RestTexts → Result Listed LoadFault → Type 0
-LoadsFiles texts (Ok l) = (steps : List Step) × ReadsRest texts l.job l.part steps l.files.items
+LoadsFiles texts (Ok l) = ReadsRest texts l.job l.part l.steps.items l.files.items
 LoadsFiles texts (Err Memory) = Unit {0}
 LoadsFiles texts (Err (ReadFault file)) = IsReadBeforeRest texts file
 LoadsFiles texts (Err (Unfit fault)) = IsUnfitRest texts fault

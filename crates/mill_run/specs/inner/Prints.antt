@@ -82,7 +82,7 @@ pub record PrintsListVerdict (l : Listed) (status : ℕ) (sink sink_after : Sink
   pub is : IsListVerdict l.job l.part l.files.items verdict
   pub safe : AreSafe l.job l.part l.files.items verdict
   pub named : IsFileNamed l.job l.part l.files.items verdict
-  pub printed : PrintsOr (answered (judged_files l.job l.part l.files.items verdict)) status sink sink_after
+  pub printed : PrintsOr (answered (judged_files l.job l.part l.steps.items l.files.items verdict)) status sink sink_after
 
 abbrev pub TriesListVerdict : Listed → ℕ → SinkView → SinkView → Type 0
 TriesListVerdict l status sink sink_after = PrintsListVerdict l status sink sink_after ⊎ PrintsOutcome no_memory status sink sink_after
@@ -106,7 +106,7 @@ TriesLevel s height status sink sink_after = PrintsLevel s height status sink si
 pub record ShowsPlan (s : Setup) (name : List ℕ) (call : Call) : Type 0 where
   pub answer : PlanAnswer
   pub is : IsPlanAnswer s.job s.part answer
-  pub shows : Shows call (answered (planned s.job.unit name answer))
+  pub shows : Shows call (answered (planned s.job s.part name answer))
 
 -- so it is, or it is shown that memory was short
 abbrev pub ShowsPlanOr : Setup → List ℕ → Call → Type 0
@@ -116,7 +116,7 @@ ShowsPlanOr s name call = ShowsPlan s name call ⊎ Shows call no_memory
 pub record ShowsStock (c : Cutting) (name : List ℕ) (call : Call) : Type 0 where
   pub answer : StockAnswer
   pub is : IsStockAnswer c.job c.moves.items answer
-  pub shows : Shows call (answered (stocked name answer))
+  pub shows : Shows call (answered (stocked c.job c.moves.items name answer))
 
 -- so it is, or it is shown that memory was short
 abbrev pub ShowsStockOr : Cutting → List ℕ → Call → Type 0

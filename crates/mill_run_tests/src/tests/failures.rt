@@ -82,6 +82,8 @@ plan job plate out, out 1000 2, 200 => 6 <read fault part\n> => out
 plan job plate out, out 1000 2, 200 0 => 7 <> => out
 plan job plate out, out 1000 3, 200 => 6 <read fault part\n> => out
 plan job plate out, out 1000 3, 200 0 => 7 <> => out
+plan groove-job groove out, out 1000 1, 200 => 6 <read fault job\n> => out
+plan groove-job groove out, out 1000 3, 200 => 6 <read fault part\n> => out
 drop job plate --x=1 --y=1, out 1000 1, 200 => 6 <read fault job\n> => out
 drop job plate --x=1 --y=1, out 1000 1, 200 0 => 7 <> => out
 drop job plate --x=1 --y=1, out 1000 3, 200 => 6 <read fault part\n> => out
@@ -118,13 +120,17 @@ fn reads_on_behind_a_fault(rt: HostRuntime) -> Result<(), Fail> {
 }
 
 // Of `plan` and `stock`, the store's call 4 creates OUT, and call 5 is the first append. A failed write
-// leaves a prefix of the text, or what was there, and then nothing is printed.
+// leaves a prefix of the text, or what was there, and then nothing is printed. The groove has no
+// program: OUT isn't written, so it needn't be a file that can be.
 const WRITES: &str = r"plan job plate out, out 1000 4, 200 => 7 <> => out
 plan job plate out, out 1000 5, 200 => 7 <> => <>
 plan job plate out, out 5, 200 => 7 <> => <%\nG17>
 plan job plate out, out 100, 200 => 7 <> => <%\nG17 G21 G90\nG1 X0.00 Y0.00 Z2.00\nG1 X1.00 Y0.00 Z2.00\nG1 X2.00 Y0.00 Z2.00\nG1 X2.00 Y1.00 Z2.00\nG1>
 plan job plate out, out 1000, 200 0 => 7 <> => planned
 plan job plate out, out 1000, 8 => 7 <planned > => planned
+plan groove-job groove out, planned 1000, 200 => 8 <uncut row 0 column 5 top 2.00\n> => out
+plan groove-job groove out, out 1000, 200 0 => 7 <> => out
+plan groove-job groove out, out 1000, 6 => 7 <uncut > => out
 stock job down out, out 1000 4, 200 => 7 <> => out
 stock job down out, out 1000 5, 200 => 7 <> => <>
 stock job down out, out 9, 200 => 7 <> => <solid sto>

@@ -1,17 +1,29 @@
 // `plan`: the line, the status and the stored text of each answer.
+use crate::tests::failures::each_tells;
 use crate::tests::{each_says, each_stores};
 use std::test::Fail;
 
-// With a holder so far over the tip the plan is the same. The last stores it in the place of the job.
+// With a holder so far over the tip the plan is the same; in thousandths it is a tenth as large. The
+// last stores it in the place of the job.
 const STORED: &str =
     "plan --workers=1 job plate out => planned moves 11 columns 9 left 0.00 => planned
 plan --workers=3 job plate out => planned moves 11 columns 9 left 0.00 => planned
 plan --workers=1 held-100 plate out => planned moves 11 columns 9 left 0.00 => planned
+plan --workers=1 tenth low-plate out => planned moves 11 columns 9 left 0.000 => tenth-planned
 plan --workers=1 job plate job => planned moves 11 columns 9 left 0.00 => planned";
 
 #[test]
 fn stores_a_program(rt: HostRuntime) -> Result<(), Fail> {
     each_stores(&rt, rt.alloc(), STORED)
+}
+
+// Two layers over the plate, of nine places each, and then the plate itself.
+const LAYERED: &str =
+    "plan layered plate out, out 1000, 200 => 0 planned moves 29 columns 9 left 0.00";
+
+#[test]
+fn plans_layers(rt: HostRuntime) -> Result<(), Fail> {
+    each_tells(&rt, rt.alloc(), LAYERED)
 }
 
 const NOTHING: &str = r"plan groove-job groove out => 8 uncut row 0 column 5 top 2.00

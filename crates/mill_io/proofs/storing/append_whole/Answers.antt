@@ -17,4 +17,5 @@ loop-done-preserved g c =
       appended_more c.args.bytes.now _ c.loop-done.done c.in_ok-count.count _ ((g.S.Shelf.shows c.loop-done.shelf).contents c.args.name.now) _ e c.loop-done.invariant.1 c.in_ok-count.ensures.appended,
       writes_on c.args.name.now _ _ _ c.loop-done.invariant.2 c.in_ok-count.ensures.only,
       c.in_ok-count.ensures.cause.ok ∙ c.loop-done.invariant.3,
+      c.in_ok-count.ensures.unread ∙ c.loop-done.invariant.4,
     )

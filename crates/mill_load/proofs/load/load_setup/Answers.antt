@@ -1,17 +1,23 @@
-use Rattle.std.proofs.Common.{ℕ, List, Option, subst}
-use Rattle.mill_load.specs.Setup.{SetupTexts, setup_texts}
-use Rattle.mill_load.specs.Loads.{LoadsUnder}
-use Rattle.mill_load.proofs.Reading.{under_loads}
+use Rattle.mill_io.proofs.Held.{in_parts}
+use Rattle.mill_load.specs.Setup.{setup_texts}
+use Rattle.mill_load.proofs.Reading.{job_fault, loads_on, under_loads}
 use Rattle.mill_load.proofs.load.load_setup.Goals as goal
 
 pub returns-in-Ok-clause-told : goal.returns-in-Ok-clause-told
-returns-in-Ok-clause-told g c =
-    let texts : SetupTexts = setup_texts (g.S.Shelf.shows c.args.shelf.now).contents c.args.job.now c.args.part.now in
-    under_loads texts c.in-Ok.job c.load_under.result c.in-Ok.ensures.told
-    (subst (λ (t : Option (List ℕ)). LoadsUnder c.in-Ok.job t c.load_under.result) (c.in-Ok.ensures.store.only.contents c.args.part.now) c.load_under.ensures.told)
+returns-in-Ok-clause-told g c = λ contents held.
+    let start = g.S.Shelf.shows c.args.shelf.now in
+    let between = g.S.Shelf.shows c.load_job.new.shelf in
+    let parts = in_parts contents start.contents between.contents _ _ _ c.in-Ok.ensures.store.held c.load_under.ensures.store.held held in
+    under_loads (setup_texts contents c.args.job.now c.args.part.now) c.in-Ok.job c.load_under.result (c.in-Ok.ensures.told contents parts.first) (c.load_under.ensures.told contents parts.next)
 
 pub returns-in-Ok-clause-failed : goal.returns-in-Ok-clause-failed
 returns-in-Ok-clause-failed g c = λ names job part. c.load_under.ensures.failed names part
+
+pub returns-in-Ok-clause-store : goal.returns-in-Ok-clause-store
+returns-in-Ok-clause-store g c = loads_on _ _ _ c.in-Ok.job c.load_under.result c.in-Ok.ensures.store c.load_under.ensures.store
+
+pub returns-in-Err-clause-told : goal.returns-in-Err-clause-told
+returns-in-Err-clause-told g c = λ contents held. job_fault (setup_texts contents c.args.job.now c.args.part.now) c.in-Err.fault (c.in-Err.ensures.told contents held)
 
 pub returns-in-Err-clause-failed : goal.returns-in-Err-clause-failed
 returns-in-Err-clause-failed g c = λ names job part. c.in-Err.ensures.failed names job

@@ -1,6 +1,7 @@
 use Rattle.std.proofs.Common.{length, ◌-◌, ◌≡◌, ◌<◌}
 use Rattle.std.specs.Prelude.{None}
 use Rattle.mill_base.specs.declared.limits.TheConstants.{MAX_FILE_BYTES}
+use Rattle.mill_io.specs.Readings.{AreHeld}
 use Rattle.mill_io.specs.Views.{ReadsOnly}
 use Rattle.mill_load.specs.inner.Steps.{TakesFront}
 use Rattle.mill_load.proofs.program.take_pieces.Given as goal
@@ -14,7 +15,8 @@ invariant-loop-reader g l = record {
   room : 0 < length l.buf;
   only : ReadsOnly (g.S.Shelf.shows l.initial.pieces.shelf.now) (g.S.Shelf.shows l.pieces.shelf.now);
   faults : (g.S.Shelf.shows l.pieces.shelf.now).read_faults ≡ (g.S.Shelf.shows l.initial.pieces.shelf.now).read_faults;
-  front : TakesFront l.fn.start l.fn.unit ((g.S.Shelf.shows l.initial.pieces.shelf.now).contents l.initial.pieces.name.now) l.pieces.given l.reader l.moves.items;
+  held : AreHeld (g.S.Shelf.shows l.initial.pieces.shelf.now).contents (g.S.Shelf.shows l.initial.pieces.shelf.now).log (g.S.Shelf.shows l.pieces.shelf.now).log;
+  front : TakesFront l.fn.start l.fn.unit l.initial.pieces.name.now (g.S.Shelf.shows l.initial.pieces.shelf.now).log (g.S.Shelf.shows l.pieces.shelf.now).log l.pieces.given l.reader l.moves.items;
 }
 
 abbrev pub decreases-loop-reader : goal.decreases-loop-reader

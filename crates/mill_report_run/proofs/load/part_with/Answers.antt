@@ -1,7 +1,6 @@
 use Rattle.std.proofs.Common.{ℕ, List, Some, Err, subst}
-use Rattle.mill_load.proofs.Reading.{part_told}
+use Rattle.mill_load.proofs.Reading.{part_told, part_under}
 use Rattle.mill_load.specs.Loads.{LoadsPart}
-use Rattle.mill_report_run.proofs.Loading.{part_under}
 use Rattle.mill_report_run.proofs.load.part_with.Goals as goal
 
 pub joined-requires-clause-part_is : goal.joined-requires-clause-part_is

@@ -6,8 +6,8 @@ use Rattle.mill_report_run.proofs.Loading.{loads_with, source_read}
 use Rattle.mill_report_run.proofs.load.read_source.Goals as goal
 
 pub returns-in-Ok-clause-told : goal.returns-in-Ok-clause-told
-returns-in-Ok-clause-told g c =
-    source_read ((g.S.Shelf.shows c.args.shelf.now).contents c.args.name.now) c.args.file c.in-Ok.text.items c.source_of.result c.in-Ok.ensures.told c.source_of.ensures.text c.source_of.ensures.memory
+returns-in-Ok-clause-told g c = λ contents held.
+    source_read (contents c.args.name.now) c.args.file c.in-Ok.text.items c.source_of.result (c.in-Ok.ensures.told contents held) c.source_of.ensures.text c.source_of.ensures.memory
 
 pub returns-in-Ok-clause-fits : goal.returns-in-Ok-clause-fits
 returns-in-Ok-clause-fits g c = IfOk-weaker c.source_of.result _ _ (λ source is. subst (λ (text : List ℕ). length text ≤ most_bytes c.args.file) (sym is) c.in-Ok.ensures.fits) c.source_of.ensures.text

@@ -1,12 +1,15 @@
-use Rattle.mill_report_run.proofs.Blaming.{blames_reads, blames_writes}
+use Rattle.mill_report_run.proofs.Blaming.{blames}
 use Rattle.mill_report_run.proofs.Headlines.{completes_of, headline_of, untaken_of}
 use Rattle.mill_report_run.proofs.program.run.Goals as goal
 
 pub returns-clause-write : goal.returns-clause-write
-returns-clause-write g c = blames_writes _ _ c.work.ensures.outcome
+returns-clause-write g c = (blames _ _ c.work.ensures.outcome).write
 
 pub returns-clause-read : goal.returns-clause-read
-returns-clause-read g c = blames_reads _ _ c.work.ensures.outcome
+returns-clause-read g c = (blames _ _ c.work.ensures.outcome).read
+
+pub returns-clause-held : goal.returns-clause-held
+returns-clause-held g c = c.work.ensures.outcome.held
 
 pub returns-clause-kept : goal.returns-clause-kept
 returns-clause-kept g c = c.work.ensures.outcome.shows.only

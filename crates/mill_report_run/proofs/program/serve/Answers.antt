@@ -8,7 +8,7 @@ use Rattle.mill_run.specs.Calls.{Call, call_of}
 pub returns-in-Ok : goal.returns-in-Ok
 returns-in-Ok g c =
     let call : Call = call_of c.tell_report.result (g.S.Shelf.shows c.args.shelf.now) (g.S.Shelf.shows c.load.new.shelf) (g.O.Sink.shows c.args.out.now) (g.O.Sink.shows c.tell_report.new.out) in
-    report_serves (request_of c.args.asked).files call c.in-Ok.loaded c.in-Ok.ensures.told c.in-Ok.ensures.store c.tell_report.ensures
+    report_serves (request_of c.args.asked).files call c.in-Ok.loaded c.in-Ok.ensures.told c.in-Ok.ensures.ready c.in-Ok.ensures.store c.tell_report.ensures
 
 pub returns-in-Err : goal.returns-in-Err
 returns-in-Err g c =

@@ -12,6 +12,9 @@ returns-clause-read g c = blames_reads _ c.work.ensures.outcome.outcome c.work.e
 pub returns-clause-kept : goal.returns-clause-kept
 returns-clause-kept g c = λ nothing. keeps _ _ c.work.ensures.outcome nothing
 
+pub returns-clause-held : goal.returns-clause-held
+returns-clause-held g c = c.work.ensures.outcome.held
+
 pub returns-clause-answers : goal.returns-clause-answers
 returns-clause-answers g c = answers_of _ _ c.work.ensures.outcome
 

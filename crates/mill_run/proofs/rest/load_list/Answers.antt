@@ -1,5 +1,5 @@
 use Rattle.mill_load.proofs.Reading.{none_failed}
-use Rattle.mill_run.proofs.Rests.{list_told}
+use Rattle.mill_run.proofs.Rests.{list_told, no_list_bytes}
 use Rattle.mill_run.proofs.rest.load_list.Goals as goal
 
 pub returns-in-Ok-clause-failed : goal.returns-in-Ok-clause-failed
@@ -9,5 +9,8 @@ pub returns-in-Err-clause-failed : goal.returns-in-Err-clause-failed
 returns-in-Err-clause-failed g c = λ names same. c.in-Err.ensures.failed names same
 
 pub returns-in-Ok-clause-told : goal.returns-in-Ok-clause-told
-returns-in-Ok-clause-told g c =
-    list_told c.args.job.now ((g.S.Shelf.shows c.args.shelf.now).contents c.args.name.now) c.in-Ok.text.items _ c.in-Ok.ensures.told (rw c.deref.ensures.value at c.list_from.ensures.told)
+returns-in-Ok-clause-told g c = λ contents held.
+    list_told c.args.job.now (contents c.args.name.now) c.in-Ok.text.items _ (c.in-Ok.ensures.told contents held) (rw c.deref.ensures.value at c.list_from.ensures.told)
+
+pub returns-in-Err-clause-told : goal.returns-in-Err-clause-told
+returns-in-Err-clause-told g c = λ contents held. no_list_bytes c.args.job.now (contents c.args.name.now) c.in-Err.fault (c.in-Err.ensures.told contents held)

@@ -5,7 +5,7 @@ use Rattle.mill_load.specs.Loads.{LoadsProgram}
 use Rattle.mill_run.proofs.rest.load_step.Goals as goal
 
 pub returns-in-Ok-clause-read : goal.returns-in-Ok-clause-read
-returns-in-Ok-clause-read g c = record { cutter_is = refl; moves_are = rw c.as_str-program.ensures at c.in-Ok.ensures.told }
+returns-in-Ok-clause-read g c = λ contents held. record { cutter_is = refl; moves_are = rw c.as_str-program.ensures at (c.in-Ok.ensures.told contents held) }
 
 pub returns-in-Ok-clause-ready : goal.returns-in-Ok-clause-ready
 returns-in-Ok-clause-ready g c =
@@ -16,6 +16,5 @@ pub returns-in-Err-clause-failed : goal.returns-in-Err-clause-failed
 returns-in-Err-clause-failed g c = c.in-Err.ensures.failed (λ file. c.args.step.now.program) (sym c.as_str-program.ensures)
 
 pub returns-in-Err-clause-fault : goal.returns-in-Err-clause-fault
-returns-in-Err-clause-fault g c =
-    let contents = (g.S.Shelf.shows c.args.shelf.now).contents in
-    subst (λ (name : List ℕ). LoadsProgram c.args.job.now (contents name) (StepProgram c.args.number) (Err c.in-Err.fault)) c.as_str-program.ensures c.in-Err.ensures.told
+returns-in-Err-clause-fault g c = λ contents held.
+    subst (λ (name : List ℕ). LoadsProgram c.args.job.now (contents name) (StepProgram c.args.number) (Err c.in-Err.fault)) c.as_str-program.ensures (c.in-Err.ensures.told contents held)

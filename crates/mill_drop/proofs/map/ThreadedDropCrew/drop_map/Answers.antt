@@ -1,5 +1,5 @@
 use Rattle.mill_base.proofs.Ranges.{coordinate}
 use Rattle.mill_drop.proofs.map.ThreadedDropCrew.drop_map.Goals as goal
 
-pub returns : goal.returns
-returns g c = rw (coordinate c.args.floor c.requires.floor_ok) at c.map_by_threads.ensures
+pub returns-clause-heights : goal.returns-clause-heights
+returns-clause-heights g c = rw (coordinate c.args.floor c.requires.floor_ok) at c.map_by_threads.ensures.heights

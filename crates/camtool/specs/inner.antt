@@ -1,0 +1,2 @@
+-- What private functions cite alone: a program has no public call.
+pub mod Own
